@@ -1,0 +1,51 @@
+//! What certification keeps of a committed item.
+
+ghost use Rattle.std.specs.Prelude.{◌≡◌, ◌≤◌, List, length};
+
+use crate::key::Key;
+use arrayvec::ArrayVec;
+use std::marker::Model;
+
+/// A committed item as the window keeps it: its seqno, and the 1 to 16 keys that it wrote.
+#[derive(Debug, Drop, PartialEq, Eq)]
+pub struct Entry {
+    seqno: u64,
+    keys: ArrayVec<Key, 16>,
+}
+
+impl Model for Entry {
+    ghost use Rattle.std.specs.Prelude.{◌≤◌, length};
+    ghost use Rattle.rep_types.specs.Entries.{Entry as View};
+
+    ghost Value = { View };
+
+    ghost view = { λ e. record { seqno = e.seqno; keys = e.keys.items } };
+
+    ghost invariant = { λ e. length e.keys.items ≤ 16 };
+
+    ghost inverse = { λ e. record { seqno = e.seqno; keys = record { items = e.keys } } };
+}
+
+impl Entry {
+    /// The entry of the item with this seqno that wrote these keys.
+    pub fn new(seqno: u64, keys: ArrayVec<Key, 16>) -> Entry
+        ensures { result ≡ record { seqno = seqno; keys = keys.items } }
+    {
+        Entry { seqno, keys }
+    }
+
+    /// The item's seqno.
+    pub fn seqno(&self) -> u64
+        ensures { result ≡ self.now.seqno }
+    {
+        self.seqno
+    }
+
+    /// The keys that the item wrote.
+    pub fn keys(&self) -> &[Key]
+        ensures keys { result.now ≡ self.now.keys }
+        ensures few { length self.now.keys ≤ 16 }
+    {
+        self.keys.as_slice()
+    }
+}

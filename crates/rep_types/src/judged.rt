@@ -1,0 +1,15 @@
+//! A delivered item with its verdict.
+
+use crate::verdict::Verdict;
+use crate::write_set::WriteSet;
+
+/// A delivered write set, its seqno and its verdict.
+#[derive(Debug, Drop, PartialEq, Eq)]
+pub struct Judged {
+    /// Its place in the order, from 1.
+    pub seqno: u64,
+    /// The write set.
+    pub item: WriteSet,
+    /// What certification said of it.
+    pub verdict: Verdict,
+}

@@ -1,0 +1,21 @@
+//! The values of a replicated database: keys, write sets, a node's parameters, verdicts and
+//! refusals, with the definitions of an order and of the verdicts in it.
+#![tactic(auto)]
+
+mod entry;
+mod judged;
+mod key;
+mod params;
+mod refusal;
+mod value;
+mod verdict;
+mod write_set;
+
+pub use entry::Entry;
+pub use judged::Judged;
+pub use key::Key;
+pub use params::{Params, Schema};
+pub use refusal::{Part, Refusal};
+pub use value::{MAX_VALUE, Value, Write};
+pub use verdict::Verdict;
+pub use write_set::{MAX_READS, MAX_WRITES, WriteSet};

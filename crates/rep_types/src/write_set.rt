@@ -1,0 +1,201 @@
+//! What a transaction hands in when it asks to commit.
+
+ghost use Rattle.std.specs.Prelude.{◌≡◌, ◌≤◌, length, map, IfSome, ⊤};
+ghost use Rattle.std.specs.List.{AllByRecursion};
+ghost use Rattle.rep_types.specs.Keys.{disorder};
+ghost use Rattle.rep_types.specs.Transactions.{key_of, misplaced, HasShortValue, written};
+
+use crate::key::Key;
+use crate::refusal::Refusal;
+use crate::value::Write;
+use arrayvec::ArrayVec;
+use std::alloc::AllocError;
+use std::marker::Model;
+
+/// The greatest number of keys that a write set reads.
+pub const MAX_READS: usize = 16;
+
+/// The greatest number of keys that a write set writes.
+pub const MAX_WRITES: usize = 16;
+
+/// What a transaction hands in when it asks to commit: the keys that it read, its writes, and the
+/// position of the state that it saw (deferred update: Pedone, Guerraoui and Schiper, 2003).
+#[derive(Debug, Drop, PartialEq, Eq)]
+pub struct WriteSet {
+    source: u64,
+    trx: u64,
+    last_seen: u64,
+    reads: ArrayVec<Key, 16>,
+    writes: ArrayVec<Write, 16>,
+}
+
+impl Model for WriteSet {
+    ghost use Rattle.rep_types.specs.Transactions.{Transaction, IsWithinLimits, transaction};
+
+    ghost Value = { Transaction };
+
+    ghost view = { λ w. transaction w.source w.trx w.last_seen w.reads.items w.writes.items };
+
+    ghost invariant = { λ w. IsWithinLimits (transaction w.source w.trx w.last_seen w.reads.items w.writes.items) };
+
+    ghost inverse = { λ t. record { source = t.source; trx = t.trx; last_seen = t.last_seen; reads = record { items = t.reads }; writes = record { items = t.writes } } };
+}
+
+/// The place of the first key that is not above the one before it.
+fn first_disorder(keys: &[Key]) -> Option<usize>
+    ensures { result ≡ disorder keys.now }
+{
+    for i in 1..keys.len() {
+        if !keys[i - 1].is_below(keys[i]) {
+            return Some(i);
+        }
+    }
+    None
+}
+
+/// The keys of the writes.
+fn keys_of(writes: &[Write]) -> ArrayVec<Key, 16>
+    requires { length writes.now ≤ 16 }
+    ensures { result.items ≡ map key_of writes.now }
+{
+    let mut keys = ArrayVec::new();
+    for write in writes {
+        keys.push(write.key);
+    }
+    keys
+}
+
+/// The index, in the reads followed by the writes, of the first entry that is not above its
+/// predecessor; where all are, the number of reads where there is no write.
+fn first_misplaced(reads: &[Key], writes: &[Write]) -> Option<usize>
+    requires few_reads { length reads.now ≤ 16 }
+    requires few_writes { length writes.now ≤ 16 }
+    ensures value { result ≡ misplaced reads.now writes.now }
+    ensures small { IfSome result (λ at. at ≤ 32) }
+{
+    if let Some(at) = first_disorder(reads) {
+        return Some(at);
+    }
+    if let Some(at) = first_disorder(keys_of(writes).as_slice()) {
+        return Some(reads.len() + at);
+    }
+    if writes.is_empty() {
+        return Some(reads.len());
+    }
+    None
+}
+
+/// A copy of the writes.
+fn copy_of(writes: &[Write]) -> ArrayVec<Write, 16>
+    requires { length writes.now ≤ 16 }
+    ensures same { result.items ≡ writes.now }
+    ensures short { AllByRecursion HasShortValue writes.now }
+{
+    let mut copies = ArrayVec::new();
+    for write in writes {
+        copies.push(write.copied());
+    }
+    copies
+}
+
+impl WriteSet {
+    ghost use Rattle.rep_types.specs.Transactions.{IsWithinLimits, checked, transaction};
+
+    /// The write set of the transaction `trx` of `source`, two labels without effect on a verdict,
+    /// which saw the state at the position `last_seen`.
+    ///
+    /// Refuses, in this order: more than 16 reads with `TooManyReads`; more than 16 writes with
+    /// `TooManyWrites`; and with `Malformed` the first entry, as its index in the reads followed by
+    /// the writes, that is not above its predecessor in its own list, or, where all are, no write
+    /// at all, `at` being the number of reads.
+    pub fn new(
+        source: u64,
+        trx: u64,
+        last_seen: u64,
+        reads: &[Key],
+        writes: &[Write],
+    ) -> Result<WriteSet, Refusal>
+        ensures { result ≡ checked (transaction source trx last_seen reads.now writes.now) }
+    {
+        let Ok(kept) = ArrayVec::try_from(reads) else {
+            return Err(Refusal::TooManyReads);
+        };
+        if writes.len() > MAX_WRITES {
+            return Err(Refusal::TooManyWrites);
+        }
+        if let Some(at) = first_misplaced(reads, writes) {
+            return Err(Refusal::Malformed { at: at as u64 });
+        }
+        Ok(WriteSet {
+            source,
+            trx,
+            last_seen,
+            reads: kept,
+            writes: copy_of(writes),
+        })
+    }
+
+    /// The label of the node or client that the transaction ran at.
+    pub fn source(&self) -> u64
+        ensures { result ≡ self.now.source }
+    {
+        self.source
+    }
+
+    /// The label of the transaction at its source.
+    pub fn trx(&self) -> u64
+        ensures { result ≡ self.now.trx }
+    {
+        self.trx
+    }
+
+    /// The position of the state that the transaction saw.
+    pub fn last_seen(&self) -> u64
+        ensures { result ≡ self.now.last_seen }
+    {
+        self.last_seen
+    }
+
+    /// The keys that the transaction read, in ascending order.
+    pub fn reads(&self) -> &[Key]
+        ensures reads { result.now ≡ self.now.reads }
+        ensures limits { IsWithinLimits self.now }
+    {
+        self.reads.as_slice()
+    }
+
+    /// What the transaction writes, in ascending order by key.
+    pub fn writes(&self) -> &[Write]
+        ensures writes { result.now ≡ self.now.writes }
+        ensures limits { IsWithinLimits self.now }
+    {
+        self.writes.as_slice()
+    }
+
+    /// The keys that the transaction writes, in ascending order.
+    pub fn written(&self) -> ArrayVec<Key, 16>
+        ensures { result.items ≡ written self.now }
+    {
+        keys_of(self.writes())
+    }
+}
+
+impl Clone for WriteSet {
+    ghost is_clone = { λ w copy. copy ≡ w };
+
+    ghost is_infallible = { λ _. ⊤ };
+
+    fn clone(&self) -> Result<WriteSet, AllocError> {
+        let mut reads = ArrayVec::new();
+        for key in self.reads.as_slice() {
+            reads.push(*key);
+        }
+        Ok(WriteSet {
+            source: self.source,
+            trx: self.trx,
+            last_seen: self.last_seen,
+            reads,
+            writes: copy_of(self.writes.as_slice()),
+        })
+    }
+}
