@@ -5,3 +5,4 @@ pub mod Settings
 pub mod Entries
 pub mod Order
 pub mod Verdicts
+pub mod Texts

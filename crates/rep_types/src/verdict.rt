@@ -1,5 +1,7 @@
 //! What certification says of a write set.
 
+use std::fmt;
+
 /// What certification says of a delivered write set. Every write set takes the next seqno,
 /// whatever its verdict; one that commits takes effect, and the others are dropped.
 #[derive(Clone, Copy, Debug, PartialEq, Eq)]
@@ -15,4 +17,21 @@ pub enum Verdict {
     Future,
     /// A key that it read or wrote is outside the schema.
     BadKey,
+}
+
+impl fmt::Display for Verdict {
+    ghost use Rattle.std.specs.Prelude.{Some};
+    ghost use Rattle.rep_types.specs.Texts.{verdict_text};
+
+    ghost output = { λ verdict. Some (verdict_text verdict) };
+
+    fn fmt<W: fmt::Write>(&self, f: &mut fmt::Formatter<W>) -> fmt::Result {
+        match self {
+            Verdict::Commit => write!(f, "commit"),
+            Verdict::Conflict(seqno) => write!(f, "conflict {seqno}"),
+            Verdict::Stale => write!(f, "stale"),
+            Verdict::Future => write!(f, "future"),
+            Verdict::BadKey => write!(f, "badkey"),
+        }
+    }
 }

@@ -1,6 +1,6 @@
 //! What a transaction hands in when it asks to commit.
 
-ghost use Rattle.std.specs.Prelude.{◌≡◌, ◌≤◌, length, map, IfSome, ⊤};
+ghost use Rattle.std.specs.Prelude.{◌≡◌, ◌<◌, ◌≤◌, length, map, IfSome, ⊤};
 ghost use Rattle.std.specs.List.{AllByRecursion};
 ghost use Rattle.rep_types.specs.Keys.{disorder};
 ghost use Rattle.rep_types.specs.Transactions.{key_of, misplaced, HasShortValue, written};
@@ -42,8 +42,10 @@ impl Model for WriteSet {
 }
 
 /// The place of the first key that is not above the one before it.
+#[tactic(auto, using(crate::proofs::Disorder::disorder_first, crate::proofs::Disorder::disorder_step, crate::proofs::Disorder::disorder_end))]
 fn first_disorder(keys: &[Key]) -> Option<usize>
-    ensures { result ≡ disorder keys.now }
+    ensures value { result ≡ disorder keys.now }
+    ensures within { IfSome result (λ i. i < length keys.now) }
 {
     for i in 1..keys.len() {
         if !keys[i - 1].is_below(keys[i]) {
@@ -186,10 +188,9 @@ impl Clone for WriteSet {
     ghost is_infallible = { λ _. ⊤ };
 
     fn clone(&self) -> Result<WriteSet, AllocError> {
-        let mut reads = ArrayVec::new();
-        for key in self.reads.as_slice() {
-            reads.push(*key);
-        }
+        let Ok(reads) = ArrayVec::try_from(self.reads.as_slice()) else {
+            unreachable!();
+        };
         Ok(WriteSet {
             source: self.source,
             trx: self.trx,
