@@ -1,13 +1,7 @@
-// A library with one function.
+//! A node at its plainest: it keeps the whole order and compares all pairs.
 #![tactic(auto)]
 
-ghost use Rattle.std.specs.Prelude.{◌≡◌};
-ghost use Rattle.rep_plain.specs.Echo.{echo_of};
+mod node;
+mod scan;
 
-// The `ensures` clause is the contract: what `echo` returns is `echo_of` of its argument, a definition
-// in `specs/Echo.antt`, which a caller's clause can cite too.
-pub fn echo(x: usize) -> usize
-    ensures { result ≡ echo_of x }
-{
-    x
-}
+pub use node::PlainNode;

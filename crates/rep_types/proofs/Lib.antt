@@ -1,1 +1,6 @@
 pub mod Disorder
+pub mod Latest
+pub mod Histories
+pub mod Windows
+pub mod Rows
+pub mod Touches

@@ -1,8 +1,0 @@
--- The result is `x`, which is what `echo_of` makes of it.
-use Rattle.std.proofs.Common.{refl}
-use Rattle.rep_plain.specs.Echo.{echo_of}
-use Rattle.rep_plain.proofs.echo.Goals as goal
-
-pub returns : goal.returns
-unfolding echo_of
-returns c = refl

@@ -1,0 +1,13 @@
+-- What a node has been handed.
+use Rattle.std.specs.Prelude.{List, map}
+use Rattle.rep_types.specs.declared.judged.Judged.{Judged}
+use Rattle.rep_types.specs.Settings.{Setting}
+use Rattle.rep_types.specs.Order.{Order}
+
+-- a node's parameters, and the order that was delivered to it
+pub record Delivered : Type 0 where
+  pub setting : Setting
+  pub order : Order
+
+abbrev pub delivered : Setting → List Judged → Delivered
+delivered p items = record { setting = p; order = map (λ (j : Judged). j.item) items }

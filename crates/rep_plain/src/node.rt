@@ -1,0 +1,111 @@
+//! The plain node.
+
+ghost use Rattle.std.specs.Prelude.{◌≡◌, ◌+◌, ◌≤◌, [], ◌∷◌, ◌++◌, length, IfOk, IfErr, OnOk, OnErr};
+ghost use Rattle.std.specs.Option.{option_copied};
+ghost use Rattle.rep_types.specs.Order.{verdict, read, window};
+
+use crate::scan::{is_in_schema, latest_conflict, recent_entries, row_of};
+use rep_types::{Entry, Judged, Key, Params, Refusal, Value, Verdict, WriteSet};
+use std::alloc::Global;
+use std::marker::Model;
+
+/// A node that keeps every delivered item with its verdict, and judges the next by comparing it
+/// with each of them. Its contracts are the definitions themselves; other nodes are compared with it.
+#[derive(Debug, Drop)]
+pub struct PlainNode {
+    params: Params,
+    items: Vec<Judged>,
+}
+
+impl Model for PlainNode {
+    ghost use Rattle.std.specs.Prelude.{◌≡◌};
+    ghost use Rattle.rep_types.specs.Order.{history};
+    ghost use Rattle.rep_plain.specs.Delivered.{Delivered, delivered};
+
+    ghost Value = { Delivered };
+
+    ghost view = { λ node. delivered node.params node.items.items };
+
+    ghost invariant = { λ node. node.items.items ≡ history node.params (delivered node.params node.items.items).order };
+}
+
+impl PlainNode {
+    /// A node that was handed nothing yet.
+    pub fn new(alloc: Global, params: Params) -> PlainNode
+        ensures { result ≡ record { setting = params; order = [] } }
+    {
+        PlainNode {
+            params,
+            items: Vec::new(alloc),
+        }
+    }
+
+    /// The verdict on the item, were it the next.
+    fn judge(&self, item: &WriteSet) -> Verdict
+        ensures { result ≡ verdict self.now.setting (self.now.order ++ item.now ∷ []) (length self.now.order + 1) }
+    {
+        let seqno = self.items.len() as u64 + 1;
+        let seen = item.last_seen();
+        if seen >= seqno {
+            return Verdict::Future;
+        }
+        if !is_in_schema(self.params.schema(), item) {
+            return Verdict::BadKey;
+        }
+        if seen + u64::from(self.params.window()) + 1 < seqno {
+            return Verdict::Stale;
+        }
+        match latest_conflict(&self.items, item) {
+            Some(seqno) => Verdict::Conflict(seqno),
+            None => Verdict::Commit,
+        }
+    }
+
+    /// Takes the next item of the order and says its verdict. Whatever that is, the item has taken
+    /// the next seqno.
+    ///
+    /// Refuses with `OutOfMemory` where the list cannot grow; the node is then as it was.
+    pub fn deliver(&mut self, item: WriteSet) -> Result<Verdict, Refusal>
+        // The verdict is that of the order with the item at its end.
+        ensures verdict { IfOk result (λ v. v ≡ verdict self.old.setting (self.old.order ++ item ∷ []) (length self.old.order + 1)) }
+        // The order grows by the item.
+        ensures order { OnOk result (self.new ≡ record self.old { order = self.old.order ++ item ∷ [] }) }
+        ensures refused { IfErr result (λ refusal. refusal ≡ Refusal.OutOfMemory) }
+        ensures unchanged { OnErr result (self.new ≡ self.old) }
+    {
+        let verdict = self.judge(&item);
+        let seqno = self.items.len() as u64 + 1;
+        self.items.push(Judged {
+            seqno,
+            item,
+            verdict,
+        })?;
+        Ok(verdict)
+    }
+
+    /// What stands under the key in the state after the first `s` items.
+    pub fn get(&self, key: Key, s: u64) -> Option<&Value>
+        requires { s ≤ length self.now.order }
+        ensures { option_copied result ≡ read self.now.setting self.now.order key s }
+    {
+        row_of(&self.items[..s as usize], key)
+    }
+
+    /// The committed items that certification may still need, in ascending order.
+    ///
+    /// Refuses with `OutOfMemory` where the list cannot grow.
+    pub fn window(&self, alloc: Global) -> Result<Vec<Entry>, Refusal>
+        ensures window { IfOk result (λ entries. entries.items ≡ window self.now.setting self.now.order) }
+        ensures refused { IfErr result (λ refusal. refusal ≡ Refusal.OutOfMemory) }
+    {
+        let floor = (self.items.len() as u64 + 1).saturating_sub(u64::from(self.params.window()));
+        recent_entries(alloc, &self.items, floor)
+    }
+
+    /// How many items were delivered.
+    pub fn position(&self) -> u64
+        ensures { result ≡ length self.now.order }
+    {
+        self.items.len() as u64
+    }
+}

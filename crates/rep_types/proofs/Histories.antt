@@ -1,0 +1,112 @@
+-- Lemmas on `history`: one more item, a first part, and the item at a place.
+use Rattle.std.proofs.Common.{◌≡◌, ℕ, ◌+◌, ◌-◌, ◌<◌, ◌≤◌, List, [], ◌∷◌, ◌++◌, length, fold, take, drop, get_or, refl, sym, ap, ◌∙◌, ⊎_elim, arith}
+use Rattle.std.proofs.lemmas.Bool.{cases_lt}
+use Rattle.std.proofs.lemmas.List.{take_more, take_all, take-take, take_at, length_push, get_or_push, get_or-take, length-take-le, take-append-drop}
+use Rattle.std.proofs.lemmas.List.Sums.{fold-append}
+use Rattle.std.proofs.lemmas.Grind.{common_steps}
+use Rattle.rep_types.specs.declared.judged.Judged.{Judged}
+use Rattle.rep_types.specs.declared.verdict.Verdict.{Verdict}
+use Rattle.rep_types.specs.Transactions.{Transaction}
+use Rattle.rep_types.specs.Settings.{Setting}
+use Rattle.rep_types.specs.Order.{Order, no_item, item, floor, verdict_among, entries, joined, history, verdict}
+
+-- the history of one more item is the history before it, joined by that item
+pub history_push : (p : Setting) (L : Order) (w : Transaction) → history p (L ++ w ∷ []) ≡ joined p (history p L) w
+history_push p L w = fold-append (joined p) [] L (w ∷ [])
+
+-- joining the items of L makes a history longer by the length of L
+pub length-fold_joined : (p : Setting) (h : List Judged) (L : Order) → length (fold (joined p) h L) ≡ length h + length L
+length-fold_joined p h [] = omega arith
+length-fold_joined p h (w ∷ L) = omega (arith, length-fold_joined p (joined p h w) L, length_push h)
+
+-- a history has as many items as the order
+pub length_history : (p : Setting) (L : Order) → length (history p L) ≡ length L
+length_history p L = omega (arith, length-fold_joined p [] L)
+
+-- joining more items leaves the history before them in front
+pub take-fold_joined : (p : Setting) (h : List Judged) (L : Order) → take (length h) (fold (joined p) h L) ≡ h
+take-fold_joined p h [] = take_all (length h) h (omega arith)
+take-fold_joined p h (w ∷ L) =
+    let j : Judged = record { seqno = length h + 1; item = w; verdict = verdict_among p (floor p (length h)) (length h + 1) (entries h) w } in
+    let more : take (length (h ++ j ∷ [])) (fold (joined p) (h ++ j ∷ []) L) ≡ h ++ j ∷ [] = take-fold_joined p (h ++ j ∷ []) L in
+    let less : length h ≤ length (h ++ j ∷ []) = omega (arith, length_push h j) in
+    sym (take-take (length h) (length (h ++ j ∷ [])) (fold (joined p) (h ++ j ∷ []) L) less) ∙ (ap (take (length h)) more ∙ take_at h (j ∷ []) (length h) refl)
+
+-- the first k items of a history are the history of the first k items
+pub take_history : (p : Setting) (L : Order) (k : ℕ) → take k (history p L) ≡ history p (take k L)
+take_history p L k = ⊎_elim (λ h. within h) past (cases_lt k (length L))
+  where
+    within : k < length L → take k (history p L) ≡ history p (take k L)
+    within h =
+        let split : history p L ≡ fold (joined p) (history p (take k L)) (drop k L) =
+            sym (ap (history p) (take-append-drop k L)) ∙ fold-append (joined p) [] (take k L) (drop k L) in
+        let long : length (history p (take k L)) ≡ k = length_history p (take k L) ∙ length-take-le k L (omega arith) in
+        let front : take (length (history p (take k L))) (fold (joined p) (history p (take k L)) (drop k L)) ≡ history p (take k L) =
+            take-fold_joined p (history p (take k L)) (drop k L) in
+        rw split (rw long at front)
+    past : length L ≤ k → take k (history p L) ≡ history p (take k L)
+    past h = take_all k (history p L) (omega (arith, length_history p L)) ∙ sym (ap (history p) (take_all k L h))
+
+-- the item n of the order, with its seqno and its verdict
+abbrev pub judged : Setting → Order → ℕ → Judged
+judged p L n = record { seqno = n; item = item L n; verdict = verdict p L n }
+
+-- one more item, in front of whose seqno stand n - 1 items
+history_next : (p : Setting) (L : Order) (n : ℕ) → 0 < n → n ≤ length L → history p (take n L) ≡ history p (take (n - 1) L) ++ judged p L n ∷ []
+history_next p L n pos h =
+    let one : n - 1 + 1 ≡ n = omega arith in
+    let before : List Judged = history p (take (n - 1) L) in
+    let long : length before ≡ n - 1 = length_history p (take (n - 1) L) ∙ length-take-le (n - 1) L (omega arith) in
+    let front : take n L ≡ take (n - 1) L ++ item L n ∷ [] = rw one at (take_more L (n - 1) no_item (omega arith)) in
+    let next : history p (take n L) ≡ joined p before (item L n) = ap (history p) front ∙ history_push p (take (n - 1) L) (item L n) in
+    let made : ℕ → ℕ → Judged = λ k m. record { seqno = m; item = item L n; verdict = verdict_among p (floor p k) m (entries before) (item L n) } in
+    next ∙ (ap (λ k. before ++ made k (k + 1) ∷ []) long ∙ ap (λ m. before ++ made (n - 1) m ∷ []) one)
+
+-- the history has at n - 1 the item n, with its seqno and its verdict
+pub history_at : (p : Setting) (L : Order) (n : ℕ) (d : Judged) → 0 < n → n ≤ length L → get_or (history p L) (n - 1) d ≡ judged p L n
+history_at p L n d pos h =
+    let long : length (history p (take (n - 1) L)) ≡ n - 1 = length_history p (take (n - 1) L) ∙ length-take-le (n - 1) L (omega arith) in
+    let place : get_or (history p (take (n - 1) L) ++ judged p L n ∷ []) (n - 1) d ≡ judged p L n = get_or_push (history p (take (n - 1) L)) (judged p L n) d (n - 1) long in
+    let next : take n (history p L) ≡ history p (take (n - 1) L) ++ judged p L n ∷ [] = take_history p L n ∙ history_next p L n pos h in
+    let here : get_or (take n (history p L)) (n - 1) d ≡ get_or (history p L) (n - 1) d = get_or-take n (history p L) (n - 1) d (omega arith) in
+    sym here ∙ (ap (λ (xs : List Judged). get_or xs (n - 1) d) next ∙ place)
+
+-- the same by the index from 0
+pub history_at_index : (p : Setting) (L : Order) (i : ℕ) (d : Judged) → i < length L → get_or (history p L) i d ≡ judged p L (i + 1)
+history_at_index p L i d h =
+    let same : i + 1 - 1 ≡ i = omega arith in
+    ap (λ k. get_or (history p L) k d) (sym same) ∙ history_at p L (i + 1) d (omega arith) (omega arith)
+
+-- the verdict on the last item is what the items before it make of it
+pub verdict_push : (p : Setting) (L : Order) (w : Transaction) →
+    verdict p (L ++ w ∷ []) (length L + 1) ≡ verdict_among p (floor p (length L)) (length L + 1) (entries (history p L)) w
+verdict_push p L w =
+    let same : length L + 1 - 1 ≡ length L = omega arith in
+    let before : take (length L) (L ++ w ∷ []) ≡ L = take_at L (w ∷ []) (length L) refl in
+    let own : get_or (L ++ w ∷ []) (length L) no_item ≡ w = get_or_push L w no_item (length L) refl in
+    cc
+
+-- an item of the first k items is the same in the whole order
+pub item_take : (L : Order) (k n : ℕ) → 0 < n → n ≤ k → item (take k L) n ≡ item L n
+item_take L k n pos h = get_or-take k L (n - 1) no_item (omega arith)
+
+-- the verdict on an item of the first k items is the same in the whole order
+pub verdict_take : (p : Setting) (L : Order) (k n : ℕ) → 0 < n → n ≤ k → verdict p (take k L) n ≡ verdict p L n
+verdict_take p L k n pos h =
+    let before : take (n - 1) (take k L) ≡ take (n - 1) L = take-take (n - 1) k L (omega arith) in
+    let own : item (take k L) n ≡ item L n = item_take L k n pos h in
+    cc
+
+-- more items change no verdict before them
+pub verdict_append : (p : Setting) (L M : Order) (n : ℕ) → 0 < n → n ≤ length L → verdict p (L ++ M) n ≡ verdict p L n
+verdict_append p L M n pos h =
+    let front : take (length L) (L ++ M) ≡ L = take_at L M (length L) refl in
+    sym (verdict_take p (L ++ M) (length L) n pos h) ∙ ap (λ K. verdict p K n) front
+
+-- one more item stands behind the history before it, with its seqno and its verdict in the longer order
+pub history_push_judged : (p : Setting) (L : Order) (w : Transaction) →
+    history p (L ++ w ∷ []) ≡ history p L ++ (record { seqno = length L + 1; item = w; verdict = verdict p (L ++ w ∷ []) (length L + 1) }) ∷ []
+history_push_judged p L w =
+    let made : ℕ → Judged = λ k. record { seqno = k + 1; item = w; verdict = verdict_among p (floor p k) (k + 1) (entries (history p L)) w } in
+    let told : Verdict → Judged = λ v. record { seqno = length L + 1; item = w; verdict = v } in
+    history_push p L w ∙ (ap (λ k. history p L ++ made k ∷ []) (length_history p L) ∙ ap (λ v. history p L ++ told v ∷ []) (sym (verdict_push p L w)))

@@ -1,0 +1,27 @@
+-- Lemmas on keys that two lists share, and on what is against a write set.
+use Rattle.std.proofs.Common.{◌≡◌, ℕ, ◌+◌, ◌<◌, ◌≤◌, Bool, true, false, List, [], ◌∷◌, ◌++◌, length, map, get_or, Contains, None, refl, sym, ap, ◌∙◌, arith}
+use Rattle.std.specs.List.{list_any}
+use Rattle.std.proofs.lemmas.Bool.{false_from_ne_true, both_ways}
+use Rattle.std.proofs.lemmas.Bool.Decides.{nat_tests}
+use Rattle.std.proofs.lemmas.List.Folds.{list_any_at}
+use Rattle.rep_types.specs.declared.key.Key.{Key}
+use Rattle.rep_types.specs.declared.value.Write.{Write}
+use Rattle.rep_types.specs.Keys.{key_eq}
+use Rattle.rep_types.specs.Transactions.{key_of}
+use Rattle.rep_types.specs.Order.{touches, latest}
+
+-- where no element passes, one that the list contains doesn't
+pub list_any_contains : {A : Type 0} (test : A → Bool) (xs : List A) (x : A) → Contains xs x → list_any test xs ≡ false → test x ≡ false
+list_any_contains test xs x (k, inside, is) none =
+    false_from_ne_true (test x) (λ passes. both_ways (list_any test xs) none (list_any_at test xs k x inside (ap test is ∙ passes)))
+
+-- keys that touch none of the others name none of them
+pub list_any_untouched : (keys others : List Key) (key : Key) → touches keys others ≡ false → Contains others key → list_any (λ (k : Key). key_eq k key) keys ≡ false
+list_any_untouched [] others key apart has = refl
+list_any_untouched (k ∷ keys) others key apart has = grind (arith, list_any_contains (key_eq k) others key has, list_any_untouched keys others key)
+
+-- among writes of such keys there is no last write of one of the others
+pub latest_untouched : (writes : List Write) (others : List Key) (key : Key) → touches (map key_of writes) others ≡ false → Contains others key →
+    latest (λ (write : Write). key_eq write.key key) writes ≡ None
+latest_untouched [] others key apart has = refl
+latest_untouched (write ∷ writes) others key apart has = grind (arith, list_any_contains (key_eq write.key) others key has, latest_untouched writes others key)

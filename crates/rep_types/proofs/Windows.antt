@@ -1,0 +1,69 @@
+-- Lemmas on the committed items and the window: what certification needs of them.
+use Rattle.std.proofs.Common.{◌≡◌, ℕ, ◌+◌, ◌-◌, ◌<◌, ◌≤◌, Bool, true, false, nat_lt, nat_le, ◌&&◌, if◌then◌else◌, List, [], ◌∷◌, ◌++◌, length, map, filter, refl, sym, ap, ◌∙◌, le_refl, arith}
+use Rattle.std.proofs.lemmas.List.{map-append, length_push}
+use Rattle.std.proofs.lemmas.List.Elements.{filter-append}
+use Rattle.std.proofs.lemmas.Bool.Decides.{nat_tests}
+use Rattle.rep_types.specs.declared.judged.Judged.{Judged}
+use Rattle.rep_types.specs.declared.verdict.Verdict.{Verdict}
+use Rattle.rep_types.specs.Transactions.{Transaction, written}
+use Rattle.rep_types.specs.Settings.{Setting}
+use Rattle.rep_types.specs.Entries.{Entry}
+use Rattle.rep_types.specs.Order.{Order, latest, against, floor, conflict_with, verdict_among, is_commit, counts, entry_of, entries, history, verdict, recent, window, judge, window_after}
+use Rattle.rep_types.proofs.Latest.{latest-filter}
+use Rattle.rep_types.proofs.Histories.{history_push_judged, verdict_push}
+
+-- the committed items of a joined list are those of its two parts
+pub entries-append : (g h : List Judged) → entries (g ++ h) ≡ entries g ++ entries h
+entries-append g h = simp (filter-append, map-append)
+
+-- one more judged item: it is one more entry where it committed
+pub entries_push : (h : List Judged) (j : Judged) → entries (h ++ j ∷ []) ≡ entries h ++ (if counts j then entry_of j ∷ [] else [])
+entries_push h j = grind (arith, entries-append h (j ∷ []))
+
+-- the entries from a floor on of a joined list are those of its two parts
+pub recent-append : (lowest : ℕ) (es fs : List Entry) → recent lowest (es ++ fs) ≡ recent lowest es ++ recent lowest fs
+recent-append lowest es fs = filter-append (λ (e : Entry). nat_le lowest e.seqno) es fs
+
+-- what a lower floor drops, a higher one drops too
+pub recent-recent : (low high : ℕ) → low ≤ high → (es : List Entry) → recent high (recent low es) ≡ recent high es
+recent-recent low high h [] = refl
+recent-recent low high h (e ∷ es) = grind (arith, nat_tests, recent-recent low high h es)
+
+-- entries below what w had seen are not against it
+pub latest-recent : (lowest : ℕ) (w : Transaction) → lowest ≤ w.last_seen + 1 → (es : List Entry) → latest (against w) (recent lowest es) ≡ latest (against w) es
+latest-recent lowest w h es = latest-filter (against w) (λ (e : Entry). nat_le lowest e.seqno) below es
+  where
+    below : (e : Entry) → nat_le lowest e.seqno ≡ false → against w e ≡ false
+    below e f = grind (arith, nat_tests)
+
+-- entries below the floor of the verdict, or of an earlier one, don't change the verdict
+pub verdict_among-recent : (p : Setting) (low lowest n : ℕ) (es : List Entry) (w : Transaction) → low ≤ lowest →
+    verdict_among p lowest n (recent low es) w ≡ verdict_among p lowest n es w
+verdict_among-recent p low lowest n es w h = grind (arith, nat_tests, latest-recent low w)
+
+-- judging from the window is judging the whole order
+pub judge_window : (p : Setting) (L : Order) (w : Transaction) → judge p (length L) (window p L) w ≡ verdict p (L ++ w ∷ []) (length L + 1)
+judge_window p L w =
+    verdict_among-recent p (floor p (length L)) (floor p (length L)) (length L + 1) (entries (history p L)) w (le_refl (floor p (length L))) ∙ sym (verdict_push p L w)
+
+-- the committed items of one more item: it is one more entry where its verdict is Commit
+pub entries_history_push : (p : Setting) (L : Order) (w : Transaction) →
+    entries (history p (L ++ w ∷ [])) ≡
+    entries (history p L) ++ (if is_commit (verdict p (L ++ w ∷ []) (length L + 1)) then (record { seqno = length L + 1; keys = written w }) ∷ [] else [])
+entries_history_push p L w = ap entries (history_push_judged p L w) ∙ entries_push (history p L) _
+
+-- the window goes on from itself as the order does
+pub window_push : (p : Setting) (L : Order) (w : Transaction) → window_after p (length L) (window p L) w ≡ window p (L ++ w ∷ [])
+window_push p L w =
+    let low : ℕ = floor p (length L) in
+    let high : ℕ = floor p (length L + 1) in
+    let own : Verdict → List Entry = λ v. if is_commit v then (record { seqno = length L + 1; keys = written w }) ∷ [] else [] in
+    let es : List Entry = entries (history p L) in
+    let last : Verdict = verdict p (L ++ w ∷ []) (length L + 1) in
+    let rises : low ≤ high = omega arith in
+    let kept : recent high (recent low es ++ own last) ≡ recent high (es ++ own last) =
+        recent-append high (recent low es) (own last) ∙ (ap (λ (fs : List Entry). fs ++ recent high (own last)) (recent-recent low high rises es) ∙ sym (recent-append high es (own last))) in
+    ap (λ (v : Verdict). recent high (recent low es ++ own v)) (judge_window p L w)
+    ∙ (kept
+    ∙ (ap (recent high) (sym (entries_history_push p L w))
+    ∙ ap (λ (k : ℕ). recent (floor p k) (entries (history p (L ++ w ∷ [])))) (sym (length_push L w))))
