@@ -1,9 +1,8 @@
 -- Lemmas on `history`: one more item, a first part, and the item at a place.
-use Rattle.std.proofs.Common.{◌≡◌, ℕ, ◌+◌, ◌-◌, ◌<◌, ◌≤◌, List, [], ◌∷◌, ◌++◌, length, fold, take, drop, get_or, refl, sym, ap, ◌∙◌, ⊎_elim, arith}
+use Rattle.std.proofs.Common.{◌≡◌, ℕ, ◌+◌, ◌-◌, ◌<◌, ◌≤◌, List, [], ◌∷◌, ◌++◌, length, fold, take, drop, get_or, All, refl, sym, ap, ◌∙◌, ⊎_elim, arith}
 use Rattle.std.proofs.lemmas.Bool.{cases_lt}
-use Rattle.std.proofs.lemmas.List.{take_more, take_all, take-take, take_at, length_push, get_or_push, get_or-take, length-take-le, take-append-drop}
+use Rattle.std.proofs.lemmas.List.{take_more, take_all, take-take, take_at, length_push, get_or_push, get_or-take, get_or-drop, length-drop, length-take-le, take-append-drop}
 use Rattle.std.proofs.lemmas.List.Sums.{fold-append}
-use Rattle.std.proofs.lemmas.Grind.{common_steps}
 use Rattle.rep_types.specs.declared.judged.Judged.{Judged}
 use Rattle.rep_types.specs.declared.verdict.Verdict.{Verdict}
 use Rattle.rep_types.specs.Transactions.{Transaction}
@@ -39,11 +38,12 @@ take_history p L k = ⊎_elim (λ h. within h) past (cases_lt k (length L))
     within : k < length L → take k (history p L) ≡ history p (take k L)
     within h =
         let split : history p L ≡ fold (joined p) (history p (take k L)) (drop k L) =
-            sym (ap (history p) (take-append-drop k L)) ∙ fold-append (joined p) [] (take k L) (drop k L) in
+        sym (ap (history p) (take-append-drop k L)) ∙ fold-append (joined p) [] (take k L) (drop k L) in
         let long : length (history p (take k L)) ≡ k = length_history p (take k L) ∙ length-take-le k L (omega arith) in
         let front : take (length (history p (take k L))) (fold (joined p) (history p (take k L)) (drop k L)) ≡ history p (take k L) =
-            take-fold_joined p (history p (take k L)) (drop k L) in
+        take-fold_joined p (history p (take k L)) (drop k L) in
         rw split (rw long at front)
+
     past : length L ≤ k → take k (history p L) ≡ history p (take k L)
     past h = take_all k (history p L) (omega (arith, length_history p L)) ∙ sym (ap (history p) (take_all k L h))
 
@@ -110,3 +110,17 @@ history_push_judged p L w =
     let made : ℕ → Judged = λ k. record { seqno = k + 1; item = w; verdict = verdict_among p (floor p k) (k + 1) (entries (history p L)) w } in
     let told : Verdict → Judged = λ v. record { seqno = length L + 1; item = w; verdict = v } in
     history_push p L w ∙ (ap (λ k. history p L ++ made k ∷ []) (length_history p L) ∙ ap (λ v. history p L ++ told v ∷ []) (sym (verdict_push p L w)))
+
+-- the items of a history have the seqnos from 1 up to its length
+pub seqnos_history : (p : Setting) (L : Order) → All (λ (j : Judged). (0 < j.seqno) × (j.seqno ≤ length L)) (history p L)
+seqnos_history p L k d inside =
+    let here : (get_or (history p L) k d).seqno ≡ k + 1 = ap (λ (j : Judged). j.seqno) (history_at_index p L k d (omega (arith, length_history p L))) in
+    (omega arith, omega (arith, length_history p L))
+
+-- the items of a history from place s on have a seqno above s
+pub later_history : (p : Setting) (L : Order) (s : ℕ) → All (λ (j : Judged). s < j.seqno) (drop s (history p L))
+later_history p L s k d inside =
+    let long : length (drop s (history p L)) ≡ length L - s = length-drop s (history p L) ∙ ap (λ n. n - s) (length_history p L) in
+    let here : get_or (drop s (history p L)) k d ≡ judged p L (s + k + 1) = get_or-drop s (history p L) k d ∙ history_at_index p L (s + k) d (omega arith) in
+    let seqno : (get_or (drop s (history p L)) k d).seqno ≡ s + k + 1 = ap (λ (j : Judged). j.seqno) here in
+    omega arith

@@ -1,9 +1,8 @@
 -- Lemmas on `latest`, the last element of a list that passes a test.
-use Rattle.std.proofs.Common.{◌≡◌, ℕ, ◌+◌, ◌<◌, Bool, true, false, ◌&&◌, if◌then◌else◌, List, [], ◌∷◌, ◌++◌, length, map, filter, take, get_or, Option, None, Some, option_map, refl, arith}
+use Rattle.std.proofs.Common.{◌≡◌, ℕ, zero, suc, ◌+◌, ◌<◌, ◌≤◌, Bool, true, false, ◌&&◌, if◌then◌else◌, List, [], ◌∷◌, ◌++◌, length, map, filter, take, drop, get_or, Option, None, Some, option_map, refl, sym, ap, ◌∙◌, arith}
 use Rattle.std.specs.List.{list_any}
 use Rattle.std.specs.Option.{option_or}
-use Rattle.std.proofs.lemmas.List.{take_more, take_all, get_or_default}
-use Rattle.std.proofs.lemmas.Grind.{common_steps}
+use Rattle.std.proofs.lemmas.List.{take_more, take_all, drop_more, drop_all, take-append-drop}
 use Rattle.rep_types.specs.Order.{latest}
 
 -- the last one of a joined list is that of the second part, or else that of the first
@@ -44,3 +43,49 @@ latest_none test (x ∷ xs) h = grind (arith, latest_none test xs)
 pub list_any-from_latest : {A : Type 0} (test : A → Bool) (xs : List A) → latest test xs ≡ None → list_any test xs ≡ false
 list_any-from_latest test [] h = refl
 list_any-from_latest test (x ∷ xs) h = grind (arith, list_any-from_latest test xs)
+
+-- o is the last element that passes: it stands at some place, passes, and none after it does; or none does
+abbrev pub IsLatest : {A : Type 0} → (A → Bool) → List A → Option A → Type 0
+IsLatest {A} test xs None = (k : ℕ) (d : A) → k < length xs → test (get_or xs k d) ≡ false
+IsLatest {A} test xs (Some x) =
+    (i : ℕ) × (i < length xs) × (get_or xs i x ≡ x) × (test x ≡ true) × ((k : ℕ) (d : A) → i < k → k < length xs → test (get_or xs k d) ≡ false)
+
+-- one more element in front
+IsLatest-cons : {A : Type 0} (test : A → Bool) (x : A) (xs : List A) (o : Option A) (passes : Bool) → test x ≡ passes → IsLatest test xs o →
+    IsLatest test (x ∷ xs) (option_or o (if passes then Some x else None))
+IsLatest-cons {A} test x xs (Some y) passes e (i, inside, is, good, after) = (suc i, omega arith, is, good, later)
+  where
+    later : (k : ℕ) (d : A) → suc i < k → k < suc (length xs) → test (get_or (x ∷ xs) k d) ≡ false
+    later zero d above below = absurd (omega arith)
+    later (suc k) d above below = after k d (omega arith) (omega arith)
+IsLatest-cons {A} test x xs None true e none = (zero, omega arith, refl, e, later)
+  where
+    later : (k : ℕ) (d : A) → zero < k → k < suc (length xs) → test (get_or (x ∷ xs) k d) ≡ false
+    later zero d above below = absurd (omega arith)
+    later (suc k) d above below = none k d (omega arith)
+IsLatest-cons {A} test x xs None false e none = all
+  where
+    all : (k : ℕ) (d : A) → k < suc (length xs) → test (get_or (x ∷ xs) k d) ≡ false
+    all zero d below = e
+    all (suc k) d below = none k d (omega arith)
+
+-- `latest` finds the last element that passes, as those words say
+pub IsLatest-latest : {A : Type 0} (test : A → Bool) (xs : List A) → IsLatest test xs (latest test xs)
+IsLatest-latest test [] = λ k d below. absurd (omega arith)
+IsLatest-latest test (x ∷ xs) = IsLatest-cons test x xs (latest test xs) (test x) refl (IsLatest-latest test xs)
+
+-- one step of a loop from the end, where what it has read failed: the element at i is the last one that passes, if it passes
+pub latest_drop_found : {A : Type 0} (test : A → Bool) (xs : List A) (i : ℕ) (x : A) → x ≡ get_or xs i x → i < length xs →
+    latest test (drop (i + 1) xs) ≡ None → test x ≡ true → latest test xs ≡ Some x
+latest_drop_found test xs i x e h none passes =
+    let rest : latest test (drop i xs) ≡ Some x = grind (arith, drop_more xs i x h) in
+    ap (latest test) (sym (take-append-drop i xs)) ∙ (latest-append test (take i xs) (drop i xs) ∙ ap (λ (o : Option _). option_or o (latest test (take i xs))) rest)
+
+-- and the loop goes on, if it fails
+pub latest_drop_more : {A : Type 0} (test : A → Bool) (xs : List A) (i : ℕ) (x : A) → x ≡ get_or xs i x → i < length xs →
+    latest test (drop (i + 1) xs) ≡ None → test x ≡ false → latest test (drop i xs) ≡ None
+latest_drop_more test xs i x e h none fails = grind (arith, drop_more xs i x h)
+
+-- such a loop begins behind the last element
+pub latest_drop_all : {A : Type 0} (test : A → Bool) (xs : List A) (i : ℕ) → length xs ≤ i → latest test (drop i xs) ≡ None
+latest_drop_all test xs i h = ap (latest test) (drop_all i xs h)

@@ -4,3 +4,5 @@ pub mod Histories
 pub mod Windows
 pub mod Rows
 pub mod Touches
+pub mod SerialReads
+pub mod VerdictsByPairs

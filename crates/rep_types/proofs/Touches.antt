@@ -1,5 +1,5 @@
 -- Lemmas on keys that two lists share, and on what is against a write set.
-use Rattle.std.proofs.Common.{◌≡◌, ℕ, ◌+◌, ◌<◌, ◌≤◌, Bool, true, false, List, [], ◌∷◌, ◌++◌, length, map, get_or, Contains, None, refl, sym, ap, ◌∙◌, arith}
+use Rattle.std.proofs.Common.{◌≡◌, Bool, true, false, List, [], ◌∷◌, map, Contains, None, refl, ap, ◌∙◌, arith}
 use Rattle.std.specs.List.{list_any}
 use Rattle.std.proofs.lemmas.Bool.{false_from_ne_true, both_ways}
 use Rattle.std.proofs.lemmas.Bool.Decides.{nat_tests}
@@ -25,3 +25,11 @@ pub latest_untouched : (writes : List Write) (others : List Key) (key : Key) →
     latest (λ (write : Write). key_eq write.key key) writes ≡ None
 latest_untouched [] others key apart has = refl
 latest_untouched (write ∷ writes) others key apart has = grind (arith, list_any_contains (key_eq write.key) others key has, latest_untouched writes others key)
+
+-- keys that pass the test are one key
+pub key_eq-true : (a b : Key) → key_eq a b ≡ true → a ≡ b
+key_eq-true a b h = grind (arith, nat_tests)
+
+-- a key is itself
+pub key_eq_refl : (a : Key) → key_eq a a ≡ true
+key_eq_refl a = grind (arith, nat_tests)

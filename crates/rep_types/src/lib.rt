@@ -5,6 +5,7 @@
 mod entry;
 mod judged;
 mod key;
+mod laws;
 mod params;
 mod refusal;
 mod value;
@@ -14,6 +15,7 @@ mod write_set;
 pub use entry::Entry;
 pub use judged::Judged;
 pub use key::Key;
+pub use laws::{reads_are_serial, state_is_enough, verdicts_are_determined};
 pub use params::{Params, Schema};
 pub use refusal::{Part, Refusal};
 pub use value::{MAX_VALUE, Value, Write};
