@@ -1,15 +1,16 @@
 -- How a line of an order text is read: functions of its words and bytes, each None where there is nothing of the form.
-use Rattle.std.specs.Prelude.{ℕ, ◌+◌, ◌*◌, ◌^◌, Bool, true, false, ◌==◌, ◌&&◌, not, nat_lt, nat_le, if◌then◌else◌, List, [], ◌∷◌, ◌++◌, length, codes, Option, None, Some, Result, Ok, Err}
+use Rattle.std.specs.Prelude.{ℕ, ◌+◌, ◌*◌, ◌^◌, Bool, false, ◌==◌, ◌&&◌, nat_lt, if◌then◌else◌, List, [], ◌∷◌, length, drop, codes, Option, None, Some, Result, Ok, Err}
 use Rattle.std.specs.List.{list_all, list_any}
-use Rattle.std.specs.Option.{option_map, option_and_then, option_map_or}
+use Rattle.std.specs.Option.{option_map, option_map_or}
 use Rattle.std.specs.Char.{digit_value, is_digit}
+use Rattle.std.specs.Str.{bytes_eq}
 use Rattle.std.specs.Str.Parse.{digits_value}
 use Rattle.rep_types.specs.declared.key.Key.{Key}
 use Rattle.rep_types.specs.declared.value.Write.{Write}
 use Rattle.rep_types.specs.declared.refusal.Refusal.{Refusal}
 use Rattle.rep_types.specs.declared.refusal.Refusal.TheVariants.{Malformed, TooManyReads, TooManyWrites, ValueTooLong}
-use Rattle.rep_types.specs.Transactions.{Transaction, misplaced}
-use Rattle.rep_types.specs.Settings.{Setting, allowed}
+use Rattle.rep_types.specs.Transactions.{Transaction, transaction, misplaced}
+use Rattle.rep_types.specs.Settings.{Setting, setting, allowed}
 use Rattle.rep_record.specs.Words.{words, cut}
 
 infixl 10 ◌>>=◌
@@ -22,43 +23,145 @@ None >>= f = None
 abbrev pub given : {A : Type 0} → Bool → A → Option A
 given test x = if test then Some x else None
 
-abbrev pub number_in : ℕ → List ℕ → Option ℕ
-number_in limit word =
-    let value = digits_value 10 word in
-    given (nat_lt 0 (length word) && list_all (λ (c : ℕ). is_digit c 10) word && nat_lt value limit) value
+-- whether the word is a number below the limit
+abbrev pub is_number : ℕ → List ℕ → Bool
+is_number limit word = nat_lt 0 (length word) && list_all (λ (c : ℕ). is_digit c 10) word && nat_lt (digits_value 10 word) limit
 
-abbrev pub key_parts : List ℕ × List ℕ → Option Key
-key_parts parts = number_in (2 ^ 8) parts.0 >>= λ table. number_in (2 ^ 32) parts.1 >>= λ row. Some (record { table = table; row = row })
+-- the number below the limit that the digits write
+unfoldable pub number_in : ℕ → List ℕ → Option ℕ
+number_in limit word = given (is_number limit word) (digits_value 10 word)
 
-abbrev pub key_in : List ℕ → Option Key
-key_in word = cut 47 word >>= key_parts
+-- a key: `table/row`
+unfoldable pub key_in : List ℕ → Option Key
+key_in word = do
+  parts ← cut 47 word
+  table ← number_in (2 ^ 8) parts.0
+  row ← number_in (2 ^ 32) parts.1
+  Some (record { table = table; row = row })
 
-abbrev pub hex_in : List ℕ → Option (List ℕ)
+-- labels: `source:trx`
+unfoldable pub label_in : List ℕ → Option (ℕ × ℕ)
+label_in word = do
+  parts ← cut 58 word
+  source ← number_in (2 ^ 64) parts.0
+  trx ← number_in (2 ^ 64) parts.1
+  Some (source, trx)
+
+-- the byte that two digits write
+unfoldable pub byte_in : ℕ → ℕ → Option ℕ
+byte_in high low = given (is_digit high 16 && is_digit low 16) (16 * digit_value high + digit_value low)
+
+-- the bytes that hexadecimal digits write
+unfoldable pub hex_in : List ℕ → Option (List ℕ)
 hex_in [] = Some []
 hex_in (high ∷ []) = None
-hex_in (high ∷ low ∷ digits) =
-    given (is_digit high 16 && is_digit low 16) (16 * digit_value high + digit_value low) >>= λ byte. option_map (λ bytes. byte ∷ bytes) (hex_in digits)
+hex_in (high ∷ low ∷ digits) = do
+  byte ← byte_in high low
+  bytes ← hex_in digits
+  Some (byte ∷ bytes)
 
--- a put of the bytes behind `=`
-abbrev pub put_in : List ℕ × List ℕ → Option Write
-put_in parts = key_in parts.0 >>= λ key. hex_in parts.1 >>= λ bytes. Some (record { key = key; value = Some bytes })
+-- a put, of the key before `=` and the digits behind it
+unfoldable pub put_in : List ℕ × List ℕ → Option Write
+put_in parts = do
+  key ← key_in parts.0
+  bytes ← hex_in parts.1
+  Some (record { key = key; value = Some bytes })
 
--- a delete of the key before `-`
-abbrev pub delete_parts : List ℕ × List ℕ → Option Write
-delete_parts parts = key_in parts.0 >>= λ key. given (length parts.1 == 0) (record { key = key; value = None })
+-- the key before `-`, where nothing stands behind it
+unfoldable pub deleted_in : List ℕ → Option Key
+deleted_in word = do
+  parts ← cut 45 word
+  key ← key_in parts.0
+  given (length parts.1 == 0) key
 
-abbrev pub write_in : List ℕ → Option Write
+-- a delete of the row
+abbrev pub delete : Key → Write
+delete key = record { key = key; value = None }
+
+-- a put where the word was cut at `=`, and else a delete
+abbrev pub write_by : Option (List ℕ × List ℕ) → List ℕ → Option Write
+write_by (Some parts) word = put_in parts
+write_by None word = option_map delete (deleted_in word)
+
+-- a write: `key=hex` or `key-`
+unfoldable pub write_in : List ℕ → Option Write
 write_in word = write_by (cut 61 word) word
-  where
-    write_by : Option (List ℕ × List ℕ) → List ℕ → Option Write
-    write_by (Some parts) word = put_in parts
-    write_by None word = cut 45 word >>= delete_parts
 
--- The parts of a line that follow are read here: labels_in, reads_in, writes_in, tail_in, then item_form and params_form.
+-- whether the next word is this text
+abbrev pub is_next : List ℕ → List (List ℕ) → Bool
+is_next text [] = false
+is_next text (word ∷ rest) = bytes_eq word text
 
+-- what the next word is, and the words after it
+abbrev pub next : {A : Type 0} → (List ℕ → Option A) → List (List ℕ) → Option (A × List (List ℕ))
+next f [] = None
+next f (word ∷ rest) = f word >>= λ x. Some (x, rest)
+
+-- what each word is
+unfoldable pub each : {A : Type 0} → (List ℕ → Option A) → List (List ℕ) → Option (List A)
+each f [] = Some []
+each f (word ∷ rest) = f word >>= λ x. each f rest >>= λ xs. Some (x ∷ xs)
+
+-- what each word is, of one word or more
+abbrev pub some_each : {A : Type 0} → (List ℕ → Option A) → List (List ℕ) → Option (List A)
+some_each f words = if nat_lt 0 (length words) then each f words else None
+
+-- the labels, and the words after them
+unfoldable pub labels_in : List (List ℕ) → Option ((ℕ × ℕ) × List (List ℕ))
+labels_in words = if is_next (codes "id") words then next label_in (drop 1 words) else Some ((0, 0), words)
+
+-- one key or more up to the word `w`, and the words from there on
+unfoldable pub keys_in : List (List ℕ) → Option (List Key × List (List ℕ))
+keys_in [] = None
+keys_in (word ∷ rest) =
+    key_in word >>= λ key. if is_next (codes "w") rest then Some (key ∷ [], rest) else (keys_in rest >>= λ keys. Some (key ∷ keys.0, keys.1))
+
+-- the reads, and the words after them
+unfoldable pub reads_in : List (List ℕ) → Option (List Key × List (List ℕ))
+reads_in words = if is_next (codes "r") words then keys_in (drop 1 words) else Some ([], words)
+
+-- the writes: `w` and one write or more
+unfoldable pub writes_in : List (List ℕ) → Option (List Write)
+writes_in words = if is_next (codes "w") words then some_each write_in (drop 1 words) else None
+
+-- a tail: `last_seen [id source:trx] [r key key ..] w write write ..`
+unfoldable pub tail_in : List (List ℕ) → Option Transaction
+tail_in words = do
+  seen ← next (number_in (2 ^ 64)) words
+  labels ← labels_in seen.1
+  reads ← reads_in labels.1
+  writes ← writes_in reads.1
+  Some (transaction labels.0.0 labels.0.1 seen.0 reads.0 writes)
+
+-- an item's words: `item` and a tail
+unfoldable pub item_in : List (List ℕ) → Option Transaction
+item_in words = if is_next (codes "item") words then tail_in (drop 1 words) else None
+
+-- what stands behind `params`: `W N rows rows ..`
+unfoldable pub setting_in : List (List ℕ) → Option Setting
+setting_in words = do
+  window ← next (number_in (2 ^ 32)) words
+  cells ← next (number_in (2 ^ 32)) window.1
+  rows ← some_each (number_in (2 ^ 32)) cells.1
+  Some (setting window.0 cells.0 rows)
+
+-- a params line's words: `params` and what stands behind it
+unfoldable pub params_in : List (List ℕ) → Option Setting
+params_in words = if is_next (codes "params") words then setting_in (drop 1 words) else None
+
+-- What an item's line says, where it is of the form.
+abbrev pub item_form : List ℕ → Option Transaction
+item_form line = item_in (words line)
+
+-- What a params line says, where it is of the form.
+abbrev pub params_form : List ℕ → Option Setting
+params_form line = params_in (words line)
+
+-- whether a value of more than 62 bytes is put
 abbrev pub is_long : Write → Bool
 is_long write = option_map_or (λ (bytes : List ℕ). nat_lt 62 (length bytes)) write.value false
 
+-- the write set, where none of its keys is out of order
 abbrev pub well_placed : ℕ → Transaction → Option ℕ → Result Transaction Refusal
 well_placed number w None = Ok w
 well_placed number w (Some at) = Err (Malformed number)
@@ -70,3 +173,21 @@ limited number w =
     else if nat_lt 16 (length w.writes) then Err TooManyWrites
     else if list_any is_long w.writes then Err ValueTooLong
     else well_placed number w (misplaced w.reads w.writes)
+
+-- what comes of a line by its number and what it says
+abbrev pub item_outcome : ℕ → Option Transaction → Result Transaction Refusal
+item_outcome number None = Err (Malformed number)
+item_outcome number (Some w) = limited number w
+
+-- the same of a params line
+abbrev pub params_outcome : ℕ → Option Setting → Result Setting Refusal
+params_outcome number None = Err (Malformed number)
+params_outcome number (Some p) = allowed p
+
+-- What comes of an item's line with this number.
+abbrev pub item_line : ℕ → List ℕ → Result Transaction Refusal
+item_line number line = item_outcome number (item_form line)
+
+-- What comes of a params line with this number.
+abbrev pub params_line : ℕ → List ℕ → Result Setting Refusal
+params_line number line = params_outcome number (params_form line)

@@ -1,5 +1,5 @@
 -- Lines as words, and words cut in two.
-use Rattle.std.specs.Prelude.{ℕ, Bool, ◌==◌, not, nat_lt, if◌then◌else◌, List, [], ◌∷◌, ◌++◌, length, filter, Option, None, Some}
+use Rattle.std.specs.Prelude.{ℕ, Bool, true, false, ◌==◌, if◌then◌else◌, List, [], ◌∷◌, filter, Option, None, Some}
 use Rattle.std.specs.List.{list_all}
 use Rattle.std.specs.Option.{option_map}
 
@@ -13,16 +13,22 @@ abbrev pub pieces : List ℕ → List (List ℕ)
 pieces [] = [] ∷ []
 pieces (b ∷ bs) = if b == 32 then [] ∷ pieces bs else onto_first b (pieces bs)
 
+-- whether there is something
 abbrev pub is_filled : List ℕ → Bool
-is_filled piece = nat_lt 0 (length piece)
+is_filled [] = false
+is_filled (b ∷ bs) = true
 
 -- The words of a line: what stands between its spaces, where there is something.
 abbrev pub words : List ℕ → List (List ℕ)
 words line = filter is_filled (pieces line)
 
+-- whether the byte is a space
+abbrev pub is_space : ℕ → Bool
+is_space b = b == 32
+
 -- whether the line has no words
 abbrev pub is_blank : List ℕ → Bool
-is_blank line = list_all (λ (b : ℕ). b == 32) line
+is_blank line = list_all is_space line
 
 -- the bytes before the first one that is the mark, and those after it
 abbrev pub cut : ℕ → List ℕ → Option (List ℕ × List ℕ)

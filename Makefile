@@ -1,0 +1,31 @@
+# `make run` is the first thing to try; `make test` is all that CI runs.
+
+CRATES := rep_types rep_plain rep_record replicad
+PROGRAM := crates/replicad/out/replicad
+
+.PHONY: run try test check bench toolchain
+
+# Proves and builds what is missing, crate by crate, and judges the sample order.
+run: toolchain
+	@scripts/build $(CRATES)
+	@$(PROGRAM) judge < examples/first-order.txt
+
+# Judges the sample order without any proof: compiled in seconds, with checks at run time.
+try: toolchain
+	@cd crates/replicad && rt try -- judge < ../../examples/first-order.txt
+
+# All that CI runs: the gate, then each refused growth in turn.
+test: toolchain
+	@scripts/test
+
+# Proves what changed, crate by crate.
+check: toolchain
+	@rt all check
+
+# Items judged in a second, for a short order and for one of ten times its length.
+bench: toolchain
+	@scripts/build $(CRATES)
+	@scripts/bench $(PROGRAM)
+
+toolchain:
+	@command -v rt >/dev/null || { echo "The Rattle toolchain is missing: no command 'rt' on the path." >&2; exit 1; }

@@ -1,0 +1,10 @@
+pub mod Lines
+pub mod Numbers
+pub mod Kept
+pub mod Values
+pub mod Forms
+pub mod Parts
+pub mod Outcomes
+pub mod TextLines
+pub mod Reading
+pub mod Writing

@@ -1,0 +1,119 @@
+-- What is left of a buffer, and what the lines of a text are.
+use Rattle.std.proofs.Common.{◌≡◌, ℕ, suc, ◌+◌, ◌-◌, ◌<◌, ◌≤◌, Bool, true, false, eqb, List, [], ◌∷◌, ◌++◌, length, get_or, slice_range, Option, None, Some, refl, sym, ap, ◌∙◌, arith, add-one, inl, inr}
+use Rattle.std.proofs.Math.Seq.{drop-cons}
+use Rattle.std.specs.Io.KnownBytes.{Keeps, Consumes, prepend_known}
+use Rattle.std.proofs.lemmas.Bool.{eqb-true}
+use Rattle.rep_record.specs.Words.{onto_first}
+use Rattle.rep_record.specs.Lines.{raw_lines, without_feed, EndsAtFeed, AreFed, AreLines}
+
+-- a part of a buffer begins with its first byte
+pub range_first : (buffer : List ℕ) (start end : ℕ) → start < end → end ≤ length buffer →
+    slice_range buffer start end ≡ get_or buffer start 0 ∷ slice_range buffer (start + 1) end
+range_first buffer start end some within =
+    let here : start < length buffer = omega arith in
+    let more : end - start ≡ suc (end - (start + 1)) = omega arith in
+    rw (more, drop-cons buffer start 0 here, ← add-one start) refl
+
+-- the first byte of the buffer is handed out
+pub byte_taken : (buffer : List ℕ) (start end : ℕ) (old left : Option (List ℕ)) → start < end → end ≤ length buffer →
+    Keeps old (prepend_known (slice_range buffer start end) left) →
+    Consumes old (prepend_known (slice_range buffer (start + 1) end) left) (get_or buffer start 0 ∷ [])
+byte_taken buffer start end None left some within kept = tt
+byte_taken buffer start end (Some x) None some within kept = absurd kept
+byte_taken buffer start end (Some x) (Some y) some within kept = sym kept ∙ ap (λ l. l ++ y) (range_first buffer start end some within)
+
+-- no byte of the list is a line feed
+abbrev pub HasNoFeed : List ℕ → Type 0
+HasNoFeed [] = Unit {0}
+HasNoFeed (b ∷ bs) = (eqb b 10 ≡ false) × HasNoFeed bs
+
+-- one more byte that is no line feed
+pub no_feed_more : (xs : List ℕ) (b : ℕ) → HasNoFeed xs → eqb b 10 ≡ false → HasNoFeed (xs ++ b ∷ [])
+no_feed_more [] b none other = (other, tt)
+no_feed_more (x ∷ xs) b none other = (none.0, no_feed_more xs b none.1 other)
+
+-- a line is what stands before its line feed
+pub fed_without : (xs : List ℕ) → HasNoFeed xs → without_feed (xs ++ 10 ∷ []) ≡ xs
+fed_without [] none = refl
+fed_without (x ∷ xs) none = rw (none.0, fed_without xs none.1) refl
+
+-- a line that lacks its line feed is itself
+pub last_without : (xs : List ℕ) → HasNoFeed xs → without_feed xs ≡ xs
+last_without [] none = refl
+last_without (x ∷ xs) none = rw (none.0, last_without xs none.1) refl
+
+-- a line ends at its line feed
+pub fed_lines : (xs rest : List ℕ) → HasNoFeed xs → raw_lines (xs ++ 10 ∷ rest) ≡ (xs ++ 10 ∷ []) ∷ raw_lines rest
+fed_lines [] rest none = refl
+fed_lines (x ∷ xs) rest none = rw (none.0, fed_lines xs rest none.1) refl
+
+-- what has no line feed is the last line
+pub last_lines : (x : ℕ) (xs : List ℕ) → HasNoFeed (x ∷ xs) → raw_lines (x ∷ xs) ≡ (x ∷ xs) ∷ []
+last_lines x [] none = rw none.0 refl
+last_lines x (y ∷ ys) none = rw (none.0, last_lines y ys none.1) refl
+
+-- how many bytes the first line has, its line feed not counted
+abbrev pub first_length : List (List ℕ) → ℕ
+first_length [] = 0
+first_length (raw ∷ rest) = length (without_feed raw)
+
+-- a byte that is no line feed makes the first line longer
+pub first_longer : (b : ℕ) (lines : List (List ℕ)) → eqb b 10 ≡ false → first_length (onto_first b lines) ≡ suc (first_length lines)
+first_longer b [] other = rw other refl
+first_longer b (raw ∷ rest) other = rw other refl
+
+-- the first line is as long as what has no line feed at the text's front
+pub first_covers : (xs more : List ℕ) → HasNoFeed xs → length xs ≤ first_length (raw_lines (xs ++ more))
+first_covers [] more none = omega arith
+first_covers (x ∷ xs) more none =
+    let shorter = first_covers xs more none.1 in
+    rw (none.0, first_longer x (raw_lines (xs ++ more)) none.0) (omega arith)
+
+-- a line feed is a line of its own before the others
+pub fed_on : (b : ℕ) (text : List ℕ) (lines : List (List ℕ)) → eqb b 10 ≡ true → AreLines text lines → AreLines (b ∷ text) ((b ∷ []) ∷ lines)
+fed_on b text lines e are = record {
+  whole = ap (λ l. b ∷ l) are.whole;
+  filled = (omega arith, are.filled);
+  at_end = (inr alone, are.at_end);
+  fed = fed_first lines are.fed;
+}
+  where
+    alone : b ∷ [] ≡ without_feed (b ∷ []) ++ 10 ∷ []
+    alone = rw e (ap (λ k. k ∷ []) (eqb-true b 10 e))
+
+    fed_first : (ls : List (List ℕ)) → AreFed ls → AreFed ((b ∷ []) ∷ ls)
+    fed_first [] fed = tt
+    fed_first (line ∷ ls) fed = (alone, fed)
+
+-- any other byte goes to the front of the first line
+pub other_on : (b : ℕ) (text : List ℕ) (lines : List (List ℕ)) → eqb b 10 ≡ false → AreLines text lines → AreLines (b ∷ text) (onto_first b lines)
+other_on b text [] e are = record {
+  whole = ap (λ l. b ∷ l) are.whole;
+  filled = (omega arith, tt);
+  at_end = (inl (rw e refl), tt);
+  fed = tt;
+}
+other_on b text (line ∷ lines) e are = record {
+  whole = ap (λ l. b ∷ l) are.whole;
+  filled = (omega arith, are.filled.1);
+  at_end = (longer are.at_end.0, are.at_end.1);
+  fed = fed_first lines are.fed;
+}
+  where
+    longer : EndsAtFeed line → EndsAtFeed (b ∷ line)
+    longer (inl same) = inl (rw e (ap (λ l. b ∷ l) same))
+    longer (inr same) = inr (rw e (ap (λ l. b ∷ l) same))
+
+    fed_first : (ls : List (List ℕ)) → AreFed (line ∷ ls) → AreFed ((b ∷ line) ∷ ls)
+    fed_first [] fed = tt
+    fed_first (next ∷ ls) fed = (rw e (ap (λ l. b ∷ l) fed.0), fed.1)
+
+-- one more byte at the text's front
+pub lines_on : (b : ℕ) (text : List ℕ) (t : Bool) → eqb b 10 ≡ t → AreLines text (raw_lines text) → AreLines (b ∷ text) (raw_lines (b ∷ text))
+lines_on b text true e are = rw e (fed_on b text (raw_lines text) e are)
+lines_on b text false e are = rw e (other_on b text (raw_lines text) e are)
+
+-- the lines of a text are its lines
+pub are_lines : (text : List ℕ) → AreLines text (raw_lines text)
+are_lines [] = record { whole = refl; filled = tt; at_end = tt; fed = tt }
+are_lines (b ∷ text) = lines_on b text (eqb b 10) refl (are_lines text)
