@@ -6,5 +6,5 @@ pub mod Forms
 pub mod Parts
 pub mod Outcomes
 pub mod TextLines
-pub mod Reading
+pub mod NextLine
 pub mod Writing

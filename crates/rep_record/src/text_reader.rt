@@ -80,7 +80,8 @@ impl TextReader {
 
     /// The number of the line that was handed out last, from 1; 0 where none was.
     pub fn number(&self) -> u64
-        ensures { result ≡ self.now.number }
+        ensures number { result ≡ self.now.number }
+        ensures small { result ≤ 67108864 }
     {
         self.number
     }

@@ -2,7 +2,7 @@ use Rattle.std.proofs.Common.{◌≡◌, arith, ap, sym, ◌∙◌}
 use Rattle.std.proofs.KnownBytes.{Consumes-trans, Consumes-kept}
 use Rattle.std.proofs.lemmas.Bool.{ne_eqb, eqb-true, eqb-false}
 use Rattle.rep_record.proofs.TextLines.{no_feed_more}
-use Rattle.rep_record.proofs.Reading.{fed_next, last_next, long_next}
+use Rattle.rep_record.proofs.NextLine.{fed_next, last_next, long_next}
 use Rattle.rep_record.proofs.text_reader.TextReader.next_line.Goals as goal
 
 pub returns-in_default-clause-known : goal.returns-in_default-clause-known

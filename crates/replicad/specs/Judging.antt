@@ -1,0 +1,121 @@
+-- What an order text says, and what judging it writes.
+use Rattle.std.specs.Prelude.{◌≡◌, ℕ, ◌+◌, ◌≤◌, Bool, if◌then◌else◌, List, [], ◌∷◌, ◌++◌, length, take, Option, None, Some, IsSomeAnd, Result, Ok, Err}
+use Rattle.std.specs.List.{flat_map}
+use Rattle.std.specs.Io.KnownBytes.{Appends}
+use Rattle.rep_types.specs.declared.judged.Judged.{Judged}
+use Rattle.rep_types.specs.declared.refusal.Refusal.{Refusal}
+use Rattle.rep_types.specs.declared.refusal.Refusal.TheVariants.{OutOfMemory, Malformed, StreamFault}
+use Rattle.rep_types.specs.Transactions.{Transaction}
+use Rattle.rep_types.specs.Settings.{Setting}
+use Rattle.rep_types.specs.Order.{Order, history, verdict}
+use Rattle.rep_plain.specs.Delivered.{Delivered}
+use Rattle.rep_record.specs.Words.{is_blank}
+use Rattle.rep_record.specs.Lines.{Unread, ahead, raw_lines, without_feed, line_fault}
+use Rattle.rep_record.specs.Reading.{item_line, params_line}
+use Rattle.rep_record.specs.Texts.{verdict_line}
+
+-- What an order text says: the parameters, the items up to the first fault, and that fault.
+pub record Reading : Type 0 where
+  pub setting : Setting
+  pub order : Order
+  pub fault : Option Refusal
+
+-- A line with its line feed, its number, and the number of bytes before it, as it is read: a fault of any line comes first,
+-- and a line without words says nothing.
+abbrev pub line_reading : {A : Type 0} → (ℕ → List ℕ → Result A Refusal) → ℕ → ℕ → List ℕ → Option Refusal → Option (Result A Refusal)
+line_reading read number before raw (Some fault) = Some (Err fault)
+line_reading read number before raw None = if is_blank (without_feed raw) then None else Some (read number (without_feed raw))
+
+abbrev pub read_line : {A : Type 0} → (ℕ → List ℕ → Result A Refusal) → ℕ → ℕ → List ℕ → Option (Result A Refusal)
+read_line read number before raw = line_reading read number before raw (line_fault number before raw)
+
+-- the items of a line and of the lines after it
+abbrev pub with_line : Option (Result Transaction Refusal) → Order × Option Refusal → Order × Option Refusal
+with_line None later = later
+with_line (Some (Ok w)) later = (w ∷ later.0, later.1)
+with_line (Some (Err fault)) later = ([], Some fault)
+
+-- The items of these lines up to the first fault, and that fault; the first line has this number, and so many bytes stand before it.
+unfoldable pub items_of : ℕ → ℕ → List (List ℕ) → Order × Option Refusal
+items_of number before [] = ([], None)
+items_of number before (raw ∷ lines) = with_line (read_line item_line number before raw) (items_of (number + 1) (before + length raw) lines)
+
+-- what stands where a text has no parameters
+abbrev pub no_setting : Setting
+no_setting = record { window = 0; cells = 0; rows = [] }
+
+abbrev pub refused : Refusal → Reading
+refused fault = record { setting = no_setting; order = []; fault = Some fault }
+
+-- the parameters of a line, and the items of the lines after it
+abbrev pub with_params : Option (Result Setting Refusal) → Order × Option Refusal → Reading → Reading
+with_params None items later = later
+with_params (Some (Ok p)) items later = record { setting = p; order = items.0; fault = items.1 }
+with_params (Some (Err fault)) items later = refused fault
+
+-- What these lines say: the first with words is a params line, and the others with words are items. Where none has words,
+-- the params line is missing at the number after the last.
+unfoldable pub text_of : ℕ → ℕ → List (List ℕ) → Reading
+text_of number before [] = refused (Malformed number)
+text_of number before (raw ∷ lines) =
+    with_params (read_line params_line number before raw) (items_of (number + 1) (before + length raw) lines) (text_of (number + 1) (before + length raw) lines)
+
+-- What an order text says.
+abbrev pub reading : List ℕ → Reading
+reading text = text_of 1 0 (raw_lines text)
+
+-- the line of a judged item
+abbrev pub line_of : Judged → List ℕ
+line_of j = verdict_line j.seqno j.verdict
+
+-- the verdict lines of judged items
+abbrev pub verdict_lines : List Judged → List ℕ
+verdict_lines h = flat_map line_of h
+
+-- The verdict lines of what a text says, by the definition of a verdict.
+abbrev pub judged_text : Reading → List ℕ
+judged_text r = verdict_lines (history r.setting r.order)
+
+-- What judging a text wrote, and how it ended: at the end of a text without fault, all verdict lines; at want of memory, the
+-- lines of some first items, whole; at a stream fault, which may also be the reader's or the writer's, a front of all verdict
+-- lines; at any other refusal, which is the text's first fault, all verdict lines of the items before it.
+abbrev pub Ends : Reading → Option (List ℕ) → Option (List ℕ) → Result (Unit {0}) Refusal → Type 0
+Ends r old new (Ok _) = (r.fault ≡ None) × Appends old new (judged_text r)
+Ends r old new (Err OutOfMemory) = (k : ℕ) × Appends old new (verdict_lines (take k (history r.setting r.order)))
+Ends r old new (Err StreamFault) = (k : ℕ) × Appends old new (take k (judged_text r))
+Ends r old new (Err refusal) = (r.fault ≡ Some refusal) × Appends old new (judged_text r)
+
+-- a reading with these parameters
+abbrev pub reading_of : Setting → Order × Option Refusal → Reading
+reading_of p items = record { setting = p; order = items.0; fault = items.1 }
+
+-- what the items of the text say that a reader of lines still has
+abbrev pub items_ahead : Unread → List ℕ → Order × Option Refusal
+items_ahead u text = items_of (u.number + 1) u.taken (raw_lines text)
+
+-- what the text says that a reader of lines still has
+abbrev pub text_ahead : Unread → List ℕ → Reading
+text_ahead u text = text_of (u.number + 1) u.taken (raw_lines text)
+
+-- How the params line was read: on success what follows it is ahead; a stream fault may also be the reader's.
+abbrev pub ReadsParams : List ℕ → Unread → Result Setting Refusal → Unread → Option (List ℕ) → Type 0
+ReadsParams text old (Ok p) new left = IsSomeAnd (ahead new left) (λ rest. text_ahead old text ≡ reading_of p (items_ahead new rest))
+ReadsParams text old (Err StreamFault) new left = Unit {0}
+ReadsParams text old (Err refusal) new left = text_ahead old text ≡ refused refusal
+
+-- what a line without its line feed says
+abbrev pub content : ℕ → List ℕ → Option (Result Transaction Refusal)
+content number line = if is_blank line then None else Some (item_line number line)
+
+-- the line that is written for the next item
+abbrev pub next_verdict_line : Delivered → Transaction → List ℕ
+next_verdict_line node w = verdict_line (length node.order + 1) (verdict node.setting (node.order ++ w ∷ []) (length node.order + 1))
+
+-- What judging one line does to the node and to what is written.
+abbrev pub JudgesLine : Delivered → Option (Result Transaction Refusal) → Result (Unit {0}) Refusal → Delivered → Option (List ℕ) → Option (List ℕ) → Type 0
+JudgesLine old None result new before after = (result ≡ Ok tt) × (new ≡ old) × Appends before after []
+JudgesLine old (Some (Err refusal)) result new before after = (result ≡ Err refusal) × Appends before after []
+JudgesLine old (Some (Ok w)) (Ok _) new before after = (new ≡ record old { order = old.order ++ w ∷ [] }) × Appends before after (next_verdict_line old w)
+JudgesLine old (Some (Ok w)) (Err OutOfMemory) new before after = Appends before after []
+JudgesLine old (Some (Ok w)) (Err StreamFault) new before after = (k : ℕ) × Appends before after (take k (next_verdict_line old w))
+JudgesLine old (Some (Ok w)) (Err refusal) new before after = ⊥

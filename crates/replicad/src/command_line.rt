@@ -1,0 +1,44 @@
+//! The command line.
+
+use clap::Command;
+use clap::error::ErrorKind;
+use rep_types::Refusal;
+use std::alloc::{AllocError, Global};
+
+/// The command line that the program understands: one level of subcommands.
+fn command<'a>(alloc: Global) -> Result<Command<'a>, AllocError> {
+    let judge = Command::new(alloc, "judge").about(
+        "Judge an order text from standard input: one verdict line for each item",
+    );
+    Command::new(alloc, "replicad")
+        .version("0.1.0")
+        .about("One node of a multi-master database")
+        .subcommand_required(true)
+        .subcommand(judge)
+}
+
+/// What the words of a command line ask for.
+pub enum Task {
+    /// Judge an order text.
+    Judge,
+    /// Nothing more: the text was printed, and the program ends with this status.
+    Printed(u8),
+}
+
+/// Reads the words of the command line. Help, the version and usage faults are printed here.
+pub fn task_of<R: Print + Eprint>(
+    rt: &R,
+    alloc: Global,
+    words: &[String],
+) -> Result<Task, Refusal> {
+    match command(alloc)?.try_get_matches_from(words) {
+        Ok(_) => Ok(Task::Judge),
+        Err(error) => {
+            if error.kind() == ErrorKind::OutOfMemory {
+                return Err(Refusal::OutOfMemory);
+            }
+            let _ = error.print(rt);
+            Ok(Task::Printed(if error.use_stderr() { 2 } else { 0 }))
+        }
+    }
+}
