@@ -1,17 +1,33 @@
 -- Lemmas on the verdicts by pairs of items: the verdicts of an order are the one assignment that they allow.
-use Rattle.std.proofs.Common.{◌≡◌, ◌≢◌, ℕ, zero, suc, ◌+◌, ◌-◌, ◌<◌, ◌≤◌, Bool, true, false, not, nat_lt, nat_le, ◌&&◌, if◌then◌else◌, List, length, take, get_or, Option, None, Some, option_map, refl, sym, ap, subst, ◌∙◌, arith}
+use Rattle.std.proofs.Common.{◌≡◌, ◌≢◌, ℕ, zero, suc, ◌+◌, ◌-◌, ◌<◌, ◌≤◌, Bool, true, false, not, nat_lt, nat_le, ◌&&◌, if◌then◌else◌, List, length, take, get_or, All, Option, None, Some, option_map, refl, sym, ap, subst, ◌∙◌, arith}
 use Rattle.std.proofs.lemmas.Bool.{and_from, and_parts, both_ways, lt-ltb, ltb-true, ltb-false, leb-true, leb-false}
 use Rattle.std.proofs.lemmas.List.{get_or-take, length-take-le}
+use Rattle.std.proofs.lemmas.List.Elements.{All-weaker}
+use Rattle.std.proofs.lemmas.List.Sums.{AllPass-from_list_all, list_all-from_AllPass}
+use Rattle.rep_types.specs.declared.key.Key.{Key}
 use Rattle.rep_types.specs.declared.judged.Judged.{Judged}
 use Rattle.rep_types.specs.declared.verdict.Verdict.{Verdict}
 use Rattle.rep_types.specs.declared.verdict.Verdict.TheVariants.{Commit, Stale, Future, BadKey}
-use Rattle.rep_types.specs.Transactions.{named, written}
-use Rattle.rep_types.specs.Settings.{Setting}
+use Rattle.rep_types.specs.Transactions.{Transaction, named, written}
+use Rattle.rep_types.specs.Settings.{Setting, IsRow, has_row}
 use Rattle.rep_types.specs.Entries.{Entry}
 use Rattle.rep_types.specs.Order.{Order, item, touches, in_schema, latest, against, floor, conflict_with, is_commit, counts, entry_of, entries, history, verdict}
 use Rattle.rep_types.specs.Verdicts.{Meets, IsVerdict, AreVerdicts}
 use Rattle.rep_types.proofs.Latest.{IsLatest, IsLatest-latest, latest-map-filter}
+use Rattle.rep_types.proofs.Touches.{touches_from_common, common_from_touches}
 use Rattle.rep_types.proofs.Histories.{judged, length_history, take_history, history_at_index}
+
+-- each key of an item that passes the test is a row of the schema
+rows_from_in_schema : (p : Setting) (w : Transaction) → in_schema p w ≡ true → All (IsRow p.rows) (named w)
+rows_from_in_schema p w known =
+    All-weaker (λ (key : Key). has_row p.rows key ≡ true) (IsRow p.rows) (λ key passes. ltb-true key.row (get_or p.rows key.table 0) passes) (named w)
+    (AllPass-from_list_all (has_row p.rows) (named w) known)
+
+-- an item whose keys are rows of the schema passes the test
+in_schema_from_rows : (p : Setting) (w : Transaction) → All (IsRow p.rows) (named w) → in_schema p w ≡ true
+in_schema_from_rows p w rows =
+    list_all-from_AllPass (has_row p.rows) (named w)
+    (All-weaker (IsRow p.rows) (λ (key : Key). has_row p.rows key ≡ true) (λ key row. lt-ltb key.row (get_or p.rows key.table 0) row) (named w) rows)
 
 -- two verdicts on an item are one, if they rest on assignments that agree on the items before it
 same_verdict : (p : Setting) (L : Order) (u v : ℕ → Verdict) (n : ℕ) → ((k : ℕ) → 0 < k → k < n → u k ≡ v k) →
@@ -47,7 +63,8 @@ is_commit-true v h = grind arith
 passes_from_Meets : (p : Setting) (L : Order) (n k : ℕ) → Meets L k n → verdict p L k ≡ Commit → meets_test L n (judged p L k) ≡ true
 passes_from_Meets p L n k meets commit =
     and_from (is_commit (verdict p L k)) (against (item L n) (entry_of (judged p L k))) (ap is_commit commit)
-    (and_from (nat_lt (item L n).last_seen k) (touches (written (item L k)) (named (item L n))) (lt-ltb (item L n).last_seen k meets.unseen) meets.common)
+    (and_from (nat_lt (item L n).last_seen k) (touches (written (item L k)) (named (item L n))) (lt-ltb (item L n).last_seen k meets.unseen)
+    (touches_from_common (written (item L k)) (named (item L n)) meets.common))
 
 -- an item before n that passes the test meets n
 Meets-from_passes : (p : Setting) (L : Order) (n k : ℕ) → k < n → meets_test L n (judged p L k) ≡ true → Meets L k n
@@ -56,7 +73,7 @@ Meets-from_passes p L n k before passes =
     (and_parts (is_commit (verdict p L k)) (against (item L n) (entry_of (judged p L k))) passes).1 in
     let both : (nat_lt (item L n).last_seen k ≡ true) × (touches (written (item L k)) (named (item L n)) ≡ true) =
     and_parts (nat_lt (item L n).last_seen k) (touches (written (item L k)) (named (item L n))) against_it in
-    record { unseen = ltb-true (item L n).last_seen k both.0; before = before; common = both.1 }
+    record { unseen = ltb-true (item L n).last_seen k both.0; before = before; common = common_from_touches (written (item L k)) (named (item L n)) both.1 }
 
 -- and it committed
 commit_from_passes : (p : Setting) (L : Order) (n k : ℕ) → meets_test L n (judged p L k) ≡ true → verdict p L k ≡ Commit
@@ -110,16 +127,16 @@ IsVerdict-lines : (p : Setting) (L : Order) (n : ℕ) → 0 < n → (future know
     nat_lt ((item L n).last_seen + 1) (floor p (n - 1)) ≡ stale → (o : Option Entry) → IsConflict p L n o →
     IsVerdict p L (verdict p L) n (if future then Future else if not known then BadKey else if stale then Stale else conflict_with o)
 IsVerdict-lines p L n pos true known stale f k s o conflict = leb-true n (item L n).last_seen f
-IsVerdict-lines p L n pos false false stale f k s o conflict = (leb-false n (item L n).last_seen f, λ yes. both_ways (in_schema p (item L n)) k yes)
+IsVerdict-lines p L n pos false false stale f k s o conflict = (leb-false n (item L n).last_seen f, λ rows. both_ways (in_schema p (item L n)) k (in_schema_from_rows p (item L n) rows))
 IsVerdict-lines p L n pos false true true f k s o conflict =
     let below : (item L n).last_seen + 1 < floor p (n - 1) = ltb-true ((item L n).last_seen + 1) (floor p (n - 1)) s in
-    (leb-false n (item L n).last_seen f, k, omega arith)
+    (leb-false n (item L n).last_seen f, rows_from_in_schema p (item L n) k, omega arith)
 IsVerdict-lines p L n pos false true false f k s None conflict =
     let above : floor p (n - 1) ≤ (item L n).last_seen + 1 = ltb-false ((item L n).last_seen + 1) (floor p (n - 1)) s in
-    (record { past = leb-false n (item L n).last_seen f; keys = k; recent = omega arith }, conflict)
+    (record { past = leb-false n (item L n).last_seen f; keys = rows_from_in_schema p (item L n) k; recent = omega arith }, conflict)
 IsVerdict-lines p L n pos false true false f k s (Some e) conflict =
     let above : floor p (n - 1) ≤ (item L n).last_seen + 1 = ltb-false ((item L n).last_seen + 1) (floor p (n - 1)) s in
-    (record { past = leb-false n (item L n).last_seen f; keys = k; recent = omega arith }, conflict.0, conflict.1, conflict.2)
+    (record { past = leb-false n (item L n).last_seen f; keys = rows_from_in_schema p (item L n) k; recent = omega arith }, conflict.0, conflict.1, conflict.2)
 
 -- the verdicts of an order are as the words by pairs say
 pub AreVerdicts-verdict : (p : Setting) (L : Order) → AreVerdicts p L (verdict p L)

@@ -8,7 +8,7 @@ use Rattle.rep_types.specs.declared.judged.Judged.{Judged}
 use Rattle.rep_types.specs.declared.verdict.Verdict.{Verdict}
 use Rattle.rep_types.specs.declared.verdict.Verdict.TheVariants.{Commit, Conflict, Stale, Future, BadKey}
 use Rattle.rep_types.specs.Keys.{key_eq}
-use Rattle.rep_types.specs.Transactions.{Transaction, key_of, written, named}
+use Rattle.rep_types.specs.Transactions.{Transaction, written, named}
 use Rattle.rep_types.specs.Settings.{Setting, has_row}
 use Rattle.rep_types.specs.Entries.{Entry}
 

@@ -1,5 +1,5 @@
 -- A node's parameters, and their limits.
-use Rattle.std.specs.Prelude.{◌≡◌, ℕ, ◌+◌, ◌/◌, ◌<◌, ◌≤◌, Bool, nat_lt, nat_le, ◌&&◌, if◌then◌else◌, List, length, sum_by, slice_index, Result, Ok, Err}
+use Rattle.std.specs.Prelude.{ℕ, ◌+◌, ◌/◌, ◌<◌, Bool, nat_lt, nat_le, ◌&&◌, if◌then◌else◌, List, length, sum_by, slice_index, Result, Ok, Err}
 use Rattle.std.specs.List.{list_all}
 use Rattle.rep_types.specs.declared.key.Key.{Key}
 use Rattle.rep_types.specs.declared.refusal.Refusal.{Refusal}
@@ -37,3 +37,7 @@ allowed p = if is_setting p then Ok p else Err BadParams
 -- whether the key names a row of the schema; a table that isn't there has no row
 abbrev pub has_row : List ℕ → Key → Bool
 has_row rows key = nat_lt key.row (slice_index rows key.table)
+
+-- the same as a statement: the key names a row of the schema
+abbrev pub IsRow : List ℕ → Key → Type 0
+IsRow rows key = key.row < slice_index rows key.table

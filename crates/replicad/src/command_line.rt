@@ -18,7 +18,7 @@ fn command<'a>(alloc: Global) -> Result<Command<'a>, AllocError> {
 }
 
 /// What the words of a command line ask for.
-pub enum Task {
+pub(crate) enum Task {
     /// Judge an order text.
     Judge,
     /// Nothing more: the text was printed, and the program ends with this status.
@@ -26,7 +26,7 @@ pub enum Task {
 }
 
 /// Reads the words of the command line. Help, the version and usage faults are printed here.
-pub fn task_of<R: Print + Eprint>(
+pub(crate) fn task_of<R: Print + Eprint>(
     rt: &R,
     alloc: Global,
     words: &[String],

@@ -2,9 +2,9 @@
 
 use super::*;
 use rep_plain::PlainNode;
-use rep_types::{Key, Params, Value, Verdict, Write, WriteSet};
+use rep_types::{Key, Params, Part, Value, Verdict, Write, WriteSet};
 use std::alloc::{AllocError, Global};
-use std::io::{ErrorKind, Read};
+use std::io::Read;
 use std::test::Fail;
 
 /// What judging the text writes, and how it ends.
@@ -235,19 +235,24 @@ fn params_have_a_form_and_limits(rt: HostRuntime) {
     }
 }
 
-/// Gives line feeds, so many.
+/// Gives lines of 4,095 spaces, and then spaces: so many bytes of the first, so many in all.
 #[derive(Drop)]
-struct LineFeeds(u64);
+struct Blanks {
+    at: u64,
+    lines: u64,
+    end: u64,
+}
 
-impl Read for LineFeeds {
+impl Read for Blanks {
     fn read(&mut self, buf: &mut [u8]) -> io::Result<usize> {
         let mut count = 0;
         for byte in buf.iter_mut() {
-            if self.0 == 0 {
+            if self.at >= self.end {
                 return Ok(count);
             }
-            *byte = b'\n';
-            self.0 -= 1;
+            let is_feed = self.at < self.lines && self.at % 4096 == 4095;
+            *byte = if is_feed { b'\n' } else { b' ' };
+            self.at += 1;
             count += 1;
         }
         Ok(count)
@@ -256,24 +261,29 @@ impl Read for LineFeeds {
 
 #[test]
 fn a_text_has_a_limit(rt: HostRuntime) {
+    // 31 bytes, then 16,383 lines of 4,096 bytes: 4,065 bytes are left below the limit.
     let front: &[u8] = b"params 4 4 126\nitem 0 w 0/1=61\n";
-    let left = 67_108_864 - front.len() as u64;
-    let cases: [(u64, &[u8], Result<(), Refusal>); 6] = [
-        (left, b"", Ok(())),
-        (left, b"\n", Err(Refusal::StreamFault)),
-        (left - 3, b"   ", Ok(())),
-        (left - 3, b"    ", Err(Refusal::StreamFault)),
-        (left - 3, b"   \n", Err(Refusal::StreamFault)),
-        (left - 3, b"x\n", Err(Refusal::Malformed { at: 67_108_833 })),
+    let lines = 16_383 * 4096;
+    let cases: [(u64, &[u8], Result<(), Refusal>); 8] = [
+        (4065, b"", Ok(())),
+        (4064, b"\n", Ok(())),
+        (4066, b"", Err(Refusal::StreamFault)),
+        (4065, b"\n", Err(Refusal::StreamFault)),
+        (4064, b"\n\n", Err(Refusal::StreamFault)),
+        (4065, b"x", Err(Refusal::StreamFault)),
+        (4064, b"x", Err(Refusal::Malformed { at: 16_386 })),
+        (4097, b"", Err(Refusal::Malformed { at: 16_386 })),
     ];
-    for (feeds, end, refusal) in cases {
-        let mut reader = front.chain(LineFeeds(feeds)).chain(end);
+    for (spaces, end, refusal) in cases {
+        let blanks = Blanks {
+            at: 0,
+            lines,
+            end: lines + spaces,
+        };
+        let mut reader = front.chain(blanks).chain(end);
         let mut written: Vec<u8> = Vec::new(rt.alloc());
-        assert_eq!(rt;
-            judge_text(rt.alloc(), &mut reader, &mut written),
-            refusal,
-            "{feeds} {end:?}"
-        );
+        let ended = judge_text(rt.alloc(), &mut reader, &mut written);
+        assert_eq!(rt; ended, refusal, "{spaces} {end:?}");
         assert_eq!(rt; written.as_slice(), b"1 commit\n".as_slice());
     }
 }
@@ -412,5 +422,49 @@ fn the_plain_node_keeps_rows_and_window(rt: HostRuntime) -> Result<(), Fail> {
     assert_eq!(rt; window[0].seqno(), 3);
     assert_eq!(rt; window[0].keys(), [Key { table: 0, row: 1 }].as_slice());
     assert_eq!(rt; window[1].seqno(), 4);
+    Ok(())
+}
+
+#[test]
+fn refusals_show_their_names_and_data(rt: HostRuntime) -> Result<(), Fail> {
+    let refusals: [(Refusal, &str); 27] = [
+        (Refusal::OutOfMemory, "1 out-of-memory"),
+        (Refusal::DiskFault, "2 disk-fault"),
+        (Refusal::Stopped, "3 stopped"),
+        (Refusal::OutOfOrder { expected: 7 }, "4 out-of-order 7"),
+        (Refusal::Backlogged, "5 backlogged"),
+        (Refusal::LogFull, "6 log-full"),
+        (Refusal::NotDue, "7 not-due"),
+        (Refusal::TooOld { oldest: 3 }, "8 too-old 3"),
+        (Refusal::NotYet { durable: 3 }, "9 not-yet 3"),
+        (Refusal::BadKey, "10 bad-key"),
+        (Refusal::Undefined, "11 undefined"),
+        (Refusal::NotFormatted, "12 not-formatted"),
+        (
+            Refusal::Corrupt {
+                part: Part::Superblock,
+            },
+            "13 corrupt superblock",
+        ),
+        (Refusal::Corrupt { part: Part::Window }, "13 corrupt window"),
+        (Refusal::Corrupt { part: Part::Log }, "13 corrupt log"),
+        (Refusal::Corrupt { part: Part::Pages }, "13 corrupt pages"),
+        (Refusal::TooSmall { need: 103_424 }, "14 too-small 103424"),
+        (Refusal::BadParams, "15 bad-params"),
+        (Refusal::Malformed { at: 59 }, "16 malformed 59"),
+        (Refusal::TooManyReads, "17 too-many-reads"),
+        (Refusal::TooManyWrites, "18 too-many-writes"),
+        (Refusal::ValueTooLong, "19 value-too-long"),
+        (Refusal::WrongCluster, "20 wrong-cluster"),
+        (Refusal::Ahead { position: 9 }, "21 ahead 9"),
+        (Refusal::Closed, "22 closed"),
+        (Refusal::Exhausted, "23 exhausted"),
+        (Refusal::StreamFault, "24 stream-fault"),
+    ];
+    for (refusal, text) in refusals {
+        let number = refusal.number();
+        let shown = format!(in rt.alloc(); "{number} {refusal}")?;
+        assert_eq!(rt; shown.as_str(), text);
+    }
     Ok(())
 }
