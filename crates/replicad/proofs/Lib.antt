@@ -1,3 +1,5 @@
 pub mod Stepping
 pub mod Progress
 pub mod LineEnds
+pub mod SaidLines
+pub mod OrderTexts
