@@ -1,2 +1,1 @@
-pub mod Tests
 pub mod Scans

@@ -4,7 +4,7 @@ ghost use Rattle.std.specs.Prelude.{◌≡◌, ◌+◌, ◌≤◌, [], ◌∷◌
 ghost use Rattle.std.specs.Option.{option_copied};
 ghost use Rattle.rep_types.specs.Order.{verdict, read, window};
 
-use crate::scan::{is_in_schema, latest_conflict, recent_entries, row_of};
+use crate::scan::{latest_conflict, recent_entries, row_of};
 use rep_types::{Entry, Judged, Key, Params, Refusal, Value, Verdict, WriteSet};
 use std::alloc::Global;
 use std::marker::Model;
@@ -49,7 +49,7 @@ impl PlainNode {
         if seen >= seqno {
             return Verdict::Future;
         }
-        if !is_in_schema(self.params.schema(), item) {
+        if !self.params.schema().contains_all(item) {
             return Verdict::BadKey;
         }
         if seen + u64::from(self.params.window()) + 1 < seqno {

@@ -6,3 +6,4 @@ pub mod Rows
 pub mod Touches
 pub mod SerialReads
 pub mod VerdictsByPairs
+pub mod Tests

@@ -1,9 +1,10 @@
 //! What certification keeps of a committed item.
 
-ghost use Rattle.std.specs.Prelude.{◌≡◌, ◌≤◌, List, length};
+ghost use Rattle.std.specs.Prelude.{◌≡◌, ◌≤◌, length, ⊤};
 
 use crate::key::Key;
 use arrayvec::ArrayVec;
+use std::alloc::AllocError;
 use std::marker::Model;
 
 /// A committed item as the window keeps it: its seqno, and the 1 to 16 keys that it wrote.
@@ -47,5 +48,28 @@ impl Entry {
         ensures few { length self.now.keys ≤ 16 }
     {
         self.keys.as_slice()
+    }
+
+    /// A copy, which takes no memory.
+    pub fn copied(&self) -> Entry
+        ensures { result ≡ self.now }
+    {
+        match ArrayVec::try_from(self.keys.as_slice()) {
+            Ok(keys) => Entry {
+                seqno: self.seqno,
+                keys,
+            },
+            Err(_) => unreachable!(),
+        }
+    }
+}
+
+impl Clone for Entry {
+    ghost is_clone = { λ entry copy. copy ≡ entry };
+
+    ghost is_infallible = { λ _. ⊤ };
+
+    fn clone(&self) -> Result<Entry, AllocError> {
+        Ok(self.copied())
     }
 }

@@ -2,10 +2,12 @@
 
 ghost use Rattle.std.specs.Prelude.{◌≡◌, ◌+◌, ◌≤◌, ◌^◌, ◌<◌, length, nat_lt, IsTrue, Ok, Err, if◌then◌else◌};
 ghost use Rattle.std.specs.List.{list_all};
-ghost use Rattle.rep_types.specs.Settings.{pages_of};
+ghost use Rattle.rep_types.specs.Settings.{pages_of, has_row};
 
 use crate::key::Key;
 use crate::refusal::Refusal;
+use crate::value::Write;
+use crate::write_set::WriteSet;
 use arrayvec::ArrayVec;
 use std::marker::Model;
 
@@ -45,8 +47,23 @@ fn has_rows(rows: &[u32]) -> bool
     rows.iter().all(|count| 0 < *count)
 }
 
+/// Whether the keys are all rows.
+fn are_rows(schema: &Schema, keys: &[Key]) -> bool
+    ensures { result ≡ list_all (has_row schema.now) keys.now }
+{
+    keys.iter().all(|key| schema.contains(*key))
+}
+
+/// Whether the writes are all of rows.
+fn are_writes_of_rows(schema: &Schema, writes: &[Write]) -> bool
+    ensures { result ≡ list_all (λ write. has_row schema.now write.key) writes.now }
+{
+    writes.iter().all(|write| schema.contains(write.key))
+}
+
 impl Schema {
-    ghost use Rattle.rep_types.specs.Settings.{is_schema, has_row};
+    ghost use Rattle.rep_types.specs.Settings.{is_schema};
+    ghost use Rattle.rep_types.specs.Transactions.{named};
 
     /// The schema whose tables have these numbers of rows.
     ///
@@ -87,6 +104,14 @@ impl Schema {
             Some(rows) => key.row < *rows,
             None => false,
         }
+    }
+
+    /// Whether every key that the item reads or writes names a row.
+    #[tactic(auto, using(crate::proofs::Tests::tests))]
+    pub fn contains_all(&self, item: &WriteSet) -> bool
+        ensures { result ≡ list_all (has_row self.now) (named item.now) }
+    {
+        are_rows(self, item.reads()) && are_writes_of_rows(self, item.writes())
     }
 }
 

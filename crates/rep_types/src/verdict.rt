@@ -19,6 +19,21 @@ pub enum Verdict {
     BadKey,
 }
 
+impl Verdict {
+    ghost use Rattle.std.specs.Prelude.{◌≡◌};
+    ghost use Rattle.rep_types.specs.Order.{is_commit};
+
+    /// Whether the write set takes effect.
+    pub fn is_commit(self) -> bool
+        ensures { result ≡ is_commit self }
+    {
+        match self {
+            Verdict::Commit => true,
+            Verdict::Conflict(_) | Verdict::Stale | Verdict::Future | Verdict::BadKey => false,
+        }
+    }
+}
+
 impl fmt::Display for Verdict {
     ghost use Rattle.std.specs.Prelude.{Some};
     ghost use Rattle.rep_types.specs.Texts.{verdict_text};

@@ -1,8 +1,8 @@
 //! What a transaction hands in when it asks to commit.
 
 ghost use Rattle.std.specs.Prelude.{◌≡◌, ◌<◌, ◌≤◌, length, map, IfSome, ⊤};
-ghost use Rattle.std.specs.List.{AllByRecursion};
-ghost use Rattle.rep_types.specs.Keys.{disorder};
+ghost use Rattle.std.specs.List.{AllByRecursion, list_any};
+ghost use Rattle.rep_types.specs.Keys.{disorder, key_eq};
 ghost use Rattle.rep_types.specs.Transactions.{key_of, misplaced, HasShortValue, written};
 
 use crate::key::Key;
@@ -87,6 +87,20 @@ fn first_misplaced(reads: &[Key], writes: &[Write]) -> Option<usize>
     None
 }
 
+/// Whether the key is one of these.
+fn is_among(keys: &[Key], key: Key) -> bool
+    ensures { result ≡ list_any (key_eq key) keys.now }
+{
+    keys.iter().any(|other| key.is(*other))
+}
+
+/// Whether one of the writes is of the key.
+fn is_written(writes: &[Write], key: Key) -> bool
+    ensures { result ≡ list_any (λ write. key_eq key write.key) writes.now }
+{
+    writes.iter().any(|write| key.is(write.key))
+}
+
 /// A copy of the writes.
 fn copy_of(writes: &[Write]) -> ArrayVec<Write, 16>
     requires { length writes.now ≤ 16 }
@@ -101,7 +115,8 @@ fn copy_of(writes: &[Write]) -> ArrayVec<Write, 16>
 }
 
 impl WriteSet {
-    ghost use Rattle.rep_types.specs.Transactions.{IsWithinLimits, checked, transaction};
+    ghost use Rattle.rep_types.specs.Transactions.{IsWithinLimits, checked, transaction, named};
+    ghost use Rattle.rep_types.specs.Order.{touches};
 
     /// The write set of the transaction `trx` of `source`, two labels without effect on a verdict,
     /// which saw the state at the position `last_seen`.
@@ -179,6 +194,21 @@ impl WriteSet {
         ensures { result.items ≡ written self.now }
     {
         keys_of(self.writes())
+    }
+
+    /// Whether the transaction reads or writes the key.
+    #[tactic(auto, using(crate::proofs::Tests::tests))]
+    pub fn names(&self, key: Key) -> bool
+        ensures { result ≡ list_any (key_eq key) (named self.now) }
+    {
+        is_among(self.reads(), key) || is_written(self.writes(), key)
+    }
+
+    /// Whether the transaction reads or writes one of the keys.
+    pub fn names_one_of(&self, keys: &[Key]) -> bool
+        ensures { result ≡ touches keys.now (named self.now) }
+    {
+        keys.iter().any(|key| self.names(*key))
     }
 }
 
