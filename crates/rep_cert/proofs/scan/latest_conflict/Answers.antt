@@ -1,0 +1,13 @@
+use Rattle.std.proofs.Common.{Some, sym, ap}
+use Rattle.rep_types.specs.Order.{against}
+use Rattle.rep_types.proofs.Latest.{latest_more}
+use Rattle.rep_cert.proofs.scan.latest_conflict.Goals as goal
+use Rattle.rep_cert.proofs.scan.latest_conflict.Goals.{then-is_against, else-is_against}
+
+pub loop-entry-preserved : goal.loop-entry-preserved
+loop-entry-preserved c =
+    let more = latest_more (against c.args.item.now) c.args.entries.now c.loop-entry.entry-index c.entry-item.result c.entry-item.is c.loop-entry-test.true in
+    elim c.if-is_against.branch [
+      | then-is_against w ↦ rw (more, sym c.is_against.ensures, w.if-is_against.true, w.found-is) (ap Some w.seqno.ensures)
+      | else-is_against w ↦ rw (more, sym c.is_against.ensures, w.if-is_against.false, w.found-is) c.loop-entry.invariant
+    ]

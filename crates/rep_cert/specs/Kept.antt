@@ -1,0 +1,43 @@
+-- How the fields of a certifier make what it holds.
+use Rattle.std.specs.Prelude.{◌≡◌, ℕ, ◌+◌, ◌-◌, ◌<◌, ◌≤◌, max, Bool, true, if◌then◌else◌, List, [], ◌∷◌, length, None, Some}
+use Rattle.rep_types.specs.Transactions.{Transaction, written}
+use Rattle.rep_types.specs.Settings.{Setting}
+use Rattle.rep_types.specs.Entries.{Entry}
+use Rattle.rep_types.specs.Order.{floor, recent}
+use Rattle.rep_cert.specs.declared.certifier.TheConstants.{MAX_SEQNO}
+use Rattle.rep_cert.specs.declared.ring.TheConstants.{KEPT_ENTRIES}
+use Rattle.rep_cert.specs.Holdings.{Holding, Holdings, upto}
+
+-- the oldest position whose window can be asked for
+abbrev pub oldest : ℕ → ℕ → ℕ
+oldest made delivered = max made (delivered - 256)
+
+-- the entry of the item with the seqno n, if it commits
+abbrev pub own_entry : ℕ → Transaction → Bool → List Entry
+own_entry n w commits = if commits then (record { seqno = n; keys = written w }) ∷ [] else []
+
+-- what is held after so many items, where these are the entries that were kept
+abbrev pub holding : Setting → ℕ → ℕ → List Entry → Holding
+holding p made delivered es =
+    record { setting = p; made = made; delivered = delivered; entries = recent (floor p (oldest made delivered)) (upto delivered es) }
+
+-- the same with what stood before the last item, if that can be undone
+abbrev pub holdings : Setting → ℕ → ℕ → Bool → List Entry → Holdings
+holdings p made delivered undoable es =
+    record { current = holding p made delivered es; before = if undoable then Some (holding p made (delivered - 1) es) else None }
+
+-- the seqnos ascend from `low` on, and are below `high`
+abbrev pub Ascends : ℕ → ℕ → List Entry → Type 0
+Ascends low high [] = low ≤ high
+Ascends low high (e ∷ es) = (low ≤ e.seqno) × Ascends (e.seqno + 1) high es
+
+-- What holds of the entries that a certifier keeps, and of its counts: the entries are of the items that came, and there is
+-- room for all that a window which can be asked for, or the one before an undo, may hold.
+pub record IsKept (p : Setting) (made delivered : ℕ) (undoable : Bool) (es : List Entry) (capacity : ℕ) : Type 0 where
+  pub span : p.window ≤ 256
+  pub ascending : Ascends 0 (delivered + 1) es
+  pub few : length es ≤ KEPT_ENTRIES
+  pub room : capacity ≡ KEPT_ENTRIES
+  pub start : made ≤ delivered
+  pub undo : undoable ≡ true → made < delivered
+  pub limit : delivered ≤ MAX_SEQNO

@@ -1,0 +1,10 @@
+//! A certifier: it judges each write set of the delivered order from the window alone.
+#![tactic(auto)]
+
+mod certifier;
+mod laws;
+mod ring;
+mod scan;
+
+pub use certifier::{Certifier, MAX_SEQNO};
+pub use laws::{follows_from_the_start, follows_on, judges_as_the_order};

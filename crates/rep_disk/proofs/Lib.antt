@@ -1,0 +1,4 @@
+pub mod Bytes
+pub mod Images
+pub mod Moments
+mod Record

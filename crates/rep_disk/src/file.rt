@@ -1,0 +1,125 @@
+//! A disk on a file.
+ghost use Rattle.std.specs.Prelude.{◌≡◌, ◌+◌, ◌≤◌, ℕ, List, [], length, IfOk};
+ghost use Rattle.rep_disk.specs.History.{Begins};
+
+use crate::counting::counted;
+use crate::{Disk, DiskFault};
+use std::fs::{File, Files, OpenFile, OpenOptions};
+use std::io;
+use std::os::unix::fs::FileExt;
+
+/// A disk on a file, or on a device that opens as one. Nothing is claimed of it but its size and
+/// its count of failures: that it is honest is for the system to keep, and no proof says so.
+///
+/// What it does on Linux:
+///
+/// - A read is `pread`, and a write `pwrite`, each called again until all bytes have gone, and
+///   where a signal interrupts it. Past the file's end a read fails. Bytes that were written go to
+///   the kernel's memory, and from there to the device at any moment, in any order and in parts.
+/// - A sync is `fsync`: it ends once the file's bytes and its length are on the device, as far as
+///   the device tells. The name of a new file is in its folder, which this does not sync.
+/// - A failed `fsync` tells of a write that the device refused, once: the kernel may have dropped
+///   the bytes, reads may still give them, and a later `fsync` may succeed without them. So after
+///   a failed sync nothing is known of what was written since the last one that succeeded, and the
+///   file is to be opened again. Bytes of the kernel's that the device never got may even then be
+///   read, until they leave its memory.
+///
+/// No other program, and no other handle, may change the file meanwhile.
+#[derive(Drop)]
+pub struct FileDisk<F: FileExt + OpenFile + Drop> {
+    file: F,
+    size: usize,
+    failures: u64,
+}
+
+impl<F: FileExt + OpenFile + Drop> FileDisk<F> {
+    ghost use Rattle.rep_disk.specs.Fuses.{file_inside, file_size, file_failures};
+
+    /// A disk on an open file, which can be read and written. Its size is the file's length at this
+    /// moment. Refuses where the system does not tell the length.
+    pub fn new(file: F) -> io::Result<FileDisk<F>>
+        ensures { IfOk result (λ disk. file_failures disk ≡ 0) }
+    {
+        let size = file.metadata()?.len() as usize;
+        Ok(FileDisk::start(file, size))
+    }
+
+    fn start(file: F, size: usize) -> FileDisk<F>
+        ensures sized { file_size result ≡ size }
+        ensures unfailed { file_failures result ≡ 0 }
+    {
+        FileDisk {
+            file,
+            size,
+            failures: 0,
+        }
+    }
+
+    /// Gives the file back.
+    pub fn into_file(self) -> F
+        ensures { result ≡ file_inside self }
+    {
+        self.file
+    }
+}
+
+impl FileDisk<File> {
+    ghost use Rattle.rep_disk.specs.Fuses.{file_size, file_failures};
+
+    /// A disk on the file at this path, which has to be there. Refuses what the system refuses.
+    pub fn open<R: Files<File = File>>(rt: &R, path: &str) -> io::Result<FileDisk<File>>
+        ensures { IfOk result (λ disk. file_failures disk ≡ 0) }
+    {
+        FileDisk::new(OpenOptions::new().read(true).write(true).open(rt, path)?)
+    }
+
+    /// A disk of so many zero bytes on a new file at this path. Refuses what the system refuses, as
+    /// where something has this name, and then may leave the file.
+    pub fn create<R: Files<File = File>>(
+        rt: &R,
+        path: &str,
+        size: usize,
+    ) -> io::Result<FileDisk<File>>
+        ensures sized { IfOk result (λ disk. file_size disk ≡ size) }
+        ensures unfailed { IfOk result (λ disk. file_failures disk ≡ 0) }
+    {
+        let file = File::create_new(rt, path)?;
+        file.set_len(size as u64)?;
+        Ok(FileDisk::start(file, size))
+    }
+}
+
+impl<F: FileExt + OpenFile + Drop> Disk for FileDisk<F> {
+    ghost size = { λ f. f.size };
+
+    ghost failures = { λ f. f.failures };
+
+    ghost history = { λ _. Begins [] };
+
+    ghost honest = { λ _. ⊥ };
+
+    ghost sized = { λ f honest. absurd honest };
+
+    fn size(&self) -> usize {
+        self.size
+    }
+
+    fn failures(&self) -> u64 {
+        self.failures
+    }
+
+    fn read_at(&mut self, at: usize, out: &mut [u8]) -> Result<(), DiskFault> {
+        let outcome = self.file.read_exact_at(out, at as u64);
+        counted(outcome, &mut self.failures)
+    }
+
+    fn write_at(&mut self, at: usize, bytes: &[u8]) -> Result<(), DiskFault> {
+        let outcome = self.file.write_all_at(bytes, at as u64);
+        counted(outcome, &mut self.failures)
+    }
+
+    fn sync(&mut self) -> Result<(), DiskFault> {
+        let outcome = self.file.sync_all();
+        counted(outcome, &mut self.failures)
+    }
+}

@@ -1,0 +1,23 @@
+//! A disk, what an honest one does, disks in memory that crash and fail on purpose, and one on a
+//! file.
+#![tactic(auto)]
+
+mod counting;
+mod disk;
+mod fault_once;
+mod file;
+mod fuse;
+mod laws;
+mod memory;
+#[cfg(test)]
+mod tests;
+
+pub use disk::{Disk, DiskFault};
+pub use fault_once::FaultOnce;
+pub use file::FileDisk;
+pub use fuse::FuseDisk;
+pub use laws::{
+    Property, images_after_a_call, images_of_a_moment, images_within_a_call,
+    moments_of_a_weaker_property, moments_of_calls, reads_as_an_image, reads_what_was_written,
+};
+pub use memory::{Loss, MemDisk};
