@@ -8,3 +8,9 @@ pub mod Outcomes
 pub mod TextLines
 pub mod NextLine
 pub mod Writing
+pub mod Sizes
+pub mod Repeats
+pub mod RecordFronts
+pub mod RecordRanges
+pub mod Runs
+pub mod BlockFronts

@@ -1,18 +1,26 @@
 //! The texts and, later, the bytes of what a node takes in and gives out.
 #![tactic(auto)]
 
+mod block;
+mod block_reader;
 mod few;
 mod item_line;
 mod laws;
 mod params_line;
 mod pieces;
+mod record;
+mod record_reader;
 mod text_reader;
 mod verdict_line;
 mod words;
 
+pub use block::{BlockBuilder, MAX_BLOCK, MAX_RECORDS, blocks_gather};
+pub use block_reader::{BLOCK, Block, read_block};
 pub use item_line::read_item_line;
 pub use laws::{lines_make_the_text, reading_is_the_grammar};
 pub use params_line::read_params_line;
+pub use record::{MAX_RECORD, put_record};
+pub use record_reader::{read_record, records_are_told};
 pub use text_reader::{MAX_LINE, MAX_TEXT, TextReader};
 pub use verdict_line::{put_all, write_verdict};
 pub use words::is_blank;

@@ -1,5 +1,5 @@
 -- How far the judging of a text has come, and how it ends.
-use Rattle.std.proofs.Common.{◌≡◌, ℕ, ◌+◌, ◌≤◌, Bool, true, false, cond, List, [], ◌∷◌, ◌++◌, length, take, drop, min, Option, None, Some, Result, Ok, Err, IfSome, refl, sym, ap, subst, ◌∙◌, arith, append_assoc, append-nil, inl, inr}
+use Rattle.std.proofs.Common.{◌≡◌, ℕ, ◌+◌, true, false, List, [], ◌∷◌, ◌++◌, length, take, drop, Option, None, Some, Result, Ok, Err, IfSome, refl, sym, ap, subst, ◌∙◌, arith, append_assoc, append-nil, inl, inr}
 use Rattle.std.proofs.lemmas.Bool.{cases_lt}
 use Rattle.std.specs.Prelude.{IsSomeAnd}
 use Rattle.std.specs.Io.KnownBytes.{Appends}
@@ -12,7 +12,7 @@ use Rattle.rep_types.specs.declared.refusal.Refusal.TheVariants.{OutOfMemory, St
 use Rattle.rep_types.specs.Transactions.{Transaction}
 use Rattle.rep_types.specs.Settings.{Setting}
 use Rattle.rep_types.specs.Order.{Order, history}
-use Rattle.rep_types.proofs.Histories.{length_history, take_history, history_push_judged}
+use Rattle.rep_types.proofs.Histories.{take_history, history_push_judged}
 use Rattle.rep_plain.specs.Delivered.{Delivered}
 use Rattle.rep_record.specs.Lines.{Unread, ahead, NextLine}
 use Rattle.replicad.specs.Judging.{Reading, reading_of, items_ahead, with_line, content, line_of, verdict_lines, judged_text, next_verdict_line, Ends, JudgesLine, ReadsParams, refused, text_ahead, reading}

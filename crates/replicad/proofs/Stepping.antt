@@ -1,16 +1,13 @@
 -- What one more line does to what a text says.
-use Rattle.std.proofs.Common.{◌≡◌, ℕ, ◌+◌, Bool, true, false, cond, List, [], ◌∷◌, ◌++◌, length, Option, None, Some, Result, Ok, Err, IfSome, refl, sym, ap, ◌∙◌, subst}
+use Rattle.std.proofs.Common.{◌≡◌, ℕ, ◌+◌, true, false, cond, List, [], ◌++◌, Option, None, Some, Result, Ok, Err, IfSome, refl, sym, ap, ◌∙◌}
 use Rattle.std.specs.Prelude.{IsSomeAnd}
-use Rattle.std.specs.Io.KnownBytes.{prepend_known}
 use Rattle.rep_types.specs.declared.refusal.Refusal.{Refusal}
 use Rattle.rep_types.specs.declared.refusal.Refusal.TheVariants.{Malformed, StreamFault}
-use Rattle.rep_types.specs.Transactions.{Transaction}
 use Rattle.rep_types.specs.Settings.{Setting}
-use Rattle.rep_types.specs.Order.{Order}
 use Rattle.rep_record.specs.Words.{is_blank}
-use Rattle.rep_record.specs.Lines.{Unread, ahead, raw_lines, without_feed, line_fault, HandedOut, HasEnded, IsRefused, NextLine}
+use Rattle.rep_record.specs.Lines.{Unread, ahead, without_feed, line_fault, HandedOut, IsRefused, NextLine}
 use Rattle.rep_record.specs.Reading.{item_line, params_line}
-use Rattle.replicad.specs.Judging.{text_of, items_of, text_ahead, items_ahead, content, with_line, with_params, read_line, line_reading, refused, reading_of, ReadsParams}
+use Rattle.replicad.specs.Judging.{text_of, items_of, text_ahead, items_ahead, content, with_line, with_params, read_line, refused, ReadsParams}
 
 -- a clause on the known bytes of a reader is one on the text that is ahead
 pub IfSome-ahead : (u : Unread) (left : Option (List ℕ)) (P : List ℕ → Type 0) → IfSome left (λ known. P (u.pending ++ known)) → IfSome (ahead u left) P

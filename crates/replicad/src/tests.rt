@@ -2,7 +2,8 @@
 
 use super::*;
 use rep_plain::PlainNode;
-use rep_types::{Key, Params, Part, Value, Verdict, Write, WriteSet};
+use rep_record::{BlockBuilder, put_record, read_block, read_record};
+use rep_types::{Judged, Key, Params, Part, Value, Verdict, Write, WriteSet};
 use std::alloc::{AllocError, Global};
 use std::io::Read;
 use std::test::Fail;
@@ -466,5 +467,96 @@ fn refusals_show_their_names_and_data(rt: HostRuntime) -> Result<(), Fail> {
         let shown = format!(in rt.alloc(); "{number} {refusal}")?;
         assert_eq!(rt; shown.as_str(), text);
     }
+    Ok(())
+}
+
+/// The bytes of the first item that writes `61` under `0/1`, as the format has them.
+const RECORD: [u8; 53] = [
+    0x00, 0x35, 0, 0, 0, 0, 0, 0, 0, 1, 0, 0, 0, 0, 0, 0, 0, 0, 0, 0, 0, 0, 0, 0, 0, 0, 0, 0, 0, 0,
+    0, 0, 0, 0, 0, 0, 0, 0, 0, 0, 0, 0, 0, 0, 1, 0, 0, 0, 0, 1, 1, 1, 0x61,
+];
+
+#[test]
+fn records_have_the_bytes_of_the_format(rt: HostRuntime) -> Result<(), Fail> {
+    let record = Judged {
+        seqno: 1,
+        item: put(0, 1, 0x61)?,
+        verdict: Verdict::Commit,
+    };
+    assert_eq!(rt; put_record(&record).as_slice(), RECORD.as_slice());
+    let mut bytes = Vec::from_slice(rt.alloc(), &RECORD)?;
+    bytes.extend_from_slice(b"anything")?;
+    assert!(rt; read_record(&RECORD[..52]) == Err(Refusal::Malformed { at: 0 }));
+    let (read, length) = read_record(&bytes)?;
+    assert!(rt; read == record);
+    assert_eq!(rt; length, 53);
+    Ok(())
+}
+
+#[test]
+fn blocks_name_the_first_faulty_record(rt: HostRuntime) -> Result<(), Fail> {
+    let mut block = BlockBuilder::new();
+    assert!(rt; block.is_empty());
+    for seqno in 7..=9 {
+        let item = put(0, 1, 0x61)?;
+        let verdict = Verdict::Commit;
+        assert!(rt;
+            block.push(&Judged {
+                seqno,
+                item,
+                verdict
+            })
+        );
+    }
+    assert_eq!(rt; block.len(), 3);
+    assert_eq!(rt; block.first(), 7);
+    assert_eq!(rt; block.as_bytes().len(), 3 * 53);
+    let mut body = Vec::from_slice(rt.alloc(), &[0, 0, 0, 0, 0, 0, 0, 5])?;
+    body.extend_from_slice(&[0, 0, 0, 0, 0, 0, 0, 7, 0, 3])?;
+    body.extend_from_slice(block.as_bytes())?;
+    for _ in 0..7680 - 18 - 3 * 53 {
+        body.push(0)?;
+    }
+    let read = read_block(rt.alloc(), &body)?;
+    assert_eq!(rt; read.cell, 5);
+    assert_eq!(rt; read.records.len(), 3);
+    let faults: [(usize, u8, u64); 4] = [
+        // the verdict of the first record
+        (18 + 34, 5, 18),
+        // the seqno of the second record
+        (18 + 53 + 9, 7, 18 + 53),
+        // the number of records
+        (17, 65, 0),
+        // a closing byte
+        (7679, 1, 0),
+    ];
+    for (place, byte, at) in faults {
+        assert!(rt; place < body.len());
+        let kept = body[place];
+        body[place] = byte;
+        match read_block(rt.alloc(), &body) {
+            Ok(_) => assert!(rt; false, "{place} was read"),
+            Err(refusal) => assert_eq!(rt; refusal, Refusal::Malformed { at }, "{place}"),
+        }
+        assert!(rt; place < body.len());
+        body[place] = kept;
+    }
+    Ok(())
+}
+
+#[test]
+fn a_block_is_full_at_64_records(rt: HostRuntime) -> Result<(), Fail> {
+    let mut block = BlockBuilder::new();
+    for seqno in 1..=65 {
+        let item = put(0, 1, 0x61)?;
+        let verdict = Verdict::Stale;
+        let has_room = block.push(&Judged {
+            seqno,
+            item,
+            verdict,
+        });
+        assert_eq!(rt; has_room, seqno <= 64, "{seqno}");
+    }
+    assert_eq!(rt; block.len(), 64);
     Ok(())
 }

@@ -1,8 +1,8 @@
-use Rattle.std.proofs.Common.{◌≡◌, Result, Ok, Err, true, false}
+use Rattle.std.proofs.Common.{◌≡◌, Ok, Err, true, false}
 use Rattle.std.proofs.lemmas.Result.{err_from_is_err_and}
 use Rattle.rep_record.specs.Lines.{ahead}
 use Rattle.replicad.specs.Judging.{JudgesLine, content}
-use Rattle.replicad.proofs.Progress.{judged_none, judged_more, judged_all, judged_refused, judged_line_ends}
+use Rattle.replicad.proofs.Progress.{judged_more, judged_all, judged_refused, judged_line_ends}
 use Rattle.replicad.proofs.judge.judge_items.Goals as goal
 
 pub returns-in_err-next_line : goal.returns-in_err-next_line

@@ -1,7 +1,7 @@
-use Rattle.std.proofs.Common.{◌≡◌, ◌∙◌, sym, Result, Ok, Err, ℕ, List, Bool, Option, IfSome, true, false}
+use Rattle.std.proofs.Common.{◌≡◌, ◌∙◌, sym, Ok, true, false}
 use Rattle.std.proofs.lemmas.Result.{err_from_is_err_and}
 use Rattle.rep_record.specs.Words.{is_blank}
-use Rattle.rep_record.specs.Lines.{ahead, NextLine, Counts}
+use Rattle.rep_record.specs.Lines.{ahead}
 use Rattle.rep_record.specs.Reading.{params_line}
 use Rattle.replicad.proofs.Stepping.{params_refused, params_missing, params_blank, params_found}
 use Rattle.replicad.proofs.judge.read_params.Goals as goal
