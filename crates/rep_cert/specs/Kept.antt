@@ -4,7 +4,7 @@ use Rattle.rep_types.specs.Transactions.{Transaction, written}
 use Rattle.rep_types.specs.Settings.{Setting}
 use Rattle.rep_types.specs.Entries.{Entry}
 use Rattle.rep_types.specs.Order.{floor, recent}
-use Rattle.rep_cert.specs.declared.certifier.TheConstants.{MAX_SEQNO}
+use Rattle.rep_types.specs.declared.judged.TheConstants.{MAX_SEQNO}
 use Rattle.rep_cert.specs.declared.ring.TheConstants.{KEPT_ENTRIES}
 use Rattle.rep_cert.specs.Holdings.{Holding, Holdings, upto}
 

@@ -5,12 +5,9 @@ ghost use Rattle.rep_cert.specs.Holdings.{IsAskable, IsWindow, Admits, made_at, 
 
 use crate::ring::{entries_between, forget, keep, latest_kept_conflict, with_room};
 use circular_buffer::HeapCircularBuffer;
-use rep_types::{Entry, Params, Refusal, Verdict, WriteSet};
+use rep_types::{Entry, MAX_SEQNO, Params, Refusal, Verdict, WriteSet};
 use std::alloc::Global;
 use std::marker::Model;
-
-/// The greatest seqno: no item is admitted behind it.
-pub const MAX_SEQNO: u64 = 1 << 60;
 
 /// Judges each item of the delivered order from the window alone (certification: Pedone,
 /// Guerraoui and Schiper, 2003). It keeps the last committed items, each as its seqno and the keys

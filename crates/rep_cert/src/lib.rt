@@ -6,5 +6,5 @@ mod laws;
 mod ring;
 mod scan;
 
-pub use certifier::{Certifier, MAX_SEQNO};
+pub use certifier::Certifier;
 pub use laws::{follows_from_the_start, follows_on, judges_as_the_order};

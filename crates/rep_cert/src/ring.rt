@@ -15,10 +15,13 @@ use std::alloc::{AllocError, Global};
 /// How many committed items are kept. A window that can be asked for lies at most 256 positions
 /// back and spans at most 256 seqnos, so such windows hold entries of the last 512 seqnos. Undoing
 /// the last item asks for one more.
-pub const KEPT_ENTRIES: usize = 513;
+pub(crate) const KEPT_ENTRIES: usize = 513;
 
 /// These entries, with room for as many as are ever kept.
-pub fn with_room(alloc: Global, window: Vec<Entry>) -> Result<HeapCircularBuffer<Entry>, AllocError>
+pub(crate) fn with_room(
+    alloc: Global,
+    window: Vec<Entry>,
+) -> Result<HeapCircularBuffer<Entry>, AllocError>
     requires { length window.items ≤ KEPT_ENTRIES }
     ensures { IfOk result (λ entries. entries ≡ buffer window.items KEPT_ENTRIES) }
 {
@@ -31,7 +34,10 @@ pub fn with_room(alloc: Global, window: Vec<Entry>) -> Result<HeapCircularBuffer
 
 /// The greatest seqno among the kept entries that stand against the item.
 #[tactic(auto, using(crate::proofs::Kept::latest_seqno_append))]
-pub fn latest_kept_conflict(entries: &HeapCircularBuffer<Entry>, item: &WriteSet) -> Option<u64>
+pub(crate) fn latest_kept_conflict(
+    entries: &HeapCircularBuffer<Entry>,
+    item: &WriteSet,
+) -> Option<u64>
     ensures { result ≡ option_map seqno_of (latest (against item.now) entries.now.items) }
 {
     let (older, newer) = entries.as_slices();
@@ -40,7 +46,12 @@ pub fn latest_kept_conflict(entries: &HeapCircularBuffer<Entry>, item: &WriteSet
 
 /// Keeps the entry of the item with this seqno, if it commits; the oldest entry goes where there is
 /// no room.
-pub fn keep(entries: &mut HeapCircularBuffer<Entry>, seqno: u64, item: &WriteSet, verdict: Verdict)
+pub(crate) fn keep(
+    entries: &mut HeapCircularBuffer<Entry>,
+    seqno: u64,
+    item: &WriteSet,
+    verdict: Verdict,
+)
     requires { length entries.old.items ≤ entries.old.capacity }
     ensures { entries.new ≡ buffer (keep_last entries.old.capacity (entries.old.items ++ own_entry seqno item.now (is_commit verdict))) entries.old.capacity }
 {
@@ -51,7 +62,7 @@ pub fn keep(entries: &mut HeapCircularBuffer<Entry>, seqno: u64, item: &WriteSet
 
 /// Drops the newest entry, if it is of the item with this seqno, which is the last one.
 #[tactic(auto, using(crate::proofs::Kept::without_none, crate::proofs::Kept::no_last))]
-pub fn forget(entries: &mut HeapCircularBuffer<Entry>, seqno: u64)
+pub(crate) fn forget(entries: &mut HeapCircularBuffer<Entry>, seqno: u64)
     requires one { 0 < seqno }
     requires last { Ascends 0 (seqno + 1) entries.old.items }
     ensures { entries.new ≡ buffer (upto (seqno - 1) entries.old.items) entries.old.capacity }
@@ -66,7 +77,7 @@ pub fn forget(entries: &mut HeapCircularBuffer<Entry>, seqno: u64)
 /// Copies of the kept entries from the floor on and up to the position.
 ///
 /// Refuses with `OutOfMemory` where the list cannot grow.
-pub fn entries_between(
+pub(crate) fn entries_between(
     alloc: Global,
     entries: &HeapCircularBuffer<Entry>,
     floor: u64,

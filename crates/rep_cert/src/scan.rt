@@ -17,7 +17,7 @@ fn is_against(entry: &Entry, item: &WriteSet) -> bool
 
 /// The greatest seqno among the entries that stand against the item.
 #[tactic(auto, using(rep_types::proofs::Latest::latest_more, rep_types::proofs::Latest::latest_all))]
-pub fn latest_conflict(entries: &[Entry], item: &WriteSet) -> Option<u64>
+pub(crate) fn latest_conflict(entries: &[Entry], item: &WriteSet) -> Option<u64>
     ensures { result ≡ option_map seqno_of (latest (against item.now) entries.now) }
 {
     let mut found = None;
@@ -37,7 +37,7 @@ fn is_of_window(seqno: u64, floor: u64, position: u64) -> bool
 }
 
 /// Adds to these the copies of the entries from the floor on and up to the position.
-pub fn push_window(
+pub(crate) fn push_window(
     kept: &mut Vec<Entry>,
     entries: &[Entry],
     floor: u64,

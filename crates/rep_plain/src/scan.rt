@@ -29,7 +29,7 @@ fn is_against(earlier: &Judged, item: &WriteSet) -> bool
 }
 
 /// The greatest seqno among the items that stand against this one.
-pub fn latest_conflict(items: &[Judged], item: &WriteSet) -> Option<u64>
+pub(crate) fn latest_conflict(items: &[Judged], item: &WriteSet) -> Option<u64>
     ensures { result ≡ option_map (λ e. e.seqno) (latest (against item.now) (entries items.now)) }
 {
     let mut found = None;
@@ -56,7 +56,7 @@ fn last_write(writes: &[Write], key: Key) -> Option<&Write>
 }
 
 /// The value that the last committed write of the key put.
-pub fn row_of(items: &[Judged], key: Key) -> Option<&Value>
+pub(crate) fn row_of(items: &[Judged], key: Key) -> Option<&Value>
     ensures { option_copied result ≡ row_in (effects items.now) key }
 {
     let mut row = None;
@@ -71,7 +71,11 @@ pub fn row_of(items: &[Judged], key: Key) -> Option<&Value>
 }
 
 /// The committed items from the floor on, each as its seqno and the keys that it wrote.
-pub fn recent_entries(alloc: Global, items: &[Judged], floor: u64) -> Result<Vec<Entry>, Refusal>
+pub(crate) fn recent_entries(
+    alloc: Global,
+    items: &[Judged],
+    floor: u64,
+) -> Result<Vec<Entry>, Refusal>
     ensures recent { IfOk result (λ kept. kept.items ≡ recent floor (entries items.now)) }
     ensures refused { IfErr result (λ refusal. refusal ≡ Refusal.OutOfMemory) }
 {

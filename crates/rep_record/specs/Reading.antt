@@ -1,16 +1,17 @@
 -- How a line of an order text is read: functions of its words and bytes, each None where there is nothing of the form.
 use Rattle.std.specs.Prelude.{ℕ, ◌+◌, ◌*◌, ◌^◌, Bool, false, ◌==◌, ◌&&◌, nat_lt, if◌then◌else◌, List, [], ◌∷◌, length, drop, codes, Option, None, Some, Result, Ok, Err}
-use Rattle.std.specs.List.{list_all, list_any}
+use Rattle.std.specs.List.{list_any}
 use Rattle.std.specs.Option.{option_map, option_map_or}
 use Rattle.std.specs.Char.{digit_value, is_digit}
 use Rattle.std.specs.Str.{bytes_eq}
-use Rattle.std.specs.Str.Parse.{digits_value}
 use Rattle.rep_types.specs.declared.key.Key.{Key}
 use Rattle.rep_types.specs.declared.value.Write.{Write}
 use Rattle.rep_types.specs.declared.refusal.Refusal.{Refusal}
 use Rattle.rep_types.specs.declared.refusal.Refusal.TheVariants.{Malformed, TooManyReads, TooManyWrites, ValueTooLong}
 use Rattle.rep_types.specs.Transactions.{Transaction, transaction, misplaced}
 use Rattle.rep_types.specs.Settings.{Setting, setting, allowed}
+pub use Rattle.rep_types.specs.Numbers.{given, is_number}
+unfoldable pub use Rattle.rep_types.specs.Numbers.{number_in}
 use Rattle.rep_record.specs.Words.{words, cut}
 
 infixl 10 ◌>>=◌
@@ -18,18 +19,6 @@ infixl 10 ◌>>=◌
 abbrev pub ◌>>=◌ : {A B : Type 0} → Option A → (A → Option B) → Option B
 None >>= f = None
 (Some x) >>= f = f x
-
--- a value, where the test holds
-abbrev pub given : {A : Type 0} → Bool → A → Option A
-given test x = if test then Some x else None
-
--- whether the word is a number below the limit
-abbrev pub is_number : ℕ → List ℕ → Bool
-is_number limit word = nat_lt 0 (length word) && list_all (λ (c : ℕ). is_digit c 10) word && nat_lt (digits_value 10 word) limit
-
--- the number below the limit that the digits write
-unfoldable pub number_in : ℕ → List ℕ → Option ℕ
-number_in limit word = given (is_number limit word) (digits_value 10 word)
 
 -- a key: `table/row`
 unfoldable pub key_in : List ℕ → Option Key

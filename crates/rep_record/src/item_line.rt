@@ -8,10 +8,10 @@ ghost use Rattle.rep_record.specs.Reading.{labels_in, keys_in, reads_in, writes_
 ghost use Rattle.rep_record.specs.Drafts.{Gives, drafted_reads, drafted_writes, drafted, limited_draft};
 
 use crate::few::keep;
-use crate::pieces::{read_key, read_label, read_u64, read_write};
+use crate::pieces::{read_key, read_label, read_write};
 use crate::words::Words;
 use arrayvec::ArrayVec;
-use rep_types::{Key, MAX_READS, MAX_WRITES, Refusal, Write, WriteSet};
+use rep_types::{Key, MAX_READS, MAX_WRITES, Refusal, Write, WriteSet, read_number};
 use std::marker::Model;
 
 /// What an item's line says, as far as it is kept: of the reads and of the writes, one more than a
@@ -123,7 +123,7 @@ fn read_draft(line: &[u8]) -> Option<Draft>
     if !words.skip(b"item") {
         return None;
     }
-    let last_seen = read_u64(words.next_word()?)?;
+    let last_seen = read_number(words.next_word()?)?;
     let (source, trx) = read_labels(&mut words)?;
     let reads = read_reads(&mut words)?;
     let (writes, has_long) = read_writes(&mut words)?;

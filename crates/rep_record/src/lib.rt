@@ -1,4 +1,5 @@
-//! The texts and, later, the bytes of what a node takes in and gives out.
+//! What a node takes in and gives out: order texts and verdict lines, and records and blocks of
+//! them as bytes.
 #![tactic(auto)]
 
 mod block;

@@ -9,29 +9,14 @@ ghost use Rattle.rep_record.specs.Drafts.{drafted_write};
 use crate::few::keep;
 use crate::words::place_of;
 use arrayvec::ArrayVec;
-use rep_types::{Key, Value, Write};
-
-/// The number that the digits write.
-pub(crate) fn read_u64(word: &[u8]) -> Option<u64>
-    ensures { result ≡ number_in (2 ^ 64) word.now }
-{
-    if word.is_empty() {
-        return None;
-    }
-    let mut number: u64 = 0;
-    for byte in word {
-        let digit = char::from(*byte).to_digit(10)?;
-        number = number.checked_mul(10)?.checked_add(u64::from(digit))?;
-    }
-    Some(number)
-}
+use rep_types::{Key, Value, Write, read_number};
 
 /// The number that the digits write, where it is below 2^32.
 #[tactic(auto, using(crate::proofs::Numbers::number_32))]
 pub(crate) fn read_u32(word: &[u8]) -> Option<u32>
     ensures { result ≡ number_in (2 ^ 32) word.now }
 {
-    u32::try_from(read_u64(word)?).ok()
+    u32::try_from(read_number(word)?).ok()
 }
 
 /// The number that the digits write, where it is below 2^8.
@@ -39,7 +24,7 @@ pub(crate) fn read_u32(word: &[u8]) -> Option<u32>
 fn read_u8(word: &[u8]) -> Option<u8>
     ensures { result ≡ number_in (2 ^ 8) word.now }
 {
-    u8::try_from(read_u64(word)?).ok()
+    u8::try_from(read_number(word)?).ok()
 }
 
 /// What stands before the first byte that is the mark, and what stands behind it.
@@ -68,8 +53,8 @@ pub(crate) fn read_label(word: &[u8]) -> Option<(u64, u64)>
     ensures { result ≡ label_in word.now }
 {
     let (source, trx) = cut_at(word, b':')?;
-    let source = read_u64(source)?;
-    let trx = read_u64(trx)?;
+    let source = read_number(source)?;
+    let trx = read_number(trx)?;
     Some((source, trx))
 }
 

@@ -11,10 +11,9 @@ ghost use Rattle.rep_record.specs.RecordReading.{part_at, number_at, byte_at, la
 
 use crate::record::put_record;
 use arrayvec::ArrayVec;
-use rep_types::{Judged, Key, MAX_READS, MAX_WRITES, Refusal, Value, Verdict, Write, WriteSet};
-
-/// The greatest seqno: 2^60.
-const MAX_SEQNO: u64 = 1_152_921_504_606_846_976;
+use rep_types::{
+    Judged, Key, MAX_READS, MAX_SEQNO, MAX_WRITES, Refusal, Value, Verdict, Write, WriteSet,
+};
 
 /// The numbers of a record, in their order.
 #[derive(Drop)]

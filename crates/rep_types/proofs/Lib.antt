@@ -7,3 +7,4 @@ pub mod Touches
 pub mod SerialReads
 pub mod VerdictsByPairs
 pub mod Tests
+pub mod Digits

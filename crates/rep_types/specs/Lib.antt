@@ -6,3 +6,4 @@ pub mod Entries
 pub mod Order
 pub mod Verdicts
 pub mod Texts
+pub mod Numbers

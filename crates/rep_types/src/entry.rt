@@ -7,7 +7,8 @@ use arrayvec::ArrayVec;
 use std::alloc::AllocError;
 use std::marker::Model;
 
-/// A committed item as the window keeps it: its seqno, and the 1 to 16 keys that it wrote.
+/// A committed item as the window keeps it: its seqno, and the keys that it wrote, at
+/// most 16.
 #[derive(Debug, Drop, PartialEq, Eq)]
 pub struct Entry {
     seqno: u64,
