@@ -1,5 +1,5 @@
 -- One more item under a scan of the order from its front.
-use Rattle.std.proofs.Common.{◌≡◌, ℕ, ◌+◌, ◌<◌, Bool, true, false, cond, Option, Some, List, [], ◌∷◌, ◌++◌, length, get_or, take, refl, ap, sym, ◌∙◌, append-nil}
+use Rattle.std.proofs.Common.{◌≡◌, ℕ, ◌+◌, ◌-◌, ◌<◌, Bool, true, false, cond, Option, Some, List, [], ◌∷◌, ◌++◌, length, get_or, take, refl, ap, sym, ◌∙◌, append-nil}
 use Rattle.std.specs.Prelude.{◌&&◌}
 use Rattle.std.specs.Option.{option_map}
 use Rattle.std.proofs.lemmas.List.{take_more}
@@ -8,8 +8,10 @@ use Rattle.rep_types.specs.declared.value.Write.{Write}
 use Rattle.rep_types.specs.declared.judged.Judged.{Judged}
 use Rattle.rep_types.specs.Keys.{key_eq}
 use Rattle.rep_types.specs.Transactions.{Transaction}
+use Rattle.rep_types.specs.Settings.{Setting}
 use Rattle.rep_types.specs.Entries.{Entry}
-use Rattle.rep_types.specs.Order.{counts, against, entries, entry_of, latest, effects, row_in, overwritten}
+use Rattle.rep_types.specs.Order.{Order, counts, against, entries, entry_of, latest, effects, row_in, overwritten, floor, recent, history, window}
+use Rattle.rep_types.proofs.Histories.{length_history}
 use Rattle.rep_types.proofs.Latest.{latest_push}
 use Rattle.rep_types.proofs.Windows.{entries_push}
 use Rattle.rep_types.proofs.Rows.{effects_push, row_in-append}
@@ -45,3 +47,10 @@ row_push h j key = ap (λ writes. row_in writes key) (effects_push h j) ∙ (row
         ≡ cond b (overwritten (row_in (effects h) key) (latest (λ (write : Write). key_eq write.key key) j.item.writes)) (row_in (effects h) key)
     by_test true = refl
     by_test false = refl
+
+-- the window of a front of the order, by its items
+pub window_from : (p : Setting) (L : Order) (items : List Judged) (lowest span : ℕ) → items ≡ history p L → lowest ≡ length items + 1 - span → span ≡ p.window
+    → recent lowest (entries items) ≡ window p L
+window_from p L items lowest span same e f =
+    let long : length items ≡ length L = ap length same ∙ length_history p L in
+    ap (λ k. recent k (entries items)) (e ∙ ap (λ n. n + 1 - span) long ∙ ap (λ n. length L + 1 - n) f) ∙ ap (λ h. recent (floor p (length L)) (entries h)) same

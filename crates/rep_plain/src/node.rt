@@ -1,8 +1,8 @@
 //! The plain node.
 
-ghost use Rattle.std.specs.Prelude.{◌≡◌, ◌+◌, ◌≤◌, [], ◌∷◌, ◌++◌, length, IfOk, IfErr, OnOk, OnErr};
+ghost use Rattle.std.specs.Prelude.{◌≡◌, ◌+◌, ◌≤◌, [], ◌∷◌, ◌++◌, length, take, IfOk, IfErr, OnOk, OnErr};
 ghost use Rattle.std.specs.Option.{option_copied};
-ghost use Rattle.rep_types.specs.Order.{verdict, read, window};
+ghost use Rattle.rep_types.specs.Order.{verdict, read, window, history};
 
 use crate::scan::{latest_conflict, recent_entries, row_of};
 use rep_types::{Entry, Judged, Key, Params, Refusal, Value, Verdict, WriteSet};
@@ -98,8 +98,35 @@ impl PlainNode {
         ensures window { IfOk result (λ entries. entries.items ≡ window self.now.setting self.now.order) }
         ensures refused { IfErr result (λ refusal. refusal ≡ Refusal.OutOfMemory) }
     {
-        let floor = (self.items.len() as u64 + 1).saturating_sub(u64::from(self.params.window()));
-        recent_entries(alloc, &self.items, floor)
+        self.window_at(alloc, self.position())
+    }
+
+    /// The window after the first `s` items: the committed items that certification needed for the
+    /// one behind them, in ascending order.
+    ///
+    /// Refuses with `OutOfMemory` where the list cannot grow.
+    pub fn window_at(&self, alloc: Global, s: u64) -> Result<Vec<Entry>, Refusal>
+        requires { s ≤ length self.now.order }
+        ensures window { IfOk result (λ entries. entries.items ≡ window self.now.setting (take s self.now.order)) }
+        ensures refused { IfErr result (λ refusal. refusal ≡ Refusal.OutOfMemory) }
+    {
+        let items = &self.items[..s as usize];
+        let floor = (items.len() as u64 + 1).saturating_sub(u64::from(self.params.window()));
+        recent_entries(alloc, items, floor)
+    }
+
+    /// The parameters.
+    pub fn params(&self) -> &Params
+        ensures { result.now ≡ self.now.setting }
+    {
+        &self.params
+    }
+
+    /// The delivered items, each with its seqno and its verdict, in their order.
+    pub fn items(&self) -> &[Judged]
+        ensures { result.now ≡ history self.now.setting self.now.order }
+    {
+        &self.items
     }
 
     /// How many items were delivered.

@@ -10,6 +10,7 @@ use Rattle.std.proofs.lemmas.List.{length-append, nil_from_length}
 use Rattle.std.proofs.lemmas.Option.{same_Some, cond_some}
 use Rattle.rep_types.specs.declared.key.Key.{Key}
 use Rattle.rep_types.specs.declared.value.Write.{Write}
+use Rattle.rep_types.proofs.Digits.{number_of}
 use Rattle.rep_record.specs.Words.{cut}
 use Rattle.rep_record.specs.Grammar.{IsNumber, IsKey, IsHex, IsWritten, IsWrite, IsLabel}
 use Rattle.rep_record.specs.Reading.{◌>>=◌, given, is_number, number_in, key_in, label_in, byte_in, hex_in, put_in, deleted_in, delete, write_by, write_in}
@@ -33,11 +34,6 @@ all_digits (c ∷ cs) e =
     let p = both_true (is_digit c 10) (list_all (λ (d : ℕ). is_digit d 10) cs) e in
     (ltb-true (digit_value c) 10 p.0, all_digits cs p.1)
 
--- digits all pass the test
-digits_all : (word : List ℕ) → AllDigits 10 word → list_all (λ (c : ℕ). is_digit c 10) word ≡ true
-digits_all [] h = refl
-digits_all (c ∷ cs) h = rw (lt-ltb (digit_value c) 10 h.0, digits_all cs h.1) refl
-
 -- what is read as a number is one
 pub number_found : (limit : ℕ) (word : List ℕ) (n : ℕ) → number_in limit word ≡ Some n → IsNumber limit word n
 unfolding number_in
@@ -54,8 +50,7 @@ number_found limit word n e =
 -- a number is read as itself
 pub number_again : (limit : ℕ) (word : List ℕ) (n : ℕ) → IsNumber limit word n → number_in limit word ≡ Some n
 unfolding number_in
-number_again limit word n h =
-    rw (lt-ltb 0 (length word) h.digits.0, digits_all word h.digits.1, h.value, lt-ltb n limit h.small) refl
+number_again limit word n h = number_of limit word n h.digits h.value h.small
 
 -- ---- a word cut at a mark
 

@@ -1,15 +1,16 @@
 -- How a number is read digit by digit.
-use Rattle.std.proofs.Common.{◌≡◌, ℕ, ◌+◌, ◌*◌, ◌^◌, ◌<◌, ◌≤◌, Bool, true, false, ltb, List, length, get_or, take, Some, None, refl, arith}
+use Rattle.std.proofs.Common.{◌≡◌, ℕ, ◌+◌, ◌*◌, ◌^◌, ◌<◌, ◌≤◌, Bool, true, false, ltb, List, [], ◌∷◌, length, get_or, take, Some, None, refl, arith}
 use Rattle.std.specs.Prelude.{◌&&◌}
 use Rattle.std.specs.List.{list_all}
+use Rattle.std.specs.Option.{option_and_then}
 use Rattle.std.specs.Char.{digit_value, is_digit}
-use Rattle.std.specs.Str.Parse.{digits_value}
-use Rattle.std.proofs.lemmas.Bool.{lt-ltb, le-ltb}
+use Rattle.std.specs.Str.Parse.{digits_value, IsNumeral, AllDigits}
+use Rattle.std.proofs.lemmas.Bool.{ltb-true, lt-ltb, le-ltb}
 use Rattle.std.proofs.lemmas.List.{take_all}
 use Rattle.std.proofs.lemmas.List.Folds.{list_all_at, list_all_more}
 use Rattle.std.proofs.lemmas.Int.Digits.{digits_value_more}
 use Rattle.std.proofs.lemmas.Str.Parse.{digits_value-take-le}
-use Rattle.rep_types.specs.Numbers.{number_in}
+use Rattle.rep_types.specs.Numbers.{given, number_in}
 
 -- whether each byte is a decimal digit
 abbrev pub are_digits : List ℕ → Bool
@@ -62,3 +63,28 @@ reads_all word i n some all h =
     let digits : are_digits word ≡ true = rw e at h.digits in
     let value : n ≡ digits_value 10 word = rw e at h.value in
     rw (lt-ltb 0 (length word) some, digits, ← value, lt-ltb n (2 ^ 64) h.small) refl
+
+-- digits all pass the test
+digits_all : (word : List ℕ) → AllDigits 10 word → are_digits word ≡ true
+digits_all [] h = refl
+digits_all (c ∷ cs) h = rw (lt-ltb (digit_value c) 10 h.0, digits_all cs h.1) refl
+
+-- digits of a number below the limit are read as it
+pub number_of : (limit : ℕ) (word : List ℕ) (n : ℕ) → IsNumeral 10 word → digits_value 10 word ≡ n → n < limit → number_in limit word ≡ Some n
+unfolding number_in
+number_of limit word n digits value small = rw (lt-ltb 0 (length word) digits.0, digits_all word digits.1, value, lt-ltb n limit small) refl
+
+-- the same of any two tests of which one follows from the other
+below_step : (a larger : Bool) (v limit : ℕ) (x : Bool) → ltb v limit ≡ x → (x ≡ true → larger ≡ true)
+    → given (a && x) v ≡ option_and_then (λ n. given (ltb n limit) n) (given (a && larger) v)
+below_step false larger v limit x e h = refl
+below_step true true v limit x e h = rw e refl
+below_step true false v limit true e h = absurd (let q : false ≡ true = h refl in cc)
+below_step true false v limit false e h = refl
+
+-- a number below a limit is one below a larger limit that is below this one too
+pub number_below : (limit larger : ℕ) (word : List ℕ) → limit ≤ larger → number_in limit word ≡ option_and_then (λ n. given (ltb n limit) n) (number_in larger word)
+unfolding number_in
+number_below limit larger word le =
+    let v = digits_value 10 word in
+    below_step (ltb 0 (length word) && are_digits word) (ltb v larger) v limit (ltb v limit) refl (λ e. lt-ltb v larger (omega (arith, ltb-true v limit e)))

@@ -8,3 +8,4 @@ pub mod SerialReads
 pub mod VerdictsByPairs
 pub mod Tests
 pub mod Digits
+pub mod Gtids

@@ -7,3 +7,5 @@ pub mod Order
 pub mod Verdicts
 pub mod Texts
 pub mod Numbers
+pub mod Gtids
+pub mod Replies

@@ -3,23 +3,27 @@
 #![tactic(auto)]
 
 mod entry;
+mod gtid;
 mod judged;
 mod key;
 mod laws;
 mod number;
 mod params;
 mod refusal;
+mod reply;
 mod value;
 mod verdict;
 mod write_set;
 
 pub use entry::Entry;
+pub use gtid::{Gtid, gtids_read_back};
 pub use judged::{Judged, MAX_SEQNO};
 pub use key::Key;
 pub use laws::{reads_are_serial, state_is_enough, verdicts_are_determined};
 pub use number::read_number;
 pub use params::{Params, Schema};
 pub use refusal::{Part, Refusal};
+pub use reply::Reply;
 pub use value::{MAX_VALUE, Value, Write};
 pub use verdict::Verdict;
 pub use write_set::{MAX_READS, MAX_WRITES, WriteSet};

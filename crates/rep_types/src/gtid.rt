@@ -1,0 +1,95 @@
+//! Global transaction identifiers.
+
+ghost use Rattle.std.specs.Prelude.{◌≡◌, IfOk, Ok, Some};
+ghost use Rattle.rep_types.specs.declared.gtid.Gtid.{Gtid};
+ghost use Rattle.rep_types.specs.Gtids.{IsGtid, GtidsReadBack, seqno_in, uuid_in, gtid_with, gtid_in};
+
+use crate::number::read_number;
+use crate::refusal::Refusal;
+use std::fmt;
+use uuid::Uuid;
+
+/// A global transaction identifier (Galera documentation): the state UUID of a group of nodes, and a
+/// seqno in the order that they share. The undefined one has the nil UUID and the seqno -1.
+#[derive(Clone, Copy, Debug, PartialEq, Eq)]
+pub struct Gtid {
+    /// The state UUID.
+    pub uuid: Uuid,
+    /// How many items of the order came, or -1.
+    pub seqno: i64,
+}
+
+/// The number of characters of a UUID with its hyphens.
+const UUID_LEN: usize = 36;
+
+/// The seqno that the text is.
+#[tactic(auto, unfolding(crate::specs::Gtids::seqno_in))]
+fn read_seqno(text: &[u8]) -> Option<i64>
+    ensures { result ≡ seqno_in text.now }
+{
+    if text == b"-1".as_slice() {
+        return Some(-1);
+    }
+    if text.len() > 19 {
+        return None;
+    }
+    i64::try_from(read_number(text)?).ok()
+}
+
+/// The UUID in the first 36 characters of the text.
+fn read_uuid(text: &[u8]) -> Option<Uuid>
+    ensures { result ≡ uuid_in text.now }
+{
+    let head = text.get(..UUID_LEN)?;
+    Uuid::try_parse_ascii(head).ok()
+}
+
+/// The GTID of the UUID and what stands behind it in the text.
+fn with_uuid(uuid: Uuid, rest: &[u8]) -> Result<Gtid, Refusal>
+    ensures { result ≡ gtid_with (Some uuid) rest.now }
+{
+    let [b':', digits @ ..] = rest else {
+        return Err(Refusal::Malformed { at: 36 });
+    };
+    match read_seqno(digits) {
+        Some(seqno) => Ok(Gtid { uuid, seqno }),
+        None => Err(Refusal::Malformed { at: 37 }),
+    }
+}
+
+impl Gtid {
+    /// The GTID that the text is: 36 characters of a UUID (RFC 9562: in either case or mixed), a
+    /// colon, and a seqno, which is `-1`, or 1 to 19 digits of a number below 2^63.
+    ///
+    /// Refuses with `Malformed` anything else, `at` being where the first fault lies: 0 for the UUID,
+    /// 36 for the colon, 37 for the seqno.
+    pub fn parse(text: &[u8]) -> Result<Gtid, Refusal>
+        // What is read is of the form.
+        ensures found { IfOk result (λ g. IsGtid text.now g) }
+        // What is of the form is read.
+        ensures only { (g : Gtid) → IsGtid text.now g → result ≡ Ok g }
+        // The first fault is named.
+        ensures exact { result ≡ gtid_in text.now }
+    {
+        match read_uuid(text) {
+            Some(uuid) => with_uuid(uuid, &text[UUID_LEN..]),
+            None => Err(Refusal::Malformed { at: 0 }),
+        }
+    }
+}
+
+impl fmt::Display for Gtid {
+    ghost use Rattle.std.specs.Prelude.{Some};
+    ghost use Rattle.rep_types.specs.Gtids.{gtid_text};
+
+    ghost output = { λ g. Some (gtid_text g) };
+
+    fn fmt<W: fmt::Write>(&self, f: &mut fmt::Formatter<W>) -> fmt::Result {
+        write!(f, "{}:{}", self.uuid.hyphenated(), self.seqno)
+    }
+}
+
+/// What a GTID is written as reads back as that GTID, where the seqno is -1 or more.
+pub fn gtids_read_back()
+    ensures { GtidsReadBack }
+{}
