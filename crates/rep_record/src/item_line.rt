@@ -4,7 +4,7 @@ ghost use Rattle.std.specs.Prelude.{◌≡◌, IfOk, Err};
 ghost use Rattle.std.specs.Option.{option_map};
 ghost use Rattle.rep_types.specs.Transactions.{Transaction};
 ghost use Rattle.rep_record.specs.Grammar.{IsItemLine};
-ghost use Rattle.rep_record.specs.Reading.{labels_in, keys_in, reads_in, writes_in, item_form, item_line, limited};
+ghost use Rattle.rep_record.specs.Reading.{labels_in, keys_in, reads_in, writes_in, tail_in, item_form, item_outcome, item_line, limited};
 ghost use Rattle.rep_record.specs.Drafts.{Gives, drafted_reads, drafted_writes, drafted, limited_draft};
 
 use crate::few::keep;
@@ -114,19 +114,15 @@ fn read_writes(words: &mut Words) -> Option<(ArrayVec<Write, 17>, bool)>
     Some((writes, has_long))
 }
 
-/// What an item's line says.
-#[tactic(auto, unfolding(crate::specs::Reading::item_in, crate::specs::Reading::tail_in))]
-fn read_draft(line: &[u8]) -> Option<Draft>
-    ensures { result ≡ option_map drafted (item_form line.now) }
+/// What a tail says.
+#[tactic(auto, unfolding(crate::specs::Reading::tail_in))]
+fn read_tail_draft(words: &mut Words) -> Option<Draft>
+    ensures { result ≡ option_map drafted (tail_in words.old) }
 {
-    let mut words = Words::new(line);
-    if !words.skip(b"item") {
-        return None;
-    }
     let last_seen = read_number(words.next_word()?)?;
-    let (source, trx) = read_labels(&mut words)?;
-    let reads = read_reads(&mut words)?;
-    let (writes, has_long) = read_writes(&mut words)?;
+    let (source, trx) = read_labels(words)?;
+    let reads = read_reads(words)?;
+    let (writes, has_long) = read_writes(words)?;
     Some(Draft {
         source,
         trx,
@@ -135,6 +131,31 @@ fn read_draft(line: &[u8]) -> Option<Draft>
         writes,
         has_long,
     })
+}
+
+/// What an item's line says.
+#[tactic(auto, unfolding(crate::specs::Reading::item_in))]
+fn read_draft(line: &[u8]) -> Option<Draft>
+    ensures { result ≡ option_map drafted (item_form line.now) }
+{
+    let mut words = Words::new(line);
+    if !words.skip(b"item") {
+        return None;
+    }
+    read_tail_draft(&mut words)
+}
+
+/// The write set that the words say, in the line with this number: `last_seen [id source:trx]
+/// [r key key ..] w write write ..`, as in the line of an item.
+///
+/// Refuses as `read_item_line` does.
+pub fn read_tail(mut words: Words, number: u64) -> Result<WriteSet, Refusal>
+    ensures { result ≡ item_outcome number (tail_in words.entry) }
+{
+    let Some(draft) = read_tail_draft(&mut words) else {
+        return Err(Refusal::Malformed { at: number });
+    };
+    draft.write_set(number)
 }
 
 /// The write set that the line with this number says: `item last_seen [id source:trx]

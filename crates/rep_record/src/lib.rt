@@ -17,11 +17,12 @@ mod words;
 
 pub use block::{BlockBuilder, MAX_BLOCK, MAX_RECORDS, blocks_gather};
 pub use block_reader::{BLOCK, Block, read_block};
-pub use item_line::read_item_line;
+pub use item_line::{read_item_line, read_tail};
 pub use laws::{lines_make_the_text, reading_is_the_grammar};
 pub use params_line::read_params_line;
+pub use pieces::read_key;
 pub use record::{MAX_RECORD, put_record};
 pub use record_reader::{read_record, records_are_told};
 pub use text_reader::{MAX_LINE, MAX_TEXT, TextReader};
 pub use verdict_line::{put_all, write_verdict};
-pub use words::is_blank;
+pub use words::{Words, is_blank};

@@ -36,9 +36,9 @@ fn cut_at(word: &[u8], mark: u8) -> Option<(&[u8], &[u8])>
     Some((&word[..at], &word[at + 1..]))
 }
 
-/// The key that the word is: `table/row`.
+/// The key that the word is: `table/row`, a table from 0 to 255 and a row from 0 to 2^32 - 1.
 #[tactic(auto, unfolding(crate::specs::Reading::key_in))]
-pub(crate) fn read_key(word: &[u8]) -> Option<Key>
+pub fn read_key(word: &[u8]) -> Option<Key>
     ensures { result ≡ key_in word.now }
 {
     let (table, row) = cut_at(word, b'/')?;

@@ -63,9 +63,9 @@ fn split_word(line: &[u8]) -> Option<(&[u8], &[u8])>
     Some(line.split_at(word_len(line)))
 }
 
-/// The words of a line that are still to be read.
+/// The words of a line that are still to be read: what stands between its spaces.
 #[derive(Drop)]
-pub(crate) struct Words<'a> {
+pub struct Words<'a> {
     rest: &'a [u8],
 }
 
@@ -80,21 +80,21 @@ impl<'a> Model for Words<'a> {
 
 impl<'a> Words<'a> {
     /// The words of the line.
-    pub(crate) fn new(line: &'a [u8]) -> Words<'a>
+    pub fn new(line: &'a [u8]) -> Words<'a>
         ensures { result ≡ words line.now }
     {
         Words { rest: line }
     }
 
     /// Whether no word is left.
-    pub(crate) fn is_empty(&self) -> bool
+    pub fn is_empty(&self) -> bool
         ensures { result ≡ (length self.now == 0) }
     {
         is_blank(self.rest)
     }
 
     /// Whether the next word is this one.
-    pub(crate) fn is_next(&self, text: &[u8]) -> bool
+    pub fn is_next(&self, text: &[u8]) -> bool
         ensures { result ≡ is_next text.now self.now }
     {
         match split_word(self.rest) {
@@ -104,7 +104,7 @@ impl<'a> Words<'a> {
     }
 
     /// The next word, which is then read.
-    pub(crate) fn next_word(&mut self) -> Option<&'a [u8]>
+    pub fn next_word(&mut self) -> Option<&'a [u8]>
         ensures { MatchOption result ((self.old ≡ []) × (self.new ≡ [])) (λ word. self.old ≡ word.now ∷ self.new) }
     {
         let (word, rest) = split_word(self.rest)?;
@@ -113,7 +113,7 @@ impl<'a> Words<'a> {
     }
 
     /// Reads the next word where it is this one, and says whether it was.
-    pub(crate) fn skip(&mut self, text: &[u8]) -> bool
+    pub fn skip(&mut self, text: &[u8]) -> bool
         ensures value { result ≡ is_next text.now self.old }
         ensures rest { self.new ≡ (if result then drop 1 self.old else self.old) }
     {

@@ -3,7 +3,7 @@
 use crate::verdict::Verdict;
 
 /// What the origin of a delivered write set is told once the write set is durable.
-#[derive(Clone, Copy, Debug, PartialEq, Eq)]
+#[derive(Clone, Copy, Debug, Default, PartialEq, Eq)]
 pub struct Reply {
     /// Its place in the order, from 1.
     pub seqno: u64,

@@ -4,9 +4,10 @@ use std::fmt;
 
 /// What certification says of a delivered write set. Every write set takes the next seqno,
 /// whatever its verdict; one that commits takes effect, and the others are dropped.
-#[derive(Clone, Copy, Debug, PartialEq, Eq)]
+#[derive(Clone, Copy, Debug, Default, PartialEq, Eq)]
 pub enum Verdict {
     /// The write set takes effect.
+    #[default]
     Commit,
     /// A committed write set that the transaction had not seen wrote a key that it read or wrote:
     /// the greatest seqno of such a one.

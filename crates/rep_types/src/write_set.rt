@@ -152,6 +152,22 @@ impl WriteSet {
         })
     }
 
+    /// A copy, which takes no memory.
+    pub fn copied(&self) -> WriteSet
+        ensures { result ≡ self.now }
+    {
+        let Ok(reads) = ArrayVec::try_from(self.reads.as_slice()) else {
+            unreachable!();
+        };
+        WriteSet {
+            source: self.source,
+            trx: self.trx,
+            last_seen: self.last_seen,
+            reads,
+            writes: copy_of(self.writes.as_slice()),
+        }
+    }
+
     /// The label of the node or client that the transaction ran at.
     pub fn source(&self) -> u64
         ensures { result ≡ self.now.source }
@@ -218,15 +234,6 @@ impl Clone for WriteSet {
     ghost is_infallible = { λ _. ⊤ };
 
     fn clone(&self) -> Result<WriteSet, AllocError> {
-        let Ok(reads) = ArrayVec::try_from(self.reads.as_slice()) else {
-            unreachable!();
-        };
-        Ok(WriteSet {
-            source: self.source,
-            trx: self.trx,
-            last_seen: self.last_seen,
-            reads,
-            writes: copy_of(self.writes.as_slice()),
-        })
+        Ok(self.copied())
     }
 }

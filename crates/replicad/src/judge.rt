@@ -13,7 +13,7 @@ use std::alloc::Global;
 use std::io::{Read, Write};
 
 /// Reads the params line, which is the first line with words.
-fn read_params<R: Read>(
+pub(crate) fn read_params<R: Read>(
     text: &mut TextReader,
     reader: &mut R,
     line: &mut ArrayVec<u8, 4096>,
@@ -66,6 +66,10 @@ fn judge_items<R: Read, W: Write>(
 
 /// Judges an order text: writes a verdict line for each of its items, as soon as the item's line is
 /// read.
+///
+/// Refuses a params line as `read_params_line` does, an item's line as `read_item_line` does, want of
+/// memory with `OutOfMemory`, and with `StreamFault` a reader or a writer that fails and a text of more
+/// than 67,108,864 bytes. The verdict lines of the items before stand.
 pub fn judge_text<R: Read, W: Write>(
     alloc: Global,
     reader: &mut R,

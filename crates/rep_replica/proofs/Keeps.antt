@@ -1,0 +1,169 @@
+-- What holds of every node goes on holding after each event that is not refused.
+use Rattle.std.proofs.Common.{◌≡◌, ℕ, ◌+◌, ◌-◌, ◌<◌, ◌≤◌, Bool, true, false, cond, leb, ltb, eqb, List, [], ◌∷◌, ◌++◌, length, length-append, Option, None, Some, refl, ap, subst, ◌∙◌, arith}
+use Rattle.std.specs.Prelude.{◌&&◌, not, IsTrue}
+use Rattle.std.proofs.lemmas.Bool.{ltb-true, leb-true, leb-false, eqb-false}
+use Rattle.std.proofs.lemmas.List.{length-drop}
+use Rattle.uuid.specs.Parts.{is_nil_bytes}
+use Rattle.rep_types.specs.declared.judged.Judged.{Judged}
+use Rattle.rep_types.specs.declared.refusal.Refusal.{Refusal}
+use Rattle.rep_types.specs.declared.refusal.Refusal.TheVariants.{OutOfOrder, Backlogged, LogFull, NotDue, Undefined, Exhausted}
+use Rattle.rep_types.specs.declared.judged.TheConstants.{MAX_SEQNO}
+use Rattle.rep_types.specs.Settings.{Setting, is_setting, is_schema}
+use Rattle.rep_types.specs.Transactions.{Transaction}
+use Rattle.rep_types.specs.Order.{history}
+use Rattle.rep_types.proofs.Histories.{length_history}
+use Rattle.rep_record.specs.Blocks.{Block, empty_block, has_room, with_record}
+use Rattle.rep_record.specs.Fronts.{fitting}
+use Rattle.rep_replica.specs.declared.phase.Phase.{Phase}
+use Rattle.rep_replica.specs.declared.phase.Phase.TheVariants.{Free, Filling, Filled, Opening}
+use Rattle.rep_replica.specs.Nodes.{Node, IsNode, underway, claimed, pending, gathered, opening, taken, logged, synced, log_refusal, delivery_refusal}
+
+-- a block takes no more items than there are
+fitting_within : (block : Block) (js : List Judged) → fitting block js ≤ length js
+fitting_within block [] = omega arith
+fitting_within block (j ∷ js) = by_test (has_room block j) (fitting_within (with_record block j) js)
+  where
+    by_test : (b : Bool) → fitting (with_record block j) js ≤ length js → cond b (fitting (with_record block j) js + 1) 0 ≤ length (j ∷ js)
+    by_test true h = omega (arith, h)
+    by_test false h = omega arith
+
+-- where there is room, there are fewer than 64 records
+room_few : (block : Block) (j : Judged) → has_room block j ≡ true → block.count < 64
+room_few block j e = few_by (ltb block.count 64) _ refl e
+  where
+    few_by : (a b : Bool) → ltb block.count 64 ≡ a → (a && b) ≡ true → block.count < 64
+    few_by true b t e = ltb-true block.count 64 t
+    few_by false b t e = absurd cc
+
+-- and no more than 64
+fitting_few : (block : Block) (js : List Judged) → block.count ≤ 64 → fitting block js + block.count ≤ 64
+fitting_few block [] few = omega arith
+fitting_few block (j ∷ js) few = by_test (has_room block j) refl (λ h. fitting_few (with_record block j) js h)
+  where
+    by_test : (b : Bool) → has_room block j ≡ b → (block.count + 1 ≤ 64 → fitting (with_record block j) js + (block.count + 1) ≤ 64)
+        → cond b (fitting (with_record block j) js + 1) 0 + block.count ≤ 64
+    by_test true t h = let few : block.count < 64 = room_few block j t in omega (arith, h (omega (arith, few)))
+    by_test false t h = omega arith
+
+-- as many items are not durable
+pub length_pending : (n : Node) → length (pending n) ≡ length n.order - n.durable
+length_pending n = length-drop n.durable (history n.setting n.order) ∙ ap (λ k. k - n.durable) (length_history n.setting n.order)
+
+pub gathered_within : (n : Node) → gathered n ≤ length n.order - n.durable
+gathered_within n = omega (arith, fitting_within empty_block (pending n), length_pending n)
+
+pub gathered_few : (n : Node) → gathered n ≤ 64
+gathered_few n = omega (arith, fitting_few empty_block (pending n) (omega arith))
+
+-- a test that leads to no refusal
+unrefused : (b : Bool) (r : Refusal) (rest : Option Refusal) → cond b (Some r) rest ≡ None → (b ≡ false) × (rest ≡ None)
+unrefused true r rest e = absurd cc
+unrefused false r rest e = (refl, e)
+
+-- the log writes
+keeps_log_at : (n : Node) (phase : Phase) → n.phase ≡ phase → IsNode n → log_refusal n phase ≡ None → IsNode (record n { phase = logged (gathered n) phase })
+keeps_log_at n Free e h r =
+    let due = unrefused (leb (length n.order) n.durable) NotDue _ r in
+    let room = unrefused (leb (n.start + n.setting.cells) n.next) LogFull None due.1 in
+    record {
+      allowed = h.allowed;
+      based = h.based;
+      delivered = omega (arith, gathered_within n, leb-false (length n.order) n.durable due.0);
+      near = h.near;
+      limit = h.limit;
+      few = gathered_few n;
+      room = omega (arith, leb-false (n.start + n.setting.cells) n.next room.0);
+    }
+keeps_log_at n (Filling k) e h r = absurd cc
+keeps_log_at n (Filled k) e h r = record {
+  allowed = h.allowed;
+  based = h.based;
+  delivered = subst (λ p. n.durable + underway p ≤ length n.order) e h.delivered;
+  near = h.near;
+  limit = h.limit;
+  few = subst (λ p. underway p ≤ 64) e h.few;
+  room = subst (λ p. n.next + claimed p ≤ n.start + n.setting.cells) e h.room;
+}
+keeps_log_at n (Opening k) e h r = absurd cc
+
+pub keeps_log : (n : Node) → IsNode n → log_refusal n n.phase ≡ None → IsNode (record n { phase = logged (gathered n) n.phase })
+keeps_log n h r = keeps_log_at n n.phase refl h r
+
+-- a sync
+keeps_sync_at : (n : Node) (phase : Phase) → n.phase ≡ phase → IsNode n
+    → IsNode (record n { durable = n.durable + opening phase; phase = synced phase; next = n.next + taken phase })
+keeps_sync_at n phase e h = at phase (subst (λ p. n.durable + underway p ≤ length n.order) e h.delivered) (subst (λ p. underway p ≤ 64) e h.few)
+    (subst (λ p. n.next + claimed p ≤ n.start + n.setting.cells) e h.room)
+  where
+    at : (p : Phase) → n.durable + underway p ≤ length n.order → underway p ≤ 64 → n.next + claimed p ≤ n.start + n.setting.cells
+        → IsNode (record n { durable = n.durable + opening p; phase = synced p; next = n.next + taken p })
+    at Free delivered few room = record { allowed = h.allowed; based = omega (arith, h.based); delivered = omega arith; near = omega (arith, h.near); limit = h.limit; few = omega arith; room = omega arith }
+    at (Filling k) delivered few room = record { allowed = h.allowed; based = omega (arith, h.based); delivered = omega arith; near = omega (arith, h.near); limit = h.limit; few = few; room = omega arith }
+    at (Filled k) delivered few room = record { allowed = h.allowed; based = omega (arith, h.based); delivered = omega arith; near = omega (arith, h.near); limit = h.limit; few = few; room = omega arith }
+    at (Opening k) delivered few room = record { allowed = h.allowed; based = omega (arith, h.based); delivered = omega arith; near = omega (arith, h.near); limit = h.limit; few = omega arith; room = omega arith }
+
+pub keeps_sync : (n : Node) → IsNode n → IsNode (record n { durable = n.durable + opening n.phase; phase = synced n.phase; next = n.next + taken n.phase })
+keeps_sync n h = keeps_sync_at n n.phase refl h
+
+-- the refusals of a delivery, from the last one on
+abbrev unbacklogged : Node → Option Refusal
+unbacklogged n = cond (leb (n.durable + 256) (length n.order)) (Some Backlogged) None
+
+abbrev in_order : Node → ℕ → Option Refusal
+in_order n seqno = cond (not (eqb seqno (length n.order + 1))) (Some (OutOfOrder (length n.order + 1))) (unbacklogged n)
+
+abbrev unexhausted : Node → ℕ → Option Refusal
+unexhausted n seqno = cond (eqb (length n.order) MAX_SEQNO) (Some Exhausted) (in_order n seqno)
+
+-- a delivery
+pub keeps_delivery : (n : Node) (seqno : ℕ) (w : Transaction) → IsNode n → delivery_refusal n seqno ≡ None → IsNode (record n { order = n.order ++ w ∷ [] })
+keeps_delivery n seqno w h r =
+    let a = unrefused (is_nil_bytes n.uuid) Undefined (unexhausted n seqno) r in
+    let b = unrefused (eqb (length n.order) MAX_SEQNO) Exhausted (in_order n seqno) a.1 in
+    let c = unrefused (not (eqb seqno (length n.order + 1))) (OutOfOrder (length n.order + 1)) (unbacklogged n) b.1 in
+    let d = unrefused (leb (n.durable + 256) (length n.order)) Backlogged None c.1 in
+    let near : length n.order < n.durable + 256 = leb-false (n.durable + 256) (length n.order) d.0 in
+    let fewer = eqb-false (length n.order) MAX_SEQNO b.0 in
+    let long : length (n.order ++ w ∷ []) ≡ length n.order + 1 = length-append n.order (w ∷ []) in
+    record {
+      allowed = h.allowed;
+      based = h.based;
+      delivered = omega (arith, h.delivered, long);
+      near = omega (arith, near, long);
+      limit = omega (arith, h.limit, fewer, long);
+      few = h.few;
+      room = h.room;
+    }
+
+-- the cells of the log are at most 1,024
+both_true : (a b : Bool) → (a && b) ≡ true → (a ≡ true) × (b ≡ true)
+both_true true b e = (refl, e)
+both_true false b e = absurd cc
+
+pub few_cells : (p : Setting) → IsTrue (is_setting p) → p.cells ≤ 1024
+few_cells p h =
+    let a = both_true _ (is_schema p.rows) h in
+    let b = both_true _ (leb p.cells 1024) a.0 in
+    leb-true p.cells 1024 b.1
+
+-- ---- the sync that opens a block
+
+-- its records are among those that are not durable
+pub opening_within : (n : Node) (k : ℕ) → IsNode n → n.phase ≡ Opening k → k ≤ length (pending n)
+opening_within n k h e =
+    let delivered : n.durable + k ≤ length n.order = subst (λ p. n.durable + underway p ≤ length n.order) e h.delivered in
+    omega (arith, delivered, length_pending n)
+
+-- and at most 64
+pub opening_few : (n : Node) (k : ℕ) → IsNode n → n.phase ≡ Opening k → k ≤ 64
+opening_few n k h e = subst (λ p. underway p ≤ 64) e h.few
+
+-- its cell is one of the log's first lap, where none was freed
+pub next_small : (n : Node) (k : ℕ) → IsNode n → n.phase ≡ Opening k → n.start ≡ 0 → n.next + 1 ≤ 1024
+next_small n k h e first =
+    let room : n.next + 1 ≤ n.start + n.setting.cells = subst (λ p. n.next + claimed p ≤ n.start + n.setting.cells) e h.room in
+    omega (arith, room, first, few_cells n.setting h.allowed)
+
+-- what holds after it
+pub keeps_opened : (n : Node) (k : ℕ) → IsNode n → n.phase ≡ Opening k → IsNode (record n { durable = n.durable + k; phase = Free; next = n.next + 1 })
+keeps_opened n k h e = subst (λ p. IsNode (record n { durable = n.durable + opening p; phase = synced p; next = n.next + taken p })) e (keeps_sync n h)

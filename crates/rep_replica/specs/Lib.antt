@@ -1,0 +1,3 @@
+pub mod Nodes
+pub mod Runs
+pub mod Kept
