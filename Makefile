@@ -1,6 +1,6 @@
 # `make run` is the first thing to try; `make test` is all that CI runs.
 
-CRATES := rep_types rep_plain rep_record replicad
+CRATES := rep_types rep_plain rep_record rep_replica replicad
 PROGRAM := crates/replicad/out/replicad
 
 .PHONY: run try test check bench toolchain
