@@ -2,6 +2,9 @@
 
 CRATES := rep_types rep_plain rep_record rep_replica replicad
 PROGRAM := crates/replicad/out/replicad
+# What `make bench` needs beside these: the certifier, and what times it against the plain node.
+COMPARED := rep_cert rep_compare
+COMPARE := crates/rep_compare/out/rep_compare
 
 .PHONY: run try test check bench toolchain
 
@@ -22,10 +25,11 @@ test: toolchain
 check: toolchain
 	@rt all check
 
-# Items judged in a second, for a short order and for one of ten times its length.
+# Items judged in a second, for a short order and for one of ten times its length, and by the plain
+# node and the certifier.
 bench: toolchain
-	@scripts/build $(CRATES)
-	@scripts/bench $(PROGRAM)
+	@scripts/build $(CRATES) $(COMPARED)
+	@scripts/bench $(PROGRAM) $(COMPARE)
 
 toolchain:
 	@command -v rt >/dev/null || { echo "The Rattle toolchain is missing: no command 'rt' on the path." >&2; exit 1; }

@@ -1,10 +1,12 @@
 -- Entries whose seqnos ascend.
-use Rattle.std.proofs.Common.{◌≡◌, ℕ, suc, zero, ◌+◌, ◌-◌, ◌<◌, ◌≤◌, List, [], ◌∷◌, ◌++◌, length, drop, refl, ap, le_refl, ⊎_elim, arith}
-use Rattle.std.proofs.lemmas.Bool.{cases_lt}
+use Rattle.std.proofs.Common.{◌≡◌, ℕ, suc, zero, ◌+◌, ◌-◌, ◌<◌, ◌≤◌, List, [], ◌∷◌, ◌++◌, length, drop, refl, ap, le_refl, ⊎_elim, arith, nat_le, Bool, true, false, if◌then◌else◌, All}
+use Rattle.std.proofs.lemmas.Bool.{cases_lt, leb-true}
 use Rattle.std.proofs.lemmas.Bool.Decides.{nat_tests}
+use Rattle.std.proofs.lemmas.List.Elements.{All-cons, All-nil, All-weaker}
 use Rattle.circular_buffer.specs.Buffer.{keep_last}
 use Rattle.rep_types.specs.Entries.{Entry}
 use Rattle.rep_types.specs.Order.{recent}
+use Rattle.rep_types.proofs.Windows.{filter_all}
 use Rattle.rep_cert.specs.Holdings.{upto}
 use Rattle.rep_cert.specs.Kept.{Ascends}
 
@@ -36,6 +38,12 @@ Ascends-drop zero low high es a = a
 Ascends-drop (suc k) low high [] a = a
 Ascends-drop (suc k) low high (e ∷ es) a = Ascends-drop k low high es (Ascends-wider (e.seqno + 1) high low high es (omega (arith, a.0)) (le_refl high) a.1)
 
+-- entries that are not above a position are those up to any later one
+pub upto_below : (made k : ℕ) (es : List Entry) → made ≤ k → All (λ (e : Entry). e.seqno ≤ made) es → upto k es ≡ es
+upto_below made k es later below =
+    filter_all (λ (e : Entry). nat_le e.seqno k) es
+    (All-weaker (λ (e : Entry). e.seqno ≤ made) (λ (e : Entry). nat_le e.seqno k ≡ true) (λ e h. grind (arith, nat_tests)) es below)
+
 -- up to a seqno that none is above, all entries are kept
 pub upto_all : (low high k : ℕ) (es : List Entry) → high ≤ k + 1 → Ascends low high es → upto k es ≡ es
 upto_all low high k [] above a = refl
@@ -55,13 +63,23 @@ recent-drop (suc k) lowest low high (e ∷ es) h a =
     grind (arith, nat_tests)
 
 -- the last n entries are all that are not below the floor, where no more than n seqnos are
-pub recent-keep_last : (n lowest high : ℕ) (es : List Entry) → high ≤ lowest + n → Ascends 0 high es → recent lowest (keep_last n es) ≡ recent lowest es
-recent-keep_last n lowest high es h a = ⊎_elim some none (cases_lt n (length es))
+pub recent-keep_last : (n lowest low high : ℕ) (es : List Entry) → high ≤ lowest + n → Ascends low high es → recent lowest (keep_last n es) ≡ recent lowest es
+recent-keep_last n lowest low high es h a = ⊎_elim some none (cases_lt n (length es))
   where
     some : n < length es → recent lowest (keep_last n es) ≡ recent lowest es
-    some more = recent-drop (length es - n) lowest 0 high es (omega arith) a
+    some more = recent-drop (length es - n) lowest low high es (omega arith) a
 
     none : length es ≤ n → recent lowest (keep_last n es) ≡ recent lowest es
     none few =
         let all : length es - n ≡ 0 = omega arith in
         ap (λ (k : ℕ). recent lowest (drop k es)) all
+
+-- one entry in front of others that hold the fact, kept or left out
+All_tested : (P : Entry → Type 0) (b : Bool) (e : Entry) (es : List Entry) → (b ≡ true → P e) → All P es → All P (if b then e ∷ es else es)
+All_tested P true e es holds rest = All-cons P e es (holds refl) rest
+All_tested P false e es holds rest = rest
+
+-- none of the entries up to a seqno is above it
+pub upto_past : (k : ℕ) (es : List Entry) → All (λ (e : Entry). e.seqno ≤ k) (upto k es)
+upto_past k [] = All-nil (λ (e : Entry). e.seqno ≤ k)
+upto_past k (e ∷ es) = All_tested (λ (f : Entry). f.seqno ≤ k) (nat_le e.seqno k) e (upto k es) (leb-true e.seqno k) (upto_past k es)

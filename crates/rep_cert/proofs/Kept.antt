@@ -1,5 +1,5 @@
 -- What the kept entries give at each position, as items come and are undone.
-use Rattle.std.proofs.Common.{not, ⊎_elim, subst, IsSome, IsTrue, Option, Some, None, ◌≢◌, option_map, slice_get, take, ◌≡◌, ℕ, ◌+◌, ◌-◌, ◌<◌, ◌≤◌, Bool, true, false, nat_le, if◌then◌else◌, List, [], ◌∷◌, ◌++◌, length, drop, refl, sym, ap, ◌∙◌, le_refl, arith}
+use Rattle.std.proofs.Common.{not, ⊎_elim, subst, IsSome, IsTrue, Option, Some, None, ◌≢◌, option_map, slice_get, take, ◌≡◌, ℕ, ◌+◌, ◌-◌, ◌<◌, ◌≤◌, Bool, true, false, nat_le, if◌then◌else◌, List, [], ◌∷◌, ◌++◌, length, drop, refl, sym, ap, ◌∙◌, le_refl, arith, All, append_assoc}
 use Rattle.std.proofs.lemmas.List.{append-nil, length-drop, take_all, take_more}
 use Rattle.std.proofs.lemmas.Option.{slice_get_cases, slice_get_within, get_or_from_slice_get}
 use Rattle.std.proofs.lemmas.List.Filters.{length-filter_both}
@@ -17,10 +17,9 @@ use Rattle.rep_types.specs.Order.{in_schema, latest, against, conflict_with, rec
 use Rattle.rep_types.proofs.Latest.{latest-append}
 use Rattle.rep_types.proofs.Windows.{recent-recent, recent-append, verdict_among-recent}
 use Rattle.rep_cert.specs.declared.ring.TheConstants.{KEPT_ENTRIES}
-use Rattle.rep_cert.specs.Holdings.{IsWindow, made_at, seqno_of, Holding, IsAskable, Admits, upto, window_of, verdict_of}
+use Rattle.rep_cert.specs.Holdings.{made_at, seqno_of, Holding, IsAskable, Admits, upto, window_of, verdict_of}
 use Rattle.rep_cert.specs.Kept.{holdings, own_entry, Ascends, oldest, holding}
-use Rattle.rep_cert.proofs.Following.{window_of_made_at}
-use Rattle.rep_cert.proofs.Ascending.{Ascends_last, Ascends-wider, Ascends-length, Ascends_push, upto_all, recent-keep_last}
+use Rattle.rep_cert.proofs.Ascending.{Ascends_last, Ascends-wider, Ascends_push, upto_all, upto_below, recent-keep_last}
 
 -- both cuts may be made in either order
 pub recent-upto : (low k : ℕ) (es : List Entry) → recent low (upto k es) ≡ upto k (recent low es)
@@ -36,12 +35,21 @@ recent_within low high k d (e ∷ es) lower later = grind (arith, nat_tests, rec
 pub window_of_holding : (p : Setting) (made d k : ℕ) (es : List Entry) → IsAskable (holding p made d es) k → window_of (holding p made d es) k ≡ recent (floor p k) (upto k es)
 window_of_holding p made d k es askable = recent_within (floor p (oldest made d)) (floor p k) k d es (omega (arith, askable.made, askable.near)) askable.past
 
+-- no kept entry is above the present position
+pub upto_kept : (made d : ℕ) (given admitted : List Entry) → made ≤ d → All (λ (e : Entry). e.seqno ≤ made) given → Ascends (made + 1) (d + 1) admitted →
+    upto d (given ++ admitted) ≡ given ++ admitted
+upto_kept made d given admitted start below ascending =
+    let first : upto d given ≡ given = upto_below made d given start below in
+    let second : upto d admitted ≡ admitted = upto_all (made + 1) (d + 1) d admitted (le_refl (d + 1)) ascending in
+    filter-append (λ (e : Entry). nat_le e.seqno d) given admitted
+    ∙ (ap (λ (es : List Entry). es ++ upto d admitted) first ∙ ap (λ (es : List Entry). given ++ es) second)
+
 -- the verdict on the next item, from all entries that are kept
-pub verdict_of_holding : (p : Setting) (made d : ℕ) (es : List Entry) (w : Transaction) → made ≤ d → Ascends 0 (d + 1) es →
+pub verdict_of_holding : (p : Setting) (made d : ℕ) (es : List Entry) (w : Transaction) → made ≤ d → upto d es ≡ es →
     verdict_of (holding p made d es) w ≡ verdict_among p (floor p d) (d + 1) es w
-verdict_of_holding p made d es w start ascending =
+verdict_of_holding p made d es w start whole =
     let askable : IsAskable (holding p made d es) d = record { made = start; near = omega arith; past = le_refl d } in
-    ap (λ (fs : List Entry). verdict_among p (floor p d) (d + 1) fs w) (window_of_holding p made d d es askable ∙ ap (recent (floor p d)) (upto_all 0 (d + 1) d es (le_refl (d + 1)) ascending))
+    ap (λ (fs : List Entry). verdict_among p (floor p d) (d + 1) fs w) (window_of_holding p made d d es askable ∙ ap (recent (floor p d)) whole)
     ∙ verdict_among-recent p (floor p d) (floor p d) (d + 1) es w (le_refl (floor p d))
 
 -- an entry above the cut is left out
@@ -49,62 +57,80 @@ pub upto_later : (k : ℕ) (e : Entry) → k < e.seqno → upto k (e ∷ []) ≡
 upto_later k e above = grind (arith, nat_tests)
 
 -- the entries with that of one more item, if it commits, ascend
-pub Ascends_own : (d : ℕ) (w : Transaction) (commits : Bool) (es : List Entry) → Ascends 0 (d + 1) es → Ascends 0 (d + 2) (es ++ own_entry (d + 1) w commits)
-Ascends_own d w true es a = Ascends-wider 0 (d + 1 + 1) 0 (d + 2) _ (le_refl 0) (omega arith) (Ascends_push 0 (d + 1) es _ (le_refl (d + 1)) a)
-Ascends_own d w false es a = rw append-nil (Ascends-wider 0 (d + 1) 0 (d + 2) es (le_refl 0) (omega arith) a)
+pub Ascends_own : (low d : ℕ) (w : Transaction) (commits : Bool) (es : List Entry) → Ascends low (d + 1) es → Ascends low (d + 2) (es ++ own_entry (d + 1) w commits)
+Ascends_own low d w true es a = Ascends-wider low (d + 1 + 1) low (d + 2) _ (le_refl low) (omega arith) (Ascends_push low (d + 1) es _ (le_refl (d + 1)) a)
+Ascends_own low d w false es a = rw append-nil (Ascends-wider low (d + 1) low (d + 2) es (le_refl low) (omega arith) a)
 
 -- it is above each position before it
 pub upto_own : (d k : ℕ) (w : Transaction) (commits : Bool) → k ≤ d → upto k (own_entry (d + 1) w commits) ≡ []
 upto_own d k w true h = grind (arith, nat_tests)
 upto_own d k w false h = refl
 
--- what is kept of the entries and one more gives the windows that all of them give
-pub kept_whole : (lowest k high : ℕ) (es : List Entry) → high ≤ lowest + KEPT_ENTRIES → Ascends 0 high es → recent lowest (upto k (keep_last KEPT_ENTRIES es)) ≡ recent lowest (upto k es)
-kept_whole lowest k high es room a = recent-upto lowest k (keep_last KEPT_ENTRIES es) ∙ (ap (upto k) (recent-keep_last KEPT_ENTRIES lowest high es room a) ∙ sym (recent-upto lowest k es))
+-- a window in two parts
+pub recent_upto-append : (low k : ℕ) (xs ys : List Entry) → recent low (upto k (xs ++ ys)) ≡ recent low (upto k xs) ++ recent low (upto k ys)
+recent_upto-append low k xs ys = ap (recent low) (filter-append (λ (e : Entry). nat_le e.seqno k) xs ys) ∙ recent-append low (upto k xs) (upto k ys)
+
+-- behind other entries, what is kept of the entries of the ring gives the windows that all of them give
+pub kept_whole : (lowest k low high : ℕ) (given es : List Entry) → high ≤ lowest + KEPT_ENTRIES → Ascends low high es →
+    recent lowest (upto k (given ++ keep_last KEPT_ENTRIES es)) ≡ recent lowest (upto k (given ++ es))
+kept_whole lowest k low high given es room a =
+    let ring : recent lowest (upto k (keep_last KEPT_ENTRIES es)) ≡ recent lowest (upto k es) =
+    recent-upto lowest k (keep_last KEPT_ENTRIES es) ∙ (ap (upto k) (recent-keep_last KEPT_ENTRIES lowest low high es room a) ∙ sym (recent-upto lowest k es)) in
+    recent_upto-append lowest k given (keep_last KEPT_ENTRIES es)
+    ∙ (ap (λ (fs : List Entry). recent lowest (upto k given) ++ fs) ring ∙ sym (recent_upto-append lowest k given es))
 
 -- at a position before the item, they are those of the entries before it
-pub kept_before : (lowest k d : ℕ) (w : Transaction) (commits : Bool) (es : List Entry) → k ≤ d → d + 2 ≤ lowest + KEPT_ENTRIES → Ascends 0 (d + 1) es →
-    recent lowest (upto k (keep_last KEPT_ENTRIES (es ++ own_entry (d + 1) w commits))) ≡ recent lowest (upto k es)
-kept_before lowest k d w commits es earlier room a =
-    let split : upto k (es ++ own_entry (d + 1) w commits) ≡ upto k es ++ upto k (own_entry (d + 1) w commits) = filter-append (λ (e : Entry). nat_le e.seqno k) es (own_entry (d + 1) w commits) in
-    kept_whole lowest k (d + 2) (es ++ own_entry (d + 1) w commits) room (Ascends_own d w commits es a)
-    ∙ ap (recent lowest) (split ∙ (ap (λ (fs : List Entry). upto k es ++ fs) (upto_own d k w commits earlier) ∙ append-nil (upto k es)))
+pub kept_before : (lowest k low d : ℕ) (w : Transaction) (commits : Bool) (given es : List Entry) → k ≤ d → d + 2 ≤ lowest + KEPT_ENTRIES → Ascends low (d + 1) es →
+    recent lowest (upto k (given ++ keep_last KEPT_ENTRIES (es ++ own_entry (d + 1) w commits))) ≡ recent lowest (upto k (given ++ es))
+kept_before lowest k low d w commits given es earlier room a =
+    let own : List Entry = own_entry (d + 1) w commits in
+    let split : upto k (given ++ es ++ own) ≡ upto k (given ++ es) ++ upto k own = filter-append (λ (e : Entry). nat_le e.seqno k) (given ++ es) own in
+    kept_whole lowest k low (d + 2) given (es ++ own) room (Ascends_own low d w commits es a)
+    ∙ ap (recent lowest)
+    (ap (upto k) (sym (append_assoc given es own)) ∙ (split ∙ (ap (λ (fs : List Entry). upto k (given ++ es) ++ fs) (upto_own d k w commits earlier) ∙ append-nil (upto k (given ++ es)))))
 
 -- what is held of the items before one more is the same after it
-pub holding_before : (p : Setting) (made d : ℕ) (w : Transaction) (commits : Bool) (es : List Entry) → p.window ≤ 256 → Ascends 0 (d + 1) es →
-    holding p made d (keep_last KEPT_ENTRIES (es ++ own_entry (d + 1) w commits)) ≡ holding p made d es
-holding_before p made d w commits es narrow a =
-    ap (λ (fs : List Entry). record { setting = p; made = made; delivered = d; entries = fs }) (kept_before (floor p (oldest made d)) d d w commits es (le_refl d) (omega arith) a)
+pub holding_before : (p : Setting) (made low d : ℕ) (w : Transaction) (commits : Bool) (given es : List Entry) → p.window ≤ 256 → Ascends low (d + 1) es →
+    holding p made d (given ++ keep_last KEPT_ENTRIES (es ++ own_entry (d + 1) w commits)) ≡ holding p made d (given ++ es)
+holding_before p made low d w commits given es narrow a =
+    ap (λ (fs : List Entry). record { setting = p; made = made; delivered = d; entries = fs })
+    (kept_before (floor p (oldest made d)) d low d w commits given es (le_refl d) (omega arith) a)
 
 -- one more item: what is held after it
-pub Admits_holding : (p : Setting) (made d : ℕ) (w : Transaction) (es : List Entry) → p.window ≤ 256 → made ≤ d → Ascends 0 (d + 1) es →
-    Admits (holding p made d es) w (holding p made (d + 1) (keep_last KEPT_ENTRIES (es ++ own_entry (d + 1) w (is_commit (verdict_of (holding p made d es) w)))))
-Admits_holding p made d w es narrow start a =
-    let h : Holding = holding p made d es in
+pub Admits_holding : (p : Setting) (made d : ℕ) (w : Transaction) (given es : List Entry) → p.window ≤ 256 → made ≤ d →
+    All (λ (e : Entry). e.seqno ≤ made) given → Ascends (made + 1) (d + 1) es →
+    Admits (holding p made d (given ++ es)) w
+    (holding p made (d + 1) (given ++ keep_last KEPT_ENTRIES (es ++ own_entry (d + 1) w (is_commit (verdict_of (holding p made d (given ++ es)) w)))))
+Admits_holding p made d w given es narrow start below a =
+    let all : List Entry = given ++ es in
+    let h : Holding = holding p made d all in
     let commits : Bool = is_commit (verdict_of h w) in
-    let more : List Entry = es ++ own_entry (d + 1) w commits in
-    let new : Holding = holding p made (d + 1) (keep_last KEPT_ENTRIES more) in
+    let own : List Entry = own_entry (d + 1) w commits in
+    let more : List Entry = es ++ own in
+    let new : Holding = holding p made (d + 1) (given ++ keep_last KEPT_ENTRIES more) in
     let at_new : IsAskable new (d + 1) = record { made = omega arith; near = omega arith; past = le_refl (d + 1) } in
     let at_old : IsAskable h d = record { made = start; near = omega arith; past = le_refl d } in
-    let wide : Ascends 0 (d + 2) more = Ascends_own d w commits es a in
+    let wide : Ascends (made + 1) (d + 2) more = Ascends_own (made + 1) d w commits es a in
     let high : ℕ = floor p (d + 1) in
-    let now : window_of new (d + 1) ≡ recent high more =
-    window_of_holding p made (d + 1) (d + 1) (keep_last KEPT_ENTRIES more) at_new
-    ∙ (kept_whole high (d + 1) (d + 2) more (omega arith) wide ∙ ap (recent high) (upto_all 0 (d + 2) (d + 1) more (omega arith) wide)) in
-    let held : window_of h d ≡ recent (floor p d) es =
-    window_of_holding p made d d es at_old ∙ ap (recent (floor p d)) (upto_all 0 (d + 1) d es (le_refl (d + 1)) a) in
-    let joined : recent high more ≡ recent high (recent (floor p d) es ++ own_entry (d + 1) w commits) =
-    recent-append high es (own_entry (d + 1) w commits)
-    ∙ (ap (λ (fs : List Entry). fs ++ recent high (own_entry (d + 1) w commits)) (sym (recent-recent (floor p d) high (omega arith) es)) ∙ sym (recent-append high (recent (floor p d) es) (own_entry (d + 1) w commits))) in
+    let none_later : upto (d + 1) (given ++ more) ≡ given ++ more =
+    upto_kept made (d + 1) given more (omega arith) below (Ascends-wider (made + 1) (d + 2) (made + 1) (d + 1 + 1) more (le_refl (made + 1)) (omega arith) wide) in
+    let now : window_of new (d + 1) ≡ recent high (all ++ own) =
+    window_of_holding p made (d + 1) (d + 1) (given ++ keep_last KEPT_ENTRIES more) at_new
+    ∙ (kept_whole high (d + 1) (made + 1) (d + 2) given more (omega arith) wide ∙ ap (recent high) (none_later ∙ sym (append_assoc given es own))) in
+    let held : window_of h d ≡ recent (floor p d) all =
+    window_of_holding p made d d all at_old ∙ ap (recent (floor p d)) (upto_kept made d given es start below a) in
+    let joined : recent high (all ++ own) ≡ recent high (recent (floor p d) all ++ own) =
+    recent-append high all own
+    ∙ (ap (λ (fs : List Entry). fs ++ recent high own) (sym (recent-recent (floor p d) high (omega arith) all)) ∙ sym (recent-append high (recent (floor p d) all) own)) in
     record {
       setting = refl;
       made = refl;
       delivered = refl;
-      next = now ∙ (joined ∙ ap (λ (fs : List Entry). recent high (fs ++ own_entry (d + 1) w commits)) (sym held));
+      next = now ∙ (joined ∙ ap (λ (fs : List Entry). recent high (fs ++ own)) (sym held));
       kept = λ k askable earlier.
-          window_of_holding p made (d + 1) k (keep_last KEPT_ENTRIES more) askable
-          ∙ (kept_before (floor p k) k d w commits es earlier (omega (arith, askable.near)) a
-          ∙ sym (window_of_holding p made d k es (record { made = askable.made; near = omega (arith, askable.near); past = earlier })));
+          window_of_holding p made (d + 1) k (given ++ keep_last KEPT_ENTRIES more) askable
+          ∙ (kept_before (floor p k) k (made + 1) d w commits given es earlier (omega (arith, askable.near)) a
+          ∙ sym (window_of_holding p made d k all (record { made = askable.made; near = omega (arith, askable.near); past = earlier })));
     }
 
 -- what a verdict among all entries that are kept is, where the item is certifiable: a conflict with the latest that stands against it
@@ -123,11 +149,11 @@ conflict_at-entry None = refl
 conflict_at-entry (Some e) = refl
 
 -- the verdict of a certifier on a certifiable item, by the seqno of the latest entry against it
-pub verdict_found : (p : Setting) (made d : ℕ) (es : List Entry) (w : Transaction) (found : Option ℕ) → made ≤ d → Ascends 0 (d + 1) es →
+pub verdict_found : (p : Setting) (made d : ℕ) (es : List Entry) (w : Transaction) (found : Option ℕ) → made ≤ d → upto d es ≡ es →
     w.last_seen < d + 1 → in_schema p w ≡ true → d + 1 ≤ w.last_seen + p.window + 1 → found ≡ option_map seqno_of (latest (against w) es) →
     conflict_at found ≡ verdict_of (holding p made d es) w
-verdict_found p made d es w found start ascending past keys near is =
-    ap conflict_at is ∙ (sym (conflict_at-entry (latest (against w) es)) ∙ (sym (certified p d es w past keys near) ∙ sym (verdict_of_holding p made d es w start ascending)))
+verdict_found p made d es w found start whole past keys near is =
+    ap conflict_at is ∙ (sym (conflict_at-entry (latest (against w) es)) ∙ (sym (certified p d es w past keys near) ∙ sym (verdict_of_holding p made d es w start whole)))
 
 -- the latest seqno of two parts is that of the second, or else of the first
 pub latest_seqno_append : (test : Entry → Bool) (xs ys : List Entry) →
@@ -147,10 +173,6 @@ keep_last_few n es few =
 -- no more than n entries are kept
 pub length-keep_last : (n : ℕ) (es : List Entry) → length (keep_last n es) ≤ n
 length-keep_last n es = omega (arith, length-drop (length es - n) es)
-
--- a window in two parts
-pub recent_upto-append : (low k : ℕ) (xs ys : List Entry) → recent low (upto k (xs ++ ys)) ≡ recent low (upto k xs) ++ recent low (upto k ys)
-recent_upto-append low k xs ys = ap (recent low) (filter-append (λ (e : Entry). nat_le e.seqno k) xs ys) ∙ recent-append low (upto k xs) (upto k ys)
 
 -- a list ends with its last element
 pub ends_with : {A : Type 0} (xs : List A) (x : A) → slice_get xs (length xs - 1) ≡ Some x → xs ≡ take (length xs - 1) xs ++ x ∷ []
@@ -218,24 +240,28 @@ is_undoable true x some = refl
 is_undoable false x some = grind arith
 
 -- what stood before the last item, from the entries without its own
-pub before_undo : (p : Setting) (made d : ℕ) (undoable : Bool) (es : List Entry) → undoable ≡ true →
-    (holdings p made d undoable es).before ≡ Some (holding p made (d - 1) (upto (d - 1) es))
-before_undo p made d undoable es is =
-    let same : holding p made (d - 1) es ≡ holding p made (d - 1) (upto (d - 1) es) =
-    ap (λ (fs : List Entry). record { setting = p; made = made; delivered = d - 1; entries = recent (floor p (oldest made (d - 1))) fs }) (sym (upto-upto (d - 1) es)) in
+pub before_undo : (p : Setting) (made d : ℕ) (undoable : Bool) (given es : List Entry) → undoable ≡ true →
+    (holdings p made d undoable (given ++ es)).before ≡ Some (holding p made (d - 1) (given ++ upto (d - 1) es))
+before_undo p made d undoable given es is =
+    let test : Entry → Bool = λ (e : Entry). nat_le e.seqno (d - 1) in
+    let cut : upto (d - 1) (given ++ es) ≡ upto (d - 1) (given ++ upto (d - 1) es) =
+    filter-append test given es
+    ∙ (ap (λ (fs : List Entry). upto (d - 1) given ++ fs) (sym (upto-upto (d - 1) es)) ∙ sym (filter-append test given (upto (d - 1) es))) in
+    let same : holding p made (d - 1) (given ++ es) ≡ holding p made (d - 1) (given ++ upto (d - 1) es) =
+    ap (λ (fs : List Entry). record { setting = p; made = made; delivered = d - 1; entries = recent (floor p (oldest made (d - 1))) fs }) cut in
     rw is (ap Some same)
 
--- the window of a setting spans at most 256 seqnos
+-- the window of a setting spans from 1 to 256 seqnos
 pub narrow : (p : Setting) → IsTrue (is_setting p) → p.window ≤ 256
 narrow p limits = grind (arith, nat_tests)
 
--- there is room for a window
-pub length_window : (low position : ℕ) (es : List Entry) → position < low + 256 → Ascends low (position + 1) es → length es ≤ KEPT_ENTRIES
-length_window low position es near a = omega (arith, Ascends-length low (position + 1) es a)
+pub spans : (p : Setting) → IsTrue (is_setting p) → 1 ≤ p.window
+spans p limits = grind (arith, nat_tests)
 
 -- what a new certifier holds
-pub holding_made : (p : Setting) (position : ℕ) (es : List Entry) → IsWindow p position es → holding p position position es ≡ made_at p position es
-holding_made p position es is =
+pub holding_made : (p : Setting) (position : ℕ) (es : List Entry) → holding p position position (upto position es ++ []) ≡ made_at p position es
+holding_made p position es =
     let here : oldest position position ≡ position = omega arith in
     ap (λ (fs : List Entry). record { setting = p; made = position; delivered = position; entries = fs })
-    (ap (λ (n : ℕ). recent (floor p n) (upto position es)) here ∙ window_of_made_at p position es is)
+    (ap (λ (k : ℕ). recent (floor p k) (upto position (upto position es ++ []))) here
+    ∙ ap (recent (floor p position)) (ap (upto position) (append-nil (upto position es)) ∙ upto-upto position es))

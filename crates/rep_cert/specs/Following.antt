@@ -3,7 +3,7 @@ use Rattle.std.specs.Prelude.{◌≡◌, ℕ, ◌+◌, ◌≤◌, [], ◌∷◌,
 use Rattle.rep_types.specs.Transactions.{Transaction}
 use Rattle.rep_types.specs.Settings.{Setting}
 use Rattle.rep_types.specs.Order.{Order, verdict, window}
-use Rattle.rep_cert.specs.Holdings.{Holding, IsAskable, Admits, IsWindow, window_of, verdict_of, made_at}
+use Rattle.rep_cert.specs.Holdings.{Holding, IsAskable, Admits, window_of, verdict_of, made_at}
 
 -- What is held is that of the order: as many items came, and each window that can be asked for is the order's at that position.
 pub record Follows (h : Holding) (L : Order) : Type 0 where
@@ -11,9 +11,9 @@ pub record Follows (h : Holding) (L : Order) : Type 0 where
   pub delivered : h.delivered ≡ length L
   pub windows : (k : ℕ) → IsAskable h k → window_of h k ≡ window h.setting (take k L)
 
--- The window after an order has a window's form, and a certifier that is made with it follows the order.
+-- A certifier that is made with the window after an order holds that whole window, and follows the order.
 pub record FollowsFromTheStart : Type 0 where
-  pub form : (p : Setting) (L : Order) → IsWindow p (length L) (window p L)
+  pub whole : (p : Setting) (L : Order) → (made_at p (length L) (window p L)).entries ≡ window p L
   pub follows : (p : Setting) (L : Order) → Follows (made_at p (length L) (window p L)) L
 
 -- A certifier that follows an order and admits one more item follows the order with that item at its end.

@@ -1,6 +1,5 @@
 -- What a certifier holds, and what one more item makes of it.
-use Rattle.std.specs.Prelude.{◌≡◌, ℕ, ◌+◌, ◌<◌, ◌≤◌, nat_le, List, map, filter, All, Option}
-use Rattle.std.specs.List.Sorted.{IsStrictlyIncreasing}
+use Rattle.std.specs.Prelude.{◌≡◌, ℕ, ◌+◌, ◌≤◌, nat_le, List, filter, Option}
 use Rattle.rep_types.specs.declared.verdict.Verdict.{Verdict}
 use Rattle.rep_types.specs.Transactions.{Transaction}
 use Rattle.rep_types.specs.Settings.{Setting}
@@ -51,12 +50,7 @@ pub record Holdings : Type 0 where
 abbrev pub seqno_of : Entry → ℕ
 seqno_of e = e.seqno
 
--- The form of a window at a position: the seqnos ascend, none is above the position, and none is older than the window spans.
-pub record IsWindow (p : Setting) (position : ℕ) (es : List Entry) : Type 0 where
-  pub ascending : IsStrictlyIncreasing (map seqno_of es)
-  pub past : All (λ (e : Entry). e.seqno ≤ position) es
-  pub near : All (λ (e : Entry). position < e.seqno + p.window) es
-
--- what a certifier holds that is made at a position with the window of that position
+-- What a certifier holds that is made at a position with these entries: those that the window spans there, in the given order.
 abbrev pub made_at : Setting → ℕ → List Entry → Holding
-made_at p position es = record { setting = p; made = position; delivered = position; entries = es }
+made_at p position es =
+    record { setting = p; made = position; delivered = position; entries = recent (floor p position) (upto position es) }

@@ -1,5 +1,5 @@
 -- How the fields of a certifier make what it holds.
-use Rattle.std.specs.Prelude.{◌≡◌, ℕ, ◌+◌, ◌-◌, ◌<◌, ◌≤◌, max, Bool, true, if◌then◌else◌, List, [], ◌∷◌, length, None, Some}
+use Rattle.std.specs.Prelude.{◌≡◌, ℕ, ◌+◌, ◌-◌, ◌<◌, ◌≤◌, max, Bool, true, if◌then◌else◌, List, [], ◌∷◌, length, All, None, Some}
 use Rattle.rep_types.specs.Transactions.{Transaction, written}
 use Rattle.rep_types.specs.Settings.{Setting}
 use Rattle.rep_types.specs.Entries.{Entry}
@@ -31,13 +31,15 @@ abbrev pub Ascends : ℕ → ℕ → List Entry → Type 0
 Ascends low high [] = low ≤ high
 Ascends low high (e ∷ es) = (low ≤ e.seqno) × Ascends (e.seqno + 1) high es
 
--- What holds of the entries that a certifier keeps, and of its counts: the entries are of the items that came, and there is
--- room for all that a window which can be asked for, or the one before an undo, may hold.
-pub record IsKept (p : Setting) (made delivered : ℕ) (undoable : Bool) (es : List Entry) (capacity : ℕ) : Type 0 where
+-- What holds of the entries that a certifier keeps, and of its counts: none that it was made with is above that position,
+-- the others are of the items that came since, and there is room for all of them that a window which can be asked for, or
+-- the one before an undo, may hold.
+pub record IsKept (p : Setting) (made delivered : ℕ) (undoable : Bool) (given admitted : List Entry) (capacity : ℕ) : Type 0 where
   pub span : p.window ≤ 256
-  pub ascending : Ascends 0 (delivered + 1) es
-  pub few : length es ≤ KEPT_ENTRIES
+  pub past : All (λ (e : Entry). e.seqno ≤ made) given
+  pub ascending : Ascends (made + 1) (delivered + 1) admitted
+  pub few : length admitted ≤ KEPT_ENTRIES
   pub room : capacity ≡ KEPT_ENTRIES
   pub start : made ≤ delivered
   pub undo : undoable ≡ true → made < delivered
-  pub limit : delivered ≤ MAX_SEQNO
+  pub limit : delivered ≤ max made MAX_SEQNO

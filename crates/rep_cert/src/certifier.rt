@@ -1,9 +1,9 @@
 //! The certifier.
 
-ghost use Rattle.std.specs.Prelude.{◌≡◌, ◌+◌, ◌≤◌, ◌↔◌, IfOk, IfErr, OnOk, OnErr, IsErr, IsSome, Some, None};
-ghost use Rattle.rep_cert.specs.Holdings.{IsAskable, IsWindow, Admits, made_at, window_of, verdict_of};
+ghost use Rattle.std.specs.Prelude.{◌≡◌, ◌+◌, ◌≤◌, ◌↔◌, max, IfOk, IfErr, OnOk, OnErr, IsErr, IsSome, Some, None};
+ghost use Rattle.rep_cert.specs.Holdings.{IsAskable, Admits, made_at, window_of, verdict_of};
 
-use crate::ring::{entries_between, forget, keep, latest_kept_conflict, with_room};
+use crate::ring::{KEPT_ENTRIES, entries_between, forget, keep, latest_kept_conflict};
 use circular_buffer::HeapCircularBuffer;
 use rep_types::{Entry, MAX_SEQNO, Params, Refusal, Verdict, WriteSet};
 use std::alloc::Global;
@@ -21,46 +21,54 @@ pub struct Certifier {
     delivered: u64,
     /// Whether the last change was an `admit`. No code reads it: `undo_last` asks for it.
     undoable: bool,
-    entries: HeapCircularBuffer<Entry>,
+    /// The entries that it was made with, none above that position.
+    given: Vec<Entry>,
+    /// The entries of the items that committed since, the last of them.
+    admitted: HeapCircularBuffer<Entry>,
 }
 
 impl Model for Certifier {
+    ghost use Rattle.std.specs.Prelude.{◌++◌};
     ghost use Rattle.rep_cert.specs.Holdings.{Holdings};
     ghost use Rattle.rep_cert.specs.Kept.{IsKept, holdings};
 
     ghost Value = { Holdings };
 
-    ghost view = { λ c. holdings c.params c.made_at c.delivered c.undoable c.entries.items };
+    ghost view = { λ c. holdings c.params c.made_at c.delivered c.undoable (c.given.items ++ c.admitted.items) };
 
-    ghost invariant = { λ c. IsKept c.params c.made_at c.delivered c.undoable c.entries.items c.entries.capacity };
+    ghost invariant = { λ c. IsKept c.params c.made_at c.delivered c.undoable c.given.items c.admitted.items c.admitted.capacity };
 }
 
 impl Certifier {
-    /// A certifier at a position, the number of items that were delivered so far, at most
-    /// `MAX_SEQNO`. It holds the window of that position: the committed items that the window spans,
-    /// in ascending order. None is above the position, and each seqno and the size of the window
-    /// come to more than the position.
+    /// A certifier at a position, the number of items that were delivered so far. It holds the
+    /// window of that position: the committed items that the window spans, in ascending order.
+    ///
+    /// Any position and any entries are taken. Of the entries it holds those that the window spans,
+    /// in the order given: none above the position, and none whose seqno and the size of the window
+    /// come to no more than the position. Where the seqnos do not ascend, a conflict is with the
+    /// last entry that stands against the item, and a window is in the order given.
     ///
     /// Refuses with `OutOfMemory` where there is no room for the entries that it may come to keep.
     pub fn new(
         alloc: Global,
         params: Params,
         position: u64,
-        window: Vec<Entry>,
+        mut window: Vec<Entry>,
     ) -> Result<Certifier, Refusal>
-        requires position { position ≤ MAX_SEQNO }
-        requires window { IsWindow params position window.items }
         ensures made { IfOk result (λ c. c ≡ record { current = made_at params position window.items; before = None }) }
         ensures refused { IfErr result (λ refusal. refusal ≡ Refusal.OutOfMemory) }
     {
         // Tells the proof that the window spans at most 256 seqnos.
         let _span = params.window();
+        let admitted = HeapCircularBuffer::with_capacity(alloc, KEPT_ENTRIES)?;
+        window.retain(|entry| entry.seqno() <= position);
         Ok(Certifier {
             params,
             made_at: position,
             delivered: position,
             undoable: false,
-            entries: with_room(alloc, window)?,
+            given: window,
+            admitted,
         })
     }
 
@@ -69,18 +77,17 @@ impl Certifier {
     pub fn judge(&self, item: &WriteSet) -> Verdict
         ensures { result ≡ verdict_of self.now.current item.now }
     {
-        let seqno = self.delivered + 1;
         let seen = item.last_seen();
-        if seen >= seqno {
+        if seen > self.delivered {
             return Verdict::Future;
         }
         if !self.params.schema().contains_all(item) {
             return Verdict::BadKey;
         }
-        if seen + u64::from(self.params.window()) + 1 < seqno {
+        if self.delivered - seen > u64::from(self.params.window()) {
             return Verdict::Stale;
         }
-        match latest_kept_conflict(&self.entries, item) {
+        match latest_kept_conflict(&self.given, &self.admitted, item) {
             Some(seqno) => Verdict::Conflict(seqno),
             None => Verdict::Commit,
         }
@@ -89,7 +96,8 @@ impl Certifier {
     /// Takes the next item of the order, and says its seqno and its verdict. Whatever that is, the
     /// item has taken the seqno. It takes no memory.
     ///
-    /// Refuses with `Exhausted` where no seqno is left; the certifier is then as it was.
+    /// Refuses with `Exhausted` where no seqno is left, at `MAX_SEQNO` and above it; the certifier is
+    /// then as it was.
     pub fn admit(&mut self, item: &WriteSet) -> Result<(u64, Verdict), Refusal>
         ensures seqno { IfOk result (λ judged. judged.0 ≡ self.old.current.delivered + 1) }
         ensures verdict { IfOk result (λ judged. judged.1 ≡ verdict_of self.old.current item.now) }
@@ -97,16 +105,16 @@ impl Certifier {
         // What stood before can be had back.
         ensures undoable { OnOk result (self.new.before ≡ Some self.old.current) }
 
-        ensures exhausted { IsErr result ↔ (self.old.current.delivered ≡ MAX_SEQNO) }
+        ensures exhausted { IsErr result ↔ (MAX_SEQNO ≤ self.old.current.delivered) }
         ensures refused { IfErr result (λ refusal. refusal ≡ Refusal.Exhausted) }
         ensures unchanged { OnErr result (self.new ≡ self.old) }
     {
-        if self.delivered == MAX_SEQNO {
+        if self.delivered >= MAX_SEQNO {
             return Err(Refusal::Exhausted);
         }
         let verdict = self.judge(item);
         let seqno = self.delivered + 1;
-        keep(&mut self.entries, seqno, item, verdict);
+        keep(&mut self.admitted, seqno, item, verdict);
         self.delivered = seqno;
         self.undoable = true;
         Ok((seqno, verdict))
@@ -119,7 +127,7 @@ impl Certifier {
         ensures current { self.old.before ≡ Some self.new.current }
         ensures before { self.new.before ≡ None }
     {
-        forget(&mut self.entries, self.delivered);
+        forget(&mut self.admitted, self.delivered);
         self.delivered -= 1;
         self.undoable = false;
     }
@@ -135,14 +143,15 @@ impl Certifier {
         ensures refused { IfErr result (λ refusal. refusal ≡ Refusal.OutOfMemory) }
     {
         let span = u64::from(self.params.window());
-        let floor = (position + 1).saturating_sub(span);
-        entries_between(alloc, &self.entries, floor, position)
+        let floor = position.saturating_sub(span - 1);
+        entries_between(alloc, &self.given, &self.admitted, floor, position)
     }
 
-    /// How many items were delivered: the seqno of the last one.
+    /// How many items were delivered: the seqno of the last one. It is at most `MAX_SEQNO`, unless
+    /// the certifier was made above that.
     pub fn delivered(&self) -> u64
         ensures delivered { result ≡ self.now.current.delivered }
-        ensures limit { result ≤ MAX_SEQNO }
+        ensures limit { result ≤ max self.now.current.made MAX_SEQNO }
         // The present window can be asked for.
         ensures start { self.now.current.made ≤ result }
     {
@@ -175,6 +184,34 @@ mod tests {
         assert_eq!(rt; window.len(), 1);
         assert_eq!(rt; window[0].seqno(), 1);
         assert_eq!(rt; window[0].keys().len(), 1);
+        Ok(())
+    }
+
+    // At the last positions of all, with a window of 4 seqnos: the entries above the position and
+    // below its window go, the others stay as they are.
+    #[test]
+    fn is_made_of_any_entries(rt: HostRuntime) -> Result<(), Fail> {
+        let alloc = rt.alloc();
+        let write = Write {
+            key: Key { table: 0, row: 7 },
+            value: None,
+        };
+        let item = WriteSet::new(1, 1, u64::MAX - 5, &[], &[write])?;
+        let mut window = Vec::new(alloc);
+        for below in [0, 2, 5, 3, 3, u64::MAX, 4] {
+            window.push(Entry::new(u64::MAX - below, item.written()))?;
+        }
+        let params = Params::new(4, 4, &[10])?;
+        let mut certifier = Certifier::new(alloc, params, u64::MAX - 1, window)?;
+        assert_eq!(rt; certifier.judge(&item), Verdict::Conflict(u64::MAX - 4));
+        assert_eq!(rt; certifier.admit(&item), Err(Refusal::Exhausted));
+        assert_eq!(rt; certifier.delivered(), u64::MAX - 1);
+        let held = certifier.window_at(alloc, certifier.delivered())?;
+        let below: Vec<u64> = held
+            .iter()
+            .map(|entry| u64::MAX - entry.seqno())
+            .collect(alloc)?;
+        assert_eq!(rt; below.as_slice(), [2, 3, 3, 4].as_slice());
         Ok(())
     }
 }

@@ -1,4 +1,5 @@
-//! The ring of the entries that a certifier keeps.
+//! The entries that a certifier keeps: those that it was made with, and a ring of those that came
+//! since.
 
 ghost use Rattle.std.specs.Prelude.{◌≡◌, ◌+◌, ◌-◌, ◌<◌, ◌≤◌, ◌++◌, length, IfOk, IfErr};
 ghost use Rattle.std.specs.Option.{option_map};
@@ -10,38 +11,27 @@ ghost use Rattle.rep_cert.specs.Kept.{Ascends, own_entry};
 use crate::scan::{latest_conflict, push_window};
 use circular_buffer::HeapCircularBuffer;
 use rep_types::{Entry, Refusal, Verdict, WriteSet};
-use std::alloc::{AllocError, Global};
+use std::alloc::Global;
 
-/// How many committed items are kept. A window that can be asked for lies at most 256 positions
-/// back and spans at most 256 seqnos, so such windows hold entries of the last 512 seqnos. Undoing
-/// the last item asks for one more.
+/// How many of the items that committed since it was made a certifier keeps. A window that can be
+/// asked for lies at most 256 positions back and spans at most 256 seqnos, so such windows hold
+/// entries of the last 512 seqnos. Undoing the last item asks for one more.
 pub(crate) const KEPT_ENTRIES: usize = 513;
 
-/// These entries, with room for as many as are ever kept.
-pub(crate) fn with_room(
-    alloc: Global,
-    window: Vec<Entry>,
-) -> Result<HeapCircularBuffer<Entry>, AllocError>
-    requires { length window.items ≤ KEPT_ENTRIES }
-    ensures { IfOk result (λ entries. entries ≡ buffer window.items KEPT_ENTRIES) }
-{
-    let mut entries = HeapCircularBuffer::with_capacity(alloc, KEPT_ENTRIES)?;
-    for entry in window {
-        entries.push_back(entry);
-    }
-    Ok(entries)
-}
-
-/// The greatest seqno among the kept entries that stand against the item.
+/// The seqno of the last of these entries, those of the ring behind the others, that stands against
+/// the item.
 #[tactic(auto, using(crate::proofs::Kept::latest_seqno_append))]
 pub(crate) fn latest_kept_conflict(
-    entries: &HeapCircularBuffer<Entry>,
+    given: &[Entry],
+    admitted: &HeapCircularBuffer<Entry>,
     item: &WriteSet,
 ) -> Option<u64>
-    ensures { result ≡ option_map seqno_of (latest (against item.now) entries.now.items) }
+    ensures { result ≡ option_map seqno_of (latest (against item.now) (given.now ++ admitted.now.items)) }
 {
-    let (older, newer) = entries.as_slices();
-    latest_conflict(newer, item).or_else(|| latest_conflict(older, item))
+    let (older, newer) = admitted.as_slices();
+    latest_conflict(newer, item)
+        .or_else(|| latest_conflict(older, item))
+        .or_else(|| latest_conflict(given, item))
 }
 
 /// Keeps the entry of the item with this seqno, if it commits; the oldest entry goes where there is
@@ -74,20 +64,23 @@ pub(crate) fn forget(entries: &mut HeapCircularBuffer<Entry>, seqno: u64)
     }
 }
 
-/// Copies of the kept entries from the floor on and up to the position.
+/// Copies of these entries, those of the ring behind the others, from the floor on and up to the
+/// position.
 ///
 /// Refuses with `OutOfMemory` where the list cannot grow.
 pub(crate) fn entries_between(
     alloc: Global,
-    entries: &HeapCircularBuffer<Entry>,
+    given: &[Entry],
+    admitted: &HeapCircularBuffer<Entry>,
     floor: u64,
     position: u64,
 ) -> Result<Vec<Entry>, Refusal>
-    ensures between { IfOk result (λ copies. copies.items ≡ recent floor (upto position entries.now.items)) }
+    ensures between { IfOk result (λ copies. copies.items ≡ recent floor (upto position (given.now ++ admitted.now.items))) }
     ensures refused { IfErr result (λ refusal. refusal ≡ Refusal.OutOfMemory) }
 {
-    let (older, newer) = entries.as_slices();
+    let (older, newer) = admitted.as_slices();
     let mut copies = Vec::new(alloc);
+    push_window(&mut copies, given, floor, position)?;
     push_window(&mut copies, older, floor, position)?;
     push_window(&mut copies, newer, floor, position)?;
     Ok(copies)

@@ -15,7 +15,7 @@ fn is_against(entry: &Entry, item: &WriteSet) -> bool
     item.last_seen() < entry.seqno() && item.names_one_of(entry.keys())
 }
 
-/// The greatest seqno among the entries that stand against the item.
+/// The seqno of the last of the entries that stands against the item.
 #[tactic(auto, using(rep_types::proofs::Latest::latest_more, rep_types::proofs::Latest::latest_all))]
 pub(crate) fn latest_conflict(entries: &[Entry], item: &WriteSet) -> Option<u64>
     ensures { result ≡ option_map seqno_of (latest (against item.now) entries.now) }

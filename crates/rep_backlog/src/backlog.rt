@@ -1,0 +1,105 @@
+//! The backlog.
+
+ghost use Rattle.std.specs.Prelude.{◌≡◌, ◌≤◌, ◌==◌, ◌↔◌, [], ◌∷◌, ◌++◌, length, take, drop, slice_get, IfOk, IfErr, OnOk, OnErr, IsErr};
+ghost use Rattle.std.specs.Option.{option_copied};
+ghost use Rattle.rep_backlog.specs.Fronts.{fitting, with_records};
+
+use circular_buffer::HeapCircularBuffer;
+use rep_record::BlockBuilder;
+use rep_types::{Judged, Refusal};
+use std::alloc::Global;
+use std::marker::Model;
+
+/// The greatest number of items of a backlog: a node is never further ahead of its durable position.
+pub const MAX_BACKLOG: usize = 256;
+
+/// Judged items that were delivered and are not yet in a block of the log, at most 256, in the order
+/// in which they were pushed. Where each is pushed with the seqno after the last, that is the order
+/// of the seqnos, and it stays so.
+#[derive(Debug, Drop)]
+pub struct Backlog {
+    items: HeapCircularBuffer<Judged>,
+}
+
+impl Model for Backlog {
+    ghost use Rattle.std.specs.Prelude.{◌≡◌, ◌≤◌, List, length};
+    ghost use Rattle.rep_types.specs.declared.judged.Judged.{Judged};
+    ghost use Rattle.rep_backlog.specs.declared.backlog.TheConstants.{MAX_BACKLOG};
+
+    ghost Value = { List Judged };
+
+    ghost view = { λ b. b.items.items };
+
+    ghost invariant = { λ b. (b.items.capacity ≡ MAX_BACKLOG) × (length b.items.items ≤ MAX_BACKLOG) };
+}
+
+impl Backlog {
+    /// A backlog without items, with room for as many as it may ever hold.
+    ///
+    /// Refuses with `OutOfMemory` where there is no such room.
+    pub fn new(alloc: Global) -> Result<Backlog, Refusal>
+        ensures empty { IfOk result (λ backlog. backlog ≡ []) }
+        ensures refused { IfErr result (λ refusal. refusal ≡ Refusal.OutOfMemory) }
+    {
+        Ok(Backlog {
+            items: HeapCircularBuffer::with_capacity(alloc, MAX_BACKLOG)?,
+        })
+    }
+
+    /// Adds the item at the end. It takes no memory.
+    ///
+    /// Refuses with `Backlogged` where it holds 256; it is then as it was, and the item is let go.
+    pub fn push(&mut self, judged: Judged) -> Result<(), Refusal>
+        ensures pushed { OnOk result (self.new ≡ self.old ++ judged ∷ []) }
+
+        ensures backlogged { IsErr result ↔ (length self.old ≡ MAX_BACKLOG) }
+        ensures refused { IfErr result (λ refusal. refusal ≡ Refusal.Backlogged) }
+        ensures unchanged { OnErr result (self.new ≡ self.old) }
+    {
+        if self.items.try_push_back(judged).is_err() {
+            return Err(Refusal::Backlogged);
+        }
+        Ok(())
+    }
+
+    /// Moves the longest front that the block has room for into the block, each item once and in
+    /// order, and says how many. The first record that has no room stays, and all behind it. It takes
+    /// no memory.
+    pub fn drain(&mut self, builder: &mut BlockBuilder) -> u16
+        ensures moved { result ≡ fitting builder.old self.old }
+        ensures gathered { builder.new ≡ with_records builder.old (take result self.old) }
+        ensures rest { self.new ≡ drop result self.old }
+    {
+        let mut moved = 0;
+        while let Some(first) = self.items.front() {
+            if !builder.push(first) {
+                break;
+            }
+            self.items.pop_front();
+            moved += 1;
+        }
+        moved
+    }
+
+    /// How many items there are.
+    pub fn len(&self) -> usize
+        ensures count { result ≡ length self.now }
+        ensures few { result ≤ MAX_BACKLOG }
+    {
+        self.items.len()
+    }
+
+    /// Whether there is no item.
+    pub fn is_empty(&self) -> bool
+        ensures { result ≡ (length self.now == 0) }
+    {
+        self.items.is_empty()
+    }
+
+    /// The item behind the first `i`, or `None` where there are no more.
+    pub fn get(&self, i: usize) -> Option<&Judged>
+        ensures { option_copied result ≡ slice_get self.now i }
+    {
+        self.items.get(i)
+    }
+}

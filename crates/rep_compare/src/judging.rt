@@ -1,0 +1,42 @@
+//! The two that judge, each by itself over a drawn order.
+
+ghost use Rattle.std.specs.Prelude.{◌≤◌, IfOk};
+
+use crate::drawn::{Draws, Shape};
+use rep_cert::Certifier;
+use rep_plain::PlainNode;
+use rep_types::Refusal;
+use std::alloc::Global;
+
+/// How many of the first `count` items commit, by the plain node.
+pub(crate) fn plain_commits(alloc: Global, shape: &Shape, count: u64) -> Result<u64, Refusal>
+    ensures { IfOk result (λ committed. committed ≤ count) }
+{
+    let mut draws = Draws::new(1);
+    let mut node = PlainNode::new(alloc, shape.params()?);
+    let mut committed = 0;
+    for before in 0..count {
+        let item = draws.item(shape, before + 1)?;
+        if node.deliver(item)?.is_commit() {
+            committed += 1;
+        }
+    }
+    Ok(committed)
+}
+
+/// How many of the first `count` items commit, by the certifier.
+pub(crate) fn certifier_commits(alloc: Global, shape: &Shape, count: u64) -> Result<u64, Refusal>
+    ensures { IfOk result (λ committed. committed ≤ count) }
+{
+    let mut draws = Draws::new(1);
+    let mut certifier = Certifier::new(alloc, shape.params()?, 0, Vec::new(alloc))?;
+    let mut committed = 0;
+    for before in 0..count {
+        let item = draws.item(shape, before + 1)?;
+        let (_, verdict) = certifier.admit(&item)?;
+        if verdict.is_commit() {
+            committed += 1;
+        }
+    }
+    Ok(committed)
+}

@@ -1,0 +1,99 @@
+//! The plain node and a certifier side by side.
+
+ghost use Rattle.std.specs.Prelude.{◌≡◌, ◌≤◌};
+
+use rep_cert::Certifier;
+use rep_plain::PlainNode;
+use rep_types::{Entry, Params, Verdict, WriteSet};
+use std::alloc::Global;
+use std::process::Abort;
+use std::test::Fail;
+
+/// A plain node, and a certifier that was made at one of its positions and handed the same items.
+#[derive(Drop)]
+pub(crate) struct SideBySide {
+    plain: PlainNode,
+    certifier: Certifier,
+    /// The position that the certifier was made at.
+    made_at: u64,
+    /// The plain node's window there and at each later position.
+    windows: Vec<Vec<Entry>>,
+    ghost made: { certifier.current.made ≡ made_at },
+}
+
+impl SideBySide {
+    /// The plain node, and a certifier that is made with its window.
+    pub(crate) fn new(alloc: Global, plain: PlainNode, params: Params) -> Result<SideBySide, Fail> {
+        let made_at = plain.position();
+        let certifier = Certifier::new(alloc, params, made_at, plain.window(alloc)?)?;
+        let mut windows = Vec::new(alloc);
+        windows.push(plain.window(alloc)?)?;
+        Ok(SideBySide {
+            plain,
+            certifier,
+            made_at,
+            windows,
+        })
+    }
+
+    /// How many items were handed to the plain node.
+    pub(crate) fn position(&self) -> u64 {
+        self.plain.position()
+    }
+
+    /// Hands the item to both, which must agree on it, and says its verdict.
+    pub(crate) fn take(
+        &mut self,
+        rt: &impl Abort,
+        alloc: Global,
+        item: &WriteSet,
+    ) -> Result<Verdict, Fail> {
+        let judged = self.certifier.judge(item);
+        let admitted = self.certifier.admit(item)?;
+        let verdict = self.plain.deliver(item.clone()?)?;
+        assert_eq!(rt; judged, verdict);
+        assert_eq!(rt; admitted, (self.plain.position(), verdict));
+        self.windows.push(self.plain.window(alloc)?)?;
+        self.compare_window(rt, alloc, 0)?;
+        Ok(verdict)
+    }
+
+    /// Hands the item to the certifier alone, and takes it back: the windows are then as before.
+    pub(crate) fn take_back(
+        &mut self,
+        rt: &impl Abort,
+        alloc: Global,
+        item: &WriteSet,
+    ) -> Result<(), Fail> {
+        self.certifier.admit(item)?;
+        self.certifier.undo_last();
+        assert_eq!(rt; self.certifier.delivered(), self.plain.position());
+        self.compare_window(rt, alloc, 0)?;
+        self.compare_window(rt, alloc, 256)
+    }
+
+    /// Compares the windows of so many positions back, or where the certifier was made.
+    fn compare_window(&self, rt: &impl Abort, alloc: Global, back: u64) -> Result<(), Fail>
+        requires { back ≤ 256 }
+    {
+        let delivered = self.certifier.delivered();
+        let position = delivered.saturating_sub(back).max(self.made_at);
+        let held = self.certifier.window_at(alloc, position)?;
+        let place = (position - self.made_at) as usize;
+        let expected = self.windows.get(place).ok_or("no such window")?;
+        assert_eq!(rt;
+            held.as_slice(),
+            expected.as_slice(),
+            "{back} back from {delivered}"
+        );
+        Ok(())
+    }
+
+    /// Compares the windows of all positions that can be asked for.
+    pub(crate) fn compare_windows(&self, rt: &impl Abort, alloc: Global) -> Result<(), Fail> {
+        for back in 0..257 {
+            self.compare_window(rt, alloc, back)?;
+        }
+        Ok(())
+    }
+}
