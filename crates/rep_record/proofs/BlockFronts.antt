@@ -1,21 +1,26 @@
 -- What is read as a block is spelled so, and what is spelled so is read.
-use Rattle.std.proofs.Common.{◌≡◌, ℕ, zero, suc, ◌+◌, ◌-◌, ◌^◌, ◌<◌, ◌≤◌, Bool, true, false, eqb, List, [], ◌∷◌, ◌++◌, length, take, drop, Result, Ok, Err, refl, sym, ap, subst, ◌∙◌, append_assoc, arith, inl, inr, length-append, length-drop, length-take}
-use Rattle.std.specs.Prelude.{replicate, IfOk, IfErr}
+use Rattle.std.proofs.Common.{◌≡◌, ℕ, zero, suc, ◌+◌, ◌-◌, ◌^◌, ◌<◌, ◌≤◌, Bool, true, false, eqb, List, [], ◌∷◌, ◌++◌, length, take, drop, Option, Some, None, Result, Ok, Err, refl, sym, ap, subst, ◌∙◌, append_assoc, arith, inl, inr, length-append, length-drop, length-take}
+use Rattle.std.specs.Prelude.{replicate, is_some, IfOk, IfErr}
 use Rattle.std.specs.Int.{w16, w64, from_be_bytes}
 use Rattle.std.specs.List.{list_all, AllByRecursion}
 use Rattle.std.proofs.lemmas.Bool.{eqb-true, eqb-false}
 use Rattle.std.proofs.lemmas.List.{take_at, drop_at, take-append-drop, drop-drop, nil_from_length, append-nil, length-replicate}
+use Rattle.std.proofs.lemmas.List.Concat.{flat_map-cons}
+use Rattle.std.proofs.lemmas.Option.{same_Some}
+use Rattle.std.specs.Option.{option_map_or}
 use Rattle.std.proofs.lemmas.Nat.{be_bytes_2, be_bytes_8, from_be_bytes-to_be_bytes_2, from_be_bytes-to_be_bytes_8}
 use Rattle.rep_types.specs.declared.judged.Judged.{Judged}
 use Rattle.rep_types.specs.declared.refusal.Refusal.{Refusal}
-use Rattle.rep_types.specs.declared.refusal.Refusal.TheVariants.{OutOfMemory}
-use Rattle.rep_record.specs.declared.block_reader.Block.{Block}
 use Rattle.rep_record.specs.Records.{two_bytes, eight_bytes, record_bytes}
 use Rattle.rep_record.specs.RecordForm.{IsRecord, IsFront}
-use Rattle.rep_record.specs.BlockForm.{first_seqno, SeqnosFrom, run_bytes, IsBlock, block_bytes, cell_in, first_in, count_in, HasHead, SpelledTo, StopsAt, IsBlank, Refuses, IsRead}
+use Rattle.rep_record.specs.Reading.{◌>>=◌}
+use Rattle.rep_record.specs.RecordReading.{front_record}
+use Rattle.rep_record.specs.BlockForm.{first_seqno, SeqnosFrom, run_bytes, Contents, contents, IsBlock, block_bytes, cell_in, first_in, count_in, HasHead, SpelledTo, RunTo, StopsAt, IsBlank, Refuses, IsRead}
+use Rattle.rep_record.specs.BlockReading.{records_at, records_in}
 use Rattle.rep_record.proofs.Sizes.{length-two_bytes, length-eight_bytes}
+use Rattle.rep_record.proofs.Forms.{bind_some}
 use Rattle.rep_record.proofs.RecordFronts.{told_apart}
-use Rattle.rep_record.proofs.RecordRanges.{IsBytes, drop_fits, take_fits, below_64, both}
+use Rattle.rep_record.proofs.RecordRanges.{IsBytes, drop_fits, take_fits, below_64, both, front_again}
 use Rattle.rep_record.proofs.Runs.{run_more, all_more, follow_more, follows, all_behind, begins_run}
 
 -- dropping twice
@@ -225,15 +230,14 @@ stops_never bytes cell js at b s h =
     let r = begins_run h.before js (drop at bytes) zeros h.spelled.are_records b.are_records (omega (arith, h.fewer, s.is_count)) (sym h.spelled.there ∙ s.behind) in
     never_stops bytes cell js r.0 at b s h r.1 r.2
 
--- so a block is refused for its memory alone
-refused_says : (bytes : List ℕ) (cell : ℕ) (js : List Judged) (e : Refusal) → IsBlock cell js → Says bytes cell js → Refuses bytes e → e ≡ OutOfMemory
-refused_says bytes cell js e b s (inl m) = m
-refused_says bytes cell js e b s (inr (inl h)) = absurd (h.0 s.head)
-refused_says bytes cell js e b s (inr (inr (inl h))) = absurd (h.1.not_zero (run_is bytes cell js h.1.end h.1.records b s h.1.spelled h.1.all).1)
-refused_says bytes cell js e b s (inr (inr (inr h))) = absurd (stops_never bytes cell js h.1.0 b s h.1.1)
+-- so a block isn't refused
+refused_says : (bytes : List ℕ) (cell : ℕ) (js : List Judged) (e : Refusal) → IsBlock cell js → Says bytes cell js → Refuses bytes e → ⊥
+refused_says bytes cell js e b s (inl h) = h.0 s.head
+refused_says bytes cell js e b s (inr (inl h)) = h.1.not_zero (run_is bytes cell js h.1.end h.1.records b s h.1.spelled h.1.all).1
+refused_says bytes cell js e b s (inr (inr h)) = stops_never bytes cell js h.1.0 b s h.1.1
 
 -- the same from the bytes
-pub block_refused : (bytes : List ℕ) (cell : ℕ) (js : List Judged) (e : Refusal) → IsBlock cell js → bytes ≡ block_bytes cell js → Refuses bytes e → e ≡ OutOfMemory
+pub block_refused : (bytes : List ℕ) (cell : ℕ) (js : List Judged) (e : Refusal) → IsBlock cell js → bytes ≡ block_bytes cell js → Refuses bytes e → ⊥
 block_refused bytes cell js e b there h = refused_says bytes cell js e b (says bytes cell js b there) h
 
 -- and what is read of it is what it holds
@@ -243,13 +247,84 @@ block_again bytes cell js found records b there h =
     (h.is_cell ∙ s.is_cell, (run_is bytes cell js h.end records b s h.spelled h.all).0)
 
 -- what was answered, if anything
-pub answer_found : (bytes : List ℕ) (r : Result Block Refusal) → IsBytes bytes → IfOk r (λ b. IsRead bytes b.cell b.records.items)
-    → IfOk r (λ b. IsBlock b.cell b.records.items × (bytes ≡ block_bytes b.cell b.records.items))
-answer_found bytes (Ok b) fits h = block_read bytes b.cell b.records.items fits h
+pub answer_found : (bytes : List ℕ) (r : Result Contents Refusal) → IsBytes bytes → IfOk r (λ b. IsRead bytes b.cell b.records)
+    → IfOk r (λ b. IsBlock b.cell b.records × (bytes ≡ block_bytes b.cell b.records))
+answer_found bytes (Ok b) fits h = block_read bytes b.cell b.records fits h
 answer_found bytes (Err e) fits h = tt
 
 -- and of a block just what it holds
-pub answer_only : (bytes : List ℕ) (r : Result Block Refusal) (cell : ℕ) (js : List Judged) → IsBlock cell js → bytes ≡ block_bytes cell js → IfOk r (λ b. IsRead bytes b.cell b.records.items) → IfErr r (λ e. Refuses bytes e)
-    → IfOk r (λ b. (b.cell ≡ cell) × (b.records.items ≡ js)) × IfErr r (λ e. e ≡ OutOfMemory)
-answer_only bytes (Ok b) cell js h there read refused = (block_again bytes cell js b.cell b.records.items h there read, tt)
-answer_only bytes (Err e) cell js h there read refused = (tt, block_refused bytes cell js e h there refused)
+pub answer_only : (bytes : List ℕ) (r : Result Contents Refusal) (cell : ℕ) (js : List Judged) → IsBlock cell js → bytes ≡ block_bytes cell js → IfOk r (λ b. IsRead bytes b.cell b.records) → IfErr r (λ e. Refuses bytes e)
+    → r ≡ Ok (contents cell js)
+answer_only bytes (Ok b) cell js h there read refused =
+    let same = block_again bytes cell js b.cell b.records h there read in
+    ap (λ n. Ok (contents n b.records)) same.0 ∙ ap (λ rs. Ok (contents cell rs)) same.1
+answer_only bytes (Err e) cell js h there read refused = absurd (block_refused bytes cell js e h there refused)
+
+-- before the first record nothing is spelled
+pub spelled_none : (bytes : List ℕ) → length bytes ≡ 7680 → SpelledTo bytes 18 []
+spelled_none bytes size = record { are_records = tt; follow = tt; place = refl; there = refl; within = omega (arith, size) }
+
+-- ---- the records that are handed out
+
+-- records that are spelled there are read there
+records_again : (records : List Judged) (rest : List ℕ) → AllByRecursion IsRecord records → records_at (length records) (run_bytes records ++ rest) ≡ Some records
+unfolding records_at
+records_again [] rest h = refl
+records_again (j ∷ records) rest h =
+    let first : run_bytes (j ∷ records) ++ rest ≡ record_bytes j ++ (run_bytes records ++ rest) = ap (λ (xs : List ℕ). xs ++ rest) (flat_map-cons record_bytes j records) ∙ append_assoc (record_bytes j) (run_bytes records) rest in
+    ap (records_at (suc (length records))) first
+    ∙ rw (front_again j (run_bytes records ++ rest) h.0, drop_at (record_bytes j) (run_bytes records ++ rest) (length (record_bytes j)) refl, records_again records rest h.1) refl
+
+-- those of the block
+pub run_again : (bytes rest : List ℕ) (end count : ℕ) → (h : RunTo bytes end count) → rest ≡ drop 18 bytes → records_at count rest ≡ Some h.records
+run_again bytes rest end count h e =
+    ap (records_at count) (e ∙ h.spelled.there) ∙ ap (λ n. records_at n (run_bytes h.records ++ drop end bytes)) (sym h.all) ∙ records_again h.records (drop end bytes) h.spelled.are_records
+
+-- so there are as many as are left
+length-at : (n : ℕ) (bytes : List ℕ) (records : List Judged) → records_at n bytes ≡ Some records → length records ≡ n
+unfolding records_at
+length-at zero bytes records h = ap length (sym (same_Some [] records h))
+length-at (suc n) bytes records h =
+    let a = bind_some (front_record bytes) (λ x. records_at n (drop x.1 bytes) >>= λ rs. Some (x.0 ∷ rs)) records h in
+    let b = bind_some (records_at n (drop a.0.1 bytes)) (λ rs. Some (a.0.0 ∷ rs)) records a.2 in
+    omega (arith, ap length (same_Some (a.0.0 ∷ b.0) records b.2), length-at n (drop a.0.1 bytes) b.0 b.1)
+
+-- the same of those that are spelled
+in_cases : (n : ℕ) (bytes : List ℕ) (o : Option (List Judged)) → records_at n bytes ≡ o → is_some o ≡ true → length (option_map_or (λ (rs : List Judged). rs) o []) ≡ n
+in_cases n bytes None e h = absurd cc
+in_cases n bytes (Some records) e h = length-at n bytes records e
+
+pub length-in : (n : ℕ) (bytes : List ℕ) → is_some (records_at n bytes) ≡ true → length (records_in n bytes) ≡ n
+length-in n bytes h = in_cases n bytes (records_at n bytes) refl h
+
+-- none is left
+pub in_none : (n : ℕ) (bytes : List ℕ) → n ≡ 0 → records_in n bytes ≡ []
+unfolding records_at
+in_none n bytes e = ap (λ k. records_in k bytes) e
+
+-- where some are left there is one in front
+pub in_front : (n : ℕ) (bytes : List ℕ) → (n ≡ 0 → ⊥) → is_some (records_at n bytes) ≡ true → None ≡ front_record bytes → ⊥
+unfolding records_at
+in_front zero bytes some h e = some refl
+in_front (suc n) bytes some h e =
+    let none : None ≡ records_at (suc n) bytes = rw (← e) refl in
+    let never : false ≡ true = ap is_some none ∙ h in
+    cc
+
+-- and the others behind it
+rest_cases : (j : Judged) (o : Option (List Judged)) → is_some (o >>= λ rs. Some (j ∷ rs)) ≡ true
+    → (is_some o ≡ true) × (option_map_or (λ (rs : List Judged). rs) (o >>= λ rs. Some (j ∷ rs)) [] ≡ j ∷ option_map_or (λ (rs : List Judged). rs) o [])
+rest_cases j None h = absurd cc
+rest_cases j (Some records) h = (refl, refl)
+
+pub in_rest : (n : ℕ) (bytes rest : List ℕ) (j : Judged) (size : ℕ) → (n ≡ 0 → ⊥) → is_some (records_at n bytes) ≡ true → Some (j, size) ≡ front_record bytes → rest ≡ drop size bytes
+    → (is_some (records_at (n - 1) rest) ≡ true) × (records_in n bytes ≡ j ∷ records_in (n - 1) rest)
+unfolding records_at
+in_rest zero bytes rest j size some h e r = absurd (some refl)
+in_rest (suc n) bytes rest j size some h e r =
+    let less : n ≡ suc n - 1 = omega arith in
+    let split : records_at (suc n) bytes ≡ (records_at n rest >>= λ rs. Some (j ∷ rs)) = rw (← e, r) refl in
+    let both = rest_cases j (records_at n rest) (sym (ap is_some split) ∙ h) in (
+      ap (λ k. is_some (records_at k rest)) (sym less) ∙ both.0,
+      ap (λ (o : Option (List Judged)). option_map_or (λ (rs : List Judged). rs) o []) split ∙ both.1 ∙ ap (λ k. j ∷ records_in k rest) less,
+    )

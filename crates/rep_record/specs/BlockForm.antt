@@ -4,7 +4,7 @@ use Rattle.std.specs.List.{flat_map, list_all, AllByRecursion}
 use Rattle.std.specs.Int.{w16, w64, from_be_bytes}
 use Rattle.rep_types.specs.declared.judged.Judged.{Judged}
 use Rattle.rep_types.specs.declared.refusal.Refusal.{Refusal}
-use Rattle.rep_types.specs.declared.refusal.Refusal.TheVariants.{Malformed, OutOfMemory}
+use Rattle.rep_types.specs.declared.refusal.Refusal.TheVariants.{Malformed}
 use Rattle.rep_record.specs.Records.{two_bytes, eight_bytes, record_bytes}
 use Rattle.rep_record.specs.RecordForm.{IsRecord}
 
@@ -21,6 +21,14 @@ SeqnosFrom n (j ∷ records) = (j.seqno ≡ n) × SeqnosFrom (n + 1) records
 -- the bytes of the records, one after another
 abbrev pub run_bytes : List Judged → List ℕ
 run_bytes records = flat_map record_bytes records
+
+-- a block while it is handed out: the number of its cell, and the records that are left
+pub record Contents : Type 0 where
+  pub cell : ℕ
+  pub records : List Judged
+
+abbrev pub contents : ℕ → List Judged → Contents
+contents cell records = record { cell = cell; records = records }
 
 -- What a block holds: the number of its cell, and 1 to 64 records of seqnos that follow each other, of at most 7,662 bytes.
 pub record IsBlock (cell : ℕ) (records : List Judged) : Type 0 where
@@ -62,6 +70,12 @@ pub record SpelledTo (bytes : List ℕ) (at : ℕ) (records : List Judged) : Typ
   pub there : drop 18 bytes ≡ run_bytes records ++ drop at bytes
   pub within : at ≤ length bytes
 
+-- From the offset 18 to `at` so many records are spelled.
+pub record RunTo (bytes : List ℕ) (at count : ℕ) : Type 0 where
+  pub records : List Judged
+  pub spelled : SpelledTo bytes at records
+  pub all : length records ≡ count
+
 -- Fewer records than the head says are spelled up to `at`, and there no record of the next seqno is.
 pub record StopsAt (bytes : List ℕ) (at : ℕ) : Type 0 where
   pub before : List Judged
@@ -81,14 +95,13 @@ pub record HasNoEnd (bytes : List ℕ) : Type 0 where
   pub all : length records ≡ count_in bytes
   pub not_zero : IsBlank end bytes → ⊥
 
--- Why bytes are refused as a block, where memory lasts: for the head or for the closing zeros at 0, and else at the offset
--- of the first record that isn't of the form or whose seqno doesn't follow.
+-- Why bytes are refused as a block: for the head or for the closing zeros at 0, and else at the offset of the first record
+-- that isn't of the form or whose seqno doesn't follow.
 abbrev pub Refuses : List ℕ → Refusal → Type 0
 Refuses bytes e =
-    (e ≡ OutOfMemory)
-    ⊎ (((HasHead bytes → ⊥) × (e ≡ Malformed 0))
+    ((HasHead bytes → ⊥) × (e ≡ Malformed 0))
     ⊎ ((HasHead bytes × HasNoEnd bytes × (e ≡ Malformed 0))
-    ⊎ (HasHead bytes × ((at : ℕ) × StopsAt bytes at × (e ≡ Malformed at)))))
+    ⊎ (HasHead bytes × ((at : ℕ) × StopsAt bytes at × (e ≡ Malformed at))))
 
 -- What is read: the head, and the records, which are all that the head says and are spelled up to the closing zeros.
 pub record IsRead (bytes : List ℕ) (cell : ℕ) (records : List Judged) : Type 0 where

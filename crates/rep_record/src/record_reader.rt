@@ -265,8 +265,9 @@ fn is_placed(judged: &Judged) -> bool
 
 /// The record that the front of the bytes spells, and how many bytes that takes.
 #[tactic(auto, unfolding(crate::specs::RecordReading::front_record, crate::specs::RecordReading::begins_with))]
-fn read_front(bytes: &[u8]) -> Option<(Judged, usize)>
+pub(crate) fn read_front(bytes: &[u8]) -> Option<(Judged, usize)>
     ensures exact { result ≡ front_record bytes.now }
+    ensures within { IfSome result (λ r. r.1 ≤ length bytes.now) }
     ensures limits { IfSome result (λ r. IsWithinLimits r.0.item) }
 {
     let record = read_judged(bytes)?;

@@ -426,9 +426,15 @@ fn the_plain_node_keeps_rows_and_window(rt: HostRuntime) -> Result<(), Fail> {
     Ok(())
 }
 
+/// The number, the name and the data of a refusal.
+fn shown(alloc: Global, refusal: Refusal) -> Result<String, AllocError> {
+    let number = refusal.number();
+    format!(in alloc; "{number} {refusal}")
+}
+
 #[test]
-fn refusals_show_their_names_and_data(rt: HostRuntime) -> Result<(), Fail> {
-    let refusals: [(Refusal, &str); 27] = [
+fn refusals_of_the_device_and_the_engine_show_their_names(rt: HostRuntime) -> Result<(), Fail> {
+    let refusals: [(Refusal, &str); 13] = [
         (Refusal::OutOfMemory, "1 out-of-memory"),
         (Refusal::DiskFault, "2 disk-fault"),
         (Refusal::Stopped, "3 stopped"),
@@ -441,16 +447,32 @@ fn refusals_show_their_names_and_data(rt: HostRuntime) -> Result<(), Fail> {
         (Refusal::BadKey, "10 bad-key"),
         (Refusal::Undefined, "11 undefined"),
         (Refusal::NotFormatted, "12 not-formatted"),
-        (
-            Refusal::Corrupt {
-                part: Part::Superblock,
-            },
-            "13 corrupt superblock",
-        ),
-        (Refusal::Corrupt { part: Part::Window }, "13 corrupt window"),
-        (Refusal::Corrupt { part: Part::Log }, "13 corrupt log"),
-        (Refusal::Corrupt { part: Part::Pages }, "13 corrupt pages"),
         (Refusal::TooSmall { need: 103_424 }, "14 too-small 103424"),
+    ];
+    for (refusal, text) in refusals {
+        assert_eq!(rt; shown(rt.alloc(), refusal)?.as_str(), text);
+    }
+    Ok(())
+}
+
+#[test]
+fn corrupt_parts_show_their_names(rt: HostRuntime) -> Result<(), Fail> {
+    let parts: [(Part, &str); 4] = [
+        (Part::Superblock, "13 corrupt superblock"),
+        (Part::Window, "13 corrupt window"),
+        (Part::Log, "13 corrupt log"),
+        (Part::Pages, "13 corrupt pages"),
+    ];
+    for (part, text) in parts {
+        let refusal = Refusal::Corrupt { part };
+        assert_eq!(rt; shown(rt.alloc(), refusal)?.as_str(), text);
+    }
+    Ok(())
+}
+
+#[test]
+fn refusals_of_values_and_sessions_show_their_names(rt: HostRuntime) -> Result<(), Fail> {
+    let refusals: [(Refusal, &str); 10] = [
         (Refusal::BadParams, "15 bad-params"),
         (Refusal::Malformed { at: 59 }, "16 malformed 59"),
         (Refusal::TooManyReads, "17 too-many-reads"),
@@ -463,9 +485,7 @@ fn refusals_show_their_names_and_data(rt: HostRuntime) -> Result<(), Fail> {
         (Refusal::StreamFault, "24 stream-fault"),
     ];
     for (refusal, text) in refusals {
-        let number = refusal.number();
-        let shown = format!(in rt.alloc(); "{number} {refusal}")?;
-        assert_eq!(rt; shown.as_str(), text);
+        assert_eq!(rt; shown(rt.alloc(), refusal)?.as_str(), text);
     }
     Ok(())
 }
@@ -493,33 +513,63 @@ fn records_have_the_bytes_of_the_format(rt: HostRuntime) -> Result<(), Fail> {
     Ok(())
 }
 
-#[test]
-fn blocks_name_the_first_faulty_record(rt: HostRuntime) -> Result<(), Fail> {
+/// The records of the items 7 to 9, each of which writes `61` under `0/1`.
+fn three_records() -> Result<BlockBuilder, Refusal> {
     let mut block = BlockBuilder::new();
-    assert!(rt; block.is_empty());
     for seqno in 7..=9 {
         let item = put(0, 1, 0x61)?;
         let verdict = Verdict::Commit;
-        assert!(rt;
-            block.push(&Judged {
-                seqno,
-                item,
-                verdict
-            })
-        );
+        block.push(&Judged {
+            seqno,
+            item,
+            verdict,
+        });
     }
-    assert_eq!(rt; block.len(), 3);
-    assert_eq!(rt; block.first(), 7);
-    assert_eq!(rt; block.as_bytes().len(), 3 * 53);
-    let mut body = Vec::from_slice(rt.alloc(), &[0, 0, 0, 0, 0, 0, 0, 5])?;
+    Ok(block)
+}
+
+/// The body of cell 5 with these three records.
+fn body_of(alloc: Global, block: &BlockBuilder) -> Result<Vec<u8>, Fail> {
+    let mut body = Vec::from_slice(alloc, &[0, 0, 0, 0, 0, 0, 0, 5])?;
     body.extend_from_slice(&[0, 0, 0, 0, 0, 0, 0, 7, 0, 3])?;
     body.extend_from_slice(block.as_bytes())?;
     for _ in 0..7680 - 18 - 3 * 53 {
         body.push(0)?;
     }
-    let read = read_block(rt.alloc(), &body)?;
-    assert_eq!(rt; read.cell, 5);
-    assert_eq!(rt; read.records.len(), 3);
+    Ok(body)
+}
+
+#[test]
+fn a_block_gathers_records(rt: HostRuntime) -> Result<(), Fail> {
+    assert!(rt; BlockBuilder::new().is_empty());
+    let block = three_records()?;
+    assert!(rt; !block.is_empty());
+    assert_eq!(rt; block.len(), 3);
+    assert_eq!(rt; block.first(), 7);
+    assert_eq!(rt; block.as_bytes().len(), 3 * 53);
+    Ok(())
+}
+
+#[test]
+fn a_block_hands_out_its_records_in_order(rt: HostRuntime) -> Result<(), Fail> {
+    let body = body_of(rt.alloc(), &three_records()?)?;
+    let mut read = read_block(&body)?;
+    assert_eq!(rt; read.cell(), 5);
+    assert!(rt; !read.is_empty());
+    for seqno in 7..=9 {
+        assert_eq!(rt; read.len(), (10 - seqno) as u16);
+        let record = read.next_record().ok_or("a record is missing")?;
+        assert_eq!(rt; record.seqno, seqno);
+        assert!(rt; record.item == put(0, 1, 0x61)?);
+    }
+    assert!(rt; read.is_empty());
+    assert!(rt; read.next_record().is_none());
+    Ok(())
+}
+
+#[test]
+fn blocks_name_the_first_faulty_record(rt: HostRuntime) -> Result<(), Fail> {
+    let mut body = body_of(rt.alloc(), &three_records()?)?;
     let faults: [(usize, u8, u64); 4] = [
         // the verdict of the first record
         (18 + 34, 5, 18),
@@ -534,7 +584,7 @@ fn blocks_name_the_first_faulty_record(rt: HostRuntime) -> Result<(), Fail> {
         assert!(rt; place < body.len());
         let kept = body[place];
         body[place] = byte;
-        match read_block(rt.alloc(), &body) {
+        match read_block(&body) {
             Ok(_) => assert!(rt; false, "{place} was read"),
             Err(refusal) => assert_eq!(rt; refusal, Refusal::Malformed { at }, "{place}"),
         }

@@ -1,0 +1,22 @@
+//! Where everything lies on the device, and the bytes of its superblocks and windows.
+#![tactic(auto)]
+
+mod bytes;
+mod page_state;
+mod place;
+mod rows;
+mod super_body;
+#[cfg(test)]
+mod tests;
+mod window_body;
+mod window_reader;
+
+pub use page_state::{MAX_PAGES, PageState};
+pub use place::{
+    GATE, LOG_BODY, Layout, PAGE_BODY, Place, SUPER_BODY, Side, Slot, WINDOW_BODY, need,
+    places_fill_the_device,
+};
+pub use rows::{PAGE_ROWS, RowPlace, page_of, row_places_are_told};
+pub use super_body::{SuperBody, superblocks_are_told};
+pub use window_body::{MAX_ENTRIES, WindowBody};
+pub use window_reader::{WindowReader, windows_are_told};
