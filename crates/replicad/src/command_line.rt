@@ -10,8 +10,9 @@ fn command<'a>(alloc: Global) -> Result<Command<'a>, AllocError> {
     let judge = Command::new(alloc, "judge").about(
         "Judge an order text from standard input: one verdict line for each item",
     );
-    let run = Command::new(alloc, "run")
-        .about("Run a script from standard input on a replica in memory");
+    let run = Command::new(alloc, "run").about(
+        "Run a script from standard input on a replica in memory",
+    );
     Command::new(alloc, "replicad")
         .version("0.1.0")
         .about("One node of a multi-master database")

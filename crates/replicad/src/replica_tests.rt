@@ -69,17 +69,50 @@ fn gtids_have_one_form(rt: HostRuntime) -> Result<(), Fail> {
     let cases: [(&[u8], Result<i64, Refusal>); 14] = [
         (b"11111111-1111-4111-8111-111111111111:4", Ok(4)),
         (b"11111111-1111-4111-8111-111111111111:-1", Ok(-1)),
-        (b"5EE99582-bb8d-11e2-B8E3-23de375c1d30:0000000000000000007", Ok(7)),
-        (b"11111111-1111-4111-8111-111111111111:9223372036854775807", Ok(i64::MAX)),
-        (b"11111111-1111-4111-8111-111111111111:9223372036854775808", Err(Refusal::Malformed { at: 37 })),
-        (b"11111111-1111-4111-8111-111111111111:00000000000000000007", Err(Refusal::Malformed { at: 37 })),
-        (b"11111111-1111-4111-8111-111111111111:-2", Err(Refusal::Malformed { at: 37 })),
-        (b"11111111-1111-4111-8111-111111111111:", Err(Refusal::Malformed { at: 37 })),
-        (b"11111111-1111-4111-8111-111111111111:+4", Err(Refusal::Malformed { at: 37 })),
-        (b"11111111-1111-4111-8111-111111111111 4", Err(Refusal::Malformed { at: 36 })),
-        (b"11111111-1111-4111-8111-111111111111", Err(Refusal::Malformed { at: 36 })),
-        (b"11111111-1111-4111-8111-11111111111:4", Err(Refusal::Malformed { at: 0 })),
-        (b"11111111111141118111111111111111:4", Err(Refusal::Malformed { at: 0 })),
+        (
+            b"5EE99582-bb8d-11e2-B8E3-23de375c1d30:0000000000000000007",
+            Ok(7),
+        ),
+        (
+            b"11111111-1111-4111-8111-111111111111:9223372036854775807",
+            Ok(i64::MAX),
+        ),
+        (
+            b"11111111-1111-4111-8111-111111111111:9223372036854775808",
+            Err(Refusal::Malformed { at: 37 }),
+        ),
+        (
+            b"11111111-1111-4111-8111-111111111111:00000000000000000007",
+            Err(Refusal::Malformed { at: 37 }),
+        ),
+        (
+            b"11111111-1111-4111-8111-111111111111:-2",
+            Err(Refusal::Malformed { at: 37 }),
+        ),
+        (
+            b"11111111-1111-4111-8111-111111111111:",
+            Err(Refusal::Malformed { at: 37 }),
+        ),
+        (
+            b"11111111-1111-4111-8111-111111111111:+4",
+            Err(Refusal::Malformed { at: 37 }),
+        ),
+        (
+            b"11111111-1111-4111-8111-111111111111 4",
+            Err(Refusal::Malformed { at: 36 }),
+        ),
+        (
+            b"11111111-1111-4111-8111-111111111111",
+            Err(Refusal::Malformed { at: 36 }),
+        ),
+        (
+            b"11111111-1111-4111-8111-11111111111:4",
+            Err(Refusal::Malformed { at: 0 }),
+        ),
+        (
+            b"11111111111141118111111111111111:4",
+            Err(Refusal::Malformed { at: 0 }),
+        ),
         (b"", Err(Refusal::Malformed { at: 0 })),
     ];
     for (text, seqno) in cases {
@@ -92,7 +125,10 @@ fn gtids_have_one_form(rt: HostRuntime) -> Result<(), Fail> {
 fn gtids_are_written_in_lower_case(rt: HostRuntime) -> Result<(), Fail> {
     let gtid = Gtid::parse(b"5EE99582-bb8d-11e2-B8E3-23de375c1d30:008204503945773")?;
     let text = format!(in rt.alloc(); "{gtid}")?;
-    assert_eq!(rt; text.as_str(), "5ee99582-bb8d-11e2-b8e3-23de375c1d30:8204503945773");
+    assert_eq!(rt;
+        text.as_str(),
+        "5ee99582-bb8d-11e2-b8e3-23de375c1d30:8204503945773"
+    );
     let undefined = Gtid {
         uuid: Uuid::nil(),
         seqno: -1,

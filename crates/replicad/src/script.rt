@@ -25,7 +25,10 @@ fn write_replies<W: Write>(
     let count = replies.len();
     put_all(writer, format!(in alloc; "synced {count}\n")?.as_bytes())?;
     for reply in replies {
-        let line = format!(in alloc; "reply {} {} {}:{}\n", reply.seqno, reply.verdict, reply.source, reply.trx)?;
+        let line = format!(in alloc;
+            "reply {} {} {}:{}\n",
+            reply.seqno, reply.verdict, reply.source, reply.trx
+        )?;
         put_all(writer, line.as_bytes())?;
     }
     Ok(())

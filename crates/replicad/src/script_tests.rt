@@ -63,11 +63,17 @@ fn the_fifth_block_of_four_cells_has_no_room(rt: HostRuntime) -> Result<(), Fail
     let mut lines = String::new(rt.alloc());
     for seqno in 1..5 {
         let seen = seqno - 1;
-        script.push_str(&format!(in rt.alloc(); "deliver {seqno} {seen} w 0/1=61 0/70=61\nlog\nsync\nlog\nsync\n")?)?;
-        lines.push_str(&format!(in rt.alloc(); "{seqno} commit\nwrote\nsynced 0\nwrote\nsynced 1\nreply {seqno} commit 0:0\n")?)?;
+        script.push_str(&format!(in rt.alloc();
+            "deliver {seqno} {seen} w 0/1=61 0/70=61\nlog\nsync\nlog\nsync\n"
+        )?)?;
+        lines.push_str(&format!(in rt.alloc();
+            "{seqno} commit\nwrote\nsynced 0\nwrote\nsynced 1\nreply {seqno} commit 0:0\n"
+        )?)?;
     }
     script.push_str("deliver 5 4 w 0/1=61 0/70=61\nlog\nstate\n")?;
-    lines.push_str("5 commit\nrefused 6 log-full\nstate 11111111-1111-4111-8111-111111111111:4 base 0 window 1 2 3 4\n")?;
+    lines.push_str(
+        "5 commit\nrefused 6 log-full\nstate 11111111-1111-4111-8111-111111111111:4 base 0 window 1 2 3 4\n",
+    )?;
     let (written, end) = ran(rt.alloc(), &script);
     assert_eq!(rt; end, Ok(()));
     assert_eq!(rt; written.as_slice(), lines.as_bytes());
@@ -93,8 +99,12 @@ fn steps_out_of_turn_are_refused(rt: HostRuntime) -> Result<(), Fail> {
 #[test]
 fn reads_are_of_every_durable_state(rt: HostRuntime) -> Result<(), Fail> {
     let value = "aa".repeat(rt.alloc(), 62)?;
-    let script = format!(in rt.alloc(); "params 4 4 126\ndeliver 1 0 w 0/1=61\ndeliver 2 1 w 0/1-\ndeliver 3 2 w 0/2={value} 0/3= 0/70=63\nlog\nsync\nlog\nsync\nread 0/1 4\nread 0/1 1\nread 0/1 2\nread 0/2 3\nread 0/3 3\nread 0/126 3\nread 0/1 0\n")?;
-    let lines = format!(in rt.alloc(); "1 commit\n2 commit\n3 commit\nwrote\nsynced 0\nwrote\nsynced 3\nreply 1 commit 0:0\nreply 2 commit 0:0\nreply 3 commit 0:0\nrefused 9 not-yet 3\nvalue 61\nabsent\nvalue {value}\nvalue\nrefused 10 bad-key\nabsent\n")?;
+    let script = format!(in rt.alloc();
+        "params 4 4 126\ndeliver 1 0 w 0/1=61\ndeliver 2 1 w 0/1-\ndeliver 3 2 w 0/2={value} 0/3= 0/70=63\nlog\nsync\nlog\nsync\nread 0/1 4\nread 0/1 1\nread 0/1 2\nread 0/2 3\nread 0/3 3\nread 0/126 3\nread 0/1 0\n"
+    )?;
+    let lines = format!(in rt.alloc();
+        "1 commit\n2 commit\n3 commit\nwrote\nsynced 0\nwrote\nsynced 3\nreply 1 commit 0:0\nreply 2 commit 0:0\nreply 3 commit 0:0\nrefused 9 not-yet 3\nvalue 61\nabsent\nvalue {value}\nvalue\nrefused 10 bad-key\nabsent\n"
+    )?;
     let (written, end) = ran(rt.alloc(), &script);
     assert_eq!(rt; end, Ok(()));
     assert_eq!(rt; written.as_slice(), lines.as_bytes());
@@ -168,7 +178,10 @@ fn lines_of_no_form_end_a_script(rt: HostRuntime) -> Result<(), Fail> {
 
 #[test]
 fn a_page_that_is_not_there_is_not_due(rt: HostRuntime) -> Result<(), Fail> {
-    let script = script_of(rt.alloc(), "flush 18446744073709551615;log;read 1/0 0;read 0/0 0;state")?;
+    let script = script_of(
+        rt.alloc(),
+        "flush 18446744073709551615;log;read 1/0 0;read 0/0 0;state",
+    )?;
     let lines = lines_of(
         rt.alloc(),
         "refused 7 not-due;refused 7 not-due;refused 10 bad-key;absent;state 11111111-1111-4111-8111-111111111111:0 base 0 window",
