@@ -26,10 +26,12 @@ const WINDOWS: usize = 8_192;
 /// The first byte of the log, behind both windows.
 const LOG: usize = 54_272;
 
-/// A superblock and its window stand twice.
+/// A superblock and its window stand twice, so that the old ones stay while the new are written.
 #[derive(Clone, Copy, Debug, PartialEq, Eq)]
 pub enum Side {
+    /// The first of both, for even numbers of superblocks.
     A,
+    /// The second, for odd ones.
     B,
 }
 
@@ -48,8 +50,10 @@ impl Side {
 /// A page has two slots, so that it is never written where it is read.
 #[derive(Clone, Copy, Debug, Default, PartialEq, Eq)]
 pub enum Slot {
+    /// Slot 0.
     #[default]
     First,
+    /// Slot 1, which stands behind it.
     Second,
 }
 

@@ -1,6 +1,6 @@
 //! Where a row lies.
 
-ghost use Rattle.std.specs.Prelude.{◌≡◌, ◌<◌, ◌≤◌, length, if◌then◌else◌, Some, None};
+ghost use Rattle.std.specs.Prelude.{◌≡◌, ◌≤◌, length, if◌then◌else◌, Some, None};
 ghost use Rattle.rep_types.specs.Settings.{has_row, pages_of};
 ghost use Rattle.rep_layout.specs.Rows.{row_place, RowPlacesAreTold};
 
@@ -9,10 +9,12 @@ use rep_types::{Key, Schema};
 /// The number of rows in a page.
 pub const PAGE_ROWS: u32 = 63;
 
-/// Where a row lies: the number of its page, and its place there, from 0 to 62.
+/// Where a row lies: its page, and its place there, from 0 to 62.
 #[derive(Clone, Copy, Debug, PartialEq, Eq)]
 pub struct RowPlace {
+    /// The page, counted from 0 over all tables.
     pub page: u32,
+    /// The row's place in the page.
     pub index: u32,
 }
 

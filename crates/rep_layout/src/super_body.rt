@@ -18,19 +18,25 @@ use uuid::Uuid;
 /// The first eight bytes of the format.
 const MARK: &[u8; 8] = b"REPSUPR1";
 
-/// The offsets of the fields.
+/// The offset of the number.
 const NUMBER: usize = 8;
 
+/// The offset of the UUID.
 const UUID: usize = 16;
 
+/// The offset of the parameters.
 const SETTING: usize = 32;
 
+/// The offset of the position.
 const POSITION: usize = 72;
 
+/// The offset of the start.
 const START: usize = 80;
 
+/// The offset of the states.
 const STATES: usize = 128;
 
+/// The first byte behind them.
 const STATES_END: usize = 1_152;
 
 type Bytes = ArrayVec<u8, 3584>;
@@ -38,16 +44,19 @@ type Bytes = ArrayVec<u8, 3584>;
 /// What a superblock's body says.
 #[derive(Debug, Drop, PartialEq, Eq)]
 pub struct SuperBody {
-    /// Its own number, which rises by one with each checkpoint.
+    /// Its own number, which rises by one with each checkpoint and each snapshot that is installed: at
+    /// most the position and 1.
     pub number: u64,
-    /// The state UUID; nil where the node belongs to no cluster yet.
+    /// The state UUID; nil where the node belongs to no cluster yet, and then the number and the
+    /// position are 0.
     pub uuid: Uuid,
+    /// The node's parameters.
     pub params: Params,
-    /// The seqno up to which the pages hold what was committed.
+    /// The seqno up to which the pages hold what was committed, at most `MAX_SEQNO`.
     pub position: u64,
-    /// The number of the log cell whose block begins behind the position.
+    /// The number of the log cell whose block begins behind the position, at most the position.
     pub start: u64,
-    /// In which slot each page stands.
+    /// In which slot each page stands, by its number; as many as the schema has pages.
     pub pages: ArrayVec<PageState, 4096>,
 }
 

@@ -56,8 +56,11 @@ fn put_entries(out: &mut ArrayVec<u8, 23040>, entries: &[Entry])
 /// the entries of the committed items that the window spans, in the order of their seqnos.
 #[derive(Debug, Drop)]
 pub struct WindowBody<'a> {
+    /// The number of the superblock.
     pub number: u64,
+    /// The position of the superblock.
     pub position: u64,
+    /// The window there, at most 256 entries.
     pub entries: &'a [Entry],
 }
 

@@ -16,15 +16,19 @@ use arrayvec::ArrayVec;
 use rep_types::{Entry, Key, MAX_WRITES, Params, Part, Refusal};
 use std::marker::Model;
 
-/// The offsets of the fields.
+/// The offset of the number.
 const NUMBER: usize = 8;
 
+/// The offset of the position.
 const POSITION: usize = 16;
 
+/// The offset of the number of entries.
 const COUNT: usize = 24;
 
+/// The first byte behind it.
 const HEAD_END: usize = 26;
 
+/// The offset of the entries.
 const ENTRIES: usize = 256;
 
 /// A window as it is read: it hands out its entries one by one, out of bytes that were looked at

@@ -20,11 +20,14 @@ fn first_item() -> Result<WriteSet, Refusal> {
 
 /// A new replica with four cells and a table of 126 rows.
 fn fresh(alloc: Global) -> Result<Option<Replica>, Refusal> {
-    let uuid = match Uuid::try_parse_ascii(UUID) {
-        Ok(uuid) if !uuid.is_nil() => uuid,
-        _ => return Ok(None),
+    let Ok(uuid) = Uuid::try_parse_ascii(UUID) else {
+        return Ok(None);
     };
-    Ok(Some(Replica::fresh(alloc, Params::new(4, 4, &[126])?, uuid)))
+    if uuid.is_nil() {
+        return Ok(None);
+    }
+    let params = Params::new(4, 4, &[126])?;
+    Ok(Some(Replica::fresh(alloc, params, uuid)))
 }
 
 #[test]

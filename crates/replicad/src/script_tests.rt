@@ -61,8 +61,8 @@ fn refused_items_are_in_the_block_too(rt: HostRuntime) -> Result<(), Fail> {
 fn the_fifth_block_of_four_cells_has_no_room(rt: HostRuntime) -> Result<(), Fail> {
     let mut script = script_of(rt.alloc(), "")?;
     let mut lines = String::new(rt.alloc());
-    for seqno in 1..5 {
-        let seen = seqno - 1;
+    for seqno in 1u64..5 {
+        let seen = seqno.saturating_sub(1);
         script.push_str(&format!(in rt.alloc();
             "deliver {seqno} {seen} w 0/1=61 0/70=61\nlog\nsync\nlog\nsync\n"
         )?)?;
@@ -125,8 +125,8 @@ fn a_value_over_the_limit_ends_the_script(rt: HostRuntime) -> Result<(), Fail> {
 fn the_257th_delivery_waits_for_the_log(rt: HostRuntime) -> Result<(), Fail> {
     let mut script = script_of(rt.alloc(), "")?;
     let mut lines = String::new(rt.alloc());
-    for seqno in 1..257 {
-        let seen = seqno - 1;
+    for seqno in 1u64..257 {
+        let seen = seqno.saturating_sub(1);
         script.push_str(&format!(in rt.alloc(); "deliver {seqno} {seen} w 0/1=61\n")?)?;
         lines.push_str(&format!(in rt.alloc(); "{seqno} commit\n")?)?;
     }

@@ -1,4 +1,4 @@
-use Rattle.std.proofs.Common.{◌≡◌, ℕ, List, Option, Some, drop, false, true, refl, sym, ap, subst, ◌∙◌, arith, inl, inr, eqb, length, []}
+use Rattle.std.proofs.Common.{◌≡◌, ℕ, List, Option, drop, false, refl, sym, ap, subst, ◌∙◌, arith, inl, inr, eqb, []}
 use Rattle.std.specs.Prelude.{is_some}
 use Rattle.std.specs.List.{list_all}
 use Rattle.std.specs.Option.{option_map_or}
