@@ -1,0 +1,10 @@
+pub mod Sums
+pub mod Keeping
+pub mod Moving
+pub mod Drawing
+pub mod Entering
+pub mod Leaving
+pub mod Seating
+pub mod Making
+pub mod Closing
+pub mod Places

@@ -1,0 +1,90 @@
+-- A lock as it is made keeps the rule.
+use Rattle.std.proofs.Common.{◌≡◌, ℕ, zero, suc, ◌+◌, ◌*◌, ◌/◌, ◌^◌, ◌<◌, ◌≤◌, Option, Some, None, List, [], ◌∷◌, map, length, replicate, sym, refl, ap, ◌∙◌, subst, arith}
+use Rattle.std.specs.Prelude.{slice_get, IsSome}
+use mathlib.Core.Option.{some, some-injective, some-ne-none}
+use lib.ListN.{get_elem?, length-map, length-replicate}
+use Rattle.atomic_table.specs.Table.{opening}
+use Rattle.rep_ordered.specs.declared.rule.Opening.{Opening}
+use Rattle.rep_ordered.specs.Views.{opened}
+use Rattle.rep_ordered.specs.Rule.{Every, Figures, Knows, Kept}
+use Rattle.rep_ordered.specs.Ends.{AllMeet}
+
+later_word : (a b w : ℕ) (ws : List ℕ) (j : ℕ) → get_elem? (a ∷ b ∷ ws) (j + 2) ≡ some w → get_elem? ws j ≡ some w
+later_word a b w ws j e = let up : j + 2 ≡ suc (suc j) = omega arith in sym (ap (get_elem? (a ∷ b ∷ ws)) up) ∙ e
+
+in_replicate : (n x j w : ℕ) → get_elem? (replicate n x) j ≡ some w → (j < n) × (x ≡ w)
+in_replicate zero x j w e = absurd (some-ne-none w (sym e))
+in_replicate (suc n) x zero w e = (omega arith, some-injective x w e)
+in_replicate (suc n) x (suc j) w e = let t = in_replicate n x j w e in let l = t.0 in (omega arith, t.1)
+
+-- the value at j, in the three ways that it is read
+at_values : {V : Type 0} (values : List V) (j : ℕ) → j < length values → (x : V) × (slice_get values j ≡ Some x) × (get_elem? (map some (map Some values)) j ≡ some (some (Some x)))
+at_values [] j l = absurd (omega arith)
+at_values (x ∷ xs) zero l = (x, refl, refl)
+at_values (x ∷ xs) (suc j) l = at_values xs j (omega arith)
+
+alone : {A : Type 0} (a b : A) (j : ℕ) → get_elem? (a ∷ []) j ≡ some b → (j ≡ 0) × (a ≡ b)
+alone a b zero e = (refl, some-injective a b e)
+alone a b (suc j) e = absurd (some-ne-none b (sym e))
+
+module _ {V E : Type 0} (at_home : ℕ → ℕ → List E → ℕ → V → Type 0) (durable_of : V → ℕ) where
+  pub opens : (k : Opening) (values : List V) (n : ℕ) → n ≡ length values → k.start + k.whole ≡ 2 ^ 60 + 1 → k.durable < k.start → k.start ≤ 2 ^ 60 + 1 → AllMeet at_home durable_of k.start k.durable values
+      → Kept at_home durable_of k (opening (k.start ∷ k.durable ∷ replicate n (4 * k.start)) (map Some values) (opened k.start k.whole k.durable))
+  opens k values n count wide low small meet = let f : Figures E = record { history = []; next = k.start; durable = k.durable; stop = 0; engine = k.durable } in
+      let lengths : length (map some (map Some values)) ≡ length values = length-map (map Some values) (λ (x : Option V). some x) ∙ length-map values (λ (x : V). Some x) in record {
+        figures = f;
+        spelled = record {
+          wide = let e : length (replicate n (4 * k.start)) ≡ n = length-replicate n (4 * k.start) in omega arith;
+          next_is = refl;
+          durable_is = let e : k.durable ≡ k.durable + 2 ^ 63 * 0 = omega arith in ap some e;
+          low = omega arith;
+          stop_bit = omega arith;
+          engine_up = omega arith;
+          short = omega arith;
+          small = omega arith;
+        };
+        dealt = record { tickets = omega arith; many = omega arith; drawn = λ x. omega arith };
+        each_station = λ j w e. let t = in_replicate n (4 * k.start) j w (later_word k.start k.durable w (replicate n (4 * k.start)) j e) in let l = t.0 in let is = t.1 in let turn : k.start ≡ w / 4 = omega arith in record {
+          begun = omega arith;
+          within = omega arith;
+          counts = omega arith;
+          counted = λ _. omega arith;
+          home = λ _. let x = at_values values j (omega arith) in let m = meet j x.0 x.1 in record { value = x.0; there = x.2; keeps = subst (λ (z : ℕ). at_home j z [] k.durable x.0) turn m.0; engine = m.1 };
+        };
+        each_seat = λ i v e. subst (Knows k f (k.start ∷ k.durable ∷ replicate n (4 * k.start))) (alone _ v i e).1 record {
+          starts = refl;
+          wholes = refl;
+          begins = ([], refl);
+          told = ([], refl);
+          lasts = omega arith;
+          stops = omega arith;
+          below = omega arith;
+          reached = λ j w _. omega arith;
+          holds = tt;
+          lives = λ held _. absurd (omega arith);
+        };
+        known = record { seat = 0; view = opened k.start k.whole k.durable; there = refl; lives = λ some_number. omega arith; knows = omega arith };
+        lone = λ _. refl;
+      }
+
+pub all_some : {V : Type 0} (values : List V) → Every IsSome (map Some values)
+all_some [] = tt
+all_some (x ∷ xs) = (refl, all_some xs)
+
+abbrev value_or : {V : Type 0} → V → Option V → V
+value_or d None = d
+value_or d (Some x) = x
+
+abbrev first_or : {V : Type 0} → Option V → List (Option V) → Option V
+first_or d [] = d
+first_or d (x ∷ xs) = x
+
+abbrev others : {V : Type 0} → List V → List V
+others [] = []
+others (x ∷ xs) = xs
+
+pub same_values : {V : Type 0} (xs ys : List V) → map Some xs ≡ map Some ys → xs ≡ ys
+same_values [] [] e = refl
+same_values [] (y ∷ ys) e = absurd (let d = ap length e in omega arith)
+same_values (x ∷ xs) [] e = absurd (let d = ap length e in omega arith)
+same_values (x ∷ xs) (y ∷ ys) e = let first = ap (λ l. value_or x (first_or None l)) e in let behind = same_values xs ys (ap others e) in λ i. first i ∷ behind i

@@ -1,0 +1,12 @@
+use Rattle.std.proofs.Common.{rules, arith, ap}
+use Rattle.atomic_table.specs.Seated.{TableId}
+use Rattle.rep_ordered.specs.Seats.{Place}
+use Rattle.rep_ordered.proofs.Drawing.{claims}
+use Rattle.rep_ordered.proofs.Places.{seated_claim}
+use Rattle.rep_ordered.proofs.lock.OrderedLock.claim.Goals as goal
+
+pub fetch_add-requires : goal.fetch_add-requires
+fetch_add-requires g c = let same = ap (λ (z : Place g.row.E.Denot). z.view.allowance) c.seat.view_is in (search rules, search rules, claims g.V.Keeps.at_home g.V.Keeps.durable_of g.V.Keeps.grows _ _ _ _ (omega arith))
+
+pub invariant_of-seat : goal.invariant_of-seat
+invariant_of-seat g c = let same = ap (λ (z : Place g.row.E.Denot). z.view.allowance) c.seat.view_is in let t = c.fetch_add.ensures.2 in let claim = t.0 in seated_claim _ _ _ _ _ (ap (λ (z : TableId). z.slots) c.fetch_add.ensures.0) c.seat.invariant claim.view t.1 claim.limit (omega arith)

@@ -1,0 +1,34 @@
+-- The first and the last of a lock: the values that it is made with, and those that it gives back.
+use Rattle.std.specs.Prelude.{◌≡◌, ℕ, ◌+◌, ◌≤◌, Option, Some, List, [], length, slice_get}
+use Rattle.rep_ordered.specs.declared.view.View.{View}
+use Rattle.rep_ordered.specs.Counts.{times, once_below}
+use Rattle.rep_ordered.specs.Views.{held_at, reached_at}
+use Rattle.rep_ordered.specs.Rule.{Meets}
+
+module _ {V E : Type 0} (at_home : ℕ → ℕ → List E → ℕ → V → Type 0) (durable_of : V → ℕ) where
+  -- each value may lie at home in its station at the number n, after an empty history
+  abbrev pub AllMeet : ℕ → ℕ → List V → Type 0
+  AllMeet n durable values = (j : ℕ) (x : V) → slice_get values j ≡ Some x → Meets at_home durable_of j n [] durable x
+
+  -- the value that station j is closed with
+  pub record ClosedAt (v : View E) (durable j : ℕ) (found : Option V) : Type 0 where
+    pub value : V
+    pub number : ℕ
+    pub is : found ≡ Some value
+    -- it meets what may lie at home there, at the history that the seat saw
+    pub keeps : at_home j number v.seen durable value
+    pub engine : j ≡ 1 → (v.engine ≤ durable_of value) × (durable ≤ durable_of value)
+    -- the turn had come at least as far as the seat saw, and no further than the numbers that were drawn
+    pub begun : v.start ≤ number
+    pub turn : reached_at j v.reached ≤ number
+    pub within : number ≤ v.start + length v.own
+    -- at station 0 the history has as many entries as tickets passed
+    pub place : j ≡ 0 → v.start + length v.seen ≡ number
+
+  -- What the last seat closes the lock with: of each station that it does not hold, the value at home.
+  pub record Closed (v : View E) (values : List (Option V)) : Type 0 where
+    pub durable : ℕ
+    pub known : v.durable ≤ durable
+    pub each : (j : ℕ) (found : Option V) → slice_get values j ≡ Some found → held_at j v.held ≡ 0 → ClosedAt v durable j found
+    -- its numbers are those from the first on, each once
+    pub numbers : (x : ℕ) → times x v.own + once_below x v.start ≡ once_below x (v.start + length v.own)

@@ -1,0 +1,6 @@
+pub mod Counts
+pub mod Views
+pub mod Rule
+pub mod Steps
+pub mod Ends
+pub mod Seats

@@ -1,0 +1,164 @@
+//! How a lock is made, and how it is closed.
+
+ghost use Rattle.std.specs.Prelude.{◌≡◌, ◌+◌, ◌-◌, ◌*◌, ◌≤◌, [], ◌∷◌, length, map, replicate, Some, IfOk, IfErr, IfSome, IsSome, vec_capacity};
+ghost use Rattle.rep_ordered.specs.Views.{opened};
+ghost use Rattle.rep_ordered.specs.Rule.{Every};
+ghost use Rattle.rep_ordered.specs.Ends.{AllMeet, Closed};
+ghost use Rattle.rep_ordered.specs.Seats.{seat_of, stations_of};
+
+use crate::lock::OrderedLock;
+use crate::rule::{Keeps, Opening};
+use crate::seat::Seat;
+use atomic_table::Table;
+use rep_types::MAX_SEQNO;
+use std::alloc::Global;
+
+/// There was no memory for a lock. The values come back.
+#[derive(Debug, Drop)]
+pub struct Refused<V> {
+    pub values: Vec<V>,
+}
+
+/// The memory that a lock of some stations takes.
+struct Space<V> {
+    words: Vec<u64>,
+    slots: Vec<Option<V>>,
+    room: Vec<Option<V>>,
+}
+
+/// The words of a lock that starts at this number.
+fn first_words(alloc: Global, stations: usize, start: u64, durable: u64) -> Option<Vec<u64>>
+    requires { 4 * start ≤ 4 * (MAX_SEQNO + 1) }
+    ensures { IfSome result (λ words. words.items ≡ start ∷ durable ∷ replicate stations (4 * start)) }
+{
+    let mut words = vec![in alloc; 4 * start; stations.checked_add(2)?].ok()?;
+    words[0] = start;
+    words[1] = durable;
+    Some(words)
+}
+
+fn reserved<V>(alloc: Global, stations: usize, start: u64, durable: u64) -> Option<Space<V>>
+    requires { 4 * start ≤ 4 * (MAX_SEQNO + 1) }
+    ensures { IfSome result (λ s. (s.words.items ≡ start ∷ durable ∷ replicate stations (4 * start)) × (s.slots.items ≡ []) × (stations ≤ vec_capacity s.slots) × (s.room.items ≡ []) × (stations ≤ vec_capacity s.room)) }
+{
+    let words = first_words(alloc, stations, start, durable)?;
+    let room = Vec::with_capacity(alloc, stations).ok()?;
+    match Vec::with_capacity(alloc, stations) {
+        Ok(slots) => Some(Space { words, slots, room }),
+        Err(_) => {
+            room.destroy_empty();
+            None
+        }
+    }
+}
+
+/// Moves the values into slots, in their order.
+fn wrap<V>(values: &mut Vec<V>, slots: &mut Vec<Option<V>>)
+    requires empty { slots.old.items ≡ [] }
+    requires room { length values.old.items ≤ vec_capacity slots.old }
+    ensures slots { slots.new.items ≡ map Some values.old.items }
+    ensures values { (values.new.items ≡ []) × (vec_capacity values.new ≡ vec_capacity values.old) }
+{
+    while let Some(value) = values.pop() {
+        slots.push_reserved(Some(value));
+    }
+    slots.reverse();
+}
+
+/// Moves the values out of slots again.
+fn unwrap<V>(slots: &mut Vec<Option<V>>, values: &mut Vec<V>)
+    requires empty { values.old.items ≡ [] }
+    requires room { length slots.old.items ≤ vec_capacity values.old }
+    requires full { Every IsSome slots.old.items }
+    ensures slots { slots.new.items ≡ [] }
+    ensures values { map Some values.new.items ≡ slots.old.items }
+{
+    while let Some(slot) = slots.pop() {
+        let Some(value) = slot else { unreachable!() };
+        values.push_reserved(value);
+    }
+    values.reverse();
+}
+
+impl<V: Keeps<E>, E> OrderedLock<V, E> {
+    /// A lock with a station for each value, all free, and its first seat. The position is the last
+    /// number that was given elsewhere, at most `MAX_SEQNO`: tickets begin above it, and the seat may
+    /// draw all of them up to `MAX_SEQNO`. The durable number is not above the position. The history
+    /// is empty.
+    ///
+    /// Each value may lie at home in its station at the first number, after an empty history and at the
+    /// durable number, which at station 1 is not above the value's own.
+    ///
+    /// Where there is no memory the values are handed back, in their order. It takes the memory that
+    /// `close` needs as well.
+    pub fn new(
+        alloc: Global,
+        mut values: Vec<V>,
+        position: u64,
+        durable: u64,
+    ) -> Result<(OrderedLock<V, E>, Seat<V, E>), Refused<V>>
+        requires position { (durable ≤ position) × (position ≤ MAX_SEQNO) }
+        requires values { AllMeet V.at_home V.durable_of (position + 1) durable values.items }
+        ensures stations { IfOk result (λ made. stations_of made.0 ≡ length values.items) }
+        ensures seat { IfOk result (λ made. made.1 ≡ seat_of made.0 (opened (position + 1) (MAX_SEQNO - position) durable)) }
+        ensures refused { IfErr result (λ refusal. refusal.values.items ≡ values.items) }
+    {
+        let start = position + 1;
+        let Some(
+            Space {
+                words,
+                mut slots,
+                room,
+            },
+        ) = reserved(alloc, values.len(), start, durable)
+        else {
+            return Err(Refused { values });
+        };
+        wrap(&mut values, &mut slots);
+        let opening = Opening {
+            start,
+            whole: MAX_SEQNO - position,
+            durable,
+        };
+        match Table::new(alloc, words.as_slice(), slots, &opening) {
+            Ok((table, seat)) => {
+                values.destroy_empty();
+                Ok((OrderedLock { table, room }, Seat { seat }))
+            }
+            Err(atomic_table::Refused { mut slots }) => {
+                room.destroy_empty();
+                unwrap(&mut slots, &mut values);
+                slots.destroy_empty();
+                Err(Refused { values })
+            }
+        }
+    }
+
+    /// Closes the lock and gives the values at home, in the order of their stations. All seats were
+    /// joined to this one: its allowance and the count of its numbers make up the first seat's
+    /// allowance. `None` stands only for a station that this seat still holds.
+    ///
+    /// Each value may lie at home in its station, at the number where the station's turn is, at the
+    /// history that the seat has seen, which is the whole one, and at the durable number. The seat's
+    /// numbers are all from the first on, each once. Whether the lock was halted makes no difference.
+    ///
+    /// It takes no memory and does not wait.
+    pub fn close(self, seat: Seat<V, E>) -> Vec<Option<V>>
+        requires lock { seat.lock ≡ self }
+        requires all { seat.view.allowance + length seat.view.own ≡ seat.view.whole }
+        ensures stations { length result.items ≡ stations_of self }
+        ensures values { Closed V.at_home V.durable_of seat.view result.items }
+    {
+        let OrderedLock {
+            table,
+            room: mut values,
+        } = self;
+        let Seat { seat } = seat;
+        let mut closed = table.close_with(seat);
+        for station in 0..closed.slot_count() {
+            values.push_reserved(closed.take(station));
+        }
+        closed.free();
+        values
+    }
+}

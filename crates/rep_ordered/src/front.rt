@@ -1,0 +1,74 @@
+//! The second word: the durable number and the halt.
+
+ghost use Rattle.std.specs.Prelude.{◌≡◌, ◌+◌, ◌≤◌, ◌↔◌, IsTrue, min};
+ghost use Rattle.rep_ordered.specs.Views.{Later};
+
+use crate::lock::OrderedLock;
+use crate::plays::{Halt, Raise, ReadFront};
+use crate::rule::Keeps;
+use crate::seat::Seat;
+use rep_types::MAX_SEQNO;
+
+/// What the halt adds to the word.
+const HALT: u64 = 1 << 63;
+
+/// The durable number, and whether the lock was halted.
+#[derive(Clone, Copy, Debug, PartialEq, Eq)]
+pub struct Front {
+    pub durable: u64,
+    pub halted: bool,
+}
+
+impl<V: Keeps<E>, E> OrderedLock<V, E> {
+    /// The durable number, and whether the lock was halted, as they are now. They are at least what the
+    /// seat saw before, and what the seat knows from then on.
+    ///
+    /// It takes no memory and does not wait.
+    pub fn front(&self, seat: &mut Seat<V, E>) -> Front
+        requires { seat.old.lock ≡ self.now }
+        ensures lock { seat.new.lock ≡ seat.old.lock }
+        ensures later { Later seat.old.view seat.new.view }
+        ensures durable { result.durable ≡ seat.new.view.durable }
+        ensures limit { result.durable ≤ MAX_SEQNO }
+        ensures halted { IsTrue result.halted ↔ (seat.new.view.halted ≡ 1) }
+        ensures one_bit { seat.new.view.halted ≤ 1 }
+    {
+        let word = self.table.shared.load::<ReadFront>(&mut seat.seat, 1);
+        Front {
+            durable: word % HALT,
+            halted: word >= HALT,
+        }
+    }
+
+    /// Raises the durable number to this one, unless it is there already. A number above `MAX_SEQNO`
+    /// counts as `MAX_SEQNO`. After a halt the durable number stays as it is.
+    ///
+    /// The seat saw this number durable at the value of station 1, when it entered or left it.
+    ///
+    /// It takes no memory and does not wait.
+    pub fn raise(&self, seat: &mut Seat<V, E>, durable: u64)
+        requires lock { seat.old.lock ≡ self.now }
+        requires saw { durable ≤ seat.old.view.engine }
+        ensures lock { seat.new.lock ≡ seat.old.lock }
+        ensures later { Later seat.old.view seat.new.view }
+        ensures raised { seat.new.view.halted ≡ 0 → min durable MAX_SEQNO ≤ seat.new.view.durable }
+    {
+        self.table
+            .shared
+            .fetch_max::<Raise>(&mut seat.seat, 1, durable.min(MAX_SEQNO));
+    }
+
+    /// Halts the lock, for good: whoever waits for a station, and whoever comes to enter one, is
+    /// refused once he reads it. The durable number stays as it is. Who is inside a station may leave
+    /// it, or give it up.
+    ///
+    /// It takes no memory and does not wait.
+    pub fn halt(&self, seat: &mut Seat<V, E>)
+        requires { seat.old.lock ≡ self.now }
+        ensures lock { seat.new.lock ≡ seat.old.lock }
+        ensures later { Later seat.old.view seat.new.view }
+        ensures halted { seat.new.view.halted ≡ 1 }
+    {
+        self.table.shared.fetch_or::<Halt>(&mut seat.seat, 1, HALT);
+    }
+}

@@ -1,0 +1,20 @@
+//! A lock of several stations, each with a value, that threads pass in the order of their tickets:
+//! [`OrderedLock`] says how.
+#![tactic(auto)]
+
+mod ends;
+mod front;
+mod lock;
+mod numbers;
+mod plays;
+mod rule;
+mod seat;
+mod turns;
+mod view;
+
+pub use ends::Refused;
+pub use front::Front;
+pub use lock::OrderedLock;
+pub use rule::{Keeps, Opening};
+pub use seat::Seat;
+pub use view::{Hold, Reached, View};

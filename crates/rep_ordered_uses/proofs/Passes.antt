@@ -1,0 +1,122 @@
+-- Lists of tickets, one ticket later.
+use Rattle.std.proofs.Common.{◌≡◌, ◌≢◌, ℕ, zero, suc, ◌+◌, ◌-◌, ◌*◌, ◌/◌, ◌<◌, ◌≤◌, max, eqb, List, [], ◌∷◌, ◌++◌, length, get_or, take, sym, refl, ap, ◌∙◌, subst, arith, length-append, append_assoc, mul-le-mul_right, if◌then◌else◌}
+use Rattle.std.specs.Prelude.{Option, Some, Result, Ok, Err, OnOk}
+use Rattle.rep_ordered.specs.Ends.{Closed}
+use Rattle.std.specs.Result.{result_and}
+use Rattle.std.proofs.Math.Nat.{add-mul}
+use Rattle.rep_ordered.specs.declared.view.Reached.{Reached}
+use Rattle.rep_ordered.specs.declared.view.View.{View}
+use Rattle.rep_ordered.specs.Counts.{one, total, times}
+use Rattle.rep_ordered.specs.Views.{StartsWith, held_at, reached_at, reach, turn_of, first_word}
+use Rattle.rep_ordered.specs.Steps.{Entered}
+use Rattle.rep_ordered.proofs.Sums.{total_snoc, total_append, one_equal}
+use Rattle.rep_ordered_uses.specs.Passing.{HavePassed, numbers, AllDone}
+
+append_nil : {A : Type 0} (l : List A) → l ++ [] ≡ l
+append_nil [] = refl
+append_nil (e ∷ es) = ap (λ z. e ∷ z) (append_nil es)
+
+pub times_last : (own : List ℕ) (t : ℕ) → 0 < times t (own ++ t ∷ [])
+times_last own t = let s = total_snoc (one t) own t in omega arith
+
+pub length-numbers : (first n : ℕ) → length (numbers first n) ≡ n
+length-numbers first zero = refl
+length-numbers first (suc n) = ap suc (length-numbers (first + 1) n)
+
+numbers_snoc : (first n t : ℕ) → first + n ≡ t → numbers first n ++ t ∷ [] ≡ numbers first (suc n)
+numbers_snoc first zero t e = let is : t ≡ first = omega arith in ap (λ z. z ∷ []) is
+numbers_snoc first (suc n) t e = ap (λ l. first ∷ l) (numbers_snoc (first + 1) n t (omega arith))
+
+-- one more ticket passed
+numbers_more : (start t : ℕ) (tickets : List ℕ) → start + length tickets ≡ t → tickets ≡ numbers start (length tickets) → tickets ++ t ∷ [] ≡ numbers start (length (tickets ++ t ∷ []))
+numbers_more start t tickets count all = let long : suc (length tickets) ≡ length (tickets ++ t ∷ []) = omega (arith, length-append tickets (t ∷ [])) in
+    ap (λ l. l ++ t ∷ []) all ∙ (numbers_snoc start (length tickets) t count ∙ ap (numbers start) long)
+
+same_front : {A : Type 0} (xs front : List A) → StartsWith xs front → length xs ≡ length front → front ≡ xs
+same_front {A} xs front h e = go h.0 h.1 (let d : length xs ≡ length (front ++ h.0) = ap length h.1 in omega (arith, length-append front h.0))
+  where
+    go : (rest : List A) → xs ≡ front ++ rest → length rest ≡ 0 → front ≡ xs
+    go [] d none_left = sym (d ∙ append_nil front)
+    go (x ∷ rest) d none_left = absurd (omega arith)
+
+pub next_first : (start t : ℕ) (seen tickets : List ℕ) → HavePassed start t seen tickets → start + length seen ≡ t → HavePassed start (t + 1) (seen ++ t ∷ []) (tickets ++ t ∷ [])
+next_first start t seen tickets h place = let count = h.count in let same = same_front seen tickets h.front (omega arith) in record {
+  count = omega (arith, length-append tickets (t ∷ []));
+  all = numbers_more start t tickets h.count h.all;
+  front = ([], ap (λ l. l ++ t ∷ []) (sym same) ∙ sym (append_nil (tickets ++ t ∷ [])));
+}
+
+pub next_second : (start t : ℕ) (before seen old tickets : List ℕ) → HavePassed start t before old → start + length before ≡ t → StartsWith seen (before ++ t ∷ []) → HavePassed start t seen tickets → HavePassed start (t + 1) seen (tickets ++ t ∷ [])
+next_second start t before seen old tickets g place begins h = let count = h.count in let old_count = g.count in let same = same_front before old g.front (omega arith) in
+    let lengths : length tickets ≡ length old = omega arith in
+    let is : tickets ≡ before = h.all ∙ (ap (numbers start) lengths ∙ (sym g.all ∙ same)) in record {
+      count = omega (arith, length-append tickets (t ∷ []));
+      all = numbers_more start t tickets h.count h.all;
+      front = (begins.0, begins.1 ∙ ap (λ l. (l ++ t ∷ []) ++ begins.0) (sym is));
+    }
+
+-- the number of the turn of a station that was just entered by a ticket
+pub turn_entered : {V E : Type 0} (at_home : ℕ → ℕ → List E → ℕ → V → Type 0) (durable_of : V → ℕ) (station number : ℕ) (v w : View E) (x : V) → Entered at_home durable_of station number 1 v w x → turn_of w ≡ number
+turn_entered at_home durable_of station number v w x e = let word = ap (λ (z : View _). first_word z.held) e.view in omega arith
+
+-- the number drawn has passed both stations
+pub done_more : (v w : View ℕ) (t : ℕ) → w.own ≡ v.own ++ t ∷ [] → w.reached ≡ reach 1 (t + 1) ∷ reach 1 t ∷ reach 0 (t + 1) ∷ reach 0 t ∷ v.reached → AllDone v → AllDone w
+done_more v w t own reached old x drawn =
+    subst (λ rs. (x < reached_at 0 rs) × (x < reached_at 1 rs)) (sym reached) (go (times x v.own) refl)
+  where
+    go : (n : ℕ) → n ≡ times x v.own → (x < reached_at 0 (reach 1 (t + 1) ∷ reach 1 t ∷ reach 0 (t + 1) ∷ reach 0 t ∷ v.reached)) × (x < reached_at 1 (reach 1 (t + 1) ∷ reach 1 t ∷ reach 0 (t + 1) ∷ reach 0 t ∷ v.reached))
+    go zero none = let s = total_snoc (one x) v.own t in let counted : times x w.own ≡ times x (v.own ++ t ∷ []) = ap (times x) own in let is = one_equal x t (omega arith) in (omega arith, omega arith)
+    go (suc n) some = let o = old x (omega arith) in let a = o.0 in let b = o.1 in (omega arith, omega arith)
+
+pub no_more : (start n m : ℕ) (before after first second : List ℕ) → HavePassed start n before first → start + length before ≡ n → HavePassed start m after second → after ≡ before → length second ≤ length first
+no_more start n m before after first second g place h same = let a = g.count in let e : length after ≡ length before = ap length same in let f : length after ≡ length (second ++ h.front.0) = ap length h.front.1 in omega (arith, length-append second h.front.0)
+
+pub parts : (threads count : ℕ) → (threads - threads / 2) * count + threads / 2 * count ≡ threads * count
+parts threads count = let half : ℕ = threads / 2 in let rest : ℕ = threads - half in let whole : rest + half ≡ threads = omega arith in sym (add-mul rest half count) ∙ ap (λ (z : ℕ). z * count) whole
+
+pub ok_both : {A B E : Type 0} {P Q R : Type 0} (r : Result A E) (s : Result B E) → OnOk r P → OnOk s Q → (P → Q → R) → OnOk (result_and r s) R
+ok_both (Ok a) (Ok b) p q f = f p q
+ok_both (Ok a) (Err e) p q f = tt
+ok_both (Err e) s p q f = tt
+
+reached_left : (j : ℕ) (rs ts : List Reached) → reached_at j rs ≤ reached_at j (rs ++ ts)
+reached_left j [] ts = omega arith
+reached_left j (r ∷ rs) ts = let s = reached_left j rs ts in let x : ℕ = if eqb j r.station then r.number else 0 in let y : ℕ = reached_at j rs in let z : ℕ = reached_at j (rs ++ ts) in let t : y ≤ z = s in let goal : max x y ≤ max x z = omega arith in goal
+
+reached_right : (j : ℕ) (rs ts : List Reached) → reached_at j ts ≤ reached_at j (rs ++ ts)
+reached_right j [] ts = omega arith
+reached_right j (r ∷ rs) ts = let s = reached_right j rs ts in let x : ℕ = if eqb j r.station then r.number else 0 in let y : ℕ = reached_at j ts in let z : ℕ = reached_at j (rs ++ ts) in let t : y ≤ z = s in let goal : y ≤ max x z = omega arith in goal
+
+-- what two seats drew has passed, once they are joined
+pub done_both : (v w u : View ℕ) → u.own ≡ v.own ++ w.own → u.reached ≡ v.reached ++ w.reached → AllDone v → AllDone w → AllDone u
+done_both v w u own reached p q x drawn = subst (λ rs. (x < reached_at 0 rs) × (x < reached_at 1 rs)) (sym reached) (go (times x v.own) refl)
+  where
+    go : (n : ℕ) → n ≡ times x v.own → (x < reached_at 0 (v.reached ++ w.reached)) × (x < reached_at 1 (v.reached ++ w.reached))
+    go zero none = let s = total_append (one x) v.own w.own in let counted : times x u.own ≡ times x (v.own ++ w.own) = ap (times x) own in let o = q x (omega arith) in let a = o.0 in let b = o.1 in
+        let l = reached_right 0 v.reached w.reached in let m = reached_right 1 v.reached w.reached in (omega arith, omega arith)
+    go (suc n) some = let o = p x (omega arith) in let a = o.0 in let b = o.1 in let l = reached_left 0 v.reached w.reached in let m = reached_left 1 v.reached w.reached in (omega arith, omega arith)
+
+-- what a lock is closed with whose seat has drawn so many tickets, each of which has passed both stations
+pub closed_lists : {V : Type 0} (tickets : V → List ℕ) (durable_of : V → ℕ) (start count : ℕ) (v : View ℕ) (values : List (Option V)) → Closed (λ _ number history _ x. HavePassed start number history (tickets x)) durable_of v values
+    → length values ≡ 2 → v.held ≡ [] → AllDone v → v.start ≡ start → length v.own ≡ count → 0 < count → (a : V) × (b : V) × (values ≡ Some a ∷ Some b ∷ []) × (tickets a ≡ numbers start count) × (tickets b ≡ numbers start count)
+closed_lists tickets durable_of start count v [] closed two free done starts own some_number = absurd (omega arith)
+closed_lists tickets durable_of start count v (x ∷ []) closed two free done starts own some_number = absurd (omega arith)
+closed_lists tickets durable_of start count v (x ∷ y ∷ z ∷ more) closed two free done starts own some_number = absurd (omega arith)
+closed_lists tickets durable_of start count v (x ∷ y ∷ []) closed two free done starts own some_number =
+    let p = closed.each 0 x refl (ap (held_at 0) free) in let q = closed.each 1 y refl (ap (held_at 1) free) in
+    let last : ℕ = start + count - 1 in let once = closed.numbers last in let d = done last (omega arith) in let d0 = d.0 in let d1 = d.1 in
+    let pt = p.turn in let pw = p.within in let qt = q.turn in let qw = q.within in let pc = p.keeps.count in let qc = q.keeps.count in
+    let pl : length (tickets p.value) ≡ count = omega arith in let ql : length (tickets q.value) ≡ count = omega arith in
+    (p.value, q.value, (λ i. p.is i ∷ q.is i ∷ []), p.keeps.all ∙ ap (numbers start) pl, q.keeps.all ∙ ap (numbers start) ql)
+
+-- the last two of a list of two
+pub popped : {A : Type 0} (items left : List A) (a b : A) (n m : ℕ) (r s : Option A) → items ≡ a ∷ b ∷ [] → n ≡ length items → m ≡ length left → ((d : A) → 0 < n → r ≡ Some (get_or items (n - 1) d)) → left ≡ take (n - 1) items → ((d : A) → 0 < m → s ≡ Some (get_or left (m - 1) d))
+    → (r ≡ Some b) × (s ≡ Some a)
+popped items left a b n m r s two n_is m_is first rest second = let n_two : n ≡ 2 = n_is ∙ ap length two in let left_is : left ≡ a ∷ [] = rest ∙ (λ i. take (n_two i - 1) (two i)) in let m_one : m ≡ 1 = m_is ∙ ap length left_is in
+    (first a (omega arith) ∙ (λ i. Some (get_or (two i) (n_two i - 1) a)), second a (omega arith) ∙ (λ i. Some (get_or (left_is i) (m_one i - 1) a)))
+
+pub product_some : (a b : ℕ) → 0 < a → 0 < b → 0 < a * b
+product_some a b p q = let l : 1 * b ≤ a * b = mul-le-mul_right b p in omega arith
+
+pub popped_last : {A : Type 0} (items : List A) (a b : A) (n : ℕ) (r : Option A) → items ≡ a ∷ b ∷ [] → n ≡ length items → ((d : A) → 0 < n → r ≡ Some (get_or items (n - 1) d)) → r ≡ Some b
+popped_last items a b n r two n_is first = let n_two : n ≡ 2 = n_is ∙ ap length two in first a (omega arith) ∙ (λ i. Some (get_or (two i) (n_two i - 1) a))

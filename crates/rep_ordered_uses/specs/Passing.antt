@@ -1,0 +1,28 @@
+-- Tickets that pass two stations: what lies at home there, and what a seat has done.
+use Rattle.std.specs.Prelude.{◌≡◌, ℕ, ◌+◌, ◌<◌, ◌≤◌, List, [], ◌∷◌, length}
+use Rattle.std.proofs.Common.{zero, suc}
+use Rattle.rep_ordered.specs.declared.view.View.{View}
+use Rattle.rep_ordered.specs.Counts.{times}
+use Rattle.rep_ordered.specs.Views.{StartsWith, reached_at}
+
+-- so many numbers, from the first on
+abbrev pub numbers : ℕ → ℕ → List ℕ
+numbers first zero = []
+numbers first (suc n) = first ∷ numbers (first + 1) n
+
+-- The tickets that passed a station whose turn is at this number: all from the first on, in order. The history begins with them
+pub record HavePassed (start number : ℕ) (history tickets : List ℕ) : Type 0 where
+  pub count : start + length tickets ≡ number
+  pub all : tickets ≡ numbers start (length tickets)
+  pub front : StartsWith history tickets
+
+-- the seat has its numbers still, or has drawn them, and holds nothing
+pub record Went (v w : View ℕ) : Type 0 where
+  pub start : w.start ≡ v.start
+  pub whole : w.whole ≡ v.whole
+  pub kept : w.allowance + length w.own ≡ v.allowance + length v.own
+  pub free : w.held ≡ []
+
+-- each number that the seat drew has passed both stations
+abbrev pub AllDone : View ℕ → Type 0
+AllDone v = (x : ℕ) → 0 < times x v.own → (x < reached_at 0 v.reached) × (x < reached_at 1 v.reached)

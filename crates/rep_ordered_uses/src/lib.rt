@@ -1,0 +1,13 @@
+//! Threads whose tickets pass two stations of an ordered lock, proved from the lock's contracts
+//! alone.
+#![tactic(auto)]
+
+mod notes;
+mod passed;
+mod passing;
+#[cfg(test)]
+mod tests;
+
+pub use notes::{Note, halt_and_give_up, halted_run, lock_of_notes, raised_run, wait_for_turn};
+pub use passed::Passed;
+pub use passing::{pass_all, pass_by, pass_one, passed_counts, tickets_by};

@@ -1,0 +1,132 @@
+//! Notes at home in two stations, for runs that end by a halt.
+
+ghost use Rattle.std.specs.Prelude.{◌≡◌, ◌<◌, ◌≤◌, [], IfOk};
+ghost use Rattle.rep_ordered.specs.Counts.{times};
+ghost use Rattle.rep_ordered.specs.Views.{Holds, tail_of};
+ghost use Rattle.rep_ordered.specs.Seats.{stations_of};
+ghost use Rattle.rep_ordered_uses.specs.Passing.{Went};
+
+use rep_ordered::{Front, Keeps, OrderedLock, Seat};
+use rep_types::{MAX_SEQNO, Refusal};
+use std::alloc::Global;
+use std::sync::Wait;
+use std::thread;
+use std::thread::{Threads, join};
+
+/// A number of at most 100. At station 1 it is the durable number.
+#[derive(Debug, Drop)]
+pub struct Note {
+    pub mark: u64,
+}
+
+impl Keeps<u64> for Note {
+    ghost use Rattle.std.specs.Prelude.{◌≤◌};
+
+    ghost at_home = { λ _ _ _ _ note. note.mark ≤ 100 };
+
+    ghost durable_of = { λ note. note.mark };
+
+    ghost grows = { λ _ _ _ _ _ _ _ home _. home };
+}
+
+/// A lock at this position whose two notes are 0, with its first seat.
+pub fn lock_of_notes(
+    alloc: Global,
+    position: u64,
+) -> Result<(OrderedLock<Note, u64>, Seat<Note, u64>), Refusal>
+    requires { position ≤ MAX_SEQNO }
+    ensures seat { IfOk result (λ made. (made.1.lock ≡ made.0) × (stations_of made.0 ≡ 2) × (made.1.view.held ≡ [])) }
+    ensures numbers { IfOk result (λ made. (made.1.view.own ≡ []) × (made.1.view.allowance ≡ made.1.view.whole)) }
+    ensures last { position ≡ MAX_SEQNO → IfOk result (λ made. made.1.view.allowance ≡ 0) }
+    ensures many { position < 100 → IfOk result (λ made. 100 < made.1.view.allowance) }
+{
+    let mut notes = Vec::with_capacity(alloc, 2)?;
+    notes.push(Note { mark: 0 })?;
+    notes.push(Note { mark: 0 })?;
+    OrderedLock::new(alloc, notes, position, 0).map_err(|_refused| Refusal::OutOfMemory)
+}
+
+/// Halts the lock after a while, and gives station 0 up with a note of 9.
+pub fn halt_and_give_up(
+    lock: &OrderedLock<Note, u64>,
+    mut seat: Seat<Note, u64>,
+    mut note: Note,
+) -> Seat<Note, u64>
+    requires lock { seat.lock ≡ lock.now }
+    requires holds { Holds seat.view 0 × (tail_of seat.view.held ≡ []) }
+    requires floor { note.mark ≤ 100 }
+    ensures lock { result.lock ≡ seat.lock }
+    ensures went { Went seat.view result.view }
+{
+    for _ in 0..1000 {
+        thread::yield_now();
+    }
+    lock.halt(&mut seat);
+    note.mark = 9;
+    lock.give_up(&mut seat, 0, note);
+    seat
+}
+
+/// Waits for station 0, and says why it was not entered. Where it was, it is left again.
+pub fn wait_for_turn<R: Wait>(
+    rt: &R,
+    lock: &OrderedLock<Note, u64>,
+    mut seat: Seat<Note, u64>,
+    ticket: u64,
+) -> (Seat<Note, u64>, Option<Refusal>)
+    requires lock { (seat.lock ≡ lock.now) × (stations_of lock.now ≡ 2) }
+    requires ticket { 0 < times ticket seat.view.own }
+    requires free { seat.view.held ≡ [] }
+    ensures lock { result.0.lock ≡ seat.lock }
+    ensures went { Went seat.view result.0.view }
+{
+    match lock.enter(rt, &mut seat, 0, ticket) {
+        Ok(note) => {
+            lock.leave(&mut seat, 0, note, &Some(ticket));
+            (seat, None)
+        }
+        Err(refusal) => (seat, Some(refusal)),
+    }
+}
+
+/// One thread holds station 0 and halts the lock, while another waits for it: what that one was told,
+/// and the notes that the lock is closed with.
+pub fn halted_run<R: Threads + Wait + Sync>(
+    rt: &R,
+    alloc: Global,
+) -> Result<(Option<Refusal>, Vec<Option<Note>>), Refusal> {
+    let (lock, mut holder) = lock_of_notes(alloc, 5)?;
+    let mut waiter = lock.split(&mut holder, 10);
+    let first = lock.claim(&mut holder);
+    let second = lock.claim(&mut waiter);
+    let note = lock.enter(rt, &mut holder, 0, first)?;
+    let shared = &lock;
+    let (mut holder, (waiter, refusal)) = join(
+        rt,
+        move || -> Seat<Note, u64>
+            requires { (holder.lock ≡ shared.now) × Holds holder.view 0 × (tail_of holder.view.held ≡ []) × (note.mark ≤ 100) }
+            ensures { (result.lock ≡ holder.lock) × Went holder.view result.view }
+        { halt_and_give_up(shared, holder, note) },
+        move || -> (Seat<Note, u64>, Option<Refusal>)
+            requires { (waiter.lock ≡ shared.now) × (stations_of shared.now ≡ 2) × (0 < times second waiter.view.own) × (waiter.view.held ≡ []) }
+            ensures { (result.0.lock ≡ waiter.lock) × Went waiter.view result.0.view }
+        { wait_for_turn(rt, shared, waiter, second) },
+    );
+    lock.join(&mut holder, waiter);
+    Ok((refusal, lock.close(holder)))
+}
+
+/// What the front says after the durable number was raised to 7, then to 5, and after a halt.
+pub fn raised_run<R: Wait>(rt: &R, alloc: Global) -> Result<(Front, Front, Front), Refusal> {
+    let (lock, mut seat) = lock_of_notes(alloc, 5)?;
+    let mut note = lock.side_enter(rt, &mut seat, 1)?;
+    note.mark = note.mark.max(7);
+    lock.side_leave(&mut seat, 1, note);
+    lock.raise(&mut seat, 7);
+    let raised = lock.front(&mut seat);
+    lock.raise(&mut seat, 5);
+    let kept = lock.front(&mut seat);
+    lock.halt(&mut seat);
+    let halted = lock.front(&mut seat);
+    Ok((raised, kept, halted))
+}

@@ -1,0 +1,20 @@
+//! What lies at home in both stations.
+
+use rep_ordered::Keeps;
+
+/// The tickets that passed a station, in their order, from the ticket `START` on.
+#[derive(Debug, Drop)]
+pub struct Passed<const START: u64> {
+    pub tickets: Vec<u64>,
+}
+
+impl<const START: u64> Keeps<u64> for Passed<START> {
+    ghost use Rattle.rep_ordered_uses.specs.Passing.{HavePassed};
+    ghost use Rattle.rep_ordered_uses.specs.Growing.{passed_grows};
+
+    ghost at_home = { λ station number history durable value. HavePassed START number history value.tickets.items };
+
+    ghost durable_of = { λ _. 0 };
+
+    ghost grows = { λ station number durable later history more value home _. passed_grows START number history more value.tickets.items home };
+}
