@@ -1,0 +1,203 @@
+-- What a write in a place comes to.
+use Rattle.std.proofs.Common.{◌≡◌, ℕ, ◌+◌, ◌<◌, ◌≤◌, ◌⊎◌, inl, inr, true, false, List, ◌∷◌, length, Result, Ok, Err, refl, sym, ap, subst, ◌∙◌, arith}
+use Rattle.std.specs.Prelude.{replicate, OnOk}
+use Rattle.std.proofs.lemmas.List.{length-replicate}
+use Rattle.rep_disk.specs.Calls.{MaySpoil}
+use Rattle.rep_disk.specs.History.{History, Wrote, Spoiled, seen, stable, pending, failed, IsImage}
+use Rattle.rep_disk.specs.Moments.{IsNext, Stays, Writes as Written, Spoils, LeavesOnly}
+use Rattle.rep_disk.proofs.Images.{write_widens}
+use Rattle.rep_disk.proofs.Moments.{leaves_call}
+use Rattle.rep_layout.specs.declared.place.Layout.{Layout}
+use Rattle.rep_layout.specs.declared.place.Place.{Place}
+use Rattle.rep_layout.specs.Places.{body_len, gate_len, offset_of, gate_of, end_of, need_of}
+use Rattle.rep_layout.proofs.PlacesApart.{lie_apart, lies_inside}
+use Rattle.rep_cells.specs.Readings.{IsPlace, IsCell, IsArea, reading_of}
+use Rattle.rep_cells.specs.States.{State, States, Unknown, Shutting, Closed, Filling, Filled, Opening, Opened, Closing, Pending, Stable, Allows, Allowed, Moves, filling, opening, closing, writing}
+use Rattle.rep_cells.specs.Known.{GateIs, GateStays, BodyIs, BodyStays, Known, Assigns}
+use Rattle.rep_cells.specs.Calls.{gate, Writes, Reaches}
+use Rattle.rep_cells.proofs.Ranges.{Apart, gate_stays_apart, gate_is_apart, body_stays_apart, body_is_apart, body_written, gate_written}
+use Rattle.rep_cells.proofs.Kept.{Kept, known_kept, kept_allows, known_elsewhere}
+use Rattle.rep_cells.proofs.Fitting.{end_fits, gate_fits, place_same, gate_is_sector}
+
+-- a write of a body: what is known where it succeeds, and what is kept whatever bytes stand in the range
+pub fill_known : (l : Layout) (h : History) (place : Place) (body : List ℕ) (state : State) → gate_of l place ≤ length (stable h) → length body ≡ body_len place → Known l h place state → Known l (Wrote (offset_of l place) body h) place (filling body state)
+fill_known l h place body state fits size is =
+    let apart : Apart (offset_of l place) (length body) (gate_of l place) (gate_len place) = inl (omega (arith, size)) in
+    let new : BodyIs l (Wrote (offset_of l place) body h) place body = body_written l h place body fits size in
+    by_cases apart new state is
+  where
+    by_cases : Apart (offset_of l place) (length body) (gate_of l place) (gate_len place) → BodyIs l (Wrote (offset_of l place) body h) place body → (st : State) → Known l h place st → Known l (Wrote (offset_of l place) body h) place (filling body st)
+    by_cases apart new Unknown k = tt
+    by_cases apart new Shutting k = gate_is_apart l h place false (offset_of l place) body apart k
+    by_cases apart new Closed k = (gate_stays_apart l h place false (offset_of l place) body apart k, new)
+    by_cases apart new (Filling b) k = (gate_stays_apart l h place false (offset_of l place) body apart k.0, new)
+    by_cases apart new (Filled b) k = (gate_stays_apart l h place false (offset_of l place) body apart k.0, new)
+    by_cases apart new (Opening b) k = tt
+    by_cases apart new (Opened b) k = tt
+    by_cases apart new (Closing b) k = gate_is_apart l h place false (offset_of l place) body apart k.0
+    by_cases apart new (Pending b) k = tt
+    by_cases apart new (Stable b) k = tt
+
+pub fill_kept : (l : Layout) (h : History) (place : Place) (body junk : List ℕ) (state : State) → length junk ≡ body_len place → Kept l h place state → Kept l (Wrote (offset_of l place) junk h) place (filling body state)
+fill_kept l h place body junk state size is =
+    let apart : Apart (offset_of l place) (length junk) (gate_of l place) (gate_len place) = inl (omega (arith, size)) in
+    by_cases apart state is
+  where
+    by_cases : Apart (offset_of l place) (length junk) (gate_of l place) (gate_len place) → (st : State) → Kept l h place st → Kept l (Wrote (offset_of l place) junk h) place (filling body st)
+    by_cases apart Unknown k = tt
+    by_cases apart Shutting k = tt
+    by_cases apart Closed k = gate_stays_apart l h place false (offset_of l place) junk apart k
+    by_cases apart (Filling b) k = gate_stays_apart l h place false (offset_of l place) junk apart k
+    by_cases apart (Filled b) k = gate_stays_apart l h place false (offset_of l place) junk apart k
+    by_cases apart (Opening b) k = tt
+    by_cases apart (Opened b) k = tt
+    by_cases apart (Closing b) k = tt
+    by_cases apart (Pending b) k = tt
+    by_cases apart (Stable b) k = tt
+
+-- a gate lies apart from its body
+gate_apart : (l : Layout) (place : Place) (n : ℕ) → Apart (gate_of l place) n (offset_of l place) (body_len place)
+gate_apart l place n = inr (omega arith)
+
+-- a write of an open gate
+pub open_known : (l : Layout) (h : History) (place : Place) (others : List ℕ) (state : State) → GateIs l (Wrote (gate_of l place) others h) place true → Known l h place state → Known l (Wrote (gate_of l place) others h) place (opening state)
+open_known l h place others Unknown new k = tt
+open_known l h place others Shutting new k = tt
+open_known l h place others Closed new k = tt
+open_known l h place others (Filling b) new k = tt
+open_known l h place others (Filled b) new k = (new, body_stays_apart l h place b (gate_of l place) others (gate_apart l place (length others)) k.1)
+open_known l h place others (Opening b) new k = (new, body_stays_apart l h place b (gate_of l place) others (gate_apart l place (length others)) k.1)
+open_known l h place others (Opened b) new k = (new, body_stays_apart l h place b (gate_of l place) others (gate_apart l place (length others)) k.1)
+open_known l h place others (Closing b) new k = (new, body_stays_apart l h place b (gate_of l place) others (gate_apart l place (length others)) k.1)
+open_known l h place others (Pending b) new k = tt
+open_known l h place others (Stable b) new k = tt
+
+pub open_kept : (l : Layout) (h : History) (place : Place) (junk : List ℕ) (state : State) → Known l h place state → Kept l (Wrote (gate_of l place) junk h) place (opening state)
+open_kept l h place junk Unknown k = tt
+open_kept l h place junk Shutting k = tt
+open_kept l h place junk Closed k = tt
+open_kept l h place junk (Filling b) k = tt
+open_kept l h place junk (Filled b) k = body_stays_apart l h place b (gate_of l place) junk (gate_apart l place (length junk)) k.1
+open_kept l h place junk (Opening b) k = body_stays_apart l h place b (gate_of l place) junk (gate_apart l place (length junk)) k.1
+open_kept l h place junk (Opened b) k = body_stays_apart l h place b (gate_of l place) junk (gate_apart l place (length junk)) k.1
+open_kept l h place junk (Closing b) k = body_stays_apart l h place b (gate_of l place) junk (gate_apart l place (length junk)) k.1
+open_kept l h place junk (Pending b) k = tt
+open_kept l h place junk (Stable b) k = tt
+
+-- a write of a closed gate
+pub close_known : (l : Layout) (h : History) (place : Place) (others : List ℕ) (state : State) → GateIs l (Wrote (gate_of l place) others h) place false → Known l h place state → Known l (Wrote (gate_of l place) others h) place (closing state)
+close_known l h place others Unknown new k = new
+close_known l h place others Shutting new k = new
+close_known l h place others Closed new k = new
+close_known l h place others (Filling b) new k = new
+close_known l h place others (Filled b) new k = (new, body_stays_apart l h place b (gate_of l place) others (gate_apart l place (length others)) k.1)
+close_known l h place others (Opening b) new k = (new, body_stays_apart l h place b (gate_of l place) others (gate_apart l place (length others)) k.1)
+close_known l h place others (Opened b) new k = (new, body_stays_apart l h place b (gate_of l place) others (gate_apart l place (length others)) k.1)
+close_known l h place others (Closing b) new k = (new, body_stays_apart l h place b (gate_of l place) others (gate_apart l place (length others)) k.1)
+close_known l h place others (Pending b) new k = new
+close_known l h place others (Stable b) new k = new
+
+pub close_kept : (l : Layout) (h : History) (place : Place) (junk : List ℕ) (state : State) → Known l h place state → Kept l (Wrote (gate_of l place) junk h) place (closing state)
+close_kept l h place junk Unknown k = tt
+close_kept l h place junk Shutting k = tt
+close_kept l h place junk Closed k = tt
+close_kept l h place junk (Filling b) k = tt
+close_kept l h place junk (Filled b) k = body_stays_apart l h place b (gate_of l place) junk (gate_apart l place (length junk)) k.1
+close_kept l h place junk (Opening b) k = body_stays_apart l h place b (gate_of l place) junk (gate_apart l place (length junk)) k.1
+close_kept l h place junk (Opened b) k = body_stays_apart l h place b (gate_of l place) junk (gate_apart l place (length junk)) k.1
+close_kept l h place junk (Closing b) k = body_stays_apart l h place b (gate_of l place) junk (gate_apart l place (length junk)) k.1
+close_kept l h place junk (Pending b) k = tt
+close_kept l h place junk (Stable b) k = tt
+
+-- an image after a write is one after some bytes were written there
+as_written : {T E : Type 0} → (at : ℕ) (bytes : List ℕ) (h new : History) (result : Result T E) (image : List ℕ) → Writes at bytes h new result → IsImage new image → (junk : List ℕ) × (length junk ≡ length bytes) × IsImage (Wrote at junk h) image
+as_written at bytes h new (Ok x) image w of = (bytes, refl, subst (λ (g : History). IsImage g image) w.done of)
+as_written at bytes h new (Err e) image w of = elim w.failed [
+  | inl same ↦ (bytes, refl, write_widens h at bytes image (subst (λ (g : History). IsImage g image) same of))
+  | inr spoilt ↦
+      let junk : List ℕ = spoilt.0 in
+      let is : IsImage (Spoiled at junk h) image = subst (λ (g : History). IsImage g image) spoilt.2 of in
+      (junk, spoilt.1, record { sized = is.sized; outside = is.outside })
+]
+
+-- a write is one call
+one_call : {T E : Type 0} → (at : ℕ) (bytes : List ℕ) (h new : History) (result : Result T E) → Writes at bytes h new result → IsNext h new
+one_call at bytes h new (Ok x) w = subst (λ (g : History). IsNext h g) (sym w.done) (Written at bytes)
+one_call at bytes h new (Err e) w = elim w.failed [
+  | inl same ↦ subst (λ (g : History). IsNext h g) (sym same) Stays
+  | inr spoilt ↦ subst (λ (g : History). IsNext h g) (sym spoilt.2) (Spoils at spoilt.0)
+]
+
+-- a write in a place lies apart from another one
+elsewhere_apart : (l : Layout) (p q : Place) (at n : ℕ) → IsPlace l p → IsPlace l q → (q ≡ p → ⊥) → offset_of l p ≤ at → at + n ≤ end_of l p → (at + n ≤ offset_of l q) ⊎ (end_of l q ≤ at)
+elsewhere_apart l p q at n there other differ from to = elim (lie_apart l p q there other (λ e. differ (sym e))) [
+  | inl before ↦ inl (omega arith)
+  | inr behind ↦ inr (omega arith)
+]
+
+-- what a write in a place comes to, from what it does there
+pub write_reaches :
+    {T E : Type 0} → (l : Layout) (h new : History) (s t : States) (place : Place) (at : ℕ) (bytes : List ℕ) (step : State → State) (result : Result T E)
+    → Assigns l h s → IsPlace l place → offset_of l place ≤ at → at + length bytes ≤ end_of l place → Writes at bytes h new result → Moves s t place step
+    → Known l (Wrote at bytes h) place (step (s place))
+    → ((junk : List ℕ) → length junk ≡ length bytes → Kept l (Wrote at junk h) place (step (s place)))
+    → Reaches l h new t t result
+write_reaches {T} {E} l h new s t place at bytes step result is there from to w moves known kept = record {
+  ok = succeeds result w;
+  images = allowed;
+  moments = leaves_call h new (IsImage new) (one_call at bytes h new result w) (λ image of. of);
+}
+  where
+    known_after : (q : Place) → IsPlace l q → Known l (Wrote at bytes h) q (t q)
+    known_after q other = elim (place_same q place) [
+      | inl same ↦ subst (λ (p : Place). Known l (Wrote at bytes h) p (t p)) (sym same) (subst (λ (state : State). Known l (Wrote at bytes h) place state) (sym moves.there) known)
+      | inr differ ↦ subst (λ (state : State). Known l (Wrote at bytes h) q state) (sym (moves.elsewhere q differ)) (known_elsewhere l h q (s q) at bytes (gate_fits l h s q is other) (elsewhere_apart l place q at (length bytes) there other differ from to) (is.places q other))
+    ]
+
+    succeeds : (r : Result T E) → Writes at bytes h new r → OnOk r (Assigns l new t)
+    succeeds (Ok x) v = subst (λ (g : History). Assigns l g t) (sym v.done) (record { fits = is.fits; sound = is.sound; places = known_after })
+    succeeds (Err e) v = tt
+
+    kept_after : (junk : List ℕ) → length junk ≡ length bytes → (q : Place) → IsPlace l q → Kept l (Wrote at junk h) q (t q)
+    kept_after junk size q other = elim (place_same q place) [
+      | inl same ↦ subst (λ (p : Place). Kept l (Wrote at junk h) p (t p)) (sym same) (subst (λ (state : State). Kept l (Wrote at junk h) place state) (sym moves.there) (kept junk size))
+      | inr differ ↦ subst (λ (state : State). Kept l (Wrote at junk h) q state) (sym (moves.elsewhere q differ)) (known_kept l (Wrote at junk h) q (s q) (known_elsewhere l h q (s q) at junk (gate_fits l h s q is other) (elsewhere_apart l place q at (length junk) there other differ from (omega (arith, size, to))) (is.places q other)))
+    ]
+
+    allowed : (image : List ℕ) → IsImage new image → Allowed l t (reading_of l image)
+    allowed image of q other =
+        let one = as_written at bytes h new result image w of in
+        kept_allows l (Wrote at one.0 h) q (t q) image (gate_fits l h s q is other) (kept_after one.0 one.1 q other) one.2
+
+-- the four writes
+pub fill_reaches : {T E : Type 0} → (l : Layout) (h new : History) (s t : States) (place : Place) (body : List ℕ) (result : Result T E) → Assigns l h s → IsPlace l place → length body ≡ body_len place → Writes (offset_of l place) body h new result → Moves s t place (filling body) → Reaches l h new t t result
+fill_reaches l h new s t place body result is there size w moves =
+    write_reaches l h new s t place (offset_of l place) body (filling body) result is there (omega arith) (omega (arith, size)) w moves
+    (fill_known l h place body (s place) (gate_fits l h s place is there) size (is.places place there))
+    (λ junk same. fill_kept l h place body junk (s place) (same ∙ size) (known_kept l h place (s place) (is.places place there)))
+
+pub write_area_reaches : {T E : Type 0} → (l : Layout) (h new : History) (s t : States) (place : Place) (body : List ℕ) (result : Result T E) → Assigns l h s → IsArea l place → length body ≡ body_len place → Writes (offset_of l place) body h new result → Moves s t place (writing body) → Reaches l h new t t result
+write_area_reaches l h new s t place body result is area size w moves =
+    write_reaches l h new s t place (offset_of l place) body (writing body) result is area.0 (omega arith) (omega (arith, size)) w moves
+    (area.1, body_written l h place body (gate_fits l h s place is area.0) size)
+    (λ junk same. tt)
+
+-- a gate's sector
+gate_size : (first : ℕ) (place : Place) → 0 < gate_len place → length (gate first) ≡ gate_len place
+gate_size first place some = ap (λ (n : ℕ). 1 + n) (length-replicate {A = ℕ} 511 0) ∙ sym (gate_is_sector place some)
+
+pub open_reaches : {T E : Type 0} → (l : Layout) (h new : History) (s t : States) (place : Place) (result : Result T E) → Assigns l h s → IsCell l place → Writes (gate_of l place) (gate 0xA5) h new result → Moves s t place opening → Reaches l h new t t result
+open_reaches l h new s t place result is cell w moves =
+    write_reaches l h new s t place (gate_of l place) (gate 0xA5) opening result is cell.0 (omega arith) (omega (arith, gate_size 0xA5 place cell.1)) w moves
+    (open_known l h place (gate 0xA5) (s place) (gate_written l h place 0xA5 (replicate 511 0) true (end_fits l h s place is cell.0) cell.1 (gate_size 0xA5 place cell.1) refl) (is.places place cell.0))
+    (λ junk same. open_kept l h place junk (s place) (is.places place cell.0))
+
+pub close_reaches : {T E : Type 0} → (l : Layout) (h new : History) (s t : States) (place : Place) (result : Result T E) → Assigns l h s → IsCell l place → Writes (gate_of l place) (gate 0) h new result → Moves s t place closing → Reaches l h new t t result
+close_reaches l h new s t place result is cell w moves =
+    write_reaches l h new s t place (gate_of l place) (gate 0) closing result is cell.0 (omega arith) (omega (arith, gate_size 0 place cell.1)) w moves
+    (close_known l h place (gate 0) (s place) (gate_written l h place 0 (replicate 511 0) false (end_fits l h s place is cell.0) cell.1 (gate_size 0 place cell.1) refl) (is.places place cell.0))
+    (λ junk same. close_kept l h place junk (s place) (is.places place cell.0))
+
+-- a gate's sector lies on the device
+pub gate_ends : (l : Layout) (place : Place) (at : ℕ) (sector : List ℕ) (first size : ℕ) → IsCell l place → need_of l ≤ size → at ≡ gate_of l place → sector ≡ gate first → at + length sector ≤ size
+gate_ends l place at sector first size cell fits where_it_is what_it_is = omega (arith, fits, where_it_is, ap length what_it_is, gate_size first place cell.1, lies_inside l place cell.0)

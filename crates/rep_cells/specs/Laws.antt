@@ -1,0 +1,28 @@
+-- What follows from the states.
+use Rattle.std.specs.Prelude.{◌≡◌, List, ℕ, Result}
+use Rattle.rep_disk.specs.declared.disk.DiskFault.{DiskFault}
+use Rattle.rep_disk.specs.History.{History, seen, IsImage}
+use Rattle.rep_disk.specs.Moments.{LeavesOnly}
+use Rattle.rep_layout.specs.declared.place.Layout.{Layout}
+use Rattle.rep_layout.specs.declared.place.Place.{Place}
+use Rattle.rep_cells.specs.Readings.{IsPlace, body_of, reading_of}
+use Rattle.rep_cells.specs.States.{States, Filled, Allowed, Shows}
+use Rattle.rep_cells.specs.Known.{Assigns}
+use Rattle.rep_cells.specs.Calls.{Reaches}
+
+-- In every image each place reads as its state allows.
+abbrev pub ImagesReadAsAllowed : Type 0
+ImagesReadAsAllowed = (l : Layout) (h : History) (s : States) (image : List ℕ) → Assigns l h s → IsImage h image → Allowed l s (reading_of l image)
+
+-- While nothing has failed each place reads as its state shows.
+abbrev pub PlacesReadAsShown : Type 0
+PlacesReadAsShown = (l : Layout) (h : History) (s : States) (place : Place) → Assigns l h s → IsPlace l place → Shows (s place) (reading_of l (seen h) place)
+
+-- A filled cell's body stands in every image, though its gate is closed.
+abbrev pub FilledBodiesStand : Type 0
+FilledBodiesStand = (l : Layout) (h : History) (s : States) (place : Place) (body image : List ℕ) → Assigns l h s → IsPlace l place → s place ≡ Filled body → IsImage h image → body_of l place image ≡ body
+
+-- At each moment within a call each place reads as the states during it allow; so it is over several calls, since what
+-- each leaves composes.
+abbrev pub MomentsReadAsAllowed : Type 0
+MomentsReadAsAllowed = (l : Layout) (old new : History) (during after : States) (result : Result (Unit {0}) DiskFault) → Reaches l old new during after result → LeavesOnly old new (λ image. Allowed l during (reading_of l image))

@@ -1,0 +1,6 @@
+pub mod Device
+pub mod Readings
+pub mod States
+pub mod Known
+pub mod Calls
+pub mod Laws

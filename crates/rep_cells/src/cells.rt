@@ -1,0 +1,172 @@
+//! The device, its places, and the calls.
+ghost use Rattle.std.specs.Prelude.{◌≡◌, ◌↔◌, ◌<◌, ◌≤◌, ℕ, Some, length, IsErr, IfOk, IfErr, OnOk, OnErr, option_map};
+ghost use Rattle.rep_disk.specs.History.{Synced, seen};
+ghost use Rattle.rep_disk.specs.Calls.{IsCall};
+ghost use Rattle.rep_layout.specs.Places.{body_len, offset_of, gate_of, need_of};
+ghost use Rattle.rep_cells.specs.Readings.{IsCell, IsArea, reading_of};
+ghost use Rattle.rep_cells.specs.States.{States, Moves, Syncs, filling, opening, closing, writing};
+ghost use Rattle.rep_cells.specs.Known.{Assigns, IsReadable, found};
+ghost use Rattle.rep_cells.specs.Calls.{gate, Writes, Reaches};
+
+use rep_disk::{Disk, DiskFault};
+use rep_layout::{GATE, Layout, Place};
+
+/// The first byte of an open gate.
+const OPEN: u8 = 0xA5;
+
+/// The first byte of a closed one.
+const CLOSED: u8 = 0;
+
+/// A device, seen as the places of a layout.
+#[derive(Drop)]
+pub struct Cells<D: Disk> {
+    disk: D,
+    layout: Layout,
+    ghost fits: { need_of layout ≤ D.size disk },
+}
+
+/// A gate whose first byte is this one.
+fn gate_sector(first: u8) -> [u8; GATE]
+    ensures { result ≡ gate first }
+{
+    let mut sector = [0; GATE];
+    sector[0] = first;
+    sector
+}
+
+impl<D: Disk> Cells<D> {
+    ghost use Rattle.rep_cells.specs.Device.{disk_of, layout_of};
+
+    /// The places of this layout on the device, or the device back where it is too small for them.
+    pub fn new(disk: D, layout: Layout) -> Result<Cells<D>, D>
+        ensures small { IsErr result ↔ (D.size disk < need_of layout) }
+        ensures back { IfErr result (λ back. back ≡ disk) }
+        ensures disk { IfOk result (λ cells. disk_of cells ≡ disk) }
+        ensures layout { IfOk result (λ cells. layout_of cells ≡ layout) }
+    {
+        if (disk.size() as u64) < layout.need() {
+            return Err(disk);
+        }
+        Ok(Cells { disk, layout })
+    }
+
+    /// The device.
+    pub fn disk(&self) -> &D
+        ensures { result.now ≡ disk_of self.now }
+    {
+        &self.disk
+    }
+
+    /// Gives the device back.
+    pub fn into_disk(self) -> D
+        ensures { result ≡ disk_of self }
+    {
+        self.disk
+    }
+
+    /// Where the places lie.
+    pub fn layout(&self) -> Layout
+        ensures { result ≡ layout_of self.now }
+    {
+        self.layout
+    }
+
+    /// Writes a cell's body, behind a gate that has to be closed and stable: the cell reads as
+    /// nothing, and is filled from the next successful sync on.
+    pub fn fill(&mut self, cell: Place, body: &[u8]) -> Result<(), DiskFault>
+        requires cell { IsCell (layout_of self.old) cell }
+        requires size { length body.now ≡ body_len cell }
+        ensures call { IsCall D.size D.failures D.honest (disk_of self.old) (disk_of self.new) result }
+        ensures layout { layout_of self.new ≡ layout_of self.old }
+        ensures written { D.honest (disk_of self.old) → Writes (offset_of (layout_of self.old) cell) body.now (D.history (disk_of self.old)) (D.history (disk_of self.new)) result }
+        ensures states { D.honest (disk_of self.old) → (s t : States) → Assigns (layout_of self.old) (D.history (disk_of self.old)) s → Moves s t cell (filling body.now) → Reaches (layout_of self.old) (D.history (disk_of self.old)) (D.history (disk_of self.new)) t t result }
+    {
+        self.disk.write_at(self.layout.offset(cell), body)
+    }
+
+    /// Writes an open gate behind a body that has to be stable: the cell reads as nothing or as
+    /// its body, and as its body from the next successful sync on.
+    pub fn open_gate(&mut self, cell: Place) -> Result<(), DiskFault>
+        requires { IsCell (layout_of self.old) cell }
+        ensures call { IsCall D.size D.failures D.honest (disk_of self.old) (disk_of self.new) result }
+        ensures layout { layout_of self.new ≡ layout_of self.old }
+        ensures written { D.honest (disk_of self.old) → Writes (gate_of (layout_of self.old) cell) (gate 0xA5) (D.history (disk_of self.old)) (D.history (disk_of self.new)) result }
+        ensures states { D.honest (disk_of self.old) → (s t : States) → Assigns (layout_of self.old) (D.history (disk_of self.old)) s → Moves s t cell opening → Reaches (layout_of self.old) (D.history (disk_of self.old)) (D.history (disk_of self.new)) t t result }
+    {
+        self.disk
+            .write_at(self.layout.gate(cell), &gate_sector(OPEN))
+    }
+
+    /// Writes a closed gate: an opened cell reads as nothing or as its body, and as nothing from
+    /// the next successful sync on. Closing a cell that is closed destroys what is known of it.
+    pub fn close_gate(&mut self, cell: Place) -> Result<(), DiskFault>
+        requires { IsCell (layout_of self.old) cell }
+        ensures call { IsCall D.size D.failures D.honest (disk_of self.old) (disk_of self.new) result }
+        ensures layout { layout_of self.new ≡ layout_of self.old }
+        ensures written { D.honest (disk_of self.old) → Writes (gate_of (layout_of self.old) cell) (gate 0) (D.history (disk_of self.old)) (D.history (disk_of self.new)) result }
+        ensures states { D.honest (disk_of self.old) → (s t : States) → Assigns (layout_of self.old) (D.history (disk_of self.old)) s → Moves s t cell closing → Reaches (layout_of self.old) (D.history (disk_of self.old)) (D.history (disk_of self.new)) t t result }
+    {
+        self.disk
+            .write_at(self.layout.gate(cell), &gate_sector(CLOSED))
+    }
+
+    /// Writes an area's body, which stands there from the next successful sync on.
+    pub fn write_area(&mut self, area: Place, body: &[u8]) -> Result<(), DiskFault>
+        requires area { IsArea (layout_of self.old) area }
+        requires size { length body.now ≡ body_len area }
+        ensures call { IsCall D.size D.failures D.honest (disk_of self.old) (disk_of self.new) result }
+        ensures layout { layout_of self.new ≡ layout_of self.old }
+        ensures written { D.honest (disk_of self.old) → Writes (offset_of (layout_of self.old) area) body.now (D.history (disk_of self.old)) (D.history (disk_of self.new)) result }
+        ensures states { D.honest (disk_of self.old) → (s t : States) → Assigns (layout_of self.old) (D.history (disk_of self.old)) s → Moves s t area (writing body.now) → Reaches (layout_of self.old) (D.history (disk_of self.old)) (D.history (disk_of self.new)) t t result }
+    {
+        self.disk.write_at(self.layout.offset(area), body)
+    }
+
+    /// Makes all that was written stable. The first sync on a device of unknown past leaves each
+    /// place in the state that its bytes show.
+    #[tactic(auto, using(crate::proofs::Syncing::found_assigns))]
+    pub fn sync(&mut self) -> Result<(), DiskFault>
+        ensures call { IsCall D.size D.failures D.honest (disk_of self.old) (disk_of self.new) result }
+        ensures layout { layout_of self.new ≡ layout_of self.old }
+        ensures synced { D.honest (disk_of self.old) → OnOk result (D.history (disk_of self.new) ≡ Synced (D.history (disk_of self.old))) }
+        ensures unsynced { D.honest (disk_of self.old) → OnErr result (D.history (disk_of self.new) ≡ D.history (disk_of self.old)) }
+        ensures states { D.honest (disk_of self.old) → (s t : States) → Assigns (layout_of self.old) (D.history (disk_of self.old)) s → Syncs s t → Reaches (layout_of self.old) (D.history (disk_of self.old)) (D.history (disk_of self.new)) s t result }
+        ensures found { D.honest (disk_of self.old) → OnOk result (Assigns (layout_of self.old) (D.history (disk_of self.new)) (found (layout_of self.old) (seen (D.history (disk_of self.old))))) }
+    {
+        self.disk.sync()
+    }
+
+    /// Reads a cell: its body where the gate stands open, in the room that the caller lends.
+    pub fn read_cell<'a>(
+        &mut self,
+        cell: Place,
+        room: &'a mut [u8],
+    ) -> Result<Option<&'a [u8]>, DiskFault>
+        requires cell { IsCell (layout_of self.old) cell }
+        requires room { length room.old ≡ body_len cell }
+        ensures call { IsCall D.size D.failures D.honest (disk_of self.old) (disk_of self.new) result }
+        ensures layout { layout_of self.new ≡ layout_of self.old }
+        ensures same { D.honest (disk_of self.old) → D.history (disk_of self.new) ≡ D.history (disk_of self.old) }
+        ensures read { D.honest (disk_of self.old) → IsReadable (layout_of self.old) (D.history (disk_of self.old)) cell → IfOk result (λ body. option_map (λ bytes. bytes.now) body ≡ reading_of (layout_of self.old) (seen (D.history (disk_of self.old))) cell) }
+    {
+        let mut first = [0; 1];
+        self.disk.read_at(self.layout.gate(cell), &mut first)?;
+        if first[0] != OPEN {
+            return Ok(None);
+        }
+        self.disk.read_at(self.layout.offset(cell), room)?;
+        Ok(Some(room))
+    }
+
+    /// Reads an area's body into the room that the caller lends.
+    pub fn read_area(&mut self, area: Place, room: &mut [u8]) -> Result<(), DiskFault>
+        requires area { IsArea (layout_of self.old) area }
+        requires room { length room.old ≡ body_len area }
+        ensures call { IsCall D.size D.failures D.honest (disk_of self.old) (disk_of self.new) result }
+        ensures layout { layout_of self.new ≡ layout_of self.old }
+        ensures same { D.honest (disk_of self.old) → D.history (disk_of self.new) ≡ D.history (disk_of self.old) }
+        ensures read { D.honest (disk_of self.old) → IsReadable (layout_of self.old) (D.history (disk_of self.old)) area → OnOk result (Some room.new ≡ reading_of (layout_of self.old) (seen (D.history (disk_of self.old))) area) }
+    {
+        self.disk.read_at(self.layout.offset(area), room)
+    }
+}

@@ -1,0 +1,25 @@
+//! Laws of states, each as the contract of a function that does nothing.
+
+ghost use Rattle.rep_cells.specs.Laws.{ImagesReadAsAllowed, PlacesReadAsShown, FilledBodiesStand, MomentsReadAsAllowed};
+
+/// In every image, so after a stop, each place reads as its state allows: a cell that is closed,
+/// filling or filled as nothing, an opened one as its body, one that opens or closes as either.
+pub fn images_read_as_allowed()
+    ensures { ImagesReadAsAllowed }
+{}
+
+/// While nothing has failed each place reads as its state shows.
+pub fn places_read_as_shown()
+    ensures { PlacesReadAsShown }
+{}
+
+/// After the sync that ends a filling the body stands in every image, before its gate is opened.
+pub fn filled_bodies_stand()
+    ensures { FilledBodiesStand }
+{}
+
+/// A stop within a call leaves an image that reads as the states during the call allow, or one
+/// from before it.
+pub fn moments_read_as_allowed()
+    ensures { MomentsReadAsAllowed }
+{}

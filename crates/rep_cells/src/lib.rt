@@ -1,0 +1,12 @@
+//! Gated cells on one device: what each reads as, whatever a stop may leave.
+#![tactic(auto)]
+
+mod cells;
+mod laws;
+#[cfg(test)]
+mod tests;
+
+pub use cells::Cells;
+pub use laws::{
+    filled_bodies_stand, images_read_as_allowed, moments_read_as_allowed, places_read_as_shown,
+};
