@@ -1,0 +1,80 @@
+//! What judges, and what waits to be logged.
+
+use crate::items::{ROWS, item, params};
+use rep_backlog::Backlog;
+use rep_cert::Certifier;
+use rep_plain::PlainNode;
+use rep_record::BlockBuilder;
+use rep_types::{Entry, Judged, Refusal, Verdict, WriteSet};
+use std::alloc::Global;
+
+fn deliver(node: &mut PlainNode, item: WriteSet) -> Result<Verdict, Refusal> {
+    match node.deliver(item.copied()) {
+        Err(Refusal::OutOfMemory) => node.deliver(item),
+        answer => answer,
+    }
+}
+
+fn plain_window(alloc: Global, node: &PlainNode) -> Result<Vec<Entry>, Refusal> {
+    match node.window(alloc) {
+        Err(Refusal::OutOfMemory) => node.window(alloc),
+        answer => answer,
+    }
+}
+
+/// How many items commit, and how many entries the window then has.
+pub(crate) fn plain(alloc: Global) -> Result<(u64, usize), Refusal> {
+    let mut node = PlainNode::new(alloc, params()?);
+    let mut committed = 0u64;
+    for row in ROWS {
+        if deliver(&mut node, item(row, 0)?)?.is_commit() {
+            committed = committed.saturating_add(1);
+        }
+    }
+    Ok((committed, plain_window(alloc, &node)?.len()))
+}
+
+fn certifier_at_the_start(alloc: Global) -> Result<Certifier, Refusal> {
+    match Certifier::new(alloc, params()?, 0, Vec::new(alloc)) {
+        Err(Refusal::OutOfMemory) => Certifier::new(alloc, params()?, 0, Vec::new(alloc)),
+        answer => answer,
+    }
+}
+
+fn certified_window(alloc: Global, certifier: &Certifier) -> Result<Vec<Entry>, Refusal> {
+    let position = certifier.delivered();
+    match certifier.window_at(alloc, position) {
+        Err(Refusal::OutOfMemory) => certifier.window_at(alloc, position),
+        answer => answer,
+    }
+}
+
+/// How many items commit, and how many entries the window then has.
+pub(crate) fn certifier(alloc: Global) -> Result<(u64, usize), Refusal> {
+    let mut certifier = certifier_at_the_start(alloc)?;
+    let mut committed = 0u64;
+    for row in ROWS {
+        let (_, verdict) = certifier.admit(&item(row, 0)?)?;
+        if verdict.is_commit() {
+            committed = committed.saturating_add(1);
+        }
+    }
+    Ok((committed, certified_window(alloc, &certifier)?.len()))
+}
+
+/// How many items move into a block, and how many stay.
+pub(crate) fn backlog(alloc: Global) -> Result<(u16, usize), Refusal> {
+    let mut backlog = match Backlog::new(alloc) {
+        Err(Refusal::OutOfMemory) => Backlog::new(alloc)?,
+        answer => answer?,
+    };
+    for (before, row) in ROWS.iter().enumerate() {
+        backlog.push(Judged {
+            seqno: before as u64 + 1,
+            item: item(*row, 0)?,
+            verdict: Verdict::Commit,
+        })?;
+    }
+    let moved = backlog.drain(&mut BlockBuilder::new());
+    Ok((moved, backlog.len()))
+}

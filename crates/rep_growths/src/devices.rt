@@ -1,0 +1,46 @@
+//! A device in memory. A write or a sync without room for its record is a failure of the device.
+
+use rep_disk::{Disk, Loss, MemDisk};
+use std::alloc::{AllocError, Global};
+
+fn found(alloc: Global) -> Result<MemDisk, AllocError> {
+    match MemDisk::from_bytes(alloc, &[1, 2, 3, 4]) {
+        Err(_) => MemDisk::from_bytes(alloc, &[1, 2, 3, 4]),
+        made => made,
+    }
+}
+
+/// A write, made again where it failed; whether it succeeded then.
+fn write(disk: &mut MemDisk, at: usize, bytes: &[u8]) -> bool {
+    if at > disk.size() || bytes.len() > disk.size() - at {
+        return false;
+    }
+    disk.write_at(at, bytes).is_ok() || disk.write_at(at, bytes).is_ok()
+}
+
+/// The first bytes of the device, 0 for each that is not there.
+fn first_bytes(disk: &MemDisk) -> [u8; 4] {
+    let mut first = [0; 4];
+    for (byte, found) in first.iter_mut().zip(disk.bytes()) {
+        *byte = *found;
+    }
+    first
+}
+
+/// What is read after a write, a sync and another write, and what a stop leaves that drops what is
+/// pending.
+pub(crate) fn device(alloc: Global) -> Result<([u8; 4], [u8; 4]), AllocError> {
+    let mut disk = found(alloc)?;
+    if !write(&mut disk, 0, &[7, 8]) {
+        return Err(AllocError);
+    }
+    if disk.sync().is_err() && disk.sync().is_err() {
+        return Err(AllocError);
+    }
+    if !write(&mut disk, 1, &[9, 9]) {
+        return Err(AllocError);
+    }
+    let read = first_bytes(&disk);
+    disk.crash(Loss::Drop);
+    Ok((read, first_bytes(&disk)))
+}
