@@ -12,7 +12,7 @@ use Rattle.rep_layout.specs.declared.place.Layout.{Layout}
 use Rattle.rep_layout.specs.Places.{gate_of, end_of, gate_len}
 use Rattle.rep_layout.proofs.PlacesApart.{lies_inside}
 use Rattle.rep_cells.specs.Readings.{IsPlace}
-use Rattle.rep_cells.specs.States.{States}
+use Rattle.rep_cells.specs.States.{State, States, Moves}
 use Rattle.rep_cells.specs.Known.{Assigns}
 
 -- a place ends on the device
@@ -112,3 +112,22 @@ gate_is_sector (Super side) some = refl
 gate_is_sector (Window side) some = absurd (omega (arith, some))
 gate_is_sector (Log cell) some = refl
 gate_is_sector (Page page slot) some = absurd (omega (arith, some))
+
+-- the states after a step of one place
+abbrev stepped : (s : States) (place : Place) (step : State → State) (q : Place) → Same q place → State
+stepped s place step q (inl same) = step (s place)
+stepped s place step q (inr differ) = s q
+
+stepped_there : (s : States) (place : Place) (step : State → State) (choice : Same place place) → stepped s place step place choice ≡ step (s place)
+stepped_there s place step (inl same) = refl
+stepped_there s place step (inr differ) = absurd (differ refl)
+
+stepped_elsewhere : (s : States) (place : Place) (step : State → State) (q : Place) (choice : Same q place) → (q ≡ place → ⊥) → stepped s place step q choice ≡ s q
+stepped_elsewhere s place step q (inl same) other = absurd (other same)
+stepped_elsewhere s place step q (inr differ) other = refl
+
+pub states_move : (s : States) (place : Place) (step : State → State) → (t : States) × Moves s t place step
+states_move s place step = (
+  (λ q. stepped s place step q (place_same q place)),
+  record { there = stepped_there s place step (place_same place place); elsewhere = λ q other. stepped_elsewhere s place step q (place_same q place) other },
+)

@@ -6,7 +6,7 @@ use Rattle.rep_disk.specs.Moments.{LeavesOnly}
 use Rattle.rep_layout.specs.declared.place.Layout.{Layout}
 use Rattle.rep_layout.specs.declared.place.Place.{Place}
 use Rattle.rep_cells.specs.Readings.{IsPlace, body_of, reading_of}
-use Rattle.rep_cells.specs.States.{States, Filled, Allowed, Shows}
+use Rattle.rep_cells.specs.States.{State, States, Filled, Allowed, Shows, Moves}
 use Rattle.rep_cells.specs.Known.{Assigns}
 use Rattle.rep_cells.specs.Calls.{Reaches}
 
@@ -26,3 +26,7 @@ FilledBodiesStand = (l : Layout) (h : History) (s : States) (place : Place) (bod
 -- each leaves composes.
 abbrev pub MomentsReadAsAllowed : Type 0
 MomentsReadAsAllowed = (l : Layout) (old new : History) (during after : States) (result : Result (Unit {0}) DiskFault) → Reaches l old new during after result → LeavesOnly old new (λ image. Allowed l during (reading_of l image))
+
+-- For each step of a place there are the states after it.
+abbrev pub StatesMove : Type 0
+StatesMove = (s : States) (place : Place) (step : State → State) → (t : States) × Moves s t place step

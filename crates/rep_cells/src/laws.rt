@@ -1,6 +1,6 @@
 //! Laws of states, each as the contract of a function that does nothing.
 
-ghost use Rattle.rep_cells.specs.Laws.{ImagesReadAsAllowed, PlacesReadAsShown, FilledBodiesStand, MomentsReadAsAllowed};
+ghost use Rattle.rep_cells.specs.Laws.{ImagesReadAsAllowed, PlacesReadAsShown, FilledBodiesStand, MomentsReadAsAllowed, StatesMove};
 
 /// In every image, so after a stop, each place reads as its state allows: a cell that is closed,
 /// filling or filled as nothing, an opened one as its body, one that opens or closes as either.
@@ -22,4 +22,9 @@ pub fn filled_bodies_stand()
 /// from before it.
 pub fn moments_read_as_allowed()
     ensures { MomentsReadAsAllowed }
+{}
+
+/// For each step of a place there are the states after it, for callers that have those before it.
+pub fn states_move()
+    ensures { StatesMove }
 {}
