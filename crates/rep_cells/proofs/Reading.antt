@@ -1,5 +1,5 @@
 -- What is read of a place.
-use Rattle.std.proofs.Common.{◌≡◌, ℕ, zero, suc, ◌+◌, ◌<◌, ◌≤◌, Bool, true, false, List, length, get_or, Option, None, Some, refl, sym, ap, subst, ◌∙◌, arith, eqb, eq-eqb}
+use Rattle.std.proofs.Common.{◌≡◌, ℕ, zero, suc, ◌+◌, ◌<◌, ◌≤◌, List, length, get_or, None, Some, refl, sym, ap, subst, ◌∙◌, arith, eqb, eq-eqb}
 use Rattle.std.proofs.lemmas.Bool.{ne_eqb}
 use Rattle.rep_disk.specs.Bytes.{part, Untouched}
 use Rattle.rep_disk.specs.History.{History, seen, stable, failed, Reads}

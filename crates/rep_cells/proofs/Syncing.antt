@@ -1,5 +1,5 @@
 -- What a sync comes to.
-use Rattle.std.proofs.Common.{◌≡◌, ℕ, zero, suc, ◌≤◌, Bool, true, false, cond, List, length, Option, None, Some, Result, Ok, Err, refl, sym, ap, subst, ◌∙◌, arith}
+use Rattle.std.proofs.Common.{◌≡◌, ℕ, zero, suc, ◌≤◌, Bool, true, false, cond, List, length, None, Some, Result, Ok, Err, refl, sym, subst, arith}
 use Rattle.std.specs.Prelude.{OnOk, OnErr}
 use Rattle.rep_disk.specs.History.{History, Synced, seen, stable, IsImage}
 use Rattle.rep_disk.specs.Moments.{IsNext, Stays, Syncs as Synchronizes}
@@ -8,8 +8,8 @@ use Rattle.rep_disk.proofs.Moments.{leaves_call}
 use Rattle.rep_layout.specs.declared.place.Layout.{Layout}
 use Rattle.rep_layout.specs.declared.place.Place.{Place}
 use Rattle.rep_layout.specs.Places.{gate_len, gate_of, need_of}
-use Rattle.rep_cells.specs.Readings.{IsPlace, is_open, body_of, reading_of}
-use Rattle.rep_cells.specs.States.{State, States, Unknown, Shutting, Closed, Filling, Filled, Opening, Opened, Closing, Pending, Stable, Allowed, synced, Syncs}
+use Rattle.rep_cells.specs.Readings.{is_open, body_of}
+use Rattle.rep_cells.specs.States.{State, States, Unknown, Shutting, Closed, Filling, Filled, Opening, Opened, Closing, Pending, Stable, synced, Syncs}
 use Rattle.rep_cells.specs.Known.{Known, Assigns, found_as, found}
 use Rattle.rep_cells.specs.Calls.{Reaches}
 use Rattle.rep_cells.proofs.Ranges.{gate_synced, gate_synced_again, body_synced, body_synced_again}

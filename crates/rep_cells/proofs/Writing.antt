@@ -1,10 +1,9 @@
 -- What a write in a place comes to.
-use Rattle.std.proofs.Common.{◌≡◌, ℕ, ◌+◌, ◌<◌, ◌≤◌, ◌⊎◌, inl, inr, true, false, List, ◌∷◌, length, Result, Ok, Err, refl, sym, ap, subst, ◌∙◌, arith}
+use Rattle.std.proofs.Common.{◌≡◌, ℕ, ◌+◌, ◌<◌, ◌≤◌, ◌⊎◌, inl, inr, true, false, List, length, Result, Ok, Err, refl, sym, ap, subst, ◌∙◌, arith}
 use Rattle.std.specs.Prelude.{replicate, OnOk}
 use Rattle.std.proofs.lemmas.List.{length-replicate}
-use Rattle.rep_disk.specs.Calls.{MaySpoil}
-use Rattle.rep_disk.specs.History.{History, Wrote, Spoiled, seen, stable, pending, failed, IsImage}
-use Rattle.rep_disk.specs.Moments.{IsNext, Stays, Writes as Written, Spoils, LeavesOnly}
+use Rattle.rep_disk.specs.History.{History, Wrote, Spoiled, stable, IsImage}
+use Rattle.rep_disk.specs.Moments.{IsNext, Stays, Writes as Written, Spoils}
 use Rattle.rep_disk.proofs.Images.{write_widens}
 use Rattle.rep_disk.proofs.Moments.{leaves_call}
 use Rattle.rep_layout.specs.declared.place.Layout.{Layout}
@@ -12,10 +11,10 @@ use Rattle.rep_layout.specs.declared.place.Place.{Place}
 use Rattle.rep_layout.specs.Places.{body_len, gate_len, offset_of, gate_of, end_of, need_of}
 use Rattle.rep_layout.proofs.PlacesApart.{lie_apart, lies_inside}
 use Rattle.rep_cells.specs.Readings.{IsPlace, IsCell, IsArea, reading_of}
-use Rattle.rep_cells.specs.States.{State, States, Unknown, Shutting, Closed, Filling, Filled, Opening, Opened, Closing, Pending, Stable, Allows, Allowed, Moves, filling, opening, closing, writing}
-use Rattle.rep_cells.specs.Known.{GateIs, GateStays, BodyIs, BodyStays, Known, Assigns}
+use Rattle.rep_cells.specs.States.{State, States, Unknown, Shutting, Closed, Filling, Filled, Opening, Opened, Closing, Pending, Stable, Allowed, Moves, filling, opening, closing, writing}
+use Rattle.rep_cells.specs.Known.{GateIs, BodyIs, Known, Assigns}
 use Rattle.rep_cells.specs.Calls.{gate, Writes, Reaches}
-use Rattle.rep_cells.proofs.Ranges.{Apart, gate_stays_apart, gate_is_apart, body_stays_apart, body_is_apart, body_written, gate_written}
+use Rattle.rep_cells.proofs.Ranges.{Apart, gate_stays_apart, gate_is_apart, body_stays_apart, body_written, gate_written}
 use Rattle.rep_cells.proofs.Kept.{Kept, known_kept, kept_allows, known_elsewhere}
 use Rattle.rep_cells.proofs.Fitting.{end_fits, gate_fits, place_same, gate_is_sector}
 

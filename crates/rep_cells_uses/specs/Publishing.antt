@@ -1,11 +1,11 @@
 -- What a body that is put into a cell comes to.
-use Rattle.std.specs.Prelude.{◌≡◌, ◌⊎◌, ℕ, List, Option, None, Some, Result, OnOk}
+use Rattle.std.specs.Prelude.{◌≡◌, ◌⊎◌, ℕ, List, None, Some, Result, OnOk}
 use Rattle.rep_disk.specs.History.{History}
 use Rattle.rep_disk.specs.Moments.{LeavesOnly}
 use Rattle.rep_layout.specs.declared.place.Layout.{Layout}
 use Rattle.rep_layout.specs.declared.place.Place.{Place}
 use Rattle.rep_cells.specs.Readings.{IsPlace, Reading, reading_of}
-use Rattle.rep_cells.specs.States.{State, States, Opened, Allows, synced}
+use Rattle.rep_cells.specs.States.{States, Opened, Allows, synced}
 use Rattle.rep_cells.specs.Known.{Assigns}
 
 -- The cell reads as nothing or as one of these bodies, and every other place as its state allows.

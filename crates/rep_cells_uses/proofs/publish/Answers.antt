@@ -1,6 +1,6 @@
-use Rattle.std.proofs.Common.{◌≡◌, ℕ, List, inl, inr, refl, ◌∙◌}
+use Rattle.std.proofs.Common.{◌≡◌, ℕ, List, inl, refl, ◌∙◌}
 use Rattle.rep_disk.specs.History.{History}
-use Rattle.rep_cells.specs.States.{States, Closed, Filling, Filled, Opening, filling, opening}
+use Rattle.rep_cells.specs.States.{Closed, Filling, Filled, Opening, filling, opening}
 use Rattle.rep_cells_uses.proofs.Stages.{nothing_or_this, begins, went_on, went_stable, publishes, stops}
 use Rattle.rep_cells_uses.proofs.publish.Goals as goal
 

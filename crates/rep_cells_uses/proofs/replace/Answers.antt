@@ -1,7 +1,7 @@
-use Rattle.std.proofs.Common.{◌≡◌, ◌⊎◌, ℕ, List, inl, inr, refl, subst, ◌∙◌}
+use Rattle.std.proofs.Common.{◌≡◌, ◌⊎◌, ℕ, List, inr, refl, subst, ◌∙◌}
 use Rattle.rep_disk.specs.History.{History}
 use Rattle.rep_layout.specs.declared.place.Layout.{Layout}
-use Rattle.rep_cells.specs.States.{States, Closed, Opened, Closing, closing}
+use Rattle.rep_cells.specs.States.{Closed, Opened, Closing, closing}
 use Rattle.rep_cells.specs.Known.{Assigns}
 use Rattle.rep_cells_uses.specs.Publishing.{Publishes}
 use Rattle.rep_cells_uses.proofs.Stages.{nothing_or_before, begins, went_on, went_stable, publishes_then, stops}
