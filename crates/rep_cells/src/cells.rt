@@ -3,10 +3,10 @@ ghost use Rattle.std.specs.Prelude.{◌≡◌, ◌↔◌, ◌<◌, ◌≤◌, �
 ghost use Rattle.rep_disk.specs.History.{Synced, seen};
 ghost use Rattle.rep_disk.specs.Calls.{IsCall};
 ghost use Rattle.rep_layout.specs.Places.{body_len, offset_of, gate_of, need_of};
-ghost use Rattle.rep_cells.specs.Readings.{IsCell, IsArea, reading_of};
-ghost use Rattle.rep_cells.specs.States.{States, Moves, Syncs, filling, opening, closing, writing};
-ghost use Rattle.rep_cells.specs.Known.{Assigns, IsReadable, found};
-ghost use Rattle.rep_cells.specs.Calls.{gate, Writes, Reaches};
+ghost use Rattle.rep_cells.specs.Readings.{IsCell, IsArea};
+ghost use Rattle.rep_cells.specs.States.{filling, opening, closing, writing};
+ghost use Rattle.rep_cells.specs.Known.{Assigns, found};
+ghost use Rattle.rep_cells.specs.Calls.{gate, WritesOnly, StepsAt, Settles, ReadsPlace};
 
 use rep_disk::{Disk, DiskFault};
 use rep_layout::{GATE, Layout, Place};
@@ -78,8 +78,8 @@ impl<D: Disk> Cells<D> {
         requires size { length body.now ≡ body_len cell }
         ensures call { IsCall D.size D.failures D.honest (disk_of self.old) (disk_of self.new) result }
         ensures layout { layout_of self.new ≡ layout_of self.old }
-        ensures written { D.honest (disk_of self.old) → Writes (offset_of (layout_of self.old) cell) body.now (D.history (disk_of self.old)) (D.history (disk_of self.new)) result }
-        ensures states { D.honest (disk_of self.old) → (s t : States) → Assigns (layout_of self.old) (D.history (disk_of self.old)) s → Moves s t cell (filling body.now) → Reaches (layout_of self.old) (D.history (disk_of self.old)) (D.history (disk_of self.new)) t t result }
+        ensures written { WritesOnly D.honest D.history (offset_of (layout_of self.old) cell) body.now (disk_of self.old) (disk_of self.new) result }
+        ensures states { StepsAt D.honest D.history (layout_of self.old) cell (filling body.now) (disk_of self.old) (disk_of self.new) result }
     {
         self.disk.write_at(self.layout.offset(cell), body)
     }
@@ -90,8 +90,8 @@ impl<D: Disk> Cells<D> {
         requires { IsCell (layout_of self.old) cell }
         ensures call { IsCall D.size D.failures D.honest (disk_of self.old) (disk_of self.new) result }
         ensures layout { layout_of self.new ≡ layout_of self.old }
-        ensures written { D.honest (disk_of self.old) → Writes (gate_of (layout_of self.old) cell) (gate 0xA5) (D.history (disk_of self.old)) (D.history (disk_of self.new)) result }
-        ensures states { D.honest (disk_of self.old) → (s t : States) → Assigns (layout_of self.old) (D.history (disk_of self.old)) s → Moves s t cell opening → Reaches (layout_of self.old) (D.history (disk_of self.old)) (D.history (disk_of self.new)) t t result }
+        ensures written { WritesOnly D.honest D.history (gate_of (layout_of self.old) cell) (gate 0xA5) (disk_of self.old) (disk_of self.new) result }
+        ensures states { StepsAt D.honest D.history (layout_of self.old) cell opening (disk_of self.old) (disk_of self.new) result }
     {
         self.disk
             .write_at(self.layout.gate(cell), &gate_sector(OPEN))
@@ -103,8 +103,8 @@ impl<D: Disk> Cells<D> {
         requires { IsCell (layout_of self.old) cell }
         ensures call { IsCall D.size D.failures D.honest (disk_of self.old) (disk_of self.new) result }
         ensures layout { layout_of self.new ≡ layout_of self.old }
-        ensures written { D.honest (disk_of self.old) → Writes (gate_of (layout_of self.old) cell) (gate 0) (D.history (disk_of self.old)) (D.history (disk_of self.new)) result }
-        ensures states { D.honest (disk_of self.old) → (s t : States) → Assigns (layout_of self.old) (D.history (disk_of self.old)) s → Moves s t cell closing → Reaches (layout_of self.old) (D.history (disk_of self.old)) (D.history (disk_of self.new)) t t result }
+        ensures written { WritesOnly D.honest D.history (gate_of (layout_of self.old) cell) (gate 0) (disk_of self.old) (disk_of self.new) result }
+        ensures states { StepsAt D.honest D.history (layout_of self.old) cell closing (disk_of self.old) (disk_of self.new) result }
     {
         self.disk
             .write_at(self.layout.gate(cell), &gate_sector(CLOSED))
@@ -116,8 +116,8 @@ impl<D: Disk> Cells<D> {
         requires size { length body.now ≡ body_len area }
         ensures call { IsCall D.size D.failures D.honest (disk_of self.old) (disk_of self.new) result }
         ensures layout { layout_of self.new ≡ layout_of self.old }
-        ensures written { D.honest (disk_of self.old) → Writes (offset_of (layout_of self.old) area) body.now (D.history (disk_of self.old)) (D.history (disk_of self.new)) result }
-        ensures states { D.honest (disk_of self.old) → (s t : States) → Assigns (layout_of self.old) (D.history (disk_of self.old)) s → Moves s t area (writing body.now) → Reaches (layout_of self.old) (D.history (disk_of self.old)) (D.history (disk_of self.new)) t t result }
+        ensures written { WritesOnly D.honest D.history (offset_of (layout_of self.old) area) body.now (disk_of self.old) (disk_of self.new) result }
+        ensures states { StepsAt D.honest D.history (layout_of self.old) area (writing body.now) (disk_of self.old) (disk_of self.new) result }
     {
         self.disk.write_at(self.layout.offset(area), body)
     }
@@ -130,7 +130,7 @@ impl<D: Disk> Cells<D> {
         ensures layout { layout_of self.new ≡ layout_of self.old }
         ensures synced { D.honest (disk_of self.old) → OnOk result (D.history (disk_of self.new) ≡ Synced (D.history (disk_of self.old))) }
         ensures unsynced { D.honest (disk_of self.old) → OnErr result (D.history (disk_of self.new) ≡ D.history (disk_of self.old)) }
-        ensures states { D.honest (disk_of self.old) → (s t : States) → Assigns (layout_of self.old) (D.history (disk_of self.old)) s → Syncs s t → Reaches (layout_of self.old) (D.history (disk_of self.old)) (D.history (disk_of self.new)) s t result }
+        ensures states { Settles D.honest D.history (layout_of self.old) (disk_of self.old) (disk_of self.new) result }
         ensures found { D.honest (disk_of self.old) → OnOk result (Assigns (layout_of self.old) (D.history (disk_of self.new)) (found (layout_of self.old) (seen (D.history (disk_of self.old))))) }
     {
         self.disk.sync()
@@ -147,7 +147,7 @@ impl<D: Disk> Cells<D> {
         ensures call { IsCall D.size D.failures D.honest (disk_of self.old) (disk_of self.new) result }
         ensures layout { layout_of self.new ≡ layout_of self.old }
         ensures same { D.honest (disk_of self.old) → D.history (disk_of self.new) ≡ D.history (disk_of self.old) }
-        ensures read { D.honest (disk_of self.old) → IsReadable (layout_of self.old) (D.history (disk_of self.old)) cell → IfOk result (λ body. option_map (λ bytes. bytes.now) body ≡ reading_of (layout_of self.old) (seen (D.history (disk_of self.old))) cell) }
+        ensures read { ReadsPlace D.honest D.history (layout_of self.old) cell (disk_of self.old) result (option_map (λ bytes. bytes.now)) }
     {
         let mut first = [0; 1];
         self.disk.read_at(self.layout.gate(cell), &mut first)?;
@@ -165,7 +165,7 @@ impl<D: Disk> Cells<D> {
         ensures call { IsCall D.size D.failures D.honest (disk_of self.old) (disk_of self.new) result }
         ensures layout { layout_of self.new ≡ layout_of self.old }
         ensures same { D.honest (disk_of self.old) → D.history (disk_of self.new) ≡ D.history (disk_of self.old) }
-        ensures read { D.honest (disk_of self.old) → IsReadable (layout_of self.old) (D.history (disk_of self.old)) area → OnOk result (Some room.new ≡ reading_of (layout_of self.old) (seen (D.history (disk_of self.old))) area) }
+        ensures read { ReadsPlace D.honest D.history (layout_of self.old) area (disk_of self.old) result (λ _. Some room.new) }
     {
         self.disk.read_at(self.layout.offset(area), room)
     }
