@@ -1,5 +1,5 @@
 -- What the kept entries give at each position, as items come and are undone.
-use Rattle.std.proofs.Common.{not, ⊎_elim, subst, IsSome, IsTrue, Option, Some, None, ◌≢◌, option_map, slice_get, take, ◌≡◌, ℕ, ◌+◌, ◌-◌, ◌<◌, ◌≤◌, Bool, true, false, nat_le, if◌then◌else◌, List, [], ◌∷◌, ◌++◌, length, drop, refl, sym, ap, ◌∙◌, le_refl, arith, All, append_assoc}
+use Rattle.std.proofs.Common.{not, ⊎_elim, subst, IsSome, IsTrue, Option, Some, None, ◌≢◌, option_map, slice_get, take, ◌≡◌, ℕ, ◌+◌, ◌-◌, ◌<◌, ◌≤◌, Bool, true, false, nat_le, if◌then◌else◌, List, [], ◌∷◌, ◌++◌, length, refl, sym, ap, ◌∙◌, le_refl, arith, All, append_assoc}
 use Rattle.std.proofs.lemmas.List.{append-nil, length-drop, take_all, take_more}
 use Rattle.std.proofs.lemmas.Option.{slice_get_cases, slice_get_within, get_or_from_slice_get}
 use Rattle.std.proofs.lemmas.List.Filters.{length-filter_both}
@@ -163,12 +163,6 @@ latest_seqno_append test xs ys = ap (option_map seqno_of) (latest-append test xs
     either : (o : Option Entry) → option_map seqno_of (option_or o (latest test xs)) ≡ option_or (option_map seqno_of o) (option_map seqno_of (latest test xs))
     either None = refl
     either (Some e) = refl
-
--- where there is room, one more list of entries that is empty leaves what is kept
-pub keep_last_few : (n : ℕ) (es : List Entry) → length es ≤ n → keep_last n (es ++ []) ≡ es
-keep_last_few n es few =
-    let none : length es - n ≡ 0 = omega arith in
-    ap (keep_last n) (append-nil es) ∙ ap (λ (k : ℕ). drop k es) none
 
 -- no more than n entries are kept
 pub length-keep_last : (n : ℕ) (es : List Entry) → length (keep_last n es) ≤ n

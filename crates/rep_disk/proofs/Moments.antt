@@ -1,9 +1,7 @@
 -- The images since a moment, and what each moment of several calls leaves.
-use Rattle.std.proofs.Common.{ℕ, ◌≤◌, ◌⊎◌, inl, inr, List, sym, subst, arith}
-use Rattle.rep_disk.specs.History.{History, Begins, Wrote, Spoiled, Synced, seen, IsImage}
-use Rattle.rep_disk.specs.Calls.{MaySpoil}
+use Rattle.std.proofs.Common.{ℕ, ◌≤◌, ◌⊎◌, inl, inr, List, arith}
+use Rattle.rep_disk.specs.History.{History, Begins, Wrote, Spoiled, Synced, IsImage}
 use Rattle.rep_disk.specs.Moments.{moment, ImageSince, LeavesOnly, IsNext, Stays, Writes, Spoils, Syncs}
-use Rattle.rep_disk.proofs.Images.{synced_image}
 
 -- this moment is one of those since an earlier one
 pub counts_now : (h : History) (t : ℕ) (image : List ℕ) → t ≤ moment h → IsImage h image → ImageSince h t image
@@ -21,16 +19,6 @@ only_now (Spoiled at junk h) image (inl is) = is
 only_now (Spoiled at junk h) image (inr (late, is)) = absurd (omega arith)
 only_now (Synced h) image (inl is) = is
 only_now (Synced h) image (inr (late, is)) = absurd (omega arith)
-
--- what is left since a moment is left since each earlier one
-pub since_earlier : (h : History) (t u : ℕ) (image : List ℕ) → t ≤ u → ImageSince h u image → ImageSince h t image
-since_earlier (Begins bytes) t u image early is = is
-since_earlier (Wrote at bytes h) t u image early (inl is) = inl is
-since_earlier (Wrote at bytes h) t u image early (inr (late, is)) = inr (omega arith, since_earlier h t u image early is)
-since_earlier (Spoiled at junk h) t u image early (inl is) = inl is
-since_earlier (Spoiled at junk h) t u image early (inr (late, is)) = inr (omega arith, since_earlier h t u image early is)
-since_earlier (Synced h) t u image early (inl is) = inl is
-since_earlier (Synced h) t u image early (inr (late, is)) = inr (omega arith, since_earlier h t u image early is)
 
 -- the images of a call are those of its two moments
 pub call_images : (old new : History) (image : List ℕ) → IsNext old new → ImageSince new (moment old) image → IsImage old image ⊎ IsImage new image
@@ -52,20 +40,6 @@ leaves_call old new P Syncs each = record { later = omega arith; since = λ t im
 -- no call leaves nothing
 pub leaves_none : (h : History) (P : List ℕ → Type 0) → LeavesOnly h h P
 leaves_none h P = record { later = omega arith; since = λ t image late is. inl is }
-
--- a write
-pub leaves_wrote : (h : History) (at : ℕ) (bytes : List ℕ) (P : List ℕ → Type 0) → ((image : List ℕ) → IsImage (Wrote at bytes h) image → P image) → LeavesOnly h (Wrote at bytes h) P
-leaves_wrote h at bytes P each = leaves_call h (Wrote at bytes h) P (Writes at bytes) each
-
--- a failed write
-pub leaves_spoiled : (old new : History) (at n : ℕ) (P : List ℕ → Type 0) → MaySpoil at n old new → ((image : List ℕ) → IsImage new image → P image) → LeavesOnly old new P
-leaves_spoiled old new at n P (inl same) each = subst (λ (h : History). LeavesOnly old h P) (sym same) (leaves_none old P)
-leaves_spoiled old new at n P (inr (junk, size, is)) each =
-    subst (λ (h : History). LeavesOnly old h P) (sym is) (leaves_call old (Spoiled at junk old) P (Spoils at junk) (λ image now. each image (subst (λ (h : History). IsImage h image) (sym is) now)))
-
--- a sync
-pub leaves_synced : (h : History) (P : List ℕ → Type 0) → P (seen h) → LeavesOnly h (Synced h) P
-leaves_synced h P holds = leaves_call h (Synced h) P Syncs (λ image is. subst P (sym (synced_image h image is)) holds)
 
 -- what has P has Q
 pub leaves_weaker : (old new : History) (P Q : List ℕ → Type 0) → ((image : List ℕ) → P image → Q image) → LeavesOnly old new P → LeavesOnly old new Q

@@ -1,10 +1,8 @@
 pub mod PlacesApart
 pub mod RowPlaces
-pub mod Sizes
 pub mod PageBits
 pub mod Found
 pub mod SuperFields
 pub mod SuperFronts
-pub mod WindowKeys
 pub mod WindowSteps
 pub mod WindowFronts

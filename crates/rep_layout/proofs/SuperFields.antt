@@ -1,16 +1,19 @@
 -- The fields of a superblock's body are read as they were put.
 use Rattle.std.proofs.Common.{◌≡◌, ℕ, zero, suc, ◌+◌, ◌*◌, ◌^◌, ◌<◌, ◌≤◌, List, [], ◌∷◌, ◌++◌, length, get_or, take, drop, refl, sym, ap, ◌∙◌, arith, append_assoc}
-use Rattle.std.specs.Int.{w16, w32, w64, from_be_bytes}
 use Rattle.std.specs.List.{flat_map}
-use Rattle.std.proofs.lemmas.List.{take_at, drop_at, drop-drop, append-nil}
+use Rattle.std.proofs.lemmas.List.{drop_at, drop-drop, append-nil}
 use Rattle.std.proofs.lemmas.List.Concat.{flat_map-cons, flat_map-append}
-use Rattle.std.proofs.lemmas.Nat.{from_be_bytes-to_be_bytes_2, from_be_bytes-to_be_bytes_4, from_be_bytes-to_be_bytes_8}
 use Rattle.std.proofs.Math.Seq.{take-suc}
-use Rattle.rep_layout.specs.Bytes.{two_bytes, four_bytes, eight_bytes, two_at, four_at, eight_at}
+use Rattle.rep_types.specs.Bytes.{four_bytes, four_at}
+use Rattle.rep_types.proofs.Spellings.{sizes, length-four_bytes, four_again}
 use Rattle.rep_layout.specs.SuperReading.{rows_in}
-use Rattle.rep_layout.proofs.Sizes.{length-four_bytes}
 
 -- ---- putting rows
+
+-- numbers of rows take 4 bytes each
+pub length-rows : (rows : List ℕ) → length (flat_map four_bytes rows) ≡ 4 * length rows
+length-rows [] = refl
+length-rows (x ∷ rows) = grind (arith, sizes, length-rows rows)
 
 -- one row more
 pub rows_more : (old new out rows : List ℕ) (i row : ℕ) → i < length rows → row ≡ get_or rows i 0 → new ≡ old ++ flat_map four_bytes (take i rows) → out ≡ new ++ four_bytes row
@@ -22,27 +25,6 @@ rows_more old new out rows i row lt same e f =
     let grown : flat_map four_bytes (take (i + 1) rows) ≡ flat_map four_bytes (take i rows) ++ four_bytes row =
     ap (λ n. flat_map four_bytes (take n rows)) (sym more) ∙ ap (flat_map four_bytes) last ∙ flat_map-append four_bytes (take i rows) (row ∷ []) ∙ ap (λ (xs : List ℕ). flat_map four_bytes (take i rows) ++ xs) one in
     f ∙ ap (λ (xs : List ℕ). xs ++ four_bytes row) e ∙ append_assoc old (flat_map four_bytes (take i rows)) (four_bytes row) ∙ ap (λ (xs : List ℕ). old ++ xs) (sym grown)
-
--- ---- numbers
-
--- a number of 2 bytes is read as it was put
-pub two_again : (n at : ℕ) (bytes rest : List ℕ) → n < 2 ^ 16 → drop at bytes ≡ two_bytes n ++ rest → two_at at bytes ≡ n
-unfolding two_bytes
-two_again n at bytes rest lt e = ap (λ xs. from_be_bytes w16 (take 2 xs)) e ∙ ap (from_be_bytes w16) (take_at (two_bytes n) rest 2 refl) ∙ from_be_bytes-to_be_bytes_2 n lt
-
--- the same of 4 bytes
-pub four_again : (n at : ℕ) (bytes rest : List ℕ) → n < 2 ^ 32 → drop at bytes ≡ four_bytes n ++ rest → four_at at bytes ≡ n
-unfolding four_bytes
-four_again n at bytes rest lt e = ap (λ xs. from_be_bytes w32 (take 4 xs)) e ∙ ap (from_be_bytes w32) (take_at (four_bytes n) rest 4 refl) ∙ from_be_bytes-to_be_bytes_4 n lt
-
--- the same of 8 bytes
-pub eight_again : (n at : ℕ) (bytes rest : List ℕ) → n < 2 ^ 64 → drop at bytes ≡ eight_bytes n ++ rest → eight_at at bytes ≡ n
-unfolding eight_bytes
-eight_again n at bytes rest lt e = ap (λ xs. from_be_bytes w64 (take 8 xs)) e ∙ ap (from_be_bytes w64) (take_at (eight_bytes n) rest 8 refl) ∙ from_be_bytes-to_be_bytes_8 n lt
-
--- what stands behind a part
-pub behind : (n at : ℕ) (bytes part rest : List ℕ) → length part ≡ n → drop at bytes ≡ part ++ rest → drop (at + n) bytes ≡ rest
-behind n at bytes part rest size e = sym (drop-drop n at bytes) ∙ ap (drop n) e ∙ drop_at part rest n size
 
 -- ---- reading rows
 

@@ -12,18 +12,18 @@ use Rattle.uuid.specs.Parts.{is_nil_bytes, zero_bytes}
 use Rattle.rep_types.specs.declared.refusal.Refusal.{Refusal}
 use Rattle.rep_types.specs.declared.refusal.Refusal.TheVariants.{BadParams}
 use Rattle.rep_types.specs.Settings.{Setting, setting, allowed, is_setting, is_schema, pages_of}
+use Rattle.rep_types.specs.Bytes.{two_bytes, four_bytes, eight_bytes, zeros, two_at, eight_at, begins_with}
+use Rattle.rep_types.proofs.Spellings.{length-two_bytes, length-eight_bytes, length-zeros, both, IsBytes, drop_fits, take_fits, all_fit, begins_is, two_again, eight_again, behind}
 use Rattle.rep_layout.specs.declared.super_body.SuperBody.{SuperBody}
 use Rattle.rep_layout.specs.declared.page_state.PageState.{PageState}
 use Rattle.rep_layout.specs.Options.{◌>>=◌}
-use Rattle.rep_layout.specs.Bytes.{two_bytes, four_bytes, eight_bytes, zeros, two_at, eight_at, begins_with}
 use Rattle.rep_layout.specs.PageStates.{state_of, state_bytes, code_in, states_in}
 use Rattle.rep_layout.specs.Supers.{IsUuid, IsNil, IsSuper, super_mark, setting_bytes, super_bytes}
 use Rattle.rep_layout.specs.SuperReading.{given, rows_in, setting_in, body_of, super_in, is_bounded, spelled_super, super_of}
 use Rattle.rep_layout.proofs.RowPlaces.{row_of}
-use Rattle.rep_layout.proofs.Sizes.{length-two_bytes, length-eight_bytes, length-zeros, length-rows}
 use Rattle.rep_layout.proofs.PageBits.{length-state_bytes, states_again}
-use Rattle.rep_layout.proofs.Found.{bind_some, both, IsBytes, drop_fits, take_fits, all_fit, begins_is, whole, whole_again}
-use Rattle.rep_layout.proofs.SuperFields.{two_again, eight_again, behind, rows_again, RowsFit}
+use Rattle.rep_layout.proofs.Found.{bind_some, whole, whole_again}
+use Rattle.rep_layout.proofs.SuperFields.{length-rows, rows_again, RowsFit}
 
 -- the limits of a schema
 record Limits (rows : List ℕ) : Type 0 where

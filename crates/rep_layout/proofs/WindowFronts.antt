@@ -1,14 +1,12 @@
 -- What is read as a window's body is spelled so, and what is spelled so is read.
 use Rattle.std.proofs.Common.{◌≡◌, ℕ, zero, suc, ◌+◌, ◌*◌, ◌-◌, ◌^◌, ◌<◌, ◌≤◌, Bool, true, false, cond, ltb, leb, eqb, List, [], ◌∷◌, ◌++◌, length, get_or, take, drop, map, Option, Some, None, Ok, refl, sym, ap, subst, ◌∙◌, arith, length-append, length-take, length-drop, append_assoc, eq-eqb}
-use Rattle.std.specs.Prelude.{IfOk, is_some, is_none, ◌&&◌, slice_index, replicate}
-use Rattle.std.specs.Int.{w16, w64, from_be_bytes}
+use Rattle.std.specs.Prelude.{IfOk, is_some, is_none, ◌&&◌, slice_index}
 use Rattle.std.specs.List.{flat_map, list_all, AllByRecursion}
 use Rattle.std.specs.List.Sorted.{IsStrictlyIncreasing}
 use Rattle.std.specs.Option.{ok_or, option_map_or}
 use Rattle.std.proofs.lemmas.Bool.{ltb-true, ltb-false, leb-true, lt-ltb, le-leb, le-ltb, eqb-true}
 use Rattle.std.proofs.lemmas.List.{take_at, drop_at, take_all, get_or-drop, drop-drop, take-append-drop}
 use Rattle.std.proofs.lemmas.List.Concat.{flat_map-cons}
-use Rattle.std.proofs.lemmas.Nat.{be_bytes_2, be_bytes_8}
 use Rattle.std.proofs.lemmas.Option.{same_Some, cond_some}
 use Rattle.std.proofs.Math.Seq.{take-suc}
 use Rattle.rep_types.specs.declared.key.Key.{Key}
@@ -16,15 +14,15 @@ use Rattle.rep_types.specs.declared.refusal.Refusal.{Refusal}
 use Rattle.rep_types.specs.Keys.{disorder}
 use Rattle.rep_types.specs.Entries.{Entry}
 use Rattle.rep_types.specs.Settings.{Setting, is_setting, is_schema, pages_of, has_row}
-use Rattle.rep_layout.specs.Bytes.{two_bytes, four_bytes, eight_bytes, key_bytes, zeros, two_at, four_at, eight_at, begins_with}
+use Rattle.rep_types.specs.Bytes.{two_bytes, four_bytes, eight_bytes, key_bytes, zeros, two_at, four_at, eight_at, are_blank, begins_with}
+use Rattle.rep_types.proofs.Spellings.{both, IsBytes, drop_fits, take_fits, begins_is, length-two_bytes, length-four_bytes, length-eight_bytes, length-zeros, two_again, four_again, eight_again, behind, zeros_blank, blank_is, below_64, eight_there, two_there}
 use Rattle.rep_layout.specs.SuperReading.{given}
 use Rattle.rep_layout.specs.Windows.{Window, window, IsEntry, seqno_of, IsWindowBody, window_mark, entry_bytes, run_bytes, window_head, window_bytes}
-use Rattle.rep_layout.specs.WindowReading.{keys_in, entry_of, entry_in, front_entry, entries_at, entries_in, is_entry, are_blank, entries_stand, is_spelled, spelled_window, window_of}
-use Rattle.rep_layout.proofs.Found.{bind_some, both, IsBytes, drop_fits, take_fits, begins_is}
-use Rattle.rep_layout.proofs.Sizes.{length-two_bytes, length-four_bytes, length-eight_bytes, length-zeros}
-use Rattle.rep_layout.proofs.SuperFields.{two_again, four_again, eight_again, behind, RowsFit}
+use Rattle.rep_layout.specs.WindowReading.{keys_in, entry_of, entry_in, front_entry, entries_at, entries_in, is_entry, entries_stand, is_spelled, spelled_window, window_of}
+use Rattle.rep_layout.proofs.Found.{bind_some}
+use Rattle.rep_layout.proofs.SuperFields.{RowsFit}
 use Rattle.rep_layout.proofs.SuperFronts.{rows_fit}
-use Rattle.rep_layout.proofs.WindowKeys.{no_key}
+use Rattle.rep_types.proofs.Disorder.{no_key}
 use Rattle.rep_layout.proofs.WindowSteps.{key_of, length-entry, length-at}
 
 -- ---- what is spelled is read
@@ -268,23 +266,6 @@ first_above : (p : Setting) (position : ℕ) (es : List Entry) → AllByRecursio
 first_above p position [] all some = absurd (omega (arith, some))
 first_above p position (e ∷ es) all some = omega (arith, all.0.first)
 
--- ---- zeros
-
--- zeros all are
-zeros_blank : (n : ℕ) → are_blank (zeros n) ≡ true
-unfolding zeros
-zeros_blank zero = refl
-zeros_blank (suc n) = zeros_blank n
-
--- bytes that all are zero
-blank_is : (bytes : List ℕ) → are_blank bytes ≡ true → bytes ≡ zeros (length bytes)
-unfolding zeros
-blank_is [] e = refl
-blank_is (b ∷ bytes) e =
-    let p = both (eqb b 0) (are_blank bytes) e in
-    let zero_is : b ≡ 0 = eqb-true b 0 p.0 in
-    subst (λ (c : ℕ). (c ∷ bytes) ≡ 0 ∷ replicate (length bytes) 0) (sym zero_is) (ap (λ (rest : List ℕ). 0 ∷ rest) (blank_is bytes p.1))
-
 -- ---- the whole body
 
 -- what the parameters keep
@@ -372,24 +353,6 @@ body_again p bytes w limits h e =
     let read : entries_in (length w.entries) (drop 256 bytes) ≡ w.entries =
     ap (λ (o : Option (List Entry)). option_map_or (λ (es : List Entry). es) o []) (ap (entries_at (length w.entries)) at_256 ∙ read_again p w.position w.entries blanks small.rows h.position h.entries) in
     rw (eq-eqb (length bytes) 23040 size, begun, count, le-leb (length w.entries) p.window h.few, head, position, stand, number, read) refl
-
--- numbers stand in front of what is behind them
-eight_there : (bytes : List ℕ) → 8 ≤ length bytes → IsBytes bytes → bytes ≡ eight_bytes (eight_at 0 bytes) ++ drop 8 bytes
-unfolding eight_bytes
-eight_there bytes long fits =
-    let back = be_bytes_8 (take 8 bytes) (from_be_bytes w64 (take 8 bytes)) (omega (arith, long, length-take 8 bytes)) (take_fits 8 bytes fits) refl in
-    sym (ap (λ front. front ++ drop 8 bytes) back ∙ take-append-drop 8 bytes)
-
--- the same of 2 bytes
-two_there : (bytes : List ℕ) → 2 ≤ length bytes → IsBytes bytes → bytes ≡ two_bytes (two_at 0 bytes) ++ drop 2 bytes
-unfolding two_bytes
-two_there bytes long fits =
-    let back = be_bytes_2 (take 2 bytes) (from_be_bytes w16 (take 2 bytes)) (omega (arith, long, length-take 2 bytes)) (take_fits 2 bytes fits) refl in
-    sym (ap (λ front. front ++ drop 2 bytes) back ∙ take-append-drop 2 bytes)
-
--- a number of 8 bytes is below 2^64
-below_64 : (bytes : List ℕ) → IsBytes bytes → from_be_bytes w64 bytes < 2 ^ 64
-below_64 bytes fits = omega (arith, fits 0, fits 1, fits 2, fits 3, fits 4, fits 5, fits 6, fits 7)
 
 -- bytes of the format are those of the window that they say
 says_window : (p : Setting) (bytes : List ℕ) → IsBytes bytes → length bytes ≡ 23040 → begins_with window_mark bytes ≡ true → are_blank (take 230 (drop 26 bytes)) ≡ true → (s : Standing p (eight_at 16 bytes) 0 (two_at 24 bytes) (drop 256 bytes))

@@ -1,33 +1,19 @@
 -- The steps of putting a window and of reading it.
-use Rattle.std.proofs.Common.{◌≡◌, ℕ, zero, suc, ◌+◌, ◌*◌, ◌-◌, ◌<◌, ◌≤◌, Bool, true, false, leb, List, [], ◌∷◌, ◌++◌, length, get_or, take, drop, Option, Some, None, refl, sym, ap, ◌∙◌, arith, length-append, append_assoc}
+use Rattle.std.proofs.Common.{◌≡◌, ℕ, zero, suc, ◌+◌, ◌*◌, ◌-◌, ◌<◌, ◌≤◌, Bool, true, false, leb, List, [], ◌∷◌, ◌++◌, length, take, drop, Option, Some, None, refl, sym, ap, ◌∙◌, arith, length-append}
 use Rattle.std.specs.Prelude.{is_some, slice_index}
 use Rattle.std.specs.List.{flat_map}
 use Rattle.std.specs.Option.{option_map_or}
 use Rattle.std.proofs.lemmas.Bool.{lt-ltb, le-ltb}
-use Rattle.std.proofs.lemmas.List.{append-nil}
-use Rattle.std.proofs.lemmas.List.Concat.{flat_map-cons, flat_map-append}
 use Rattle.std.proofs.lemmas.Option.{same_Some}
-use Rattle.std.proofs.Math.Seq.{take-suc}
 use Rattle.rep_types.specs.declared.key.Key.{Key}
 use Rattle.rep_types.specs.Entries.{Entry}
 use Rattle.rep_types.specs.Settings.{Setting}
+use Rattle.rep_types.specs.Bytes.{eight_bytes, two_at, four_at, eight_at, are_blank, begins_with, key_bytes}
+use Rattle.rep_types.proofs.Spellings.{length-eight_bytes, length-keys}
 use Rattle.rep_layout.specs.Options.{◌>>=◌}
-use Rattle.rep_layout.specs.Bytes.{eight_bytes, two_at, four_at, eight_at, begins_with, key_bytes}
 use Rattle.rep_layout.specs.Windows.{entry_bytes}
-use Rattle.rep_layout.specs.WindowReading.{keys_in, entry_in, front_entry, entries_at, entries_in, is_entry, are_blank, entries_stand, is_spelled}
-use Rattle.rep_layout.proofs.Sizes.{length-eight_bytes, length-keys}
+use Rattle.rep_layout.specs.WindowReading.{keys_in, entry_in, front_entry, entries_at, entries_in, is_entry, entries_stand, is_spelled}
 use Rattle.rep_layout.proofs.Found.{bind_some}
-
--- one more of what is spelled one after another
-pub run_more : {A : Type 0} (f : A → List ℕ) (old new out : List ℕ) (xs : List A) (i : ℕ) (d : A) → i < length xs → new ≡ old ++ flat_map f (take i xs) → out ≡ new ++ f (get_or xs i d)
-    → out ≡ old ++ flat_map f (take (i + 1) xs)
-run_more f old new out xs i d lt e g =
-    let next : suc i ≡ i + 1 = omega arith in
-    let x = get_or xs i d in
-    let one : flat_map f (x ∷ []) ≡ f x = flat_map-cons f x [] ∙ append-nil (f x) in
-    let grown : flat_map f (take (i + 1) xs) ≡ flat_map f (take i xs) ++ f x =
-    ap (λ n. flat_map f (take n xs)) (sym next) ∙ ap (flat_map f) (take-suc xs i d lt) ∙ flat_map-append f (take i xs) (x ∷ []) ∙ ap (λ (ys : List ℕ). flat_map f (take i xs) ++ ys) one in
-    g ∙ ap (λ (ys : List ℕ). ys ++ f x) e ∙ append_assoc old (flat_map f (take i xs)) (f x) ∙ ap (λ (ys : List ℕ). old ++ ys) (sym grown)
 
 -- an entry takes 89 bytes at most
 pub length-entry : (e : Entry) → length (entry_bytes e) ≡ 9 + 5 * length e.keys

@@ -1,4 +1,3 @@
-pub mod Bytes
 pub mod Options
 pub mod PageStates
 pub mod Supers

@@ -4,10 +4,10 @@ use Rattle.std.specs.Prelude.{ℕ, zero, suc, ◌+◌, ◌*◌, ◌^◌, Bool, �
 use Rattle.std.specs.Result.{result_ok}
 use Rattle.uuid.specs.Parts.{is_nil_bytes}
 use Rattle.rep_types.specs.Settings.{Setting, setting, allowed, pages_of}
+use Rattle.rep_types.specs.Bytes.{two_at, four_at, eight_at, begins_with}
 use Rattle.rep_layout.specs.Options.{◌>>=◌}
 use Rattle.rep_layout.specs.declared.super_body.SuperBody.{SuperBody}
 use Rattle.rep_layout.specs.declared.page_state.PageState.{PageState}
-use Rattle.rep_layout.specs.Bytes.{two_at, four_at, eight_at, begins_with}
 use Rattle.rep_layout.specs.PageStates.{states_in}
 use Rattle.rep_layout.specs.Supers.{super_mark, super_bytes}
 

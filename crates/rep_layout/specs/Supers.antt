@@ -2,8 +2,8 @@
 use Rattle.std.specs.Prelude.{◌≡◌, ℕ, ◌+◌, ◌*◌, ◌-◌, ◌<◌, ◌≤◌, ◌^◌, List, ◌∷◌, ◌++◌, length, codes, replicate, IsTrue}
 use Rattle.std.specs.List.{flat_map, AllByRecursion}
 use Rattle.rep_types.specs.Settings.{Setting, pages_of, is_setting}
+use Rattle.rep_types.specs.Bytes.{two_bytes, four_bytes, eight_bytes, zeros}
 use Rattle.rep_layout.specs.declared.super_body.SuperBody.{SuperBody}
-use Rattle.rep_layout.specs.Bytes.{two_bytes, four_bytes, eight_bytes, zeros}
 use Rattle.rep_layout.specs.PageStates.{state_bytes}
 
 -- the sixteen bytes of a UUID

@@ -6,8 +6,8 @@ use Rattle.rep_types.specs.declared.key.Key.{Key}
 use Rattle.rep_types.specs.Keys.{disorder}
 use Rattle.rep_types.specs.Entries.{Entry}
 use Rattle.rep_types.specs.Settings.{Setting, has_row}
+use Rattle.rep_types.specs.Bytes.{two_at, four_at, eight_at, are_blank, begins_with}
 use Rattle.rep_layout.specs.Options.{◌>>=◌}
-use Rattle.rep_layout.specs.Bytes.{two_at, four_at, eight_at, begins_with}
 use Rattle.rep_layout.specs.SuperReading.{given}
 use Rattle.rep_layout.specs.Windows.{Window, window, window_mark, entry_bytes}
 
@@ -41,10 +41,6 @@ entries_in n bytes = option_map_or (λ (es : List Entry). es) (entries_at n byte
 abbrev pub is_entry : Setting → ℕ → ℕ → Entry → Bool
 is_entry p position before e =
     nat_lt before e.seqno && nat_le e.seqno position && nat_lt (position - e.seqno) p.window && nat_lt 0 (length e.keys) && is_none (disorder e.keys) && list_all (has_row p.rows) e.keys
-
--- whether all of the bytes are zero
-abbrev pub are_blank : List ℕ → Bool
-are_blank bytes = list_all (λ b. b == 0) bytes
 
 -- whether so many entries are spelled there, of ascending seqnos above `before`, and zeros behind them
 unfoldable pub entries_stand : Setting → ℕ → ℕ → ℕ → List ℕ → Bool

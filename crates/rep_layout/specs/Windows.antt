@@ -5,7 +5,7 @@ use Rattle.std.specs.List.Sorted.{IsStrictlyIncreasing}
 use Rattle.rep_types.specs.Keys.{disorder}
 use Rattle.rep_types.specs.Entries.{Entry}
 use Rattle.rep_types.specs.Settings.{Setting, has_row, is_setting}
-use Rattle.rep_layout.specs.Bytes.{two_bytes, eight_bytes, key_bytes, zeros}
+use Rattle.rep_types.specs.Bytes.{two_bytes, eight_bytes, key_bytes, zeros}
 
 -- what a window's body says: the number of its superblock, the position, and the window there
 pub record Window : Type 0 where

@@ -1,7 +1,6 @@
 //! Where everything lies on the device, and the bytes of its superblocks and windows.
 #![tactic(auto)]
 
-mod bytes;
 mod page_state;
 mod place;
 mod rows;

@@ -4,9 +4,9 @@ ghost use Rattle.std.specs.Prelude.{◌≡◌, ◌+◌, ◌*◌, ◌<◌, ◌≤
 ghost use Rattle.std.specs.Option.{option_map};
 ghost use Rattle.rep_layout.specs.PageStates.{state_code, state_of, code_at, state_byte, state_bytes, quarter, code_in, states_in};
 
-use crate::bytes::put_bytes;
 use crate::place::Slot;
 use arrayvec::ArrayVec;
+use rep_types::bytes::put_bytes;
 
 /// The greatest number of pages.
 pub const MAX_PAGES: usize = 4_096;

@@ -3,15 +3,15 @@
 ghost use Rattle.std.specs.Prelude.{◌≡◌, ◌+◌, ◌-◌, ◌*◌, ◌≤◌, ◌++◌, length, IfOk, IfErr, Ok};
 ghost use Rattle.std.specs.List.{flat_map};
 ghost use Rattle.rep_types.specs.declared.refusal.Part.TheVariants.{Superblock};
-ghost use Rattle.rep_layout.specs.Bytes.{four_bytes, zeros, begins_with};
+ghost use Rattle.rep_types.specs.Bytes.{four_bytes, zeros, begins_with};
 ghost use Rattle.rep_layout.specs.Supers.{super_mark, setting_bytes, IsSuper, head_bytes, place_bytes, super_bytes, SuperblocksAreTold};
 ghost use Rattle.rep_layout.specs.SuperReading.{rows_in, setting_in, super_in, is_bounded, spelled_super, super_of};
 ghost use Rattle.rep_layout.specs.declared.super_body.SuperBody.{SuperBody};
 
-use crate::bytes::{put_bytes, put_u16, put_u32, put_u64, put_zeros, u16_at, u32_at, u64_at};
 use crate::page_state::{PageState, put_states, read_states};
 use crate::place::SUPER_BODY;
 use arrayvec::ArrayVec;
+use rep_types::bytes::{put_bytes, put_u16, put_u32, put_u64, put_zeros, u16_at, u32_at, u64_at};
 use rep_types::{MAX_SEQNO, Params, Part, Refusal};
 use uuid::Uuid;
 
@@ -71,7 +71,7 @@ fn put_mark(out: &mut Bytes)
 }
 
 /// Puts the rows of each table, and zeros for the tables that are not there: 32 bytes.
-#[tactic(auto, using(crate::proofs::Sizes::sizes, crate::proofs::Sizes::joined))]
+#[tactic(auto, using(rep_types::proofs::Spellings::sizes, rep_types::proofs::Spellings::joined))]
 fn put_rows(out: &mut Bytes, rows: &[u32])
     requires room { length out.old.items + 32 ≤ 3584 }
     requires few { length rows.now ≤ 8 }
@@ -85,7 +85,7 @@ fn put_rows(out: &mut Bytes, rows: &[u32])
 }
 
 /// Puts the parameters: 40 bytes.
-#[tactic(auto, using(crate::proofs::Sizes::sizes, crate::proofs::Sizes::joined))]
+#[tactic(auto, using(rep_types::proofs::Spellings::sizes, rep_types::proofs::Spellings::joined))]
 fn put_setting(out: &mut Bytes, params: &Params)
     requires { length out.old.items + 40 ≤ 3584 }
     ensures bytes { out.new.items ≡ out.old.items ++ setting_bytes params.now }
@@ -161,7 +161,7 @@ fn read_format_1(bytes: &[u8]) -> Option<SuperBody>
 }
 
 /// The body of the format that the first eight bytes name.
-#[tactic(auto, unfolding(crate::specs::SuperReading::super_of, crate::specs::Bytes::begins_with, crate::specs::Supers::super_mark))]
+#[tactic(auto, unfolding(crate::specs::SuperReading::super_of, rep_types::specs::Bytes::begins_with, crate::specs::Supers::super_mark))]
 fn read_super(bytes: &[u8]) -> Option<SuperBody>
     ensures { result ≡ super_of bytes.now }
 {
@@ -177,7 +177,7 @@ fn read_super(bytes: &[u8]) -> Option<SuperBody>
 
 impl SuperBody {
     /// Puts the mark, the number, the UUID and the parameters: 72 bytes.
-    #[tactic(auto, using(crate::proofs::Sizes::sizes, crate::proofs::Sizes::joined))]
+    #[tactic(auto, using(rep_types::proofs::Spellings::sizes, rep_types::proofs::Spellings::joined))]
     fn put_head(&self, out: &mut Bytes)
         requires { length out.old.items + 72 ≤ 3584 }
         ensures bytes { out.new.items ≡ out.old.items ++ head_bytes self.now }
@@ -190,7 +190,7 @@ impl SuperBody {
     }
 
     /// Puts the position, the start and the number of pages: 56 bytes.
-    #[tactic(auto, using(crate::proofs::Sizes::sizes, crate::proofs::Sizes::joined))]
+    #[tactic(auto, using(rep_types::proofs::Spellings::sizes, rep_types::proofs::Spellings::joined))]
     fn put_place(&self, out: &mut Bytes)
         requires { length out.old.items + 56 ≤ 3584 }
         ensures bytes { out.new.items ≡ out.old.items ++ place_bytes self.now }
@@ -213,7 +213,7 @@ impl SuperBody {
     }
 
     /// Whether the bytes begin with the body's spelling.
-    #[tactic(auto, unfolding(crate::specs::Bytes::begins_with))]
+    #[tactic(auto, unfolding(rep_types::specs::Bytes::begins_with))]
     fn begins(&self, bytes: &[u8]) -> bool
         ensures { result ≡ begins_with (super_bytes self.now) bytes.now }
     {
@@ -221,7 +221,7 @@ impl SuperBody {
     }
 
     /// The bytes of the superblock's body, 3,584.
-    #[tactic(auto, using(crate::proofs::Sizes::sizes, crate::proofs::Sizes::joined))]
+    #[tactic(auto, using(rep_types::proofs::Spellings::sizes, rep_types::proofs::Spellings::joined))]
     pub fn write_body(&self) -> ArrayVec<u8, 3584>
         ensures bytes { result.items ≡ super_bytes self.now }
         ensures size { length result.items ≡ 3584 }

@@ -1,13 +1,13 @@
 //! The window that a disk keeps beside a superblock, as bytes.
 
 ghost use Rattle.std.specs.Prelude.{◌≡◌, ◌+◌, ◌*◌, ◌≤◌, ◌↔◌, ◌++◌, length, IfSome, IsSome};
-ghost use Rattle.rep_layout.specs.Bytes.{key_bytes};
+ghost use Rattle.rep_types.specs.Bytes.{key_bytes};
 ghost use Rattle.rep_layout.specs.Windows.{window, window_mark, entry_bytes, run_bytes, window_head, window_bytes};
 
-use crate::bytes::{put_bytes, put_u16, put_u32, put_u64, put_zeros};
 use crate::place::WINDOW_BODY;
 use arrayvec::ArrayVec;
-use rep_types::{Entry, Key};
+use rep_types::Entry;
+use rep_types::bytes::{put_bytes, put_key, put_u16, put_u64, put_zeros};
 
 /// The greatest number of entries.
 pub const MAX_ENTRIES: usize = 256;
@@ -15,19 +15,8 @@ pub const MAX_ENTRIES: usize = 256;
 /// The first eight bytes of the format.
 pub(crate) const MARK: &[u8; 8] = b"REPWIND1";
 
-/// Puts a key: 5 bytes.
-#[tactic(auto, using(crate::proofs::Sizes::sizes, crate::proofs::Sizes::joined))]
-fn put_key(out: &mut ArrayVec<u8, 89>, key: Key)
-    requires { length out.old.items + 5 ≤ 89 }
-    ensures bytes { out.new.items ≡ out.old.items ++ key_bytes key }
-    ensures size { length out.new.items ≡ length out.old.items + 5 }
-{
-    put_bytes(out, &[key.table]);
-    put_u32(out, key.row);
-}
-
 /// The bytes of an entry: 8 for its seqno, 1 for the number of its keys, and 5 for each key.
-#[tactic(auto, using(crate::proofs::Sizes::sizes, crate::proofs::Sizes::joined), unfolding(crate::specs::Windows::entry_bytes))]
+#[tactic(auto, using(rep_types::proofs::Spellings::sizes, rep_types::proofs::Spellings::joined), unfolding(crate::specs::Windows::entry_bytes))]
 pub(crate) fn spell_entry(entry: &Entry) -> ArrayVec<u8, 89>
     ensures bytes { result.items ≡ entry_bytes entry.now }
     ensures size { length (entry_bytes entry.now) ≤ 89 }
@@ -66,7 +55,7 @@ pub struct WindowBody<'a> {
 
 impl WindowBody<'_> {
     /// Puts what stands before the entries: 256 bytes.
-    #[tactic(auto, using(crate::proofs::Sizes::sizes, crate::proofs::Sizes::joined), unfolding(crate::specs::Windows::window_mark))]
+    #[tactic(auto, using(rep_types::proofs::Spellings::sizes, rep_types::proofs::Spellings::joined), unfolding(crate::specs::Windows::window_mark))]
     fn put_head(&self, out: &mut ArrayVec<u8, 23040>)
         requires room { length out.old.items + 256 ≤ 23040 }
         requires few { length self.now.entries.now ≤ 256 }
@@ -81,7 +70,7 @@ impl WindowBody<'_> {
     }
 
     /// The bytes of the window's body, 23,040; None where there are more than 256 entries.
-    #[tactic(auto, using(crate::proofs::Sizes::sizes, crate::proofs::Sizes::joined))]
+    #[tactic(auto, using(rep_types::proofs::Spellings::sizes, rep_types::proofs::Spellings::joined))]
     pub fn write_body(&self) -> Option<ArrayVec<u8, 23040>>
         ensures fits { IsSome result ↔ (length self.now.entries.now ≤ 256) }
         ensures bytes { IfSome result (λ b. b.items ≡ window_bytes (window self.now.number self.now.position self.now.entries.now)) }

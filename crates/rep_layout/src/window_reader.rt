@@ -7,12 +7,12 @@ ghost use Rattle.rep_types.specs.declared.refusal.Part.TheVariants.{Window as Wi
 ghost use Rattle.rep_types.specs.Keys.{disorder};
 ghost use Rattle.rep_types.specs.Settings.{has_row};
 ghost use Rattle.rep_layout.specs.Windows.{Window, with_first, IsWindowBody, window_bytes, WindowsAreTold};
-ghost use Rattle.rep_layout.specs.WindowReading.{keys_in, entry_in, front_entry, is_entry, are_blank, entries_stand, is_spelled, spelled_window, window_of};
+ghost use Rattle.rep_layout.specs.WindowReading.{keys_in, entry_in, front_entry, is_entry, entries_stand, is_spelled, spelled_window, window_of};
 
-use crate::bytes::{u16_at, u32_at, u64_at};
 use crate::place::WINDOW_BODY;
 use crate::window_body::{MARK, spell_entry};
 use arrayvec::ArrayVec;
+use rep_types::bytes::{are_blank, u16_at, u32_at, u64_at};
 use rep_types::{Entry, Key, MAX_WRITES, Params, Part, Refusal};
 use std::marker::Model;
 
@@ -86,7 +86,7 @@ fn read_entry(bytes: &[u8]) -> Option<Entry>
 }
 
 /// The entry that is spelled in front, and the bytes behind it.
-#[tactic(auto, unfolding(crate::specs::WindowReading::front_entry, crate::specs::Bytes::begins_with))]
+#[tactic(auto, unfolding(crate::specs::WindowReading::front_entry, rep_types::specs::Bytes::begins_with))]
 fn read_front(bytes: &[u8]) -> Option<(Entry, &[u8])>
     ensures { option_map (λ x. (x.0, x.1.now)) result ≡ front_entry bytes.now }
 {
@@ -130,13 +130,6 @@ fn is_entry(params: &Params, position: u64, before: u64, entry: &Entry) -> bool
         && !keys.is_empty()
         && is_ascending(keys)
         && are_rows(params, keys)
-}
-
-/// Whether all of the bytes are zero.
-fn are_blank(bytes: &[u8]) -> bool
-    ensures { result ≡ are_blank bytes.now }
-{
-    bytes.iter().all(|byte| *byte == 0)
 }
 
 /// Whether the bytes are so many entries of the window of the position, and zeros.
@@ -189,7 +182,7 @@ fn read_format_1<'a>(params: &Params, bytes: &'a [u8]) -> Option<WindowReader<'a
 }
 
 /// The body of the format that the first eight bytes name.
-#[tactic(auto, unfolding(crate::specs::WindowReading::window_of, crate::specs::Bytes::begins_with, crate::specs::Windows::window_mark))]
+#[tactic(auto, unfolding(crate::specs::WindowReading::window_of, rep_types::specs::Bytes::begins_with, crate::specs::Windows::window_mark))]
 fn read_window<'a>(params: &Params, bytes: &'a [u8]) -> Option<WindowReader<'a>>
     ensures { result ≡ window_of params.now bytes.now }
 {

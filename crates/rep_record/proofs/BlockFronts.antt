@@ -1,26 +1,25 @@
 -- What is read as a block is spelled so, and what is spelled so is read.
-use Rattle.std.proofs.Common.{◌≡◌, ℕ, zero, suc, ◌+◌, ◌-◌, ◌^◌, ◌<◌, ◌≤◌, Bool, true, false, eqb, List, [], ◌∷◌, ◌++◌, length, take, drop, Option, Some, None, Result, Ok, Err, refl, sym, ap, subst, ◌∙◌, append_assoc, arith, inl, inr, length-append, length-drop, length-take}
-use Rattle.std.specs.Prelude.{replicate, is_some, IfOk, IfErr}
-use Rattle.std.specs.Int.{w16, w64, from_be_bytes}
-use Rattle.std.specs.List.{list_all, AllByRecursion}
-use Rattle.std.proofs.lemmas.Bool.{eqb-true, eqb-false}
-use Rattle.std.proofs.lemmas.List.{take_at, drop_at, take-append-drop, drop-drop, nil_from_length, append-nil, length-replicate}
+use Rattle.std.proofs.Common.{◌≡◌, ℕ, zero, suc, ◌+◌, ◌-◌, ◌^◌, ◌<◌, ◌≤◌, Bool, true, false, eqb, List, [], ◌∷◌, ◌++◌, length, take, drop, Option, Some, None, Result, Ok, Err, refl, sym, ap, subst, ◌∙◌, append_assoc, arith, inl, inr, length-append, length-drop}
+use Rattle.std.specs.Prelude.{is_some, IfOk, IfErr}
+use Rattle.std.specs.List.{AllByRecursion}
+use Rattle.std.proofs.lemmas.Bool.{eqb-false}
+use Rattle.std.proofs.lemmas.List.{drop_at, drop-drop, nil_from_length, append-nil}
 use Rattle.std.proofs.lemmas.List.Concat.{flat_map-cons}
 use Rattle.std.proofs.lemmas.Option.{same_Some}
 use Rattle.std.specs.Option.{option_map_or}
-use Rattle.std.proofs.lemmas.Nat.{be_bytes_2, be_bytes_8, from_be_bytes-to_be_bytes_2, from_be_bytes-to_be_bytes_8}
 use Rattle.rep_types.specs.declared.judged.Judged.{Judged}
 use Rattle.rep_types.specs.declared.refusal.Refusal.{Refusal}
-use Rattle.rep_record.specs.Records.{two_bytes, eight_bytes, record_bytes}
+use Rattle.rep_types.specs.Bytes.{two_bytes, eight_bytes, zeros, are_blank}
+use Rattle.rep_record.specs.Records.{record_bytes}
 use Rattle.rep_record.specs.RecordForm.{IsRecord, IsFront}
 use Rattle.rep_record.specs.Reading.{◌>>=◌}
 use Rattle.rep_record.specs.RecordReading.{front_record}
 use Rattle.rep_record.specs.BlockForm.{first_seqno, SeqnosFrom, run_bytes, Contents, contents, IsBlock, block_bytes, cell_in, first_in, count_in, HasHead, SpelledTo, RunTo, StopsAt, IsBlank, Refuses, IsRead}
 use Rattle.rep_record.specs.BlockReading.{records_at, records_in}
-use Rattle.rep_record.proofs.Sizes.{length-two_bytes, length-eight_bytes}
+use Rattle.rep_types.proofs.Spellings.{length-two_bytes, length-eight_bytes, length-zeros, zeros_blank, blank_is, two_again, eight_again, behind, IsBytes, drop_fits, take_fits, below_64, eight_there, two_there}
 use Rattle.rep_record.proofs.Forms.{bind_some}
 use Rattle.rep_record.proofs.RecordFronts.{told_apart}
-use Rattle.rep_record.proofs.RecordRanges.{IsBytes, drop_fits, take_fits, below_64, both, front_again}
+use Rattle.rep_record.proofs.RecordRanges.{front_again}
 use Rattle.rep_record.proofs.Runs.{run_more, all_more, follow_more, follows, all_behind, begins_run}
 
 -- dropping twice
@@ -86,37 +85,10 @@ first_is : (n : ℕ) (records : List Judged) → 1 ≤ length records → Seqnos
 first_is n [] some h = absurd (omega (arith, some))
 first_is n (j ∷ records) some h = h.0
 
--- numbers stand in front of what is behind them
-eight_there : (bytes : List ℕ) → 8 ≤ length bytes → IsBytes bytes → bytes ≡ eight_bytes (from_be_bytes w64 (take 8 bytes)) ++ drop 8 bytes
-unfolding eight_bytes
-eight_there bytes long fits =
-    let back = be_bytes_8 (take 8 bytes) (from_be_bytes w64 (take 8 bytes)) (omega (arith, length-take 8 bytes)) (take_fits 8 bytes fits) refl in
-    sym (ap (λ front. front ++ drop 8 bytes) back ∙ take-append-drop 8 bytes)
-
--- the same of 2 bytes
-two_there : (bytes : List ℕ) → 2 ≤ length bytes → IsBytes bytes → bytes ≡ two_bytes (from_be_bytes w16 (take 2 bytes)) ++ drop 2 bytes
-unfolding two_bytes
-two_there bytes long fits =
-    let back = be_bytes_2 (take 2 bytes) (from_be_bytes w16 (take 2 bytes)) (omega (arith, length-take 2 bytes)) (take_fits 2 bytes fits) refl in
-    sym (ap (λ front. front ++ drop 2 bytes) back ∙ take-append-drop 2 bytes)
-
--- bytes that all are zero
-blank_is : (bytes : List ℕ) → list_all (λ b. eqb b 0) bytes ≡ true → bytes ≡ replicate (length bytes) 0
-blank_is [] e = refl
-blank_is (b ∷ bytes) e =
-    let p = both (eqb b 0) (list_all (λ c. eqb c 0) bytes) e in
-    let zero_is : b ≡ 0 = eqb-true b 0 p.0 in
-    subst (λ (c : ℕ). (c ∷ bytes) ≡ 0 ∷ replicate (length bytes) 0) (sym zero_is) (ap (λ rest. 0 ∷ rest) (blank_is bytes p.1))
-
 -- what is false isn't true
 pub not_false : (b : Bool) → b ≡ false → b ≡ true → ⊥
 not_false true e h = cc
 not_false false e h = cc
-
--- zeros all are
-zeros_blank : (n : ℕ) → list_all (λ b. eqb b 0) (replicate n 0) ≡ true
-zeros_blank zero = refl
-zeros_blank (suc n) = zeros_blank n
 
 -- what is read is a block
 pub block_read : (bytes : List ℕ) (cell : ℕ) (records : List Judged) → IsBytes bytes → IsRead bytes cell records → IsBlock cell records × (bytes ≡ block_bytes cell records)
@@ -127,18 +99,18 @@ block_read bytes cell records fits h =
     let one = eight_there bytes (omega (arith, size)) fits in
     let two = eight_there (drop 8 bytes) (omega (arith, size, length-drop 8 bytes)) (drop_fits 8 bytes fits) in
     let three = two_there (drop 16 bytes) (omega (arith, size, length-drop 16 bytes)) (drop_fits 16 bytes fits) in
-    let zeros : drop h.end bytes ≡ replicate (7662 - length (run_bytes records)) 0 =
-    blank_is (drop h.end bytes) h.blank ∙ ap (λ n. replicate n 0) (omega (arith, length-drop h.end bytes, h.spelled.place, size)) in
-    let behind : drop 18 bytes ≡ run_bytes records ++ replicate (7662 - length (run_bytes records)) 0 = h.spelled.there ∙ ap (λ rest. run_bytes records ++ rest) zeros in
-    let third : drop 16 bytes ≡ two_bytes (length records) ++ (run_bytes records ++ replicate (7662 - length (run_bytes records)) 0) =
+    let filling : drop h.end bytes ≡ zeros (7662 - length (run_bytes records)) =
+    blank_is (drop h.end bytes) h.blank ∙ ap zeros (omega (arith, length-drop h.end bytes, h.spelled.place, size)) in
+    let behind : drop 18 bytes ≡ run_bytes records ++ zeros (7662 - length (run_bytes records)) = h.spelled.there ∙ ap (λ rest. run_bytes records ++ rest) filling in
+    let third : drop 16 bytes ≡ two_bytes (length records) ++ (run_bytes records ++ zeros (7662 - length (run_bytes records))) =
     three ∙ ap (λ rest. two_bytes (count_in bytes) ++ rest) (drop_twice 16 2 bytes ∙ behind)
-    ∙ ap (λ n. two_bytes n ++ (run_bytes records ++ replicate (7662 - length (run_bytes records)) 0)) (sym h.all) in
-    let second : drop 8 bytes ≡ eight_bytes (first_seqno records) ++ (two_bytes (length records) ++ (run_bytes records ++ replicate (7662 - length (run_bytes records)) 0)) =
+    ∙ ap (λ n. two_bytes n ++ (run_bytes records ++ zeros (7662 - length (run_bytes records)))) (sym h.all) in
+    let second : drop 8 bytes ≡ eight_bytes (first_seqno records) ++ (two_bytes (length records) ++ (run_bytes records ++ zeros (7662 - length (run_bytes records)))) =
     two ∙ ap (λ rest. eight_bytes (first_in bytes) ++ rest) (drop_twice 8 8 bytes ∙ third)
-    ∙ ap (λ n. eight_bytes n ++ (two_bytes (length records) ++ (run_bytes records ++ replicate (7662 - length (run_bytes records)) 0))) (sym first) in
+    ∙ ap (λ n. eight_bytes n ++ (two_bytes (length records) ++ (run_bytes records ++ zeros (7662 - length (run_bytes records))))) (sym first) in
     let whole : bytes ≡ block_bytes cell records =
     one ∙ ap (λ rest. eight_bytes (cell_in bytes) ++ rest) second
-    ∙ ap (λ n. eight_bytes n ++ (eight_bytes (first_seqno records) ++ (two_bytes (length records) ++ (run_bytes records ++ replicate (7662 - length (run_bytes records)) 0)))) (sym h.is_cell) in
+    ∙ ap (λ n. eight_bytes n ++ (eight_bytes (first_seqno records) ++ (two_bytes (length records) ++ (run_bytes records ++ zeros (7662 - length (run_bytes records)))))) (sym h.is_cell) in
     let small : cell_in bytes < 2 ^ 64 = below_64 (take 8 bytes) (take_fits 8 bytes fits) in (
       record {
         cell_fits = omega (arith, h.is_cell, small);
@@ -159,17 +131,7 @@ record Says (bytes : List ℕ) (cell : ℕ) (records : List Judged) : Type 0 whe
   is_cell : cell_in bytes ≡ cell
   is_first : first_in bytes ≡ first_seqno records
   is_count : count_in bytes ≡ length records
-  behind : drop 18 bytes ≡ run_bytes records ++ replicate (7662 - length (run_bytes records)) 0
-
--- the number of bytes that spell one
-from_eight : (n : ℕ) → n < 2 ^ 64 → from_be_bytes w64 (eight_bytes n) ≡ n
-unfolding eight_bytes
-from_eight n lt = from_be_bytes-to_be_bytes_8 n lt
-
--- the same of 2 bytes
-from_two : (n : ℕ) → n < 2 ^ 16 → from_be_bytes w16 (two_bytes n) ≡ n
-unfolding two_bytes
-from_two n lt = from_be_bytes-to_be_bytes_2 n lt
+  behind : drop 18 bytes ≡ run_bytes records ++ zeros (7662 - length (run_bytes records))
 
 -- the first seqno of a block is small
 first_small : (records : List Judged) → AllByRecursion IsRecord records → first_seqno records < 2 ^ 64
@@ -179,26 +141,22 @@ first_small (j ∷ records) h = omega (arith, h.0.seqno)
 -- a block says what it holds
 says : (bytes : List ℕ) (cell : ℕ) (records : List Judged) → IsBlock cell records → bytes ≡ block_bytes cell records → Says bytes cell records
 says bytes cell records h e =
-    let zeros : List ℕ = replicate (7662 - length (run_bytes records)) 0 in
-    let third : List ℕ = two_bytes (length records) ++ (run_bytes records ++ zeros) in
+    let filling : List ℕ = zeros (7662 - length (run_bytes records)) in
+    let third : List ℕ = two_bytes (length records) ++ (run_bytes records ++ filling) in
     let second : List ℕ = eight_bytes (first_seqno records) ++ third in
-    let at_8 : drop 8 bytes ≡ second = ap (drop 8) e ∙ drop_at (eight_bytes cell) second 8 (length-eight_bytes cell) in
-    let at_16 : drop 16 bytes ≡ third = sym (drop_twice 8 8 bytes) ∙ ap (drop 8) at_8 ∙ drop_at (eight_bytes (first_seqno records)) third 8 (length-eight_bytes (first_seqno records)) in
-    let at_18 : drop 18 bytes ≡ run_bytes records ++ zeros = sym (drop_twice 16 2 bytes) ∙ ap (drop 2) at_16 ∙ drop_at (two_bytes (length records)) (run_bytes records ++ zeros) 2 (length-two_bytes (length records)) in
-    let count : count_in bytes ≡ length records =
-    ap (λ xs. from_be_bytes w16 (take 2 xs)) at_16 ∙ ap (from_be_bytes w16) (take_at (two_bytes (length records)) (run_bytes records ++ zeros) 2 (length-two_bytes (length records)))
-    ∙ from_two (length records) (omega (arith, h.few)) in
-    let tail : length (run_bytes records ++ zeros) ≡ 7662 = omega (arith, length-append (run_bytes records) zeros, length-replicate {A = ℕ} (7662 - length (run_bytes records)) 0, h.fits) in
+    let at_8 : drop 8 bytes ≡ second = behind 8 0 bytes (eight_bytes cell) second (length-eight_bytes cell) e in
+    let at_16 : drop 16 bytes ≡ third = behind 8 8 bytes (eight_bytes (first_seqno records)) third (length-eight_bytes (first_seqno records)) at_8 in
+    let at_18 : drop 18 bytes ≡ run_bytes records ++ filling = behind 2 16 bytes (two_bytes (length records)) (run_bytes records ++ filling) (length-two_bytes (length records)) at_16 in
+    let count : count_in bytes ≡ length records = two_again (length records) 16 bytes (run_bytes records ++ filling) (omega (arith, h.few)) at_16 in
+    let tail : length (run_bytes records ++ filling) ≡ 7662 = omega (arith, length-append (run_bytes records) filling, length-zeros (7662 - length (run_bytes records)), h.fits) in
     record {
       head = record {
-        size = ap length e ∙ omega (arith, length-append (eight_bytes cell) second, length-append (eight_bytes (first_seqno records)) third, length-append (two_bytes (length records)) (run_bytes records ++ zeros), length-eight_bytes cell, length-eight_bytes (first_seqno records), length-two_bytes (length records), tail);
+        size = ap length e ∙ omega (arith, length-append (eight_bytes cell) second, length-append (eight_bytes (first_seqno records)) third, length-append (two_bytes (length records)) (run_bytes records ++ filling), length-eight_bytes cell, length-eight_bytes (first_seqno records), length-two_bytes (length records), tail);
         some = omega (arith, count, h.some);
         few = omega (arith, count, h.few);
       };
-      is_cell = ap (λ xs. from_be_bytes w64 (take 8 xs)) e ∙ ap (from_be_bytes w64) (take_at (eight_bytes cell) second 8 (length-eight_bytes cell)) ∙ from_eight cell h.cell_fits;
-      is_first =
-          ap (λ xs. from_be_bytes w64 (take 8 xs)) at_8 ∙ ap (from_be_bytes w64) (take_at (eight_bytes (first_seqno records)) third 8 (length-eight_bytes (first_seqno records)))
-          ∙ from_eight (first_seqno records) (first_small records h.are_records);
+      is_cell = eight_again cell 0 bytes second h.cell_fits e;
+      is_first = eight_again (first_seqno records) 8 bytes third (first_small records h.are_records) at_8;
       is_count = count;
       behind = at_18;
     }
@@ -207,27 +165,27 @@ says bytes cell records h e =
 run_is : (bytes : List ℕ) (cell : ℕ) (js : List Judged) (end : ℕ) (records : List Judged) → IsBlock cell js → Says bytes cell js → SpelledTo bytes end records → length records ≡ count_in bytes
     → (records ≡ js) × IsBlank end bytes
 run_is bytes cell js end records b s h all =
-    let zeros : List ℕ = replicate (7662 - length (run_bytes js)) 0 in
-    let r = begins_run records js (drop end bytes) zeros h.are_records b.are_records (omega (arith, all, s.is_count)) (sym h.there ∙ s.behind) in
+    let filling : List ℕ = zeros (7662 - length (run_bytes js)) in
+    let r = begins_run records js (drop end bytes) filling h.are_records b.are_records (omega (arith, all, s.is_count)) (sym h.there ∙ s.behind) in
     let none : r.0 ≡ [] = nil_from_length r.0 (omega (arith, all, s.is_count, ap length r.1, length-append records r.0)) in
-    let blank : drop end bytes ≡ zeros = r.2 ∙ ap (λ more. run_bytes more ++ zeros) none in
-    (sym (r.1 ∙ ap (λ more. records ++ more) none ∙ append-nil records), ap (list_all (λ b. eqb b 0)) blank ∙ zeros_blank (7662 - length (run_bytes js)))
+    let blank : drop end bytes ≡ filling = r.2 ∙ ap (λ more. run_bytes more ++ filling) none in
+    (sym (r.1 ∙ ap (λ more. records ++ more) none ∙ append-nil records), ap are_blank blank ∙ zeros_blank (7662 - length (run_bytes js)))
 
 -- a block has no record that isn't of the form
 never_stops : (bytes : List ℕ) (cell : ℕ) (js more : List Judged) (at : ℕ) → IsBlock cell js → Says bytes cell js → (h : StopsAt bytes at) → js ≡ h.before ++ more
-    → drop at bytes ≡ run_bytes more ++ replicate (7662 - length (run_bytes js)) 0 → ⊥
+    → drop at bytes ≡ run_bytes more ++ zeros (7662 - length (run_bytes js)) → ⊥
 never_stops bytes cell js [] at b s h e there = omega (arith, h.fewer, s.is_count, ap length e, length-append h.before [])
 never_stops bytes cell js (j ∷ more) at b s h e there =
-    let zeros : List ℕ = replicate (7662 - length (run_bytes js)) 0 in
+    let filling : List ℕ = zeros (7662 - length (run_bytes js)) in
     let all : AllByRecursion IsRecord (j ∷ more) = all_behind IsRecord h.before (j ∷ more) (subst (λ (rs : List Judged). AllByRecursion IsRecord rs) e b.are_records) in
     let seqno : j.seqno ≡ first_seqno js + length h.before = follows (first_seqno js) h.before j more (subst (λ (rs : List Judged). SeqnosFrom (first_seqno js) rs) e b.follow) in
-    h.none j (run_bytes more ++ zeros) all.0 (omega (arith, seqno, s.is_first)) (there ∙ append_assoc (record_bytes j) (run_bytes more) zeros)
+    h.none j (run_bytes more ++ filling) all.0 (omega (arith, seqno, s.is_first)) (there ∙ append_assoc (record_bytes j) (run_bytes more) filling)
 
 -- so it stops nowhere
 stops_never : (bytes : List ℕ) (cell : ℕ) (js : List Judged) (at : ℕ) → IsBlock cell js → Says bytes cell js → StopsAt bytes at → ⊥
 stops_never bytes cell js at b s h =
-    let zeros : List ℕ = replicate (7662 - length (run_bytes js)) 0 in
-    let r = begins_run h.before js (drop at bytes) zeros h.spelled.are_records b.are_records (omega (arith, h.fewer, s.is_count)) (sym h.spelled.there ∙ s.behind) in
+    let filling : List ℕ = zeros (7662 - length (run_bytes js)) in
+    let r = begins_run h.before js (drop at bytes) filling h.spelled.are_records b.are_records (omega (arith, h.fewer, s.is_count)) (sym h.spelled.there ∙ s.behind) in
     never_stops bytes cell js r.0 at b s h r.1 r.2
 
 -- so a block isn't refused

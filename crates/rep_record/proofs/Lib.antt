@@ -8,7 +8,6 @@ pub mod Outcomes
 pub mod TextLines
 pub mod NextLine
 pub mod Writing
-pub mod Sizes
 pub mod Repeats
 pub mod RecordFronts
 pub mod RecordRanges

@@ -15,7 +15,8 @@ use Rattle.rep_types.specs.declared.verdict.Verdict.{Verdict}
 use Rattle.rep_types.specs.declared.verdict.Verdict.TheVariants.{Commit, Conflict, Stale, Future, BadKey}
 use Rattle.rep_types.specs.Transactions.{Transaction, IsWithinLimits, HasShortValue, checked}
 use Rattle.rep_record.specs.declared.record_reader.Labels.{Labels}
-use Rattle.rep_record.specs.Records.{two_bytes, four_bytes, eight_bytes, key_bytes, value_bytes, write_bytes, verdict_code, conflict_seqno, verdict_bytes, label_bytes, body_bytes, record_bytes}
+use Rattle.rep_types.specs.Bytes.{two_bytes, four_bytes, eight_bytes, key_bytes}
+use Rattle.rep_record.specs.Records.{value_bytes, write_bytes, verdict_code, conflict_seqno, verdict_bytes, label_bytes, body_bytes, record_bytes}
 use Rattle.rep_record.specs.RecordForm.{KeyFits, WriteFits, IsVerdictAt, IsRecord}
 use Rattle.rep_record.specs.RecordReading.{part_at, number_at, byte_at, labels_at, verdict_of, verdict_at, key_at, put_at, value_at, write_at, each_at, few_at, lists_at, record_at}
 use Rattle.rep_record.proofs.Repeats.{few_is}

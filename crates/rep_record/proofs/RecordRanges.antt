@@ -1,13 +1,10 @@
 -- What is read as a record has numbers in the range of their types, and where it is spelled so it is one.
-use Rattle.std.proofs.Common.{◌≡◌, ℕ, zero, suc, ◌+◌, ◌^◌, ◌<◌, Bool, true, false, cond, eqb, ltb, leb, List, [], ◌∷◌, ◌++◌, length, get_or, take, drop, Option, Some, None, Result, Ok, Err, refl, sym, ap, subst, ◌∙◌, arith, inl, inr, length-append}
+use Rattle.std.proofs.Common.{◌≡◌, ℕ, zero, suc, ◌^◌, ◌<◌, Bool, true, false, cond, eqb, ltb, leb, List, [], ◌∷◌, ◌++◌, length, take, drop, Option, Some, None, Result, Ok, Err, refl, sym, ap, subst, ◌∙◌, arith, length-append}
 use Rattle.std.specs.Prelude.{IfSome, IfOk, ◌&&◌}
 use Rattle.std.specs.Int.{Width, w16, w32, w64, byte_len, from_be_bytes}
 use Rattle.std.specs.Option.{ok_or}
-use Rattle.std.specs.List.{AllByRecursion, starts_with}
-use Rattle.std.proofs.lemmas.Bool.{cases_lt, ltb-true, leb-true, le-leb, lt-ltb}
-use Rattle.std.proofs.lemmas.Bool.Decides.{Decides-eqb}
-use Rattle.std.proofs.lemmas.Slice.Eq.{starts_is}
-use Rattle.std.proofs.lemmas.List.{length-take, get_or-drop, get_or-take, get_or_past}
+use Rattle.std.specs.List.{AllByRecursion}
+use Rattle.std.proofs.lemmas.Bool.{ltb-true, leb-true, le-leb, lt-ltb}
 use Rattle.std.proofs.lemmas.Option.{same_Some, cond_some}
 use Rattle.rep_types.specs.declared.key.Key.{Key}
 use Rattle.rep_types.specs.declared.value.Write.{Write}
@@ -16,34 +13,15 @@ use Rattle.rep_types.specs.declared.refusal.Refusal.{Refusal}
 use Rattle.rep_types.specs.declared.verdict.Verdict.{Verdict}
 use Rattle.rep_types.specs.declared.verdict.Verdict.TheVariants.{Commit, Conflict, Stale, Future, BadKey}
 use Rattle.rep_types.specs.Transactions.{Transaction, transaction, IsWithinLimits, checked, in_order, misplaced}
+use Rattle.rep_types.specs.Bytes.{begins_with}
+use Rattle.rep_types.proofs.Spellings.{both, IsBytes, drop_fits, take_fits, all_fit, below_64, begins_is}
 use Rattle.rep_record.specs.declared.record_reader.Labels.{Labels}
 use Rattle.rep_record.specs.Records.{record_bytes}
 use Rattle.rep_record.specs.RecordForm.{KeyFits, AreBytes, WriteFits, IsVerdictAt, IsRecord, IsFront}
 use Rattle.rep_record.specs.Reading.{◌>>=◌, given}
-use Rattle.rep_record.specs.RecordReading.{part_at, number_at, byte_at, labels_at, verdict_of, verdict_at, key_at, put_at, value_at, write_at, each_at, few_at, lists_at, unrefused, record_at, is_verdict_at, is_placed, begins_with, front_record}
+use Rattle.rep_record.specs.RecordReading.{part_at, number_at, byte_at, labels_at, verdict_of, verdict_at, key_at, put_at, value_at, write_at, each_at, few_at, lists_at, unrefused, record_at, is_verdict_at, is_placed, front_record}
 use Rattle.rep_record.proofs.Forms.{bind_some}
 use Rattle.rep_record.proofs.RecordFronts.{record_again}
-
--- each is a byte
-abbrev pub IsBytes : List ℕ → Type 0
-IsBytes bytes = (i : ℕ) → get_or bytes i 0 < 256
-
--- a rest of bytes is of bytes
-pub drop_fits : (n : ℕ) (bytes : List ℕ) → IsBytes bytes → IsBytes (drop n bytes)
-drop_fits n bytes h i = rw get_or-drop (h (n + i))
-
--- a front of bytes is of bytes
-pub take_fits : (n : ℕ) (bytes : List ℕ) → IsBytes bytes → IsBytes (take n bytes)
-take_fits n bytes h i =
-    elim (cases_lt i n) [
-      | inl lt ↦ rw (get_or-take n bytes i 0 lt) (h i)
-      | inr le ↦ rw (get_or_past (take n bytes) i 0 (omega (arith, length-take n bytes))) (omega arith)
-    ]
-
--- the same, by recursion
-all_fit : (bytes : List ℕ) → IsBytes bytes → AreBytes bytes
-all_fit [] h = tt
-all_fit (b ∷ bytes) h = (omega (arith, h 0), all_fit bytes (λ i. h (suc i)))
 
 -- what was read is in this range, and what stands behind it is of bytes
 abbrev Within : {A : Type 0} → (A → Type 0) → A × List ℕ → Type 0
@@ -59,13 +37,9 @@ part_within : (n : ℕ) (bytes : List ℕ) (x : List ℕ × List ℕ) → IsByte
 unfolding part_at
 part_within n bytes x fits e = part_cases (ltb (length bytes) n) n bytes x fits e
 
--- numbers are below the limit of their width
+-- a number of 4 bytes is below the limit of its width
 below_32 : (bytes : List ℕ) → IsBytes bytes → from_be_bytes w32 bytes < 2 ^ 32
 below_32 bytes fits = omega (arith, fits 0, fits 1, fits 2, fits 3)
-
--- the same of 8 bytes
-pub below_64 : (bytes : List ℕ) → IsBytes bytes → from_be_bytes w64 bytes < 2 ^ 64
-below_64 bytes fits = omega (arith, fits 0, fits 1, fits 2, fits 3, fits 4, fits 5, fits 6, fits 7)
 
 -- a number of this width is below the limit of its width
 number_within : (w : Width) (limit : ℕ) (bytes : List ℕ) (x : ℕ × List ℕ) → ((part : List ℕ) → IsBytes part → from_be_bytes w part < limit)
@@ -263,11 +237,6 @@ record_within bytes j fits e =
 
 -- ---- the front
 
--- both sides of a conjunction that holds
-pub both : (a b : Bool) → (a && b) ≡ true → (a ≡ true) × (b ≡ true)
-both true b e = (refl, e)
-both false b e = absurd cc
-
 -- a verdict that passes the test fits the seqno
 verdict_fits : (seqno : ℕ) (v : Verdict) → is_verdict_at seqno v ≡ true → IsVerdictAt seqno v
 verdict_fits seqno Commit e = tt
@@ -290,23 +259,18 @@ fits_verdict seqno BadKey h = refl
 placed : (j : Judged) → IsRecord j → is_placed j ≡ true
 placed j h = rw (le-leb 1 j.seqno h.positive, le-leb j.seqno (2 ^ 60) h.seqno, fits_verdict j.seqno j.verdict h.verdict) refl
 
--- bytes that begin with the spelling pass the test, and no others do
-begins_is : (j : Judged) (bytes : List ℕ) → (begins_with j bytes ≡ true → bytes ≡ record_bytes j ++ drop (length (record_bytes j)) bytes) × ((rest : List ℕ) → bytes ≡ record_bytes j ++ rest → begins_with j bytes ≡ true)
-unfolding begins_with
-begins_is j bytes = starts_is Decides-eqb bytes (record_bytes j) (starts_with eqb bytes (record_bytes j)) refl
-
 -- What is found in front is a record, spelled there.
 pub front_found : (bytes : List ℕ) (x : Judged × ℕ) → IsBytes bytes → IsWithinLimits x.0.item → front_record bytes ≡ Some x → IsFront bytes x.0 x.1
 unfolding front_record
 front_found bytes x fits limits e =
-    let a = bind_some (record_at bytes) (λ j. given (is_placed j && begins_with j bytes) (j, length (record_bytes j))) x e in
-    let tests = cond_some (is_placed a.0 && begins_with a.0 bytes) (a.0, length (record_bytes a.0)) x a.2 in
+    let a = bind_some (record_at bytes) (λ j. given (is_placed j && begins_with (record_bytes j) bytes) (j, length (record_bytes j))) x e in
+    let tests = cond_some (is_placed a.0 && begins_with (record_bytes a.0) bytes) (a.0, length (record_bytes a.0)) x a.2 in
     let same : a.0 ≡ x.0 = ap (λ (y : Judged × ℕ). y.0) tests.1 in
-    let p = both (is_placed a.0) (begins_with a.0 bytes) tests.0 in
+    let p = both (is_placed a.0) (begins_with (record_bytes a.0) bytes) tests.0 in
     let q = both (leb 1 a.0.seqno && leb a.0.seqno (2 ^ 60)) (is_verdict_at a.0.seqno a.0.verdict) p.0 in
     let r = both (leb 1 a.0.seqno) (leb a.0.seqno (2 ^ 60)) q.0 in
     let h = record_within bytes a.0 fits a.1 in
-    let front = (begins_is a.0 bytes).0 p.1 in
+    let front = (begins_is (record_bytes a.0) bytes).0 p.1 in
     let is_record : IsRecord a.0 = record {
       positive = leb-true 1 a.0.seqno r.0;
       seqno = leb-true a.0.seqno (2 ^ 60) r.1;
@@ -325,7 +289,7 @@ front_found bytes x fits limits e =
 pub front_again : (j : Judged) (rest : List ℕ) → IsRecord j → front_record (record_bytes j ++ rest) ≡ Some (j, length (record_bytes j))
 unfolding front_record
 front_again j rest h =
-    rw (record_again j rest h, placed j h, (begins_is j (record_bytes j ++ rest)).1 rest refl) refl
+    rw (record_again j rest h, placed j h, (begins_is (record_bytes j) (record_bytes j ++ rest)).1 rest refl) refl
 
 -- so what is answered is a record, spelled there
 pub outcome_found : (bytes : List ℕ) (o : Option (Judged × ℕ)) (e : Refusal) → IsBytes bytes → o ≡ front_record bytes → IfSome o (λ r. IsWithinLimits r.0.item) → IfOk (ok_or o e) (λ r. IsFront bytes r.0 r.1)

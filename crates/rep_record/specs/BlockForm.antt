@@ -1,11 +1,11 @@
 -- Blocks of records as a log keeps them: the one spelling of a block, and where bytes stop to be one.
-use Rattle.std.specs.Prelude.{◌≡◌, ℕ, ◌+◌, ◌-◌, ◌≤◌, ◌<◌, ◌^◌, ◌==◌, ◌⊎◌, true, List, [], ◌∷◌, ◌++◌, length, take, drop, replicate}
-use Rattle.std.specs.List.{flat_map, list_all, AllByRecursion}
-use Rattle.std.specs.Int.{w16, w64, from_be_bytes}
+use Rattle.std.specs.Prelude.{◌≡◌, ℕ, ◌+◌, ◌-◌, ◌≤◌, ◌<◌, ◌^◌, ◌⊎◌, true, List, [], ◌∷◌, ◌++◌, length, drop}
+use Rattle.std.specs.List.{flat_map, AllByRecursion}
 use Rattle.rep_types.specs.declared.judged.Judged.{Judged}
 use Rattle.rep_types.specs.declared.refusal.Refusal.{Refusal}
 use Rattle.rep_types.specs.declared.refusal.Refusal.TheVariants.{Malformed}
-use Rattle.rep_record.specs.Records.{two_bytes, eight_bytes, record_bytes}
+use Rattle.rep_types.specs.Bytes.{two_bytes, eight_bytes, zeros, two_at, eight_at, are_blank}
+use Rattle.rep_record.specs.Records.{record_bytes}
 use Rattle.rep_record.specs.RecordForm.{IsRecord}
 
 -- the seqno of the first record
@@ -42,19 +42,19 @@ pub record IsBlock (cell : ℕ) (records : List Judged) : Type 0 where
 -- A block, of 7,680 bytes: the number of the cell, the first seqno, how many records there are, the records, and zeros.
 abbrev pub block_bytes : ℕ → List Judged → List ℕ
 block_bytes cell records =
-    eight_bytes cell ++ (eight_bytes (first_seqno records) ++ (two_bytes (length records) ++ (run_bytes records ++ replicate (7662 - length (run_bytes records)) 0)))
+    eight_bytes cell ++ (eight_bytes (first_seqno records) ++ (two_bytes (length records) ++ (run_bytes records ++ zeros (7662 - length (run_bytes records)))))
 
 -- what a block's head says: the cell
 abbrev pub cell_in : List ℕ → ℕ
-cell_in bytes = from_be_bytes w64 (take 8 bytes)
+cell_in bytes = eight_at 0 bytes
 
 -- the first seqno
 abbrev pub first_in : List ℕ → ℕ
-first_in bytes = from_be_bytes w64 (take 8 (drop 8 bytes))
+first_in bytes = eight_at 8 bytes
 
 -- how many records there are
 abbrev pub count_in : List ℕ → ℕ
-count_in bytes = from_be_bytes w16 (take 2 (drop 16 bytes))
+count_in bytes = two_at 16 bytes
 
 -- The head is of the form: there are 7,680 bytes, and it says 1 to 64 records.
 pub record HasHead (bytes : List ℕ) : Type 0 where
@@ -85,7 +85,7 @@ pub record StopsAt (bytes : List ℕ) (at : ℕ) : Type 0 where
 
 -- all that stands from there on is zero
 abbrev pub IsBlank : ℕ → List ℕ → Type 0
-IsBlank at bytes = list_all (λ b. b == 0) (drop at bytes) ≡ true
+IsBlank at bytes = are_blank (drop at bytes) ≡ true
 
 -- All records are spelled, and what stands behind them isn't zero.
 pub record HasNoEnd (bytes : List ℕ) : Type 0 where

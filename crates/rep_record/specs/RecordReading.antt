@@ -1,7 +1,6 @@
 -- How a record is read: functions of its bytes, each None where there is nothing of the form, and else what stands in
 -- front and the bytes behind it. They read what is spelled; that what they read is spelled so is tested in the end.
 use Rattle.std.specs.Prelude.{ℕ, zero, suc, ◌^◌, Bool, true, ◌==◌, ◌&&◌, nat_lt, nat_le, if◌then◌else◌, List, [], ◌∷◌, length, take, drop, Option, None, Some, Result, Ok, Err}
-use Rattle.std.specs.List.{starts_with}
 use Rattle.std.specs.Int.{Width, w16, w32, w64, byte_len, from_be_bytes}
 use Rattle.rep_types.specs.declared.key.Key.{Key}
 use Rattle.rep_types.specs.declared.value.Write.{Write}
@@ -10,6 +9,7 @@ use Rattle.rep_types.specs.declared.refusal.Refusal.{Refusal}
 use Rattle.rep_types.specs.declared.verdict.Verdict.{Verdict}
 use Rattle.rep_types.specs.declared.verdict.Verdict.TheVariants.{Commit, Conflict, Stale, Future, BadKey}
 use Rattle.rep_types.specs.Transactions.{transaction, checked}
+use Rattle.rep_types.specs.Bytes.{begins_with}
 use Rattle.rep_record.specs.declared.record_reader.Labels.{Labels}
 use Rattle.rep_record.specs.Records.{record_bytes}
 use Rattle.rep_record.specs.Reading.{◌>>=◌, given}
@@ -124,10 +124,6 @@ is_verdict_at seqno BadKey = true
 abbrev pub is_placed : Judged → Bool
 is_placed j = nat_le 1 j.seqno && nat_le j.seqno (2 ^ 60) && is_verdict_at j.seqno j.verdict
 
--- whether the bytes begin with the record's spelling
-unfoldable pub begins_with : Judged → List ℕ → Bool
-begins_with j bytes = starts_with (λ a b. a == b) bytes (record_bytes j)
-
 -- The record that the front of the bytes spells, and how many bytes that takes.
 unfoldable pub front_record : List ℕ → Option (Judged × ℕ)
-front_record bytes = record_at bytes >>= λ j. given (is_placed j && begins_with j bytes) (j, length (record_bytes j))
+front_record bytes = record_at bytes >>= λ j. given (is_placed j && begins_with (record_bytes j) bytes) (j, length (record_bytes j))

@@ -1,26 +1,11 @@
 -- Records as bytes: a delivered item with its verdict, in the one spelling that it has.
 use Rattle.std.specs.Prelude.{ℕ, ◌+◌, List, [], ◌∷◌, ◌++◌, length, Option, None, Some}
 use Rattle.std.specs.List.{flat_map}
-use Rattle.std.specs.Int.{w16, w32, w64, to_be_bytes}
-use Rattle.rep_types.specs.declared.key.Key.{Key}
 use Rattle.rep_types.specs.declared.value.Write.{Write}
 use Rattle.rep_types.specs.declared.judged.Judged.{Judged}
 use Rattle.rep_types.specs.declared.verdict.Verdict.{Verdict}
 use Rattle.rep_types.specs.declared.verdict.Verdict.TheVariants.{Commit, Conflict, Stale, Future, BadKey}
-
--- numbers of 2, 4 and 8 bytes, the highest byte first
-unfoldable pub two_bytes : ℕ → List ℕ
-two_bytes n = to_be_bytes w16 n
-
-unfoldable pub four_bytes : ℕ → List ℕ
-four_bytes n = to_be_bytes w32 n
-
-unfoldable pub eight_bytes : ℕ → List ℕ
-eight_bytes n = to_be_bytes w64 n
-
--- a key: its table, and its row
-abbrev pub key_bytes : Key → List ℕ
-key_bytes key = key.table ∷ four_bytes key.row
+use Rattle.rep_types.specs.Bytes.{two_bytes, eight_bytes, key_bytes}
 
 -- what is written: 0 and 0 for a delete, 1 and the length and the bytes for a put
 abbrev pub value_bytes : Option (List ℕ) → List ℕ

@@ -1,14 +1,13 @@
 //! Blocks of records out of bytes.
 
-ghost use Rattle.std.specs.Prelude.{◌≡◌, ◌+◌, ◌≤◌, ◌==◌, ℕ, List, [], ◌∷◌, length, take, drop, Ok, IfOk, IfErr, MatchOption};
-ghost use Rattle.std.specs.List.{list_all};
-ghost use Rattle.std.specs.Int.{w16, w64, from_be_bytes};
+ghost use Rattle.std.specs.Prelude.{◌≡◌, ◌+◌, ◌≤◌, ◌==◌, ℕ, List, [], ◌∷◌, length, Ok, IfOk, IfErr, MatchOption};
 ghost use Rattle.rep_types.specs.declared.judged.Judged.{Judged};
 ghost use Rattle.rep_types.specs.declared.refusal.Refusal.TheVariants.{Malformed};
 ghost use Rattle.rep_record.specs.BlockForm.{first_in, count_in, contents, block_bytes, IsBlock, RunTo, StopsAt, IsRead, Refuses};
 
 use crate::block::MAX_RECORDS;
 use crate::record_reader::{read_front, read_record};
+use rep_types::bytes::{are_blank, u16_at, u64_at};
 use rep_types::{Judged, Refusal};
 use std::marker::Model;
 
@@ -17,26 +16,6 @@ pub const BLOCK: usize = 7680;
 
 /// The number of bytes before its records.
 const HEAD: usize = 18;
-
-/// The number of 2 bytes at this offset.
-fn u16_at(bytes: &[u8], at: usize) -> u16
-    requires { at + 2 ≤ length bytes.now }
-    ensures { result ≡ from_be_bytes w16 (take 2 (drop at bytes.now)) }
-{
-    let part = &bytes[at..at + 2];
-    u16::from_be_bytes([part[0], part[1]])
-}
-
-/// The number of 8 bytes at this offset.
-fn u64_at(bytes: &[u8], at: usize) -> u64
-    requires { at + 8 ≤ length bytes.now }
-    ensures { result ≡ from_be_bytes w64 (take 8 (drop at bytes.now)) }
-{
-    let part = &bytes[at..at + 8];
-    u64::from_be_bytes([
-        part[0], part[1], part[2], part[3], part[4], part[5], part[6], part[7],
-    ])
-}
 
 /// A block of records as it is read: it hands out its records one by one, out of bytes that were
 /// looked at whole before.
@@ -86,13 +65,6 @@ fn run_end(bytes: &[u8], first: u64, count: u16) -> Result<usize, Refusal>
     Ok(at)
 }
 
-/// Whether all of the bytes are zero.
-fn is_blank(bytes: &[u8]) -> bool
-    ensures { result ≡ list_all (λ b. b == 0) bytes.now }
-{
-    bytes.iter().all(|byte| *byte == 0)
-}
-
 /// Reads a block, and says how it was read.
 fn read_body(bytes: &[u8]) -> Result<Block<'_>, Refusal>
     ensures read { IfOk result (λ b. IsRead bytes.now b.cell b.records) }
@@ -107,7 +79,7 @@ fn read_body(bytes: &[u8]) -> Result<Block<'_>, Refusal>
         return Err(malformed);
     }
     let end = run_end(bytes, u64_at(bytes, 8), count)?;
-    if !is_blank(&bytes[end..]) {
+    if !are_blank(&bytes[end..]) {
         return Err(malformed);
     }
     Ok(Block {

@@ -1,11 +1,13 @@
 //! Records as bytes.
 
-ghost use Rattle.std.specs.Prelude.{◌≡◌, ◌+◌, ◌≤◌, ◌*◌, ◌++◌, ◌∷◌, [], length, take};
+ghost use Rattle.std.specs.Prelude.{◌≡◌, ◌+◌, ◌≤◌, ◌*◌, ◌++◌, length};
 ghost use Rattle.std.specs.List.{flat_map};
 ghost use Rattle.rep_types.specs.Transactions.{IsWithinLimits};
-ghost use Rattle.rep_record.specs.Records.{two_bytes, four_bytes, eight_bytes, key_bytes, value_bytes, write_bytes, verdict_bytes, label_bytes, head_bytes, body_bytes, record_bytes};
+ghost use Rattle.rep_types.specs.Bytes.{key_bytes};
+ghost use Rattle.rep_record.specs.Records.{value_bytes, write_bytes, verdict_bytes, label_bytes, head_bytes, body_bytes, record_bytes};
 
 use arrayvec::ArrayVec;
+use rep_types::bytes::{put_bytes, put_key, put_u16, put_u64};
 use rep_types::{Judged, Key, Value, Verdict, Write};
 
 /// The greatest number of bytes of a record: 45, 16 reads of 5 bytes and 16 writes of 69.
@@ -13,63 +15,8 @@ pub const MAX_RECORD: usize = 1229;
 
 type Bytes = ArrayVec<u8, 1229>;
 
-/// Puts the bytes at the end.
-fn put_bytes(out: &mut Bytes, bytes: &[u8])
-    requires { length out.old.items + length bytes.now ≤ 1229 }
-    ensures { out.new.items ≡ out.old.items ++ bytes.now }
-{
-    let fitted = out.try_extend_from_slice(bytes);
-    prove!(fitted.is_ok());
-    let _ = fitted;
-}
-
-/// Puts a number of 2 bytes.
-#[tactic(auto, unfolding(crate::specs::Records::two_bytes))]
-fn put_two_bytes(out: &mut Bytes, number: u16)
-    requires { length out.old.items + 2 ≤ 1229 }
-    ensures { out.new.items ≡ out.old.items ++ two_bytes number }
-{
-    put_bytes(out, &number.to_be_bytes());
-}
-
-/// Puts a number of 4 bytes.
-#[tactic(auto, unfolding(crate::specs::Records::four_bytes))]
-fn put_four_bytes(out: &mut Bytes, number: u32)
-    requires { length out.old.items + 4 ≤ 1229 }
-    ensures { out.new.items ≡ out.old.items ++ four_bytes number }
-{
-    put_bytes(out, &number.to_be_bytes());
-}
-
-/// Puts a number of 8 bytes.
-#[tactic(auto, unfolding(crate::specs::Records::eight_bytes))]
-fn put_eight_bytes(out: &mut Bytes, number: u64)
-    requires { length out.old.items + 8 ≤ 1229 }
-    ensures { out.new.items ≡ out.old.items ++ eight_bytes number }
-{
-    put_bytes(out, &number.to_be_bytes());
-}
-
-/// Puts one byte.
-fn put_byte(out: &mut Bytes, byte: u8)
-    requires { length out.old.items + 1 ≤ 1229 }
-    ensures { out.new.items ≡ out.old.items ++ byte ∷ [] }
-{
-    out.push(byte);
-}
-
-/// Puts a key.
-#[tactic(auto, using(crate::proofs::Sizes::sizes))]
-fn put_key(out: &mut Bytes, key: Key)
-    requires { length out.old.items + 5 ≤ 1229 }
-    ensures { out.new.items ≡ out.old.items ++ key_bytes key }
-{
-    put_byte(out, key.table);
-    put_four_bytes(out, key.row);
-}
-
 /// Puts what is written under a key.
-#[tactic(auto, using(crate::proofs::Sizes::sizes))]
+#[tactic(auto, using(rep_types::proofs::Spellings::sizes))]
 fn put_value(out: &mut Bytes, value: &Option<Value>)
     requires { length out.old.items + 64 ≤ 1229 }
     ensures bytes { out.new.items ≡ out.old.items ++ value_bytes value.now }
@@ -86,7 +33,7 @@ fn put_value(out: &mut Bytes, value: &Option<Value>)
 }
 
 /// Puts a write.
-#[tactic(auto, using(crate::proofs::Sizes::sizes))]
+#[tactic(auto, using(rep_types::proofs::Spellings::sizes))]
 fn put_write(out: &mut Bytes, write: &Write)
     requires { length out.old.items + 69 ≤ 1229 }
     ensures bytes { out.new.items ≡ out.old.items ++ write_bytes write.now }
@@ -119,7 +66,7 @@ fn put_writes(out: &mut Bytes, writes: &[Write])
 }
 
 /// Puts a verdict.
-#[tactic(auto, using(crate::proofs::Sizes::sizes, crate::proofs::Sizes::joined))]
+#[tactic(auto, using(rep_types::proofs::Spellings::sizes, rep_types::proofs::Spellings::joined))]
 fn put_verdict(out: &mut Bytes, verdict: Verdict)
     requires { length out.old.items + 9 ≤ 1229 }
     ensures { out.new.items ≡ out.old.items ++ verdict_bytes verdict }
@@ -131,25 +78,25 @@ fn put_verdict(out: &mut Bytes, verdict: Verdict)
         Verdict::Future => (3, 0),
         Verdict::BadKey => (4, 0),
     };
-    put_byte(out, code);
-    put_eight_bytes(out, seqno);
+    put_bytes(out, &[code]);
+    put_u64(out, seqno);
 }
 
 /// Puts the numbers of a record.
-#[tactic(auto, using(crate::proofs::Sizes::sizes, crate::proofs::Sizes::joined))]
+#[tactic(auto, using(rep_types::proofs::Spellings::sizes, rep_types::proofs::Spellings::joined))]
 fn put_labels(out: &mut Bytes, record: &Judged)
     requires { length out.old.items + 32 ≤ 1229 }
     ensures bytes { out.new.items ≡ out.old.items ++ label_bytes record.now }
     ensures size { length out.new.items ≡ length out.old.items + 32 }
 {
-    put_eight_bytes(out, record.seqno);
-    put_eight_bytes(out, record.item.last_seen());
-    put_eight_bytes(out, record.item.source());
-    put_eight_bytes(out, record.item.trx());
+    put_u64(out, record.seqno);
+    put_u64(out, record.item.last_seen());
+    put_u64(out, record.item.source());
+    put_u64(out, record.item.trx());
 }
 
 /// Puts the fields of fixed length that follow the record's own.
-#[tactic(auto, using(crate::proofs::Sizes::sizes, crate::proofs::Sizes::joined))]
+#[tactic(auto, using(rep_types::proofs::Spellings::sizes, rep_types::proofs::Spellings::joined))]
 fn put_head(out: &mut Bytes, record: &Judged)
     requires { length out.old.items + 43 ≤ 1229 }
     ensures bytes { out.new.items ≡ out.old.items ++ head_bytes record.now }
@@ -164,7 +111,7 @@ fn put_head(out: &mut Bytes, record: &Judged)
 }
 
 /// The record behind its length.
-#[tactic(auto, using(crate::proofs::Sizes::sizes, crate::proofs::Sizes::joined))]
+#[tactic(auto, using(rep_types::proofs::Spellings::sizes, rep_types::proofs::Spellings::joined))]
 fn body_of(record: &Judged) -> Bytes
     ensures bytes { result.items ≡ body_bytes record.now }
     ensures size { length result.items ≤ 1227 }
@@ -178,7 +125,7 @@ fn body_of(record: &Judged) -> Bytes
 }
 
 /// The bytes of a record: a delivered item with its seqno and its verdict. They are at most 1,229.
-#[tactic(auto, using(crate::proofs::Sizes::sizes, crate::proofs::Sizes::joined))]
+#[tactic(auto, using(rep_types::proofs::Spellings::sizes, rep_types::proofs::Spellings::joined))]
 pub fn put_record(record: &Judged) -> ArrayVec<u8, 1229>
     ensures bytes { result.items ≡ record_bytes record.now }
     ensures size { length (record_bytes record.now) ≤ 1229 }
@@ -186,7 +133,7 @@ pub fn put_record(record: &Judged) -> ArrayVec<u8, 1229>
 {
     let body = body_of(record);
     let mut out = ArrayVec::new();
-    put_two_bytes(&mut out, body.len() as u16 + 2);
+    put_u16(&mut out, body.len() as u16 + 2);
     put_bytes(&mut out, body.as_slice());
     out
 }

@@ -7,10 +7,11 @@ ghost use Rattle.rep_types.specs.declared.judged.Judged.{Judged};
 ghost use Rattle.rep_types.specs.Transactions.{IsWithinLimits};
 ghost use Rattle.rep_record.specs.Records.{record_bytes};
 ghost use Rattle.rep_record.specs.RecordForm.{IsRecord, IsFront, RecordsAreTold};
-ghost use Rattle.rep_record.specs.RecordReading.{part_at, number_at, byte_at, labels_at, verdict_of, verdict_at, key_at, put_at, value_at, write_at, few_at, lists_at, record_at, is_verdict_at, is_placed, begins_with, front_record};
+ghost use Rattle.rep_record.specs.RecordReading.{part_at, number_at, byte_at, labels_at, verdict_of, verdict_at, key_at, put_at, value_at, write_at, few_at, lists_at, record_at, is_verdict_at, is_placed, front_record};
 
 use crate::record::put_record;
 use arrayvec::ArrayVec;
+use rep_types::bytes::{u16_at, u32_at, u64_at};
 use rep_types::{
     Judged, Key, MAX_READS, MAX_SEQNO, MAX_WRITES, Refusal, Value, Verdict, Write, WriteSet,
 };
@@ -54,8 +55,8 @@ fn read_u16(bytes: &[u8]) -> Option<(u16, &[u8])>
     if bytes.len() < 2 {
         return None;
     }
-    let (part, rest) = bytes.split_at(2);
-    Some((u16::from_be_bytes([part[0], part[1]]), rest))
+    let (_, rest) = bytes.split_at(2);
+    Some((u16_at(bytes, 0), rest))
 }
 
 /// A number of 4 bytes, and the bytes behind it.
@@ -66,9 +67,8 @@ fn read_u32(bytes: &[u8]) -> Option<(u32, &[u8])>
     if bytes.len() < 4 {
         return None;
     }
-    let (part, rest) = bytes.split_at(4);
-    let number = u32::from_be_bytes([part[0], part[1], part[2], part[3]]);
-    Some((number, rest))
+    let (_, rest) = bytes.split_at(4);
+    Some((u32_at(bytes, 0), rest))
 }
 
 /// A number of 8 bytes, and the bytes behind it.
@@ -79,11 +79,8 @@ fn read_u64(bytes: &[u8]) -> Option<(u64, &[u8])>
     if bytes.len() < 8 {
         return None;
     }
-    let (part, rest) = bytes.split_at(8);
-    let number = u64::from_be_bytes([
-        part[0], part[1], part[2], part[3], part[4], part[5], part[6], part[7],
-    ]);
-    Some((number, rest))
+    let (_, rest) = bytes.split_at(8);
+    Some((u64_at(bytes, 0), rest))
 }
 
 /// The numbers of a record, and the bytes behind them.
@@ -264,7 +261,7 @@ fn is_placed(judged: &Judged) -> bool
 }
 
 /// The record that the front of the bytes spells, and how many bytes that takes.
-#[tactic(auto, unfolding(crate::specs::RecordReading::front_record, crate::specs::RecordReading::begins_with))]
+#[tactic(auto, unfolding(crate::specs::RecordReading::front_record, rep_types::specs::Bytes::begins_with))]
 pub(crate) fn read_front(bytes: &[u8]) -> Option<(Judged, usize)>
     ensures exact { result ≡ front_record bytes.now }
     ensures within { IfSome result (λ r. r.1 ≤ length bytes.now) }

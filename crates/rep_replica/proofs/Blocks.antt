@@ -1,6 +1,5 @@
 -- A block while it is gathered from the front of some items.
-use Rattle.std.proofs.Common.{◌≡◌, ℕ, ◌+◌, ◌<◌, ◌≤◌, true, false, cond, List, ◌∷◌, length, get_or, drop, sym, ap, ◌∙◌, arith, suc, add-one, drop-cons}
-use Rattle.std.proofs.lemmas.List.{drop_all}
+use Rattle.std.proofs.Common.{◌≡◌, ℕ, ◌+◌, ◌<◌, false, cond, List, ◌∷◌, length, get_or, drop, sym, ap, ◌∙◌, arith, suc, add-one, drop-cons}
 use Rattle.rep_types.specs.declared.judged.Judged.{Judged}
 use Rattle.rep_record.specs.Blocks.{Block, empty_block, has_room, with_record}
 use Rattle.rep_record.specs.Fronts.{fitting}
@@ -14,25 +13,10 @@ pub record Gathers (items : List Judged) (i : ℕ) (block : Block) : Type 0 wher
 next_item : (items : List Judged) (i : ℕ) (j : Judged) → j ≡ get_or items i j → i < length items → drop i items ≡ j ∷ drop (i + 1) items
 next_item items i j read within = rw (add-one, drop-cons items i j) (ap (λ x. x ∷ drop (suc i) items) (sym read))
 
--- one more item
-pub gathers_more : (items : List Judged) (i : ℕ) (block : Block) (j : Judged) → j ≡ get_or items i j → i < length items → has_room block j ≡ true
-    → Gathers items i block → Gathers items (i + 1) (with_record block j)
-gathers_more items i block j read within room h = record {
-  rest = h.rest ∙ ap (λ js. fitting block js + i) (next_item items i j read within)
-      ∙ ap (λ b. cond b (fitting (with_record block j) (drop (i + 1) items) + 1) 0 + i) room ∙ omega arith;
-  count = ap (λ k. k + 1) h.count;
-}
-
 -- the first item that there is no room for
 pub gathers_no_more : (items : List Judged) (i : ℕ) (block : Block) (j : Judged) → j ≡ get_or items i j → i < length items → has_room block j ≡ false
     → Gathers items i block → block.count ≡ fitting empty_block items
 gathers_no_more items i block j read within room h =
     let none : fitting block (drop i items) ≡ 0 =
     ap (fitting block) (next_item items i j read within) ∙ ap (λ b. cond b (fitting (with_record block j) (drop (i + 1) items) + 1) 0) room in
-    omega (arith, h.count, h.rest, none)
-
--- no item is left
-pub gathers_all : (items : List Judged) (i : ℕ) (block : Block) → length items ≤ i → Gathers items i block → block.count ≡ fitting empty_block items
-gathers_all items i block past h =
-    let none : fitting block (drop i items) ≡ 0 = ap (fitting block) (drop_all i items past) in
     omega (arith, h.count, h.rest, none)

@@ -154,10 +154,6 @@ opening_within n k h e =
     let delivered : n.durable + k ≤ length n.order = subst (λ p. n.durable + underway p ≤ length n.order) e h.delivered in
     omega (arith, delivered, length_pending n)
 
--- and at most 64
-pub opening_few : (n : Node) (k : ℕ) → IsNode n → n.phase ≡ Opening k → k ≤ 64
-opening_few n k h e = subst (λ p. underway p ≤ 64) e h.few
-
 -- its cell is one of the log's first lap, where none was freed
 pub next_small : (n : Node) (k : ℕ) → IsNode n → n.phase ≡ Opening k → n.start ≡ 0 → n.next + 1 ≤ 1024
 next_small n k h e first =

@@ -1,8 +1,8 @@
 -- Lemmas on `latest`, the last element of a list that passes a test.
-use Rattle.std.proofs.Common.{◌≡◌, ℕ, zero, suc, ◌+◌, ◌<◌, ◌≤◌, Bool, true, false, ◌&&◌, if◌then◌else◌, List, [], ◌∷◌, ◌++◌, length, map, filter, take, drop, get_or, Option, None, Some, option_map, refl, sym, ap, ◌∙◌, arith}
+use Rattle.std.proofs.Common.{◌≡◌, ℕ, zero, suc, ◌+◌, ◌<◌, Bool, true, false, ◌&&◌, if◌then◌else◌, List, [], ◌∷◌, ◌++◌, length, map, filter, take, get_or, Option, None, Some, option_map, refl, arith}
 use Rattle.std.specs.List.{list_any}
 use Rattle.std.specs.Option.{option_or}
-use Rattle.std.proofs.lemmas.List.{take_more, take_all, drop_more, drop_all, take-append-drop}
+use Rattle.std.proofs.lemmas.List.{take_more, take_all}
 use Rattle.rep_types.specs.Order.{latest}
 
 -- the last one of a joined list is that of the second part, or else that of the first
@@ -33,11 +33,6 @@ latest_more test xs i x e h = grind (arith, take_more xs i x h, latest_push test
 -- after the loop: the first elements, as many as there are, are all of the list
 pub latest_all : {A : Type 0} (test : A → Bool) (xs : List A) → latest test (take (length xs) xs) ≡ latest test xs
 latest_all test xs = grind (arith, take_all (length xs) xs)
-
--- where no element passes, there is no last one
-pub latest_none : {A : Type 0} (test : A → Bool) (xs : List A) → list_any test xs ≡ false → latest test xs ≡ None
-latest_none test [] h = refl
-latest_none test (x ∷ xs) h = grind (arith, latest_none test xs)
 
 -- where there is no last one, no element passes
 pub list_any-from_latest : {A : Type 0} (test : A → Bool) (xs : List A) → latest test xs ≡ None → list_any test xs ≡ false
@@ -73,19 +68,3 @@ IsLatest-cons {A} test x xs None false e none = all
 pub IsLatest-latest : {A : Type 0} (test : A → Bool) (xs : List A) → IsLatest test xs (latest test xs)
 IsLatest-latest test [] = λ k d below. absurd (omega arith)
 IsLatest-latest test (x ∷ xs) = IsLatest-cons test x xs (latest test xs) (test x) refl (IsLatest-latest test xs)
-
--- one step of a loop from the end, where what it has read failed: the element at i is the last one that passes, if it passes
-pub latest_drop_found : {A : Type 0} (test : A → Bool) (xs : List A) (i : ℕ) (x : A) → x ≡ get_or xs i x → i < length xs →
-    latest test (drop (i + 1) xs) ≡ None → test x ≡ true → latest test xs ≡ Some x
-latest_drop_found test xs i x e h none passes =
-    let rest : latest test (drop i xs) ≡ Some x = grind (arith, drop_more xs i x h) in
-    ap (latest test) (sym (take-append-drop i xs)) ∙ (latest-append test (take i xs) (drop i xs) ∙ ap (λ (o : Option _). option_or o (latest test (take i xs))) rest)
-
--- and the loop goes on, if it fails
-pub latest_drop_more : {A : Type 0} (test : A → Bool) (xs : List A) (i : ℕ) (x : A) → x ≡ get_or xs i x → i < length xs →
-    latest test (drop (i + 1) xs) ≡ None → test x ≡ false → latest test (drop i xs) ≡ None
-latest_drop_more test xs i x e h none fails = grind (arith, drop_more xs i x h)
-
--- such a loop begins behind the last element
-pub latest_drop_all : {A : Type 0} (test : A → Bool) (xs : List A) (i : ℕ) → length xs ≤ i → latest test (drop i xs) ≡ None
-latest_drop_all test xs i h = ap (latest test) (drop_all i xs h)

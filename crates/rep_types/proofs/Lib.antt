@@ -9,3 +9,4 @@ pub mod VerdictsByPairs
 pub mod Tests
 pub mod Digits
 pub mod Gtids
+pub mod Spellings

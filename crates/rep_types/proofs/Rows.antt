@@ -1,6 +1,6 @@
 -- Lemmas on rows: what more writes, and more items, do to them.
-use Rattle.std.proofs.Common.{◌≡◌, ℕ, ◌+◌, ◌<◌, ◌≤◌, Bool, true, false, if◌then◌else◌, List, [], ◌∷◌, ◌++◌, length, take, get_or, Option, None, sym, ap, ◌∙◌, arith}
-use Rattle.std.proofs.lemmas.List.{append-nil, take_more, take-append-le}
+use Rattle.std.proofs.Common.{◌≡◌, ℕ, ◌+◌, Bool, true, false, if◌then◌else◌, List, [], ◌∷◌, ◌++◌, length, Option, None, ap, ◌∙◌, arith}
+use Rattle.std.proofs.lemmas.List.{append-nil}
 use Rattle.std.proofs.lemmas.List.Concat.{flat_map-append}
 use Rattle.std.proofs.lemmas.List.Elements.{filter-append}
 use Rattle.rep_types.specs.declared.key.Key.{Key}
@@ -9,9 +9,9 @@ use Rattle.rep_types.specs.declared.judged.Judged.{Judged}
 use Rattle.rep_types.specs.Keys.{key_eq}
 use Rattle.rep_types.specs.Transactions.{Transaction}
 use Rattle.rep_types.specs.Settings.{Setting}
-use Rattle.rep_types.specs.Order.{Order, latest, is_commit, counts, history, verdict, effects, row_in, rows, read, overwritten, content_after}
-use Rattle.rep_types.proofs.Latest.{latest-append, latest_more}
-use Rattle.rep_types.proofs.Histories.{history_push_judged, take_history}
+use Rattle.rep_types.specs.Order.{Order, latest, is_commit, counts, history, verdict, effects, row_in, rows, overwritten, content_after}
+use Rattle.rep_types.proofs.Latest.{latest-append}
+use Rattle.rep_types.proofs.Histories.{history_push_judged}
 
 -- the effects of a joined list are those of its first part, then those of its second
 pub effects-append : (g h : List Judged) → effects (g ++ h) ≡ effects g ++ effects h
@@ -48,32 +48,3 @@ pub rows_push : (p : Setting) (L : Order) (w : Transaction) (key : Key) →
 rows_push p L w key =
     ap (λ (writes : List Write). row_in writes key) (effects_history_push p L w)
     ∙ row_in-append_if (is_commit (verdict p (L ++ w ∷ []) (length L + 1))) (effects (history p L)) w.writes key
-
--- one step of a loop over judged items, which has read j at i
-pub effects_more : (h : List Judged) (i : ℕ) (j : Judged) → j ≡ get_or h i j → i < length h →
-    effects (take (i + 1) h) ≡ effects (take i h) ++ (if counts j then j.item.writes else [])
-effects_more h i j e inside = grind (arith, take_more h i j inside, effects_push (take i h) j)
-
--- the same for the row under a key: the writes of j go over it, where j committed
-pub row_in-effects_more : (h : List Judged) (i : ℕ) (j : Judged) (key : Key) → j ≡ get_or h i j → i < length h →
-    row_in (effects (take (i + 1) h)) key ≡ (if counts j then content_after (row_in (effects (take i h))) j.item.writes key else row_in (effects (take i h)) key)
-row_in-effects_more h i j key e inside =
-    ap (λ (writes : List Write). row_in writes key) (effects_more h i j e inside) ∙ row_in-append_if (counts j) (effects (take i h)) j.item.writes key
-
--- one step of a loop over writes, which has read `write` at i
-pub content_after_more : (content : Key → Option (List ℕ)) (writes : List Write) (key : Key) (i : ℕ) (write : Write) → write ≡ get_or writes i write → i < length writes →
-    content_after content (take (i + 1) writes) key ≡ (if key_eq write.key key then write.value else content_after content (take i writes) key)
-content_after_more content writes key i write e inside = grind (arith, latest_more (λ (w : Write). key_eq w.key key) writes i write e inside)
-
--- writes one after another are writes of the joined list
-pub content_after-append : (content : Key → Option (List ℕ)) (first second : List Write) (key : Key) →
-    content_after content (first ++ second) key ≡ content_after (content_after content first) second key
-content_after-append content first second key = grind (arith, latest-append (λ (write : Write). key_eq write.key key) first second)
-
--- a read after s items, by the history of the whole order
-pub read_history : (p : Setting) (L : Order) (key : Key) (s : ℕ) → read p L key s ≡ row_in (effects (take s (history p L))) key
-read_history p L key s = ap (λ (h : List Judged). row_in (effects h) key) (sym (take_history p L s))
-
--- more items change no read before them
-pub read_append : (p : Setting) (L M : Order) (key : Key) (s : ℕ) → s ≤ length L → read p (L ++ M) key s ≡ read p L key s
-read_append p L M key s h = ap (λ (K : Order). rows p K key) (take-append-le s L M h)

@@ -16,11 +16,6 @@ pub list_any_contains : {A : Type 0} (test : A → Bool) (xs : List A) (x : A) �
 list_any_contains test xs x (k, inside, is) none =
     false_from_ne_true (test x) (λ passes. both_ways (list_any test xs) none (list_any_at test xs k x inside (ap test is ∙ passes)))
 
--- keys that touch none of the others name none of them
-pub list_any_untouched : (keys others : List Key) (key : Key) → touches keys others ≡ false → Contains others key → list_any (λ (k : Key). key_eq k key) keys ≡ false
-list_any_untouched [] others key apart has = refl
-list_any_untouched (k ∷ keys) others key apart has = grind (arith, list_any_contains (key_eq k) others key has, list_any_untouched keys others key)
-
 -- among writes of such keys there is no last write of one of the others
 pub latest_untouched : (writes : List Write) (others : List Key) (key : Key) → touches (map key_of writes) others ≡ false → Contains others key →
     latest (λ (write : Write). key_eq write.key key) writes ≡ None

@@ -1,8 +1,8 @@
 -- Lemmas on the committed items and the window: what certification needs of them.
-use Rattle.std.proofs.Common.{◌≡◌, ℕ, ◌+◌, ◌<◌, ◌≤◌, Bool, true, false, nat_le, ◌&&◌, if◌then◌else◌, List, [], ◌∷◌, ◌++◌, length, filter, take, drop, get_or, All, option_map, refl, sym, ap, ◌∙◌, le_refl, arith}
-use Rattle.std.proofs.lemmas.List.{map-append, append-nil, length_push, length-take-le, take_more, take-append-drop}
+use Rattle.std.proofs.Common.{◌≡◌, ℕ, ◌+◌, ◌<◌, ◌≤◌, Bool, true, false, nat_le, if◌then◌else◌, List, [], ◌∷◌, ◌++◌, length, filter, All, refl, sym, ap, ◌∙◌, le_refl, arith}
+use Rattle.std.proofs.lemmas.List.{map-append, length_push}
 use Rattle.std.proofs.lemmas.List.Elements.{filter-append, filter_passes, All-head, All-tail, All-weaker, All-map, All-filter}
-use Rattle.std.proofs.lemmas.Bool.{leb-true, le-leb, lt-leb}
+use Rattle.std.proofs.lemmas.Bool.{leb-true, le-leb}
 use Rattle.std.proofs.lemmas.Bool.Decides.{nat_tests}
 use Rattle.rep_types.specs.declared.judged.Judged.{Judged}
 use Rattle.rep_types.specs.declared.verdict.Verdict.{Verdict}
@@ -10,8 +10,8 @@ use Rattle.rep_types.specs.Transactions.{Transaction, written}
 use Rattle.rep_types.specs.Settings.{Setting}
 use Rattle.rep_types.specs.Entries.{Entry}
 use Rattle.rep_types.specs.Order.{Order, latest, against, floor, verdict_among, is_commit, counts, entry_of, entries, history, verdict, recent, window, judge, window_after}
-use Rattle.rep_types.proofs.Latest.{latest-filter, latest-map-filter}
-use Rattle.rep_types.proofs.Histories.{length_history, take_history, history_push_judged, verdict_push, seqnos_history, later_history}
+use Rattle.rep_types.proofs.Latest.{latest-filter}
+use Rattle.rep_types.proofs.Histories.{history_push_judged, verdict_push, seqnos_history}
 
 -- the committed items of a joined list are those of its two parts
 pub entries-append : (g h : List Judged) → entries (g ++ h) ≡ entries g ++ entries h
@@ -69,38 +69,12 @@ window_push p L w =
     ∙ (ap (recent high) (sym (entries_history_push p L w))
     ∙ ap (λ (k : ℕ). recent (floor p k) (entries (history p (L ++ w ∷ [])))) (sym (length_push L w))))
 
--- the last entry that passes is the entry of the last judged item that committed and whose entry passes
-pub latest-entries : (test : Entry → Bool) (h : List Judged) → latest test (entries h) ≡ option_map entry_of (latest (λ (j : Judged). counts j && test (entry_of j)) h)
-latest-entries test h = latest-map-filter test entry_of counts h
-
--- one step of a loop that gathers entries, which has read j at i
-pub entries_more : (h : List Judged) (i : ℕ) (j : Judged) → j ≡ get_or h i j → i < length h →
-    entries (take (i + 1) h) ≡ entries (take i h) ++ (if counts j then entry_of j ∷ [] else [])
-entries_more h i j e inside = grind (arith, take_more h i j inside, entries_push (take i h) j)
-
--- one more entry is kept where it isn't below the floor
-pub recent_push : (lowest : ℕ) (es : List Entry) (e : Entry) → recent lowest (es ++ e ∷ []) ≡ recent lowest es ++ (if nat_le lowest e.seqno then e ∷ [] else [])
-recent_push lowest es e = recent-append lowest es (e ∷ [])
-
--- one step of a loop that keeps the entries from the floor on, which has read e at i
-pub recent_more : (lowest : ℕ) (es : List Entry) (i : ℕ) (e : Entry) → e ≡ get_or es i e → i < length es →
-    recent lowest (take (i + 1) es) ≡ recent lowest (take i es) ++ (if nat_le lowest e.seqno then e ∷ [] else [])
-recent_more lowest es i e is inside = grind (arith, take_more es i e inside, recent_push lowest (take i es) e)
-
 -- a filter keeps a list whose elements all pass
 pub filter_all : {A : Type 0} (test : A → Bool) (xs : List A) → All (λ (x : A). test x ≡ true) xs → filter test xs ≡ xs
 filter_all test [] pass = refl
 filter_all {A} test (x ∷ xs) pass =
     let first : test x ≡ true = All-head (λ (y : A). test y ≡ true) x xs pass in
     let rest : filter test xs ≡ xs = filter_all test xs (All-tail (λ (y : A). test y ≡ true) x xs pass) in
-    grind arith
-
--- a filter keeps nothing of a list whose elements all fail
-pub filter_none : {A : Type 0} (test : A → Bool) (xs : List A) → All (λ (x : A). test x ≡ false) xs → filter test xs ≡ []
-filter_none test [] fail = refl
-filter_none {A} test (x ∷ xs) fail =
-    let first : test x ≡ false = All-head (λ (y : A). test y ≡ false) x xs fail in
-    let rest : filter test xs ≡ [] = filter_none test xs (All-tail (λ (y : A). test y ≡ false) x xs fail) in
     grind arith
 
 -- where no entry is below the floor, all are kept
@@ -120,39 +94,3 @@ pub seqnos_entries : (p : Setting) (L : Order) → All (λ (e : Entry). (0 < e.s
 seqnos_entries p L =
     All-map (λ (e : Entry). (0 < e.seqno) × (e.seqno ≤ length L)) entry_of (filter counts (history p L))
     (All-filter counts (λ (j : Judged). (0 < j.seqno) × (j.seqno ≤ length L)) (history p L) (seqnos_history p L))
-
--- the verdict on the last item, by the length of the history before it
-pub verdict_push_history : (p : Setting) (L : Order) (w : Transaction) →
-    verdict p (L ++ w ∷ []) (length L + 1) ≡ verdict_among p (floor p (length (history p L))) (length (history p L) + 1) (entries (history p L)) w
-verdict_push_history p L w = verdict_push p L w ∙ ap (λ (n : ℕ). verdict_among p (floor p n) (n + 1) (entries (history p L)) w) (sym (length_history p L))
-
--- what holds of the seqnos of judged items holds of those of their entries
-pub All-entries : (P : ℕ → Type 0) (h : List Judged) → All (λ (j : Judged). P j.seqno) h → All (λ (e : Entry). P e.seqno) (entries h)
-All-entries P h all = All-map (λ (e : Entry). P e.seqno) entry_of (filter counts h) (All-filter counts (λ (j : Judged). P j.seqno) h all)
-
--- the entries up to the seqno k are the committed items of the first k items
-pub entries_upto : (p : Setting) (L : Order) (k : ℕ) → k ≤ length L → filter (λ (e : Entry). nat_le e.seqno k) (entries (history p L)) ≡ entries (history p (take k L))
-entries_upto p L k inside =
-    let test : Entry → Bool = λ e. nat_le e.seqno k in
-    let h : List Judged = history p L in
-    let low : All (λ (e : Entry). (0 < e.seqno) × (e.seqno ≤ length (take k L))) (entries (history p (take k L))) = seqnos_entries p (take k L) in
-    let long : length (take k L) ≡ k = length-take-le k L inside in
-    let front : filter test (entries (history p (take k L))) ≡ entries (history p (take k L)) =
-    filter_all test (entries (history p (take k L)))
-    (All-weaker (λ (e : Entry). (0 < e.seqno) × (e.seqno ≤ length (take k L))) (λ (e : Entry). test e ≡ true)
-    (λ e within. le-leb e.seqno k (omega arith)) (entries (history p (take k L))) low) in
-    let rest : filter test (entries (drop k h)) ≡ [] =
-    filter_none test (entries (drop k h))
-    (All-weaker (λ (e : Entry). k < e.seqno) (λ (e : Entry). test e ≡ false) (λ e above. lt-leb e.seqno k above) (entries (drop k h))
-    (All-entries (λ (n : ℕ). k < n) (drop k h) (later_history p L k))) in
-    let split : entries h ≡ entries (history p (take k L)) ++ entries (drop k h) =
-    ap entries (sym (take-append-drop k h)) ∙ (entries-append (take k h) (drop k h) ∙ ap (λ (g : List Judged). entries g ++ entries (drop k h)) (take_history p L k)) in
-    ap (filter test) split
-    ∙ (filter-append test (entries (history p (take k L))) (entries (drop k h))
-    ∙ (ap (λ (es : List Entry). es ++ filter test (entries (drop k h))) front
-    ∙ (ap (λ (es : List Entry). entries (history p (take k L)) ++ es) rest ∙ append-nil (entries (history p (take k L))))))
-
--- the window after the first k items, from the committed items of the whole order
-pub window_take : (p : Setting) (L : Order) (k : ℕ) → k ≤ length L → window p (take k L) ≡ recent (floor p k) (filter (λ (e : Entry). nat_le e.seqno k) (entries (history p L)))
-window_take p L k inside =
-    ap (λ (n : ℕ). recent (floor p n) (entries (history p (take k L)))) (length-take-le k L inside) ∙ ap (recent (floor p k)) (sym (entries_upto p L k inside))

@@ -9,3 +9,4 @@ pub mod Texts
 pub mod Numbers
 pub mod Gtids
 pub mod Replies
+pub mod Bytes

@@ -178,12 +178,6 @@ judged_line_ends (Some text) (Some known) left' first u new p node node' refusal
     subst (λ s. Ends (reading_of s (items_ahead first text)) before after (Err refusal)) h.setting (line_ends text (items_ahead new next.rest) first node node' (content new.number line) refusal before mid after
     (h.items ∙ ap (with_front node.order) (items_step (u.pending ++ known) u new left' line next numbered)) h.written judges)
 
--- before the first line nothing is judged
-pub judged_none : (start : Option (List ℕ)) (u : Unread) (node : Delivered) (before : Option (List ℕ)) → node.order ≡ [] →
-    IfSome start (λ text. HasJudged text u node.setting node u start before before)
-judged_none None u node before none = tt
-judged_none (Some text) u node before none = record { setting = refl; items = rw none refl; written = rw none (Appends-nil before) }
-
 -- a text whose params line is not read ends with that
 pub ends_unread : (text : List ℕ) (first new : Unread) (left before : Option (List ℕ)) (refusal : Refusal) → ReadsParams text first (Err refusal) new left →
     Ends (text_ahead first text) before before (Err refusal)

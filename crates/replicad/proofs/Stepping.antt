@@ -9,11 +9,6 @@ use Rattle.rep_record.specs.Lines.{Unread, ahead, without_feed, line_fault, Hand
 use Rattle.rep_record.specs.Reading.{item_line, params_line}
 use Rattle.replicad.specs.Judging.{text_of, items_of, text_ahead, items_ahead, content, with_line, with_params, read_line, refused, ReadsParams}
 
--- a clause on the known bytes of a reader is one on the text that is ahead
-pub IfSome-ahead : (u : Unread) (left : Option (List ℕ)) (P : List ℕ → Type 0) → IfSome left (λ known. P (u.pending ++ known)) → IfSome (ahead u left) P
-IfSome-ahead u None P known = tt
-IfSome-ahead u (Some bytes) P known = known
-
 -- what a line without fault says
 line_content : {A : Type 0} (read : ℕ → List ℕ → Result A Refusal) (number before : ℕ) (raw : List ℕ) → line_fault number before raw ≡ None →
     read_line read number before raw ≡ cond (is_blank (without_feed raw)) None (Some (read number (without_feed raw)))

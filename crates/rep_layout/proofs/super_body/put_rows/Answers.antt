@@ -1,6 +1,6 @@
 use Rattle.std.proofs.Common.{ap, length, arith, length-append, refl, get_or}
-use Rattle.rep_layout.specs.Bytes.{four_bytes}
-use Rattle.rep_layout.proofs.Sizes.{length-four_bytes}
+use Rattle.rep_types.specs.Bytes.{four_bytes}
+use Rattle.rep_types.proofs.Spellings.{length-four_bytes}
 use Rattle.rep_layout.proofs.SuperFields.{rows_more}
 use Rattle.rep_layout.proofs.super_body.put_rows.Goals as goal
 

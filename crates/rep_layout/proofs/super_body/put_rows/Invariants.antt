@@ -1,6 +1,6 @@
 use Rattle.std.proofs.Common.{◌≡◌, ◌+◌, ◌*◌, ◌++◌, length, take}
 use Rattle.std.specs.List.{flat_map}
-use Rattle.rep_layout.specs.Bytes.{four_bytes}
+use Rattle.rep_types.specs.Bytes.{four_bytes}
 use Rattle.rep_layout.proofs.super_body.put_rows.Given as goal
 
 -- the rows so far

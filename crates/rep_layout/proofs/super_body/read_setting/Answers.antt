@@ -4,7 +4,7 @@ use Rattle.std.specs.Result.{result_ok}
 use Rattle.std.proofs.lemmas.Bool.{le-ltb}
 use Rattle.std.proofs.lemmas.List.{take_rest}
 use Rattle.rep_types.specs.Settings.{setting, allowed}
-use Rattle.rep_layout.specs.Bytes.{two_at}
+use Rattle.rep_types.specs.Bytes.{two_at}
 use Rattle.rep_layout.specs.SuperReading.{setting_in, rows_in}
 use Rattle.rep_layout.proofs.super_body.read_setting.Goals as goal
 

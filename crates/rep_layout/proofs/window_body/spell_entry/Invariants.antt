@@ -1,6 +1,6 @@
 use Rattle.std.proofs.Common.{◌≡◌, ◌+◌, ◌*◌, ◌++◌, length, take}
 use Rattle.std.specs.List.{flat_map}
-use Rattle.rep_layout.specs.Bytes.{key_bytes}
+use Rattle.rep_types.specs.Bytes.{key_bytes}
 use Rattle.rep_layout.proofs.window_body.spell_entry.Given as goal
 
 -- the keys so far

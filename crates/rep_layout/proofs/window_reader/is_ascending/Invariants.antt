@@ -1,6 +1,6 @@
 use Rattle.std.proofs.Common.{◌≡◌, ◌-◌, get_or, drop}
 use Rattle.rep_types.specs.Keys.{disorder, disorder_after}
-use Rattle.rep_layout.proofs.WindowKeys.{no_key}
+use Rattle.rep_types.proofs.Disorder.{no_key}
 use Rattle.rep_layout.proofs.window_reader.is_ascending.Given as goal
 
 -- no key so far is out of order

@@ -1,6 +1,6 @@
 use Rattle.std.proofs.Common.{◌≡◌, ◌∙◌, List, ℕ, ap, sym, length, true}
 use Rattle.std.proofs.lemmas.List.{take_rest}
-use Rattle.rep_layout.specs.Bytes.{begins_with}
+use Rattle.rep_types.specs.Bytes.{begins_with}
 use Rattle.rep_layout.specs.Windows.{entry_bytes}
 use Rattle.rep_layout.proofs.WindowSteps.{front_is}
 use Rattle.rep_layout.proofs.window_reader.read_front.Goals as goal

@@ -1,22 +1,22 @@
-use Rattle.std.proofs.Common.{◌≡◌, ℕ, List, Option, drop, false, refl, sym, ap, subst, ◌∙◌, arith, inl, inr, eqb, []}
+use Rattle.std.proofs.Common.{◌≡◌, List, Option, drop, false, refl, sym, ap, subst, ◌∙◌, arith, inl, inr, []}
 use Rattle.std.specs.Prelude.{is_some}
-use Rattle.std.specs.List.{list_all}
 use Rattle.std.specs.Option.{option_map_or}
 use Rattle.std.proofs.lemmas.List.{take_rest}
 use Rattle.rep_types.specs.declared.judged.Judged.{Judged}
+use Rattle.rep_types.specs.Bytes.{are_blank}
 use Rattle.rep_record.specs.BlockForm.{HasHead, HasNoEnd, IsRead}
 use Rattle.rep_record.proofs.BlockFronts.{not_false, run_again}
 use Rattle.rep_record.proofs.block_reader.read_body.Goals as goal
 
-pub returns-then-not-is_blank-clause-refused : goal.returns-then-not-is_blank-clause-refused
-returns-then-not-is_blank-clause-refused c =
+pub returns-then-not-are_blank-clause-refused : goal.returns-then-not-are_blank-clause-refused
+returns-then-not-are_blank-clause-refused c =
     let head : HasHead c.args.bytes.now = record {
       size = c.if-bytes-ne-BLOCK.false;
       some = omega (arith, c.u16_at-count.ensures, c.if-count-eq0.false);
       few = omega (arith, c.u16_at-count.ensures, c.if-count-gt-MAX_RECORDS.false);
     } in
-    let test : list_all (λ (b : ℕ). eqb b 0) (drop c.in_ok-end.end c.args.bytes.now) ≡ false =
-    ap (list_all (λ (b : ℕ). eqb b 0)) (sym (take_rest c.args.bytes.now c.in_ok-end.end)) ∙ sym c.is_blank.ensures ∙ c.if-not-is_blank.true in
+    let test : are_blank (drop c.in_ok-end.end c.args.bytes.now) ≡ false =
+    ap are_blank (sym (take_rest c.args.bytes.now c.in_ok-end.end)) ∙ sym c.are_blank.ensures ∙ c.if-not-are_blank.true in
     let no_end : HasNoEnd c.args.bytes.now = record {
       records = c.in_ok-end.ensures.all.records;
       end = c.in_ok-end.end;
@@ -43,5 +43,5 @@ returns-clause-read c =
       all = c.in_ok-end.ensures.all.all ∙ c.u16_at-count.ensures;
       end = c.in_ok-end.end;
       spelled = c.in_ok-end.ensures.all.spelled;
-      blank = ap (list_all (λ (b : ℕ). eqb b 0)) (sym (take_rest c.args.bytes.now c.in_ok-end.end)) ∙ sym c.is_blank.ensures ∙ c.if-not-is_blank.false;
+      blank = ap are_blank (sym (take_rest c.args.bytes.now c.in_ok-end.end)) ∙ sym c.are_blank.ensures ∙ c.if-not-are_blank.false;
     })

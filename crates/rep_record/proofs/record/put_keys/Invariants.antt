@@ -1,6 +1,6 @@
 use Rattle.std.proofs.Common.{◌≡◌, ◌+◌, ◌*◌, ◌++◌, length, take}
 use Rattle.std.specs.List.{flat_map}
-use Rattle.rep_record.specs.Records.{key_bytes}
+use Rattle.rep_types.specs.Bytes.{key_bytes}
 use Rattle.rep_record.proofs.record.put_keys.Given as goal
 
 -- the keys so far are put, 5 bytes each

@@ -1,7 +1,7 @@
 use Rattle.std.proofs.Common.{◌≡◌, ◌+◌, length, ap, rules, length-append, ◌∙◌}
-use Rattle.rep_layout.specs.Bytes.{zeros}
-use Rattle.rep_layout.proofs.Sizes.{zeros_none, zeros_more, length-zeros}
-use Rattle.rep_layout.proofs.bytes.put_zeros.Goals as goal
+use Rattle.rep_types.specs.Bytes.{zeros}
+use Rattle.rep_types.proofs.Spellings.{zeros_none, zeros_more, length-zeros}
+use Rattle.rep_types.proofs.bytes.put_zeros.Goals as goal
 
 pub loop-init : goal.loop-init
 loop-init g c = zeros_none c.args.out.now.items

@@ -1,7 +1,7 @@
 -- Numbers and keys as bytes, the highest byte of a number first.
 use Rattle.std.specs.Prelude.{ℕ, ◌==◌, Bool, List, ◌∷◌, take, drop, replicate}
 use Rattle.std.specs.Int.{w16, w32, w64, to_be_bytes, from_be_bytes}
-use Rattle.std.specs.List.{starts_with}
+use Rattle.std.specs.List.{list_all, starts_with}
 use Rattle.rep_types.specs.declared.key.Key.{Key}
 
 -- numbers of 2, 4 and 8 bytes
@@ -33,6 +33,10 @@ four_at at bytes = from_be_bytes w32 (take 4 (drop at bytes))
 -- the number of 8 bytes
 abbrev pub eight_at : ℕ → List ℕ → ℕ
 eight_at at bytes = from_be_bytes w64 (take 8 (drop at bytes))
+
+-- whether all of the bytes are zero
+abbrev pub are_blank : List ℕ → Bool
+are_blank bytes = list_all (λ b. b == 0) bytes
 
 -- whether the bytes begin with these
 unfoldable pub begins_with : List ℕ → List ℕ → Bool
