@@ -161,8 +161,8 @@ module _ {V E : Type 0} (at_home : ℕ → ℕ → List E → ℕ → V → Type
       (λ stop. let t = front_set k s r id v (max n a) f.durable 1 at (omega arith) (omega arith) (omega arith) under (omega arith) engine lives in
       (knowing f.history f.durable 1 v, keeps, tt, t.0, (t.1, refl, λ none. absurd (omega arith))))
 
-  pub halts : (k : Opening) (slots id : ℕ) (me : M) → Lives me.0 → Allows (Rule k) slots id me 1 (λ n. bit_or n (2 ^ 63)) (stopped (step slots 1 (2 ^ 63) 0 none) me)
-  halts k slots id me lives s r _ at _ = let f : Figures E = r.figures in let sp = r.spelled in let v : View E = me.0 in
+  pub halts : (k : Opening) (slots id : ℕ) (me : M) (bit : ℕ) → bit ≡ 2 ^ 63 → Lives me.0 → Allows (Rule k) slots id me 1 (λ n. bit_or n bit) (stopped (step slots 1 bit 0 none) me)
+  halts k slots id me top is_top lives s r _ at _ = let f : Figures E = r.figures in let sp = r.spelled in let v : View E = me.0 in
       let n : ℕ = get_or s.words 1 0 in let is : n ≡ f.durable + 2 ^ 63 * f.stop = get_or_is s.words 1 _ sp.durable_is in let under = sp.low in let bit = sp.stop_bit in
-      let t = front_set k s r id v (bit_or n (2 ^ 63)) f.durable 1 at (omega arith) bit (ap (λ (z : ℕ). bit_or z (2 ^ 63)) is ∙ halted_word f.durable f.stop (omega arith) bit) under (omega arith) sp.engine_up lives in
+      let t = front_set k s r id v (bit_or n top) f.durable 1 at (omega arith) bit ((λ i. bit_or (is i) (is_top i)) ∙ halted_word f.durable f.stop (omega arith) bit) under (omega arith) sp.engine_up lives in
       (knowing f.history f.durable 1 v, keeps, tt, t.0, (t.1, refl, refl))

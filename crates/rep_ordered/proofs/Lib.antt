@@ -3,6 +3,7 @@ pub mod Keeping
 pub mod Moving
 pub mod Drawing
 pub mod Entering
+pub mod Bringing
 pub mod Leaving
 pub mod Seating
 pub mod Making

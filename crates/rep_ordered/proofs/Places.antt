@@ -6,12 +6,12 @@ use Rattle.rep_ordered.specs.declared.view.View.{View}
 use Rattle.rep_ordered.specs.Counts.{one, times}
 use Rattle.rep_ordered.specs.Views.{StartsWith, both, with_number, Later, Lives}
 use Rattle.rep_ordered.specs.Steps.{Learns}
-use Rattle.rep_ordered.specs.Views.{hold, reach, held_at, reached_at, engine_after, knowing, tail_of, without}
+use Rattle.rep_ordered.specs.Views.{hold, reach, held_at, reached_at, engine_after, knowing, except, without}
 use Rattle.rep_ordered.specs.Rule.{Every}
 use Rattle.rep_ordered.specs.Steps.{Entered}
 use Rattle.atomic_table.specs.Table.{rest}
 use Rattle.rep_ordered.specs.Seats.{empty_slot, IsSeated}
-use Rattle.rep_ordered.proofs.Sums.{total_append, total_snoc, one_equal}
+use Rattle.rep_ordered.proofs.Sums.{total_append, total_snoc, one_equal, every_except}
 
 -- each of the numbers is at most 2 ^ 60
 abbrev pub Small : List ℕ → Type 0
@@ -98,25 +98,18 @@ module _ {V E : Type 0} where
           go zero e = let s = total_append (one x) a b in q x (omega arith)
           go (suc t) e = p x (omega arith)
 
-  -- the first slot that a seat carries is of the station that it entered last
-  pub carries : (n j w floor : ℕ) (me : Me (Option V) (View E)) (v : View E) (tail : List Hold) → IsSeated n me → me.0 ≡ v → v.held ≡ hold j w floor ∷ tail → (me.1 ≡ (j, None) ∷ map empty_slot tail) × (j < n)
-  carries n j w floor me v tail seated is holds = let held : me.0.held ≡ hold j w floor ∷ tail = ap (λ (z : View E). z.held) is ∙ holds in
-      (seated.slots ∙ ap (map empty_slot) held, (subst (Every (λ (h : Hold). h.station < n)) held seated.inside).0)
-
-  -- the station that was entered last was left
-  pub departed : (a b : ℕ) (me m1 m2 : Me (Option V) (View E)) (i j n n' d d' w floor : ℕ) (entry entry' : Option E) (x : Option V) (v : View E) (tail : List Hold) → b ≡ a → i ≡ j → entry' ≡ entry → d' ≡ d → n' ≡ n → me.0 ≡ v → IsSeated a me
-      → v.held ≡ hold j w floor ∷ tail → m1 ≡ (me.0, (j, x) ∷ rest me.1) → m2.0 ≡ without entry' i n' d' m1.0 → m2.1 ≡ rest m1.1 → IsSeated b m2 × (m2.0 ≡ without entry j n d v)
-  departed a b me m1 m2 i j n n' d d' w floor entry entry' x v tail size place joins durable number is seated holds put left gave =
+  -- the station was left
+  pub departed : (a b : ℕ) (me m1 m2 : Me (Option V) (View E)) (i j n n' d d' : ℕ) (entry entry' : Option E) (x : Option V) (v : View E) → b ≡ a → i ≡ j → entry' ≡ entry → d' ≡ d → n' ≡ n → me.0 ≡ v → IsSeated a me
+      → m1 ≡ (me.0, (j, x) ∷ map empty_slot (except j me.0.held)) → m2.0 ≡ without entry' i n' d' m1.0 → m2.1 ≡ rest m1.1 → IsSeated b m2 × (m2.0 ≡ without entry j n d v)
+  departed a b me m1 m2 i j n n' d d' entry entry' x v size place joins durable number is seated put left gave =
       let before : m1.0 ≡ v = ap (λ z. z.0) put ∙ is in
       let now : m2.0 ≡ without entry j n d v = left ∙ (λ k. without (joins k) (place k) (number k) (durable k) (before k)) in
-      let was = carries a j w floor me v tail seated is holds in
-      let held : tail_of v.held ≡ tail = ap tail_of holds in
-      let here : Every (λ (h : Hold). h.station < a) (hold j w floor ∷ tail) = subst (Every (λ (h : Hold). h.station < a)) (ap (λ (z : View E). z.held) is ∙ holds) seated.inside in (
+      let held : m2.0.held ≡ except j me.0.held = ap (λ (z : View E). z.held) now ∙ ap (λ (z : View E). except j z.held) (sym is) in (
         record {
           told = ap (λ (z : View E). z.told) now ∙ (ap (λ (z : View E). z.told) (sym is) ∙ seated.told);
           lives = subst Lives (sym now) (subst Lives is seated.lives);
-          slots = gave ∙ (ap (λ z. rest z.1) put ∙ (ap rest was.0 ∙ (ap (map empty_slot) (sym held) ∙ ap (λ (z : View E). map empty_slot z.held) (sym now))));
-          inside = inside_of a b tail m2.0.held size (ap (λ (z : View E). z.held) now ∙ held) here.1;
+          slots = gave ∙ (ap (λ z. rest z.1) put ∙ ap (map empty_slot) (sym held));
+          inside = inside_of a b (except j me.0.held) m2.0.held size held (every_except (λ (h : Hold). h.station < a) j me.0.held seated.inside);
           small = subst (λ (z : View E). Small z.own) (sym now) (subst (λ (z : View E). Small z.own) is seated.small);
         },
         now,

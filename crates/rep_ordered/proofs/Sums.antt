@@ -7,7 +7,7 @@ use lib.ListN.{get_elem?}
 use Rattle.rep_ordered.specs.declared.view.Hold.{Hold}
 use Rattle.rep_ordered.specs.declared.view.Reached.{Reached}
 use Rattle.rep_ordered.specs.Counts.{one, total}
-use Rattle.rep_ordered.specs.Views.{held_at, reached_at, reach, engine_after}
+use Rattle.rep_ordered.specs.Views.{held_at, word_at, floor_at, except, hold, reached_at, reach, engine_after}
 use Rattle.rep_ordered.specs.Rule.{Every}
 
 module _ {A : Type 0} (f : A → ℕ) where
@@ -53,6 +53,39 @@ module _ {A : Type 0} where
 pub every_away : (P Q : Hold → Type 0) (j : ℕ) (held : List Hold) → held_at j held ≡ 0 → ((h : Hold) → h.station ≢ j → P h → Q h) → Every P held → Every Q held
 every_away P Q j [] none f e = tt
 every_away P Q j (h ∷ hs) none f e = (f h (λ same. absurd (omega arith)) e.0, every_away P Q j hs (omega arith) f e.1)
+
+-- what holds of each hold, of the station j, where it is among them
+pub every_at : (P : Hold → Type 0) (j : ℕ) (held : List Hold) → 0 < held_at j held → Every P held → P (hold j (word_at j held) (floor_at j held))
+every_at P j [] some_hold e = absurd (omega arith)
+every_at P j (h ∷ hs) some_hold e = dite (ℕ_discrete j h.station)
+    (λ same. subst (λ b. P (hold j (if b then h.word else word_at j hs) (if b then h.floor else floor_at j hs))) (sym (eq-eqb j h.station same)) (subst (λ (i : ℕ). P (hold i h.word h.floor)) (sym same) e.0))
+    (λ other. subst (λ b. P (hold j (if b then h.word else word_at j hs) (if b then h.floor else floor_at j hs))) (sym (ne_eqb j h.station other)) (every_at P j hs (omega arith) e.1))
+
+-- the same of the others
+pub every_except : (P : Hold → Type 0) (j : ℕ) (held : List Hold) → Every P held → Every P (except j held)
+every_except P j [] e = tt
+every_except P j (h ∷ hs) e = dite (ℕ_discrete j h.station)
+    (λ same. subst (λ b. Every P (if b then hs else h ∷ except j hs)) (sym (eq-eqb j h.station same)) e.1)
+    (λ other. subst (λ b. Every P (if b then hs else h ∷ except j hs)) (sym (ne_eqb j h.station other)) (e.0, every_except P j hs e.1))
+
+pub held_here : (j : ℕ) (held : List Hold) → 0 < held_at j held → held_at j held ≡ 1 + held_at j (except j held)
+held_here j [] some_hold = absurd (omega arith)
+held_here j (h ∷ hs) some_hold = dite (ℕ_discrete j h.station)
+    (λ same. subst (λ b. held_at j (h ∷ hs) ≡ 1 + held_at j (if b then hs else h ∷ except j hs)) (sym (eq-eqb j h.station same)) (omega arith))
+    (λ other. subst (λ b. held_at j (h ∷ hs) ≡ 1 + held_at j (if b then hs else h ∷ except j hs)) (sym (ne_eqb j h.station other)) (let e = held_here j hs (omega arith) in omega arith))
+
+pub held_else : (i j : ℕ) (held : List Hold) → i ≢ j → held_at i (except j held) ≡ held_at i held
+held_else i j [] apart = refl
+held_else i j (h ∷ hs) apart = dite (ℕ_discrete j h.station)
+    (λ same. subst (λ b. held_at i (if b then hs else h ∷ except j hs) ≡ held_at i (h ∷ hs)) (sym (eq-eqb j h.station same)) (omega arith))
+    (λ other. subst (λ b. held_at i (if b then hs else h ∷ except j hs) ≡ held_at i (h ∷ hs)) (sym (ne_eqb j h.station other)) (let e = held_else i j hs apart in omega arith))
+
+-- a station that has a word is held
+pub held_with : (j : ℕ) (held : List Hold) → 0 < word_at j held → 0 < held_at j held
+held_with j [] some_word = absurd (omega arith)
+held_with j (h ∷ hs) some_word = dite (ℕ_discrete j h.station)
+    (λ same. omega arith)
+    (λ other. let behind = held_with j hs (subst (λ b. 0 < (if b then h.word else word_at j hs)) (ne_eqb j h.station other) some_word) in omega arith)
 
 pub get_or_there : (xs : List ℕ) (i : ℕ) → i < length xs → get_elem? xs i ≡ some (get_or xs i 0)
 get_or_there [] i h = absurd (omega arith)

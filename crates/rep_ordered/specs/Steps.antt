@@ -1,11 +1,12 @@
 -- What each step on the words tells the seat that makes it.
-use Rattle.std.specs.Prelude.{◌≡◌, ◌≢◌, ℕ, ◌+◌, ◌-◌, ◌*◌, ◌/◌, ◌%◌, ◌^◌, ◌<◌, ◌≤◌, Option, Some, List, ◌∷◌, length}
+use Rattle.std.specs.Prelude.{◌≡◌, ◌≢◌, ℕ, ◌+◌, ◌-◌, ◌*◌, ◌/◌, ◌%◌, ◌^◌, ◌<◌, ◌≤◌, Option, Some, None, List, ◌∷◌, map, length}
 use Rattle.atomic_table.specs.Table.{Me, Step, rest}
 use Rattle.rep_ordered.specs.declared.view.Hold.{Hold}
 use Rattle.rep_ordered.specs.declared.view.View.{View}
 use Rattle.rep_ordered.specs.Counts.{times}
 use Rattle.rep_ordered.specs.Rule.{Every}
-use Rattle.rep_ordered.specs.Views.{StartsWith, held_at, reached_at, hold, reach, engine_after, with_number, knowing, without}
+use Rattle.rep_ordered.specs.Views.{StartsWith, held_at, reached_at, hold, reach, engine_after, with_number, knowing, except, without}
+use Rattle.rep_ordered.specs.Seats.{empty_slot}
 
 module _ {E : Type 0} where
   -- a number was drawn: not one of its own, and none that has passed station 0 already
@@ -76,6 +77,10 @@ module _ {V E : Type 0} where
   tried at_home durable_of kind st m r m' =
       (r ≡ st.first → (x : V) × Entered at_home durable_of (st.word - 2) (st.first / 4) kind m.0 m'.0 x × (m'.1 ≡ (st.word - 2, Some x) ∷ m.1))
       × (r ≢ st.first → m' ≡ m)
+
+  -- The station's slot is brought in front of the others that the seat carries, which are all empty. What the seat knows is as before
+  abbrev pub brought : Step (Option V) → Me (Option V) (View E) → ℕ → Me (Option V) (View E) → Type 0
+  brought st m r m' = (m'.0 ≡ m.0) × (m'.1 ≡ (st.word - 2, None) ∷ map empty_slot (except (st.word - 2) m.0.held))
 
   -- the station's word is changed, and its slot given back
   abbrev pub left : Option E → ℕ → ℕ → Step (Option V) → Me (Option V) (View E) → ℕ → Me (Option V) (View E) → Type 0

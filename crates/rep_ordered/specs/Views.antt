@@ -18,18 +18,20 @@ abbrev pub reached_at : ℕ → List Reached → ℕ
 reached_at j [] = 0
 reached_at j (r ∷ rs) = max (if j == r.station then r.number else 0) (reached_at j rs)
 
--- the first of the stations that are held: its word, its floor; and the others
-abbrev pub first_word : List Hold → ℕ
-first_word [] = 0
-first_word (h ∷ hs) = h.word
+-- the word of the station where it is among those held, else 0. A seat holds a station at most once
+abbrev pub word_at : ℕ → List Hold → ℕ
+word_at j [] = 0
+word_at j (h ∷ hs) = if j == h.station then h.word else word_at j hs
 
-abbrev pub first_floor : List Hold → ℕ
-first_floor [] = 0
-first_floor (h ∷ hs) = h.floor
+-- the same of its floor
+abbrev pub floor_at : ℕ → List Hold → ℕ
+floor_at j [] = 0
+floor_at j (h ∷ hs) = if j == h.station then h.floor else floor_at j hs
 
-abbrev pub tail_of : List Hold → List Hold
-tail_of [] = []
-tail_of (h ∷ hs) = hs
+-- the others that are held, in their order
+abbrev pub except : ℕ → List Hold → List Hold
+except j [] = []
+except j (h ∷ hs) = if j == h.station then hs else h ∷ except j hs
 
 abbrev pub hold : ℕ → ℕ → ℕ → Hold
 hold j w floor = record { station = j; word = w; floor = floor }
@@ -94,28 +96,28 @@ module _ {E : Type 0} where
     pub durable : v.durable ≤ w.durable
     pub halted : v.halted ≤ w.halted
 
-  -- the seat holds the station by its ticket, and entered no other since
+  -- the seat holds the station by its ticket, whatever else it holds
   abbrev pub HoldsTurn : View E → ℕ → Type 0
-  HoldsTurn v j = (first_word v.held % 4 ≡ 1) × (v.held ≡ hold j (first_word v.held) (first_floor v.held) ∷ tail_of v.held)
+  HoldsTurn v j = word_at j v.held % 4 ≡ 1
 
   -- the same from the side
   abbrev pub HoldsSide : View E → ℕ → Type 0
-  HoldsSide v j = (first_word v.held % 4 ≡ 2) × (v.held ≡ hold j (first_word v.held) (first_floor v.held) ∷ tail_of v.held)
+  HoldsSide v j = word_at j v.held % 4 ≡ 2
 
   -- the same in either way
   abbrev pub Holds : View E → ℕ → Type 0
-  Holds v j = v.held ≡ hold j (first_word v.held) (first_floor v.held) ∷ tail_of v.held
+  Holds v j = 0 < held_at j v.held
 
   -- the number of the turn at which the station was entered
-  abbrev pub turn_of : View E → ℕ
-  turn_of v = first_word v.held / 4
+  abbrev pub turn_of : ℕ → View E → ℕ
+  turn_of j v = word_at j v.held / 4
 
-  abbrev pub floor_of : View E → ℕ
-  floor_of v = first_floor v.held
+  abbrev pub floor_of : ℕ → View E → ℕ
+  floor_of j v = floor_at j v.held
 
-  -- the station that was entered last is left: the entry has joined the history, the station's turn is at n, and its value has this durable number
+  -- the station is left: the entry has joined the history, the station's turn is at n, and its value has this durable number. The other stations are held as before
   abbrev pub without : Option E → ℕ → ℕ → ℕ → View E → View E
-  without entry j n durable v = record v { seen = grown v.seen entry; engine = engine_after j durable v.engine; reached = reach j n ∷ v.reached; held = tail_of v.held }
+  without entry j n durable v = record v { seen = grown v.seen entry; engine = engine_after j durable v.engine; reached = reach j n ∷ v.reached; held = except j v.held }
 
   -- a seat that may still act: it may draw a number or has drawn one, unless there is none at all
   abbrev pub Lives : View E → Type 0

@@ -80,6 +80,20 @@ fn unwrap<V>(slots: &mut Vec<Option<V>>, values: &mut Vec<V>)
     values.reverse();
 }
 
+/// The numbers of a lock that is made at this position.
+fn opening_at(position: u64, durable: u64) -> Opening
+    requires { (durable ≤ position) × (position ≤ MAX_SEQNO) }
+    ensures start { result.start ≡ position + 1 }
+    ensures whole { result.whole ≡ MAX_SEQNO - position }
+    ensures durable { result.durable ≡ durable }
+{
+    Opening {
+        start: position + 1,
+        whole: MAX_SEQNO - position,
+        durable,
+    }
+}
+
 impl<V: Keeps<E>, E> OrderedLock<V, E> {
     /// A lock with a station for each value, all free, and its first seat. The position is the last
     /// number that was given elsewhere, at most `MAX_SEQNO`: tickets begin above it, and the seat may
@@ -87,7 +101,9 @@ impl<V: Keeps<E>, E> OrderedLock<V, E> {
     /// is empty.
     ///
     /// Each value may lie at home in its station at the first number, after an empty history and at the
-    /// durable number, which at station 1 is not above the value's own.
+    /// durable number. At station 1 the durable number is not above the value's own: the lock keeps it
+    /// so, and says so to whoever enters that station and where it is closed. No `Keeps` could, since
+    /// what it says stays so while the durable number rises.
     ///
     /// Where there is no memory the values are handed back, in their order. It takes the memory that
     /// `close` needs as well.
@@ -103,23 +119,18 @@ impl<V: Keeps<E>, E> OrderedLock<V, E> {
         ensures seat { IfOk result (λ made. made.1 ≡ seat_of made.0 (opened (position + 1) (MAX_SEQNO - position) durable)) }
         ensures refused { IfErr result (λ refusal. refusal.values.items ≡ values.items) }
     {
-        let start = position + 1;
+        let opening = opening_at(position, durable);
         let Some(
             Space {
                 words,
                 mut slots,
                 room,
             },
-        ) = reserved(alloc, values.len(), start, durable)
+        ) = reserved(alloc, values.len(), opening.start, durable)
         else {
             return Err(Refused { values });
         };
         wrap(&mut values, &mut slots);
-        let opening = Opening {
-            start,
-            whole: MAX_SEQNO - position,
-            durable,
-        };
         match Table::new(alloc, words.as_slice(), slots, &opening) {
             Ok((table, seat)) => {
                 values.destroy_empty();

@@ -2,7 +2,7 @@
 
 ghost use Rattle.std.specs.Prelude.{ℕ, Option, None};
 ghost use Rattle.rep_ordered.specs.Views.{giving, given, both, spent};
-ghost use Rattle.rep_ordered.specs.Steps.{claimed, loaded, fronted, raised, stopped, tried, left};
+ghost use Rattle.rep_ordered.specs.Steps.{claimed, loaded, fronted, raised, stopped, tried, brought, left};
 
 use crate::rule::Keeps;
 use crate::view::View;
@@ -49,6 +49,12 @@ pub(crate) struct FromSide;
 
 impl<V: Keeps<E>, E> Play<Option<V>, View<E>> for FromSide {
     ghost then = { tried V.at_home V.durable_of 2 };
+}
+
+pub(crate) struct Bring;
+
+impl<V, E> Play<Option<V>, View<E>> for Bring {
+    ghost then = { brought };
 }
 
 /// How a station is left. A call picks it.

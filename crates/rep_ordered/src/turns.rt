@@ -1,15 +1,16 @@
 //! The turns: how a station is entered and left.
 
-ghost use Rattle.std.specs.Prelude.{◌≡◌, ◌≢◌, ℕ, ◌+◌, ◌/◌, ◌<◌, ◌≤◌, IfOk, IfErr, IsErr, IfSome, IfNone, IsSome, IsNone, Option, None};
+ghost use Rattle.std.specs.Prelude.{◌≡◌, ◌≢◌, ℕ, ◌+◌, ◌/◌, ◌<◌, ◌≤◌, IfOk, IfErr, IsErr, IfSome, IfNone, IsSome, IsNone, Option, Some, None, ◌∷◌, map};
 ghost use Rattle.rep_ordered.specs.Counts.{times};
-ghost use Rattle.rep_ordered.specs.Views.{HoldsTurn, HoldsSide, Holds, Later, floor_of, grown, turn_of, without};
+ghost use Rattle.rep_ordered.specs.Views.{HoldsTurn, HoldsSide, Holds, Later, except, floor_of, grown, turn_of, without};
 ghost use Rattle.rep_ordered.specs.Steps.{Entered};
-ghost use Rattle.rep_ordered.specs.Seats.{seat_of, stations_of};
+ghost use Rattle.rep_ordered.specs.Seats.{IsSeated, empty_slot, seat_of, stations_of};
 
 use crate::lock::OrderedLock;
-use crate::plays::{ByTicket, FromSide, Leave, Leaving};
+use crate::plays::{Bring, ByTicket, FromSide, Leave, Leaving};
 use crate::rule::Keeps;
 use crate::seat::Seat;
+use crate::view::View;
 use crossbeam_utils::Backoff;
 use rep_types::Refusal;
 use std::marker::Brand;
@@ -29,6 +30,9 @@ const TO_NEXT: u64 = 4 - BY_TICKET;
 /// From free at a number up to held from the side.
 const TO_SIDE: u64 = FROM_SIDE;
 
+/// From held from the side down to free at the same number.
+const TO_FREE: u64 = FROM_SIDE;
+
 impl<V: Keeps<E>, E> OrderedLock<V, E> {
     /// Enters the station by a ticket, as soon as the station's turn is at its number and it is free,
     /// and gives its value, which may lie at home there: at this number, at the history that the seat
@@ -39,8 +43,8 @@ impl<V: Keeps<E>, E> OrderedLock<V, E> {
     /// history.
     ///
     /// The ticket is one that the seat drew. A ticket enters each station once; where a ticket was
-    /// never brought to a station, no later one can enter it. A seat may hold several stations. It
-    /// leaves them in the opposite order, the one that it entered last first.
+    /// never brought to a station, no later one can enter it. A seat may hold several stations, and
+    /// leaves them in any order.
     ///
     /// Refuses with `Stopped` where it reads that the lock was halted, and always where the seat saw
     /// that before. The seat then holds what it held.
@@ -154,9 +158,25 @@ impl<V: Keeps<E>, E> OrderedLock<V, E> {
         self.table.shared.exchange(&mut seat.seat, station, None)
     }
 
-    /// Leaves a station that was entered by a ticket, the last one that the seat entered, and gives its
-    /// value back. Its turn is then at the next number. At station 0 the entry joins the history; at
-    /// the others there is none.
+    /// Puts a value into the slot of a station that the seat holds. A step can give back only the first
+    /// of the slots that a seat carries, so a load, which changes nothing, brings this one in front of
+    /// the others.
+    fn put_back(&self, seat: &mut atomic_table::Seat<Option<V>, View<E>>, station: usize, value: V)
+        requires table { seat.old.table_id ≡ self.now }
+        requires seated { IsSeated (stations_of self.now) seat.old.me }
+        requires holds { Holds seat.old.me.0 station }
+        ensures table { seat.new.table_id ≡ seat.old.table_id }
+        ensures within { station < stations_of self.now }
+        ensures put { seat.new.me ≡ (seat.old.me.0, (station, Some value) ∷ map empty_slot (except station seat.old.me.0.held)) }
+    {
+        self.table.shared.load::<Bring>(seat, station + 2);
+        let empty = self.table.shared.exchange(seat, station, Some(value));
+        let None = empty else { unreachable!() };
+    }
+
+    /// Leaves a station that was entered by a ticket, whatever else the seat holds, and gives its value
+    /// back. Its turn is then at the next number. At station 0 the entry joins the history; at the
+    /// others there is none. The seat holds its other stations as before.
     ///
     /// The value may lie at home there: at the next number, at what the seat has seen of the history,
     /// the entry included, and at the durable number that it has seen. At station 1 its durable number
@@ -165,9 +185,9 @@ impl<V: Keeps<E>, E> OrderedLock<V, E> {
         requires lock { seat.old.lock ≡ self.now }
         requires turn { HoldsTurn seat.old.view station }
         requires entry { (station ≡ 0 → IsSome entry.now) × (station ≢ 0 → IsNone entry.now) }
-        requires value { V.at_home station (turn_of seat.old.view + 1) (grown seat.old.view.seen entry.now) seat.old.view.durable value }
-        requires floor { station ≡ 1 → floor_of seat.old.view ≤ V.durable_of value }
-        ensures seat { seat.new ≡ seat_of seat.old.lock (without entry.now station (turn_of seat.old.view + 1) (V.durable_of value) seat.old.view) }
+        requires value { V.at_home station (turn_of station seat.old.view + 1) (grown seat.old.view.seen entry.now) seat.old.view.durable value }
+        requires floor { station ≡ 1 → floor_of station seat.old.view ≤ V.durable_of value }
+        ensures seat { seat.new ≡ seat_of seat.old.lock (without entry.now station (turn_of station seat.old.view + 1) (V.durable_of value) seat.old.view) }
     {
         self.leave_as::<Brand>(seat, station, value, entry);
     }
@@ -182,23 +202,20 @@ impl<V: Keeps<E>, E> OrderedLock<V, E> {
         requires lock { seat.old.lock ≡ self.now }
         requires turn { HoldsTurn seat.old.view station }
         requires entry { (station ≡ 0 → IsSome entry.now) × (station ≢ 0 → IsNone entry.now) }
-        requires value { V.at_home station (turn_of seat.old.view + 1) (grown seat.old.view.seen entry.now) seat.old.view.durable value }
-        requires floor { station ≡ 1 → floor_of seat.old.view ≤ V.durable_of value }
-        requires pick { (L.entry ≡ entry.now) × (L.durable ≡ V.durable_of value) × (L.number ≡ turn_of seat.old.view + 1) }
-        ensures seat { seat.new ≡ seat_of seat.old.lock (without entry.now station (turn_of seat.old.view + 1) (V.durable_of value) seat.old.view) }
+        requires value { V.at_home station (turn_of station seat.old.view + 1) (grown seat.old.view.seen entry.now) seat.old.view.durable value }
+        requires floor { station ≡ 1 → floor_of station seat.old.view ≤ V.durable_of value }
+        requires pick { (L.entry ≡ entry.now) × (L.durable ≡ V.durable_of value) × (L.number ≡ turn_of station seat.old.view + 1) }
+        ensures seat { seat.new ≡ seat_of seat.old.lock (without entry.now station (turn_of station seat.old.view + 1) (V.durable_of value) seat.old.view) }
     {
-        let empty = self
-            .table
-            .shared
-            .exchange(&mut seat.seat, station, Some(value));
-        let None = empty else { unreachable!() };
+        self.put_back(&mut seat.seat, station, value);
         self.table
             .shared
             .fetch_add::<Leave<L>>(&mut seat.seat, station + 2, TO_NEXT);
     }
 
-    /// Leaves a station that was entered from the side, the last one that the seat entered, and gives
-    /// its value back. Its turn stays at its number, and nothing joins the history.
+    /// Leaves a station that was entered from the side, whatever else the seat holds, and gives its
+    /// value back. Its turn stays at its number, and nothing joins the history. The seat holds its
+    /// other stations as before.
     ///
     /// The value may lie at home there, at that number, at what the seat has seen of the history, and
     /// at the durable number that it has seen. At station 1 its durable number is not below that of the
@@ -206,9 +223,9 @@ impl<V: Keeps<E>, E> OrderedLock<V, E> {
     pub fn side_leave(&self, seat: &mut Seat<V, E>, station: usize, value: V)
         requires lock { seat.old.lock ≡ self.now }
         requires side { HoldsSide seat.old.view station }
-        requires value { V.at_home station (turn_of seat.old.view) seat.old.view.seen seat.old.view.durable value }
-        requires floor { station ≡ 1 → floor_of seat.old.view ≤ V.durable_of value }
-        ensures seat { seat.new ≡ seat_of seat.old.lock (without None station (turn_of seat.old.view) (V.durable_of value) seat.old.view) }
+        requires value { V.at_home station (turn_of station seat.old.view) seat.old.view.seen seat.old.view.durable value }
+        requires floor { station ≡ 1 → floor_of station seat.old.view ≤ V.durable_of value }
+        ensures seat { seat.new ≡ seat_of seat.old.lock (without None station (turn_of station seat.old.view) (V.durable_of value) seat.old.view) }
     {
         self.side_leave_as::<Brand>(seat, station, value);
     }
@@ -216,24 +233,20 @@ impl<V: Keeps<E>, E> OrderedLock<V, E> {
     fn side_leave_as<L: Leaving<E>>(&self, seat: &mut Seat<V, E>, station: usize, value: V)
         requires lock { seat.old.lock ≡ self.now }
         requires side { HoldsSide seat.old.view station }
-        requires value { V.at_home station (turn_of seat.old.view) seat.old.view.seen seat.old.view.durable value }
-        requires floor { station ≡ 1 → floor_of seat.old.view ≤ V.durable_of value }
-        requires pick { (L.entry ≡ None) × (L.durable ≡ V.durable_of value) × (L.number ≡ turn_of seat.old.view) }
-        ensures seat { seat.new ≡ seat_of seat.old.lock (without None station (turn_of seat.old.view) (V.durable_of value) seat.old.view) }
+        requires value { V.at_home station (turn_of station seat.old.view) seat.old.view.seen seat.old.view.durable value }
+        requires floor { station ≡ 1 → floor_of station seat.old.view ≤ V.durable_of value }
+        requires pick { (L.entry ≡ None) × (L.durable ≡ V.durable_of value) × (L.number ≡ turn_of station seat.old.view) }
+        ensures seat { seat.new ≡ seat_of seat.old.lock (without None station (turn_of station seat.old.view) (V.durable_of value) seat.old.view) }
     {
-        let empty = self
-            .table
-            .shared
-            .exchange(&mut seat.seat, station, Some(value));
-        let None = empty else { unreachable!() };
+        self.put_back(&mut seat.seat, station, value);
         self.table
             .shared
-            .fetch_sub::<Leave<L>>(&mut seat.seat, station + 2, FROM_SIDE);
+            .fetch_sub::<Leave<L>>(&mut seat.seat, station + 2, TO_FREE);
     }
 
-    /// Gives up a station, the last one that the seat entered, however it was entered, once the seat
-    /// saw that the lock was halted. The value goes home, nobody enters the station again, and `close`
-    /// gives that value.
+    /// Gives up a station, however it was entered and whatever else the seat holds, once the seat saw
+    /// that the lock was halted. The value goes home, nobody enters the station again, and `close`
+    /// gives that value. The seat holds its other stations as before.
     ///
     /// The value may lie at home there at the number at which the station was entered, at what the seat
     /// has seen of the history, and at the durable number that it has seen. At station 1 its durable
@@ -242,9 +255,9 @@ impl<V: Keeps<E>, E> OrderedLock<V, E> {
         requires lock { seat.old.lock ≡ self.now }
         requires halted { seat.old.view.halted ≡ 1 }
         requires holds { Holds seat.old.view station }
-        requires value { V.at_home station (turn_of seat.old.view) seat.old.view.seen seat.old.view.durable value }
-        requires floor { station ≡ 1 → floor_of seat.old.view ≤ V.durable_of value }
-        ensures seat { seat.new ≡ seat_of seat.old.lock (without None station (turn_of seat.old.view) (V.durable_of value) seat.old.view) }
+        requires value { V.at_home station (turn_of station seat.old.view) seat.old.view.seen seat.old.view.durable value }
+        requires floor { station ≡ 1 → floor_of station seat.old.view ≤ V.durable_of value }
+        ensures seat { seat.new ≡ seat_of seat.old.lock (without None station (turn_of station seat.old.view) (V.durable_of value) seat.old.view) }
     {
         self.give_up_as::<Brand>(seat, station, value);
     }
@@ -252,16 +265,12 @@ impl<V: Keeps<E>, E> OrderedLock<V, E> {
     fn give_up_as<L: Leaving<E>>(&self, seat: &mut Seat<V, E>, station: usize, value: V)
         requires lock { seat.old.lock ≡ self.now }
         requires holds { Holds seat.old.view station }
-        requires value { V.at_home station (turn_of seat.old.view) seat.old.view.seen seat.old.view.durable value }
-        requires floor { station ≡ 1 → floor_of seat.old.view ≤ V.durable_of value }
-        requires pick { (L.entry ≡ None) × (L.durable ≡ V.durable_of value) × (L.number ≡ turn_of seat.old.view) }
-        ensures seat { seat.new ≡ seat_of seat.old.lock (without None station (turn_of seat.old.view) (V.durable_of value) seat.old.view) }
+        requires value { V.at_home station (turn_of station seat.old.view) seat.old.view.seen seat.old.view.durable value }
+        requires floor { station ≡ 1 → floor_of station seat.old.view ≤ V.durable_of value }
+        requires pick { (L.entry ≡ None) × (L.durable ≡ V.durable_of value) × (L.number ≡ turn_of station seat.old.view) }
+        ensures seat { seat.new ≡ seat_of seat.old.lock (without None station (turn_of station seat.old.view) (V.durable_of value) seat.old.view) }
     {
-        let empty = self
-            .table
-            .shared
-            .exchange(&mut seat.seat, station, Some(value));
-        let None = empty else { unreachable!() };
+        self.put_back(&mut seat.seat, station, value);
         self.table
             .shared
             .fetch_or::<Leave<L>>(&mut seat.seat, station + 2, GIVEN_UP);

@@ -1,13 +1,15 @@
 -- Lists of tickets, one ticket later.
-use Rattle.std.proofs.Common.{◌≡◌, ◌≢◌, ℕ, zero, suc, ◌+◌, ◌-◌, ◌*◌, ◌/◌, ◌<◌, ◌≤◌, max, eqb, List, [], ◌∷◌, ◌++◌, length, get_or, take, sym, refl, ap, ◌∙◌, subst, arith, length-append, append_assoc, mul-le-mul_right, if◌then◌else◌}
-use Rattle.std.specs.Prelude.{Option, Some, Result, Ok, Err, OnOk}
+use Rattle.std.proofs.Common.{◌≡◌, ℕ, zero, suc, ◌+◌, ◌-◌, ◌*◌, ◌/◌, ◌<◌, ◌≤◌, max, eqb, List, [], ◌∷◌, ◌++◌, length, get_or, take, sym, refl, ap, ◌∙◌, subst, arith, length-append, mul-le-mul_right, if◌then◌else◌, eq-eqb}
+use Rattle.std.specs.Prelude.{Option, Some, Result, Ok, Err, OnOk, IsSomeAnd, All}
+use Rattle.std.proofs.lemmas.Option.{slice_get-get_or}
+use Rattle.rep_ordered_uses.specs.declared.notes.Note.{Note}
 use Rattle.rep_ordered.specs.Ends.{Closed}
 use Rattle.std.specs.Result.{result_and}
 use Rattle.std.proofs.Math.Nat.{add-mul}
 use Rattle.rep_ordered.specs.declared.view.Reached.{Reached}
 use Rattle.rep_ordered.specs.declared.view.View.{View}
-use Rattle.rep_ordered.specs.Counts.{one, total, times}
-use Rattle.rep_ordered.specs.Views.{StartsWith, held_at, reached_at, reach, turn_of, first_word}
+use Rattle.rep_ordered.specs.Counts.{one, times}
+use Rattle.rep_ordered.specs.Views.{StartsWith, held_at, reached_at, reach, turn_of, word_at}
 use Rattle.rep_ordered.specs.Steps.{Entered}
 use Rattle.rep_ordered.proofs.Sums.{total_snoc, total_append, one_equal}
 use Rattle.rep_ordered_uses.specs.Passing.{HavePassed, numbers, AllDone}
@@ -56,17 +58,30 @@ next_second start t before seen old tickets g place begins h = let count = h.cou
     }
 
 -- the number of the turn of a station that was just entered by a ticket
-pub turn_entered : {V E : Type 0} (at_home : ℕ → ℕ → List E → ℕ → V → Type 0) (durable_of : V → ℕ) (station number : ℕ) (v w : View E) (x : V) → Entered at_home durable_of station number 1 v w x → turn_of w ≡ number
-turn_entered at_home durable_of station number v w x e = let word = ap (λ (z : View _). first_word z.held) e.view in omega arith
+pub turn_entered : {V E : Type 0} (at_home : ℕ → ℕ → List E → ℕ → V → Type 0) (durable_of : V → ℕ) (station number : ℕ) (v w : View E) (x : V) → Entered at_home durable_of station number 1 v w x → turn_of station w ≡ number
+turn_entered at_home durable_of station number v w x e = let behind : ℕ = word_at station v.held in
+    let word : word_at station w.held ≡ (if eqb station station then 4 * number + 1 else behind) = ap (λ (z : View _). word_at station z.held) e.view in
+    let here : word_at station w.held ≡ 4 * number + 1 = word ∙ ap (λ b. if b then 4 * number + 1 else behind) (eq-eqb station station refl) in omega arith
 
--- the number drawn has passed both stations
-pub done_more : (v w : View ℕ) (t : ℕ) → w.own ≡ v.own ++ t ∷ [] → w.reached ≡ reach 1 (t + 1) ∷ reach 1 t ∷ reach 0 (t + 1) ∷ reach 0 t ∷ v.reached → AllDone v → AllDone w
-done_more v w t own reached old x drawn =
-    subst (λ rs. (x < reached_at 0 rs) × (x < reached_at 1 rs)) (sym reached) (go (times x v.own) refl)
+-- the number drawn has passed both stations, and so have those before it
+all_done : (v w : View ℕ) (t : ℕ) → w.own ≡ v.own ++ t ∷ [] → t < reached_at 0 w.reached → t < reached_at 1 w.reached → reached_at 0 v.reached ≤ reached_at 0 w.reached → reached_at 1 v.reached ≤ reached_at 1 w.reached → AllDone v → AllDone w
+all_done v w t own here there up_here up_there old x drawn = go (times x v.own) refl
   where
-    go : (n : ℕ) → n ≡ times x v.own → (x < reached_at 0 (reach 1 (t + 1) ∷ reach 1 t ∷ reach 0 (t + 1) ∷ reach 0 t ∷ v.reached)) × (x < reached_at 1 (reach 1 (t + 1) ∷ reach 1 t ∷ reach 0 (t + 1) ∷ reach 0 t ∷ v.reached))
+    go : (n : ℕ) → n ≡ times x v.own → (x < reached_at 0 w.reached) × (x < reached_at 1 w.reached)
     go zero none = let s = total_snoc (one x) v.own t in let counted : times x w.own ≡ times x (v.own ++ t ∷ []) = ap (times x) own in let is = one_equal x t (omega arith) in (omega arith, omega arith)
     go (suc n) some = let o = old x (omega arith) in let a = o.0 in let b = o.1 in (omega arith, omega arith)
+
+-- the number drawn has left the first station, and then passed the second
+pub done_more : (v w : View ℕ) (t : ℕ) → w.own ≡ v.own ++ t ∷ [] → w.reached ≡ reach 1 (t + 1) ∷ reach 1 t ∷ reach 0 (t + 1) ∷ reach 0 t ∷ v.reached → AllDone v → AllDone w
+done_more v w t own reached old = let here = ap (reached_at 0) reached in let there = ap (reached_at 1) reached in all_done v w t own (omega arith) (omega arith) (omega arith) (omega arith) old
+
+-- it was inside both at once, and left the first one first
+pub done_coupled : (v w : View ℕ) (t : ℕ) → w.own ≡ v.own ++ t ∷ [] → w.reached ≡ reach 1 (t + 1) ∷ reach 0 (t + 1) ∷ reach 1 t ∷ reach 0 t ∷ v.reached → AllDone v → AllDone w
+done_coupled v w t own reached old = let here = ap (reached_at 0) reached in let there = ap (reached_at 1) reached in all_done v w t own (omega arith) (omega arith) (omega arith) (omega arith) old
+
+-- the notes that a lock is closed with whose seat holds no station
+pub closed_marks : (v : View ℕ) (values : List (Option Note)) → Closed (λ _ _ _ _ note. note.mark ≤ 100) (λ note. note.mark) v values → v.held ≡ [] → All (λ found. IsSomeAnd found (λ note. note.mark ≤ 100)) values
+closed_marks v values closed free k d below = let c = closed.each k (get_or values k d) (slice_get-get_or values k d below) (ap (held_at k) free) in subst (λ found. IsSomeAnd found (λ (note : Note). note.mark ≤ 100)) (sym c.is) c.keeps
 
 pub no_more : (start n m : ℕ) (before after first second : List ℕ) → HavePassed start n before first → start + length before ≡ n → HavePassed start m after second → after ≡ before → length second ≤ length first
 no_more start n m before after first second g place h same = let a = g.count in let e : length after ≡ length before = ap length same in let f : length after ≡ length (second ++ h.front.0) = ap length h.front.1 in omega (arith, length-append second h.front.0)

@@ -1,5 +1,5 @@
 -- What passed a station stays so as the history grows.
-use Rattle.std.specs.Prelude.{◌≡◌, ℕ, List, ◌++◌}
+use Rattle.std.specs.Prelude.{ℕ, List, ◌++◌}
 use Rattle.std.proofs.Common.{ap, ◌∙◌, append_assoc}
 use Rattle.rep_ordered_uses.specs.Passing.{HavePassed}
 

@@ -2,12 +2,14 @@
 //! alone.
 #![tactic(auto)]
 
+mod coupled;
 mod notes;
 mod passed;
 mod passing;
 #[cfg(test)]
 mod tests;
 
+pub use coupled::{count_often, counts_beside, pass_all_coupled, pass_coupled};
 pub use notes::{Note, halt_and_give_up, halted_run, lock_of_notes, raised_run, wait_for_turn};
 pub use passed::Passed;
-pub use passing::{pass_all, pass_by, pass_one, passed_counts, tickets_by};
+pub use passing::{lock_of_lists, pass_all, pass_by, pass_one, passed_counts, tickets_by};

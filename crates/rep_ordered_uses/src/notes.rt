@@ -1,8 +1,8 @@
 //! Notes at home in two stations, for runs that end by a halt.
 
-ghost use Rattle.std.specs.Prelude.{◌≡◌, ◌<◌, ◌≤◌, [], IfOk};
+ghost use Rattle.std.specs.Prelude.{◌≡◌, ◌<◌, ◌≤◌, [], length, IfOk, IfErr, IfSome, IsSomeAnd, IsTrue, IsFalse, All, ◌⊎◌};
 ghost use Rattle.rep_ordered.specs.Counts.{times};
-ghost use Rattle.rep_ordered.specs.Views.{Holds, tail_of};
+ghost use Rattle.rep_ordered.specs.Views.{Holds, except};
 ghost use Rattle.rep_ordered.specs.Seats.{stations_of};
 ghost use Rattle.rep_ordered_uses.specs.Passing.{Went};
 
@@ -39,6 +39,7 @@ pub fn lock_of_notes(
     ensures numbers { IfOk result (λ made. (made.1.view.own ≡ []) × (made.1.view.allowance ≡ made.1.view.whole)) }
     ensures last { position ≡ MAX_SEQNO → IfOk result (λ made. made.1.view.allowance ≡ 0) }
     ensures many { position < 100 → IfOk result (λ made. 100 < made.1.view.allowance) }
+    ensures refused { IfErr result (λ refusal. refusal ≡ Refusal.OutOfMemory) }
 {
     let mut notes = Vec::with_capacity(alloc, 2)?;
     notes.push(Note { mark: 0 })?;
@@ -53,7 +54,7 @@ pub fn halt_and_give_up(
     mut note: Note,
 ) -> Seat<Note, u64>
     requires lock { seat.lock ≡ lock.now }
-    requires holds { Holds seat.view 0 × (tail_of seat.view.held ≡ []) }
+    requires holds { Holds seat.view 0 × (except 0 seat.view.held ≡ []) }
     requires floor { note.mark ≤ 100 }
     ensures lock { result.lock ≡ seat.lock }
     ensures went { Went seat.view result.view }
@@ -79,6 +80,7 @@ pub fn wait_for_turn<R: Wait>(
     requires free { seat.view.held ≡ [] }
     ensures lock { result.0.lock ≡ seat.lock }
     ensures went { Went seat.view result.0.view }
+    ensures told { IfSome result.1 (λ refusal. refusal ≡ Refusal.Stopped) }
 {
     match lock.enter(rt, &mut seat, 0, ticket) {
         Ok(note) => {
@@ -94,7 +96,11 @@ pub fn wait_for_turn<R: Wait>(
 pub fn halted_run<R: Threads + Wait + Sync>(
     rt: &R,
     alloc: Global,
-) -> Result<(Option<Refusal>, Vec<Option<Note>>), Refusal> {
+) -> Result<(Option<Refusal>, Vec<Option<Note>>), Refusal>
+    ensures told { IfOk result (λ run. IfSome run.0 (λ refusal. refusal ≡ Refusal.Stopped)) }
+    ensures notes { IfOk result (λ run. (length run.1.items ≡ 2) × All (λ found. IsSomeAnd found (λ note. note.mark ≤ 100)) run.1.items) }
+    ensures refused { IfErr result (λ refusal. (refusal ≡ Refusal.Stopped) ⊎ (refusal ≡ Refusal.OutOfMemory)) }
+{
     let (lock, mut holder) = lock_of_notes(alloc, 5)?;
     let mut waiter = lock.split(&mut holder, 10);
     let first = lock.claim(&mut holder);
@@ -104,12 +110,12 @@ pub fn halted_run<R: Threads + Wait + Sync>(
     let (mut holder, (waiter, refusal)) = join(
         rt,
         move || -> Seat<Note, u64>
-            requires { (holder.lock ≡ shared.now) × Holds holder.view 0 × (tail_of holder.view.held ≡ []) × (note.mark ≤ 100) }
+            requires { (holder.lock ≡ shared.now) × Holds holder.view 0 × (except 0 holder.view.held ≡ []) × (note.mark ≤ 100) }
             ensures { (result.lock ≡ holder.lock) × Went holder.view result.view }
         { halt_and_give_up(shared, holder, note) },
         move || -> (Seat<Note, u64>, Option<Refusal>)
             requires { (waiter.lock ≡ shared.now) × (stations_of shared.now ≡ 2) × (0 < times second waiter.view.own) × (waiter.view.held ≡ []) }
-            ensures { (result.0.lock ≡ waiter.lock) × Went waiter.view result.0.view }
+            ensures { (result.0.lock ≡ waiter.lock) × Went waiter.view result.0.view × IfSome result.1 (λ refusal. refusal ≡ Refusal.Stopped) }
         { wait_for_turn(rt, shared, waiter, second) },
     );
     lock.join(&mut holder, waiter);
@@ -117,7 +123,12 @@ pub fn halted_run<R: Threads + Wait + Sync>(
 }
 
 /// What the front says after the durable number was raised to 7, then to 5, and after a halt.
-pub fn raised_run<R: Wait>(rt: &R, alloc: Global) -> Result<(Front, Front, Front), Refusal> {
+pub fn raised_run<R: Wait>(rt: &R, alloc: Global) -> Result<(Front, Front, Front), Refusal>
+    ensures raised { IfOk result (λ fronts. IsFalse fronts.0.halted → 7 ≤ fronts.0.durable) }
+    ensures kept { IfOk result (λ fronts. (fronts.0.durable ≤ fronts.1.durable) × (fronts.1.durable ≤ fronts.2.durable)) }
+    ensures halted { IfOk result (λ fronts. IsTrue fronts.2.halted) }
+    ensures refused { IfErr result (λ refusal. (refusal ≡ Refusal.Stopped) ⊎ (refusal ≡ Refusal.OutOfMemory)) }
+{
     let (lock, mut seat) = lock_of_notes(alloc, 5)?;
     let mut note = lock.side_enter(rt, &mut seat, 1)?;
     note.mark = note.mark.max(7);

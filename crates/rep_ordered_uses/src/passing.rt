@@ -1,8 +1,9 @@
 //! Threads that pass both stations.
 
-ghost use Rattle.std.specs.Prelude.{◌≡◌, ◌+◌, ◌*◌, ◌-◌, ◌^◌, ◌<◌, ◌≤◌, [], ◌∷◌, ◌++◌, length, IfOk, OnOk};
+ghost use Rattle.std.specs.Prelude.{◌≡◌, ◌+◌, ◌*◌, ◌-◌, ◌^◌, ◌<◌, ◌≤◌, [], ◌∷◌, ◌++◌, length, IfOk, IfErr, OnOk, ◌⊎◌};
 ghost use Rattle.std.specs.Thread.{IsSync};
-ghost use Rattle.rep_ordered.specs.Seats.{stations_of};
+ghost use Rattle.rep_ordered.specs.Views.{opened};
+ghost use Rattle.rep_ordered.specs.Seats.{seat_of, stations_of};
 ghost use Rattle.rep_ordered_uses.specs.Passing.{AllDone, Went, numbers};
 
 use crate::passed::Passed;
@@ -28,6 +29,7 @@ pub fn pass_one<const START: u64, R: Wait>(
     ensures went { Went seat.old.view seat.new.view }
     ensures drawn { length seat.new.view.own ≡ length seat.old.view.own + 1 }
     ensures done { OnOk result (AllDone seat.new.view) }
+    ensures refused { IfErr result (λ refusal. (refusal ≡ Refusal.Stopped) ⊎ (refusal ≡ Refusal.OutOfMemory)) }
 {
     let ticket = lock.claim(seat);
     let mut first = lock.enter(rt, seat, 0, ticket)?;
@@ -63,6 +65,7 @@ pub fn pass_all<const START: u64, R: Wait>(
     ensures went { Went seat.old.view seat.new.view }
     ensures drawn { OnOk result (length seat.new.view.own ≡ length seat.old.view.own + count) }
     ensures done { OnOk result (AllDone seat.new.view) }
+    ensures refused { IfErr result (λ refusal. (refusal ≡ Refusal.Stopped) ⊎ (refusal ≡ Refusal.OutOfMemory)) }
 {
     for _ticket in 0..count {
         pass_one(rt, lock, seat)?;
@@ -70,8 +73,9 @@ pub fn pass_all<const START: u64, R: Wait>(
     Ok(())
 }
 
-/// Holds both stations at once, in order, and says how many tickets have passed each: no more have
-/// passed the second.
+/// Holds both stations at once and says how many tickets have passed each: the first as many as there
+/// are entries in the history, and the second no more. It leaves first the station that it entered
+/// first.
 pub fn passed_counts<const START: u64, R: Wait>(
     rt: &R,
     lock: &OrderedLock<Passed<START>, u64>,
@@ -83,6 +87,8 @@ pub fn passed_counts<const START: u64, R: Wait>(
     ensures lock { seat.new.lock ≡ seat.old.lock }
     ensures went { Went seat.old.view seat.new.view }
     ensures order { IfOk result (λ counts. counts.1 ≤ counts.0) }
+    ensures first { IfOk result (λ counts. counts.0 ≡ length seat.new.view.seen) }
+    ensures refused { IfErr result (λ refusal. refusal ≡ Refusal.Stopped) }
 {
     let first = lock.side_enter(rt, seat, 0)?;
     let second = match lock.side_enter(rt, seat, 1) {
@@ -93,8 +99,8 @@ pub fn passed_counts<const START: u64, R: Wait>(
         }
     };
     let counts = (first.tickets.len(), second.tickets.len());
-    lock.side_leave(seat, 1, second);
     lock.side_leave(seat, 0, first);
+    lock.side_leave(seat, 1, second);
     Ok(counts)
 }
 
@@ -140,6 +146,30 @@ pub fn pass_by<const START: u64, R: Threads + Wait + Sync>(
     (seat, first.and(second))
 }
 
+/// A lock of two stations that no ticket has passed, where tickets begin at `START`, with its first
+/// seat.
+pub fn lock_of_lists<const START: u64>(
+    alloc: Global,
+) -> Result<(OrderedLock<Passed<START>, u64>, Seat<Passed<START>, u64>), Refusal>
+    requires start { (0 < START) × (START ≤ MAX_SEQNO + 1) }
+    ensures stations { IfOk result (λ made. stations_of made.0 ≡ 2) }
+    ensures seat { IfOk result (λ made. made.1 ≡ seat_of made.0 (opened START (MAX_SEQNO + 1 - START) 0)) }
+    ensures refused { IfErr result (λ refusal. refusal ≡ Refusal.OutOfMemory) }
+{
+    let mut values = Vec::with_capacity(alloc, 2)?;
+    values.push(Passed {
+        tickets: Vec::new(alloc),
+    })?;
+    values.push(Passed {
+        tickets: Vec::new(alloc),
+    })?;
+    OrderedLock::new(alloc, values, START - 1, 0).map_err(
+        |_refused| -> Refusal
+            ensures { result ≡ Refusal.OutOfMemory }
+        { Refusal::OutOfMemory },
+    )
+}
+
 /// The tickets that have passed each station, in their order, once each of as many threads has passed
 /// with as many.
 pub fn tickets_by<const START: u64, R: Threads + Wait + Sync>(
@@ -153,17 +183,7 @@ pub fn tickets_by<const START: u64, R: Threads + Wait + Sync>(
     requires numbers { START + threads * count ≤ MAX_SEQNO + 1 }
     ensures { IfOk result (λ lists. (lists.0.items ≡ numbers START (threads * count)) × (lists.1.items ≡ numbers START (threads * count))) }
 {
-    let mut values = Vec::with_capacity(alloc, 2)?;
-    values.push(Passed {
-        tickets: Vec::new(alloc),
-    })?;
-    values.push(Passed {
-        tickets: Vec::new(alloc),
-    })?;
-    let Ok((lock, seat)) = OrderedLock::<Passed<START>, u64>::new(alloc, values, START - 1, 0)
-    else {
-        return Err(Refusal::OutOfMemory);
-    };
+    let (lock, seat) = lock_of_lists::<START>(alloc)?;
     let (seat, passed) = pass_by(rt, &lock, seat, threads, count);
     let mut values = lock.close(seat);
     passed?;

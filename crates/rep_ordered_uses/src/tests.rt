@@ -1,5 +1,6 @@
 //! What the threads leave behind.
 
+use crate::coupled::counts_beside;
 use crate::notes::{halted_run, lock_of_notes, raised_run};
 use crate::passing::tickets_by;
 use rep_ordered::Front;
@@ -21,6 +22,13 @@ fn five_threads_pass_in_order(rt: HostRuntime) -> Result<(), Fail> {
     let (first, second) = tickets_by::<6, _>(&rt, rt.alloc(), 5, 40)?;
     assert!(rt; first.iter().copied().eq(6..=205));
     assert!(rt; second.iter().copied().eq(6..=205));
+    Ok(())
+}
+
+#[test]
+fn one_thread_counts_while_another_passes(rt: HostRuntime) -> Result<(), Fail> {
+    let (first, second) = counts_beside::<6, _>(&rt, rt.alloc(), 100)?;
+    assert!(rt; second <= first && first <= 100);
     Ok(())
 }
 

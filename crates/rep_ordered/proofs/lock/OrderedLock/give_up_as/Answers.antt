@@ -1,28 +1,26 @@
-use Rattle.std.proofs.Common.{rules, ◌≡◌, ◌+◌, ◌-◌, bit_or, Some, None, arith, refl, ap, ◌∙◌, subst}
+use Rattle.std.proofs.Common.{rules, ◌+◌, ◌-◌, ◌<◌, bit_or, Some, None, arith, sym, refl, ap, ◌∙◌, subst}
 use Rattle.atomic_table.specs.Seated.{TableId}
 use Rattle.rep_ordered.specs.declared.view.View.{View}
-use Rattle.rep_ordered.specs.Views.{Lives}
+use Rattle.rep_ordered.specs.Views.{Lives, turn_of, word_at, held_at}
 use Rattle.rep_ordered.specs.Seats.{Place}
-use Rattle.rep_ordered.specs.Views.{turn_of, first_word}
 use Rattle.rep_ordered.specs.declared.turns.TheConstants.{GIVEN_UP}
 use Rattle.rep_ordered.proofs.Leaving.{leaves, given_up_word}
-use Rattle.rep_ordered.proofs.Places.{front_is, carries, departed}
+use Rattle.rep_ordered.proofs.Places.{front_is, departed}
 use Rattle.rep_ordered.proofs.lock.OrderedLock.give_up_as.Goals as goal
 
-pub exchange-empty-requires : goal.exchange-empty-requires
-exchange-empty-requires g c = let v : View g.row.E.Denot = c.args.seat.now.view in let is = ap (λ (z : Place g.row.E.Denot). z.view) c.seat.view_is in
-    let was = carries _ _ _ _ _ v _ c.seat.invariant is c.requires.holds in (search rules, (None, front_is _ _ _ None _ refl was.0))
+pub put_back-requires-clause-holds : goal.put_back-requires-clause-holds
+put_back-requires-clause-holds g c = subst (λ (z : View g.row.E.Denot). 0 < held_at c.args.station z.held) (sym (ap (λ (z : Place g.row.E.Denot). z.view) c.seat.view_is)) c.requires.holds
 
 pub fetch_or-requires : goal.fetch_or-requires
-fetch_or-requires g c = let v : View g.row.E.Denot = c.args.seat.now.view in let is = ap (λ (z : Place g.row.E.Denot). z.view) c.seat.view_is in
-    let was = carries _ _ _ _ _ v _ c.seat.invariant is c.requires.holds in let put = c.exchange-empty.ensures.3 in let words = c.self.invariant.0 in
-    let same : c.seat.inside.seat.table_id ≡ c.self.inside.table.shared.table_id = search rules in let slots = ap (λ (z : TableId). z.slots) same in let within = was.1 in (
+fetch_or-requires g c = let v : View g.row.E.Denot = c.args.seat.now.view in let is = ap (λ (z : Place g.row.E.Denot). z.view) c.seat.view_is in let held = c.requires.holds in
+    let put = c.put_back.ensures.put in let words = c.self.invariant.0 in let within = c.put_back.ensures.within in
+    let slots = ap (λ (z : TableId). z.slots) c.self.view_is in (
       search rules,
       omega arith,
-      leaves g.V.Keeps.at_home g.V.Keeps.durable_of g.V.Keeps.grows _ _ _ _ _ (turn_of v) _ _ GIVEN_UP (λ y. bit_or y GIVEN_UP) None _ c.args.value v c.requires.pick.0 c.requires.pick.1 c.requires.pick.2 (ap (λ z. z.0) put ∙ is)
+      leaves g.V.Keeps.at_home g.V.Keeps.durable_of g.V.Keeps.grows _ _ _ _ _ (turn_of c.args.station v) _ _ GIVEN_UP (λ y. bit_or y GIVEN_UP) None _ c.args.value v c.requires.pick.0 c.requires.pick.1 c.requires.pick.2 (ap (λ z. z.0) put ∙ is)
           record {
-            holds = c.requires.holds;
-            moves = (λ low taken. given_up_word (first_word v.held) taken);
+            holds = held;
+            moves = (λ low taken. given_up_word (word_at c.args.station v.held) GIVEN_UP (omega arith) taken);
             forth = omega arith;
             ticket = (λ _. omega arith);
             side = (λ _. refl);
@@ -37,5 +35,5 @@ fetch_or-requires g c = let v : View g.row.E.Denot = c.args.seat.now.view in let
 
 pub invariant_of-seat : goal.invariant_of-seat
 invariant_of-seat g c = let v : View g.row.E.Denot = c.args.seat.now.view in let is = ap (λ (z : Place g.row.E.Denot). z.view) c.seat.view_is in let left = c.fetch_or.ensures.2 in
-    (departed _ _ c.seat.inside.seat.me c.exchange-empty.new.seat.me c.fetch_or.new.seat.me ((c.args.station + 2) - 2) c.args.station (turn_of v) _ (g.V.Keeps.durable_of c.args.value) _ _ _ None _ _ v _ (ap (λ (z : TableId). z.slots) (c.fetch_or.ensures.0 ∙ c.exchange-empty.ensures.0)) (omega arith)
-    c.requires.pick.0 c.requires.pick.1 c.requires.pick.2 is c.seat.invariant c.requires.holds c.exchange-empty.ensures.3 left.0 left.1).0
+    (departed _ _ c.seat.inside.seat.me c.put_back.new.seat.me c.fetch_or.new.seat.me ((c.args.station + 2) - 2) c.args.station (turn_of c.args.station v) _ (g.V.Keeps.durable_of c.args.value) _ None _ _ v (ap (λ (z : TableId). z.slots) (c.fetch_or.ensures.0 ∙ c.put_back.ensures.table)) (omega arith)
+    c.requires.pick.0 c.requires.pick.1 c.requires.pick.2 is c.seat.invariant c.put_back.ensures.put left.0 left.1).0

@@ -12,7 +12,7 @@ overflow_mul-free g c = let drawn = subst (λ (z : Place g.row.E.Denot). 0 < tim
 pub compare_exchange-found-requires : goal.compare_exchange-found-requires
 compare_exchange-found-requires g c = let drawn = subst (λ (z : Place g.row.E.Denot). 0 < times c.args.ticket z.view.own) (sym c.seat.view_is) c.requires.ticket in
     let slots = ap (λ (z : TableId). z.slots) c.self.view_is in let station = c.requires.station in let words = c.self.invariant.0 in
-    (search rules, omega arith, enters g.V.Keeps.at_home g.V.Keeps.durable_of g.V.Keeps.grows _ _ _ _ _ _ _ c.args.ticket 1 (omega arith) refl refl (inl refl) (λ _. drawn) c.seat.invariant.lives)
+    (search rules, omega arith, enters g.V.Keeps.at_home g.V.Keeps.durable_of g.V.Keeps.grows _ _ _ _ _ _ _ c.args.ticket 1 (omega arith) (omega arith) (omega arith) (inl refl) (λ _. drawn) c.seat.invariant.lives)
 
 pub exchange-requires : goal.exchange-requires
 exchange-requires g c = let e = c.compare_exchange-found.ensures.2.0 c.if-found-free.false in (search rules, (Some e.0, front_is _ _ _ (Some e.0) _ (let back : (c.args.station + 2) - 2 ≡ c.args.station = omega arith in back) e.2))

@@ -7,7 +7,7 @@ use Rattle.rep_ordered.proofs.lock.OrderedLock.try_side_enter.Goals as goal
 pub compare_exchange-found-requires : goal.compare_exchange-found-requires
 compare_exchange-found-requires g c =
     let slots = ap (λ (z : TableId). z.slots) c.self.view_is in let station = c.requires.station in let words = c.self.invariant.0 in
-    (search rules, omega arith, enters g.V.Keeps.at_home g.V.Keeps.durable_of g.V.Keeps.grows _ _ _ _ _ _ _ (c.peek-free.result / 4) 2 (omega arith) (omega arith) refl (inr refl) (λ e. absurd (omega arith)) c.seat.invariant.lives)
+    (search rules, omega arith, enters g.V.Keeps.at_home g.V.Keeps.durable_of g.V.Keeps.grows _ _ _ _ _ _ _ (c.peek-free.result / 4) 2 (omega arith) (omega arith) (omega arith) (inr refl) (λ e. absurd (omega arith)) c.seat.invariant.lives)
 
 pub exchange-requires : goal.exchange-requires
 exchange-requires g c = let e = c.compare_exchange-found.ensures.2.0 c.if-found-free.false in (search rules, (Some e.0, front_is _ _ _ (Some e.0) _ (let back : (c.args.station + 2) - 2 ≡ c.args.station = omega arith in back) e.2))

@@ -1,0 +1,6 @@
+use Rattle.std.proofs.Common.{◌≡◌, ◌+◌, length}
+use Rattle.rep_ordered_uses.specs.Passing.{AllDone, Went}
+use Rattle.rep_ordered_uses.proofs.coupled.pass_all_coupled.Given as goal
+
+abbrev pub invariant-loop-ticket : goal.invariant-loop-ticket
+invariant-loop-ticket g l = (l.seat.lock ≡ l.initial.seat.lock) × Went l.initial.seat.view l.seat.view × (length l.seat.view.own ≡ length l.initial.seat.view.own + l._ticket) × AllDone l.seat.view

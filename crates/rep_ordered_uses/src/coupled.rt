@@ -1,0 +1,141 @@
+//! Threads that hold both stations at once, and leave first the one that they entered first.
+
+ghost use Rattle.std.specs.Prelude.{◌≡◌, ◌+◌, ◌<◌, ◌≤◌, [], length, IfOk, IfErr, OnOk, ◌⊎◌};
+ghost use Rattle.std.specs.Thread.{IsSync};
+ghost use Rattle.rep_ordered.specs.Seats.{stations_of};
+ghost use Rattle.rep_ordered_uses.specs.Passing.{AllDone, Went};
+
+use crate::passed::Passed;
+use crate::passing::{lock_of_lists, passed_counts};
+use rep_ordered::{OrderedLock, Seat};
+use rep_types::{MAX_SEQNO, Refusal};
+use std::alloc::Global;
+use std::sync::Wait;
+use std::thread::{Threads, join};
+
+/// Draws a ticket and passes both stations with it, entering the second before it leaves the first.
+/// Where there is no memory for a list, the lock is halted and the values given up.
+pub fn pass_coupled<const START: u64, R: Wait>(
+    rt: &R,
+    lock: &OrderedLock<Passed<START>, u64>,
+    seat: &mut Seat<Passed<START>, u64>,
+) -> Result<(), Refusal>
+    requires lock { (seat.old.lock ≡ lock.now) × (stations_of lock.now ≡ 2) }
+    requires start { seat.old.view.start ≡ START }
+    requires free { seat.old.view.held ≡ [] }
+    requires allowance { 0 < seat.old.view.allowance }
+    requires done { AllDone seat.old.view }
+    ensures lock { seat.new.lock ≡ seat.old.lock }
+    ensures went { Went seat.old.view seat.new.view }
+    ensures drawn { length seat.new.view.own ≡ length seat.old.view.own + 1 }
+    ensures done { OnOk result (AllDone seat.new.view) }
+    ensures refused { IfErr result (λ refusal. (refusal ≡ Refusal.Stopped) ⊎ (refusal ≡ Refusal.OutOfMemory)) }
+{
+    let ticket = lock.claim(seat);
+    let mut first = lock.enter(rt, seat, 0, ticket)?;
+    let mut second = match lock.enter(rt, seat, 1, ticket) {
+        Ok(second) => second,
+        Err(refusal) => {
+            lock.give_up(seat, 0, first);
+            return Err(refusal);
+        }
+    };
+    if first.tickets.push(ticket).is_err() {
+        lock.halt(seat);
+        lock.give_up(seat, 0, first);
+        lock.give_up(seat, 1, second);
+        return Err(Refusal::OutOfMemory);
+    }
+    lock.leave(seat, 0, first, &Some(ticket));
+    if second.tickets.push(ticket).is_err() {
+        lock.halt(seat);
+        lock.give_up(seat, 1, second);
+        return Err(Refusal::OutOfMemory);
+    }
+    lock.leave(seat, 1, second, &None);
+    Ok(())
+}
+
+/// Passes both stations with as many tickets, each inside both at once.
+pub fn pass_all_coupled<const START: u64, R: Wait>(
+    rt: &R,
+    lock: &OrderedLock<Passed<START>, u64>,
+    seat: &mut Seat<Passed<START>, u64>,
+    count: u64,
+) -> Result<(), Refusal>
+    requires lock { (seat.old.lock ≡ lock.now) × (stations_of lock.now ≡ 2) }
+    requires start { seat.old.view.start ≡ START }
+    requires free { seat.old.view.held ≡ [] }
+    requires allowance { count ≤ seat.old.view.allowance }
+    requires done { AllDone seat.old.view }
+    ensures lock { seat.new.lock ≡ seat.old.lock }
+    ensures went { Went seat.old.view seat.new.view }
+    ensures drawn { OnOk result (length seat.new.view.own ≡ length seat.old.view.own + count) }
+    ensures done { OnOk result (AllDone seat.new.view) }
+    ensures refused { IfErr result (λ refusal. (refusal ≡ Refusal.Stopped) ⊎ (refusal ≡ Refusal.OutOfMemory)) }
+{
+    for _ticket in 0..count {
+        pass_coupled(rt, lock, seat)?;
+    }
+    Ok(())
+}
+
+/// Counts so many times what has passed both stations, and says what it counted last.
+pub fn count_often<const START: u64, R: Wait>(
+    rt: &R,
+    lock: &OrderedLock<Passed<START>, u64>,
+    seat: &mut Seat<Passed<START>, u64>,
+    times: u64,
+) -> Result<(usize, usize), Refusal>
+    requires lock { (seat.old.lock ≡ lock.now) × (stations_of lock.now ≡ 2) }
+    requires start { seat.old.view.start ≡ START }
+    requires free { seat.old.view.held ≡ [] }
+    ensures lock { seat.new.lock ≡ seat.old.lock }
+    ensures went { Went seat.old.view seat.new.view }
+    ensures order { IfOk result (λ counts. counts.1 ≤ counts.0) }
+    ensures refused { IfErr result (λ refusal. refusal ≡ Refusal.Stopped) }
+{
+    let mut counts = (0, 0);
+    for _time in 0..times {
+        counts = passed_counts(rt, lock, seat)?;
+    }
+    Ok(counts)
+}
+
+/// One thread passes both stations with so many tickets, while another counts as many times what has
+/// passed them: what that one counted last. Both leave first the station that they entered first.
+pub fn counts_beside<const START: u64, R: Threads + Wait + Sync>(
+    rt: &R,
+    alloc: Global,
+    count: u64,
+) -> Result<(usize, usize), Refusal>
+    requires some { (0 < START) × (0 < count) }
+    requires numbers { START + count ≤ MAX_SEQNO }
+    ensures order { IfOk result (λ counts. counts.1 ≤ counts.0) }
+    ensures refused { IfErr result (λ refusal. (refusal ≡ Refusal.Stopped) ⊎ (refusal ≡ Refusal.OutOfMemory)) }
+{
+    let (lock, mut passer) = lock_of_lists::<START>(alloc)?;
+    let mut counter = lock.split(&mut passer, 1);
+    let shared = &lock;
+    let ((mut passer, passed), (counter, counts)) = join(
+        rt,
+        move || -> (Seat<Passed<START>, u64>, Result<(), Refusal>)
+            requires { IsSync R.row × (passer.lock ≡ shared.now) × (stations_of shared.now ≡ 2) × (passer.view.start ≡ START) × (passer.view.held ≡ []) × (count ≤ passer.view.allowance) × AllDone passer.view }
+            ensures { (result.0.lock ≡ passer.lock) × Went passer.view result.0.view × IfErr result.1 (λ refusal. (refusal ≡ Refusal.Stopped) ⊎ (refusal ≡ Refusal.OutOfMemory)) }
+        {
+            let passed = pass_all_coupled(rt, shared, &mut passer, count);
+            (passer, passed)
+        },
+        move || -> (Seat<Passed<START>, u64>, Result<(usize, usize), Refusal>)
+            requires { IsSync R.row × (counter.lock ≡ shared.now) × (stations_of shared.now ≡ 2) × (counter.view.start ≡ START) × (counter.view.held ≡ []) }
+            ensures { (result.0.lock ≡ counter.lock) × Went counter.view result.0.view × IfOk result.1 (λ counts. counts.1 ≤ counts.0) × IfErr result.1 (λ refusal. refusal ≡ Refusal.Stopped) }
+        {
+            let counts = count_often(rt, shared, &mut counter, count);
+            (counter, counts)
+        },
+    );
+    lock.join(&mut passer, counter);
+    let _lists = lock.close(passer);
+    passed?;
+    counts
+}
