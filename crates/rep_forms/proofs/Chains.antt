@@ -1,0 +1,97 @@
+-- Values that are spelled one after another.
+use Rattle.std.proofs.Common.{◌≡◌, ℕ, zero, suc, ◌+◌, ◌-◌, ◌<◌, ◌≤◌, List, [], ◌∷◌, ◌++◌, length, take, drop, Option, Some, None, refl, sym, ap, subst, ◌∙◌, append_assoc, arith}
+use Rattle.std.specs.Prelude.{IsTrue, is_some}
+use Rattle.std.specs.Option.{option_map_or}
+use Rattle.rep_forms.specs.Options.{◌>>=◌}
+use Rattle.std.specs.List.{flat_map, AllByRecursion}
+use Rattle.std.proofs.lemmas.List.{append-nil, drop_at, length-append}
+use Rattle.std.proofs.lemmas.List.Concat.{flat_map-cons}
+use Rattle.std.proofs.lemmas.Option.{same_Some}
+use Rattle.rep_forms.specs.Forms.{Form, IsForm, each}
+use Rattle.rep_forms.specs.FormLaws.{each_again}
+use Rattle.rep_forms.specs.Told.{AreTold}
+use Rattle.rep_forms.specs.Runs.{Leads, Follow, SpelledTo, EndsAt, IsChain, values_in}
+
+-- one more at the end
+pub run_more : {A : Type 0} (spell : A → List ℕ) (xs : List A) (x : A) → flat_map spell (xs ++ x ∷ []) ≡ flat_map spell xs ++ spell x
+run_more spell [] x = flat_map-cons spell x [] ∙ append-nil (spell x)
+run_more spell (y ∷ xs) x =
+    flat_map-cons spell y (xs ++ x ∷ []) ∙ ap (λ bytes. spell y ++ bytes) (run_more spell xs x)
+    ∙ sym (append_assoc (spell y) (flat_map spell xs) (spell x)) ∙ ap (λ bytes. bytes ++ spell x) (sym (flat_map-cons spell y xs))
+
+-- what holds of each holds with one more
+pub all_more : {A : Type 0} (P : A → Type 0) (xs : List A) (x : A) → AllByRecursion P xs → P x → AllByRecursion P (xs ++ x ∷ [])
+all_more P [] x h p = (p, tt)
+all_more P (y ∷ xs) x h p = (h.0, all_more P xs x h.1 p)
+
+-- one more value leads on
+pub leads_more : {S A : Type 0} (step : S → A → Option S) (s : S) (xs : List A) (t : S) (x : A) (u : S) → Leads step s xs t → step t x ≡ Some u → Leads step s (xs ++ x ∷ []) u
+leads_more step s [] t x u h e = (u, subst (λ r. step r x ≡ Some u) (sym h) e, refl)
+leads_more step s (y ∷ xs) t x u h e = (h.0, h.1, leads_more step h.0 xs t x u h.2 e)
+
+-- what is spelled lies within the bytes
+pub within : {A : Type 0} (F : Form A) (bytes : List ℕ) (at : ℕ) (xs : List A) → SpelledTo F bytes at xs → at ≤ length bytes
+within F bytes at xs h = omega (arith, h.place, ap length h.there, length-append (flat_map F.spell xs) (drop at bytes))
+
+-- the bytes up to one more value
+pub spelled_more : {A : Type 0} (F : Form A) (bytes : List ℕ) (at : ℕ) (xs : List A) (x : A) (rest : List ℕ) → SpelledTo F bytes at xs → F.Fits x → drop at bytes ≡ F.spell x ++ rest
+    → SpelledTo F bytes (length bytes - length rest) (xs ++ x ∷ [])
+spelled_more F bytes at xs x rest h fits e =
+    let whole : bytes ≡ flat_map F.spell (xs ++ x ∷ []) ++ rest =
+    h.there ∙ ap (λ (tail : List ℕ). flat_map F.spell xs ++ tail) e ∙ sym (append_assoc (flat_map F.spell xs) (F.spell x) rest) ∙ ap (λ (front : List ℕ). front ++ rest) (sym (run_more F.spell xs x)) in
+    let size : length bytes - length rest ≡ length (flat_map F.spell (xs ++ x ∷ [])) = omega (arith, ap length whole, length-append (flat_map F.spell (xs ++ x ∷ [])) rest) in
+    let behind : drop (length bytes - length rest) bytes ≡ rest =
+    ap (λ k. drop k bytes) size ∙ ap (drop (length (flat_map F.spell (xs ++ x ∷ [])))) whole ∙ drop_at (flat_map F.spell (xs ++ x ∷ [])) rest (length (flat_map F.spell (xs ++ x ∷ []))) refl in
+    record {
+      each = all_more F.Fits xs x h.each fits;
+      place = size;
+      there = whole ∙ ap (λ (tail : List ℕ). flat_map F.spell (xs ++ x ∷ []) ++ tail) (sym behind);
+    }
+
+-- nothing is spelled in front
+pub spelled_none : {A : Type 0} (F : Form A) (bytes : List ℕ) → SpelledTo F bytes 0 []
+spelled_none F bytes = record { each = tt; place = refl; there = refl }
+
+-- what is spelled there is read there
+pub chain_read : {S A : Type 0} (F : Form A) (step : S → A → Option S) (s : S) (count : ℕ) (bytes : List ℕ) (at : ℕ) → IsForm F → (h : EndsAt F step s count bytes at) → each F.read count bytes ≡ Some (h.values, drop at bytes)
+chain_read F step s count bytes at f h =
+    ap (each F.read count) h.spelled.there ∙ ap (λ k. each F.read k (flat_map F.spell h.values ++ drop at bytes)) (sym h.size) ∙ each_again F f h.values (drop at bytes) h.spelled.each
+
+pub chain_is_some : {S A : Type 0} (F : Form A) (step : S → A → Option S) (s : S) (count : ℕ) (bytes : List ℕ) (at : ℕ) → IsForm F → EndsAt F step s count bytes at → IsTrue (is_some (each F.read count bytes))
+chain_is_some {A = A} F step s count bytes at f h = subst (λ (o : Option (List A × List ℕ)). IsTrue (is_some o)) (sym (chain_read F step s count bytes at f h)) refl
+
+-- so the values that are handed out are a chain
+pub is_chain : {S A : Type 0} (F : Form A) (step : S → A → Option S) (s : S) (count : ℕ) (bytes : List ℕ) (at : ℕ) → IsForm F → EndsAt F step s count bytes at → IsChain F step s count bytes (values_in F.read count bytes) (drop at bytes)
+is_chain {A = A} F step s count bytes at f h =
+    let same : h.values ≡ values_in F.read count bytes = sym (ap (λ (o : Option (List A × List ℕ)). option_map_or (λ (x : List A × List ℕ). x.0) o []) (chain_read F step s count bytes at f h)) in
+    subst (λ (xs : List A). IsChain F step s count bytes xs (drop at bytes)) same (record { size = h.size; each = h.spelled.each; follow = h.follow; there = h.spelled.there })
+
+-- as many values as were asked for are read
+bind_length : {A : Type 0} (n : ℕ) (x : A) (o : Option (List A × List ℕ)) (y : List A × List ℕ) → ((z : List A × List ℕ) → o ≡ Some z → length z.0 ≡ n)
+    → (o >>= λ xs. Some (x ∷ xs.0, xs.1)) ≡ Some y → length y.0 ≡ suc n
+bind_length n x None y h e = absurd cc
+bind_length {A = A} n x (Some z) y h e = sym (ap (λ (w : List A × List ℕ). length w.0) (same_Some (x ∷ z.0, z.1) y e)) ∙ ap suc (h z refl)
+
+first_length : {A : Type 0} (read : List ℕ → Option (A × List ℕ)) (n : ℕ) (o : Option (A × List ℕ)) (y : List A × List ℕ) → ((bytes : List ℕ) (z : List A × List ℕ) → each read n bytes ≡ Some z → length z.0 ≡ n)
+    → (o >>= λ x. each read n x.1 >>= λ xs. Some (x.0 ∷ xs.0, xs.1)) ≡ Some y → length y.0 ≡ suc n
+first_length read n None y h e = absurd cc
+first_length read n (Some x) y h e = bind_length n x.0 (each read n x.1) y (h x.1) e
+
+pub length-each : {A : Type 0} (read : List ℕ → Option (A × List ℕ)) (n : ℕ) (bytes : List ℕ) (y : List A × List ℕ) → each read n bytes ≡ Some y → length y.0 ≡ n
+unfolding each
+length-each {A = A} read zero bytes y e = sym (ap (λ (w : List A × List ℕ). length w.0) (same_Some ([], bytes) y e))
+length-each read (suc n) bytes y e = first_length read n (read bytes) y (length-each read n) e
+
+-- the values that are handed out are as many as are left
+length-values_in : {A : Type 0} (read : List ℕ → Option (A × List ℕ)) (n : ℕ) (bytes : List ℕ) (o : Option (List A × List ℕ)) → each read n bytes ≡ o → IsTrue (is_some o) → length (option_map_or (λ (x : List A × List ℕ). x.0) o []) ≡ n
+length-values_in read n bytes None e h = absurd cc
+length-values_in read n bytes (Some y) e h = length-each read n bytes y e
+
+pub values_left : {A : Type 0} (read : List ℕ → Option (A × List ℕ)) (n : ℕ) (bytes : List ℕ) → IsTrue (is_some (each read n bytes)) → length (values_in read n bytes) ≡ n
+values_left read n bytes h = length-values_in read n bytes (each read n bytes) refl h
+
+-- spellings are told apart
+pub told : {A : Type 0} (F : Form A) → IsForm F → AreTold F
+told {A = A} F f x y rest tail fits also e =
+    let same : (x, rest) ≡ (y, tail) = same_Some (x, rest) (y, tail) (sym (f x rest fits) ∙ ap F.read e ∙ f y tail also) in
+    (ap (λ (p : A × List ℕ). p.0) same, ap (λ (p : A × List ℕ). p.1) same)

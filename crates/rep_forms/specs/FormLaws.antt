@@ -1,0 +1,77 @@
+-- The laws of forms, and of how forms are made of others.
+use Rattle.std.proofs.Common.{◌≡◌, ℕ, zero, suc, ◌+◌, ◌*◌, ◌<◌, ◌≤◌, ◌^◌, Bool, true, false, eqb, ltb, List, [], ◌∷◌, ◌++◌, length, take, drop, Option, Some, None, refl, sym, ap, subst, ◌∙◌, append_assoc, arith}
+use Rattle.std.specs.Prelude.{replicate}
+use Rattle.std.specs.List.{flat_map, AllByRecursion}
+use Rattle.std.proofs.lemmas.Bool.{le-ltb}
+use Rattle.std.proofs.lemmas.List.{take_at, drop_at, length-append, append-nil, length-replicate}
+use Rattle.std.proofs.lemmas.List.Concat.{flat_map-cons}
+use Rattle.std.specs.Int.{bytes_high_first}
+use Rattle.byteorder.specs.Numbers.{big_number-reads_back, length-bytes_high_first}
+use Rattle.rep_forms.specs.Options.{◌>>=◌}
+use Rattle.rep_forms.specs.Forms.{Form, IsForm, part, IsPart, part_of, byte, first_byte, number, number_bytes, number_in, zeros, both, via, each, AreMany, many, as_named}
+
+-- ---- sizes
+
+pub length_number : (n x : ℕ) → length (number_bytes n x) ≡ n
+unfolding number_bytes
+length_number n x = length-bytes_high_first n x
+
+pub length_zeros : (n : ℕ) → length (zeros n) ≡ n
+unfolding zeros
+length_zeros n = length-replicate {A = ℕ} n 0
+
+-- the sizes of the parts
+pub ruleset sizes = (length_number, length_zeros, length-append)
+
+-- ---- what is spelled is read
+
+-- a part of its length
+pub part_again : (n : ℕ) (bytes rest : List ℕ) → length bytes ≡ n → part n (bytes ++ rest) ≡ Some (bytes, rest)
+unfolding part
+part_again n bytes rest e =
+    let long : ltb (length (bytes ++ rest)) n ≡ false = le-ltb _ _ (omega (arith, length-append bytes rest)) in
+    rw (long, take_at bytes rest n e, drop_at bytes rest n e) refl
+
+pub part_is_form : (n : ℕ) → IsForm (part_of n)
+part_is_form n bytes rest h = part_again n bytes rest h.size
+
+pub byte_is_form : IsForm byte
+unfolding first_byte
+byte_is_form b rest h = refl
+
+-- a number that fits
+number_again : (n x : ℕ) → x < 256 ^ n → number_in n (number_bytes n x) ≡ x
+unfolding number_in number_bytes
+number_again n x h = ap (number_in n) (sym (append-nil (number_bytes n x))) ∙ big_number-reads_back n x [] h
+
+pub number_is_form : (n : ℕ) → IsForm (number n)
+number_is_form n x rest h = rw (part_again n (number_bytes n x) rest (length_number n x), number_again n x h) refl
+
+-- one form behind another
+pub both_is_form : {A B : Type 0} (F : Form A) (G : A → Form B) → IsForm F → ((a : A) → IsForm (G a)) → IsForm (both F G)
+both_is_form F G f g x rest h =
+    let first : F.read (F.spell x.0 ++ ((G x.0).spell x.1 ++ rest)) ≡ Some (x.0, (G x.0).spell x.1 ++ rest) = f x.0 ((G x.0).spell x.1 ++ rest) h.0 in
+    let second : (G x.0).read ((G x.0).spell x.1 ++ rest) ≡ Some (x.1, rest) = g x.0 x.1 rest h.1 in
+    ap (both F G).read (append_assoc (F.spell x.0) ((G x.0).spell x.1) rest) ∙ rw (first, second) refl
+
+-- a form of other values
+pub via_is_form : {A B : Type 0} (F : Form A) (from : B → A) (to : A → Option B) → IsForm F → IsForm (via F from to)
+via_is_form F from to f x rest h = rw (f (from x) rest h.0, h.1) refl
+
+-- values one after another
+pub each_again : {A : Type 0} (F : Form A) → IsForm F → (xs : List A) (rest : List ℕ) → AllByRecursion F.Fits xs → each F.read (length xs) (flat_map F.spell xs ++ rest) ≡ Some (xs, rest)
+unfolding each
+each_again F f [] rest h = refl
+each_again F f (x ∷ xs) rest h =
+    let regrouped : flat_map F.spell (x ∷ xs) ++ rest ≡ F.spell x ++ (flat_map F.spell xs ++ rest) = ap (λ bytes. bytes ++ rest) (flat_map-cons F.spell x xs) ∙ append_assoc (F.spell x) (flat_map F.spell xs) rest in
+    ap (each F.read (suc (length xs))) regrouped ∙ rw (f x (flat_map F.spell xs ++ rest) h.0, each_again F f xs rest h.1) refl
+
+pub many_is_form : {A : Type 0} (limit n : ℕ) (F : Form A) → IsForm F → IsForm (many limit n F)
+many_is_form limit n F f xs rest h =
+    let few : ltb limit n ≡ false = le-ltb limit n h.few in
+    let read : each F.read n (flat_map F.spell xs ++ rest) ≡ Some (xs, rest) = ap (λ k. each F.read k (flat_map F.spell xs ++ rest)) (sym h.size) ∙ each_again F f xs rest h.each in
+    rw (few, read) refl
+
+-- the same in other words
+pub named_is_form : {A : Type 0} (F : Form A) (Fits : A → Type 0) (spell : A → List ℕ) → IsForm F → ((x : A) → Fits x → F.Fits x) → ((x : A) → Fits x → spell x ≡ F.spell x) → IsForm (as_named F Fits spell)
+named_is_form F Fits spell f fits same x rest h = ap (λ (bytes : List ℕ). F.read (bytes ++ rest)) (same x h) ∙ f x rest (fits x h)

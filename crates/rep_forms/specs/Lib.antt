@@ -1,0 +1,11 @@
+pub mod Options
+pub mod Forms
+pub mod FormLaws
+pub mod Keys
+pub mod KeyLaws
+pub mod Writes
+pub mod WriteLaws
+pub mod Entries
+pub mod EntryLaws
+pub mod Runs
+pub mod Told

@@ -1,0 +1,46 @@
+//! Entries of a window as bytes.
+
+ghost use Rattle.rep_forms.specs.Entries.{entry_form};
+
+use crate::form::{Exact, Form, Put};
+use crate::numbers::{put_u8, put_u64, read_u8, read_u64, strip_front};
+use crate::run::{put_run, read_run};
+use arrayvec::ArrayVec;
+use rep_types::{Entry, Key};
+
+/// The greatest number of bytes of an entry: 9, and 16 keys of 5 bytes.
+pub const MAX_ENTRY: usize = 89;
+
+impl Form for Entry {
+    ghost use Rattle.rep_forms.specs.EntryLaws.{entry_is_form};
+
+    ghost form = { entry_form };
+
+    ghost most = { 89 };
+
+    fn read(bytes: &[u8]) -> Option<(Entry, &[u8])> {
+        let (seqno, rest) = read_u64(bytes)?;
+        let (count, rest) = read_u8(rest)?;
+        let (keys, rest) = read_run::<Key, 16>(rest, usize::from(count))?;
+        Some((Entry::new(seqno, keys), rest))
+    }
+
+    ghost is_form = { entry_is_form };
+}
+
+impl<const N: usize> Put<N> for Entry {
+    #[tactic(auto, using(crate::specs::FormLaws::sizes, crate::proofs::Putting::joined))]
+    fn put(&self, out: &mut ArrayVec<u8, N>) {
+        put_u64(out, self.seqno());
+        put_u8(out, self.keys().len() as u8);
+        put_run(out, self.keys());
+    }
+}
+
+impl Exact for Entry {
+    fn strip<'a>(&self, bytes: &'a [u8]) -> Option<&'a [u8]> {
+        let mut spelling: ArrayVec<u8, 89> = ArrayVec::new();
+        self.put(&mut spelling);
+        strip_front(bytes, spelling.as_slice())
+    }
+}
