@@ -8,21 +8,9 @@ use Rattle.std.proofs.lemmas.List.{append-nil, drop_at, length-append}
 use Rattle.std.proofs.lemmas.List.Concat.{flat_map-cons}
 use Rattle.std.proofs.lemmas.Option.{same_Some}
 use Rattle.rep_forms.specs.Forms.{Form, IsForm, each}
-use Rattle.rep_forms.specs.FormLaws.{each_again}
+use Rattle.rep_forms.specs.FormLaws.{each_again, run_more, all_more}
 use Rattle.rep_forms.specs.Told.{AreTold}
-use Rattle.rep_forms.specs.Runs.{Leads, Follow, SpelledTo, EndsAt, IsChain, values_in}
-
--- one more at the end
-pub run_more : {A : Type 0} (spell : A → List ℕ) (xs : List A) (x : A) → flat_map spell (xs ++ x ∷ []) ≡ flat_map spell xs ++ spell x
-run_more spell [] x = flat_map-cons spell x [] ∙ append-nil (spell x)
-run_more spell (y ∷ xs) x =
-    flat_map-cons spell y (xs ++ x ∷ []) ∙ ap (λ bytes. spell y ++ bytes) (run_more spell xs x)
-    ∙ sym (append_assoc (spell y) (flat_map spell xs) (spell x)) ∙ ap (λ bytes. bytes ++ spell x) (sym (flat_map-cons spell y xs))
-
--- what holds of each holds with one more
-pub all_more : {A : Type 0} (P : A → Type 0) (xs : List A) (x : A) → AllByRecursion P xs → P x → AllByRecursion P (xs ++ x ∷ [])
-all_more P [] x h p = (p, tt)
-all_more P (y ∷ xs) x h p = (h.0, all_more P xs x h.1 p)
+use Rattle.rep_forms.specs.Runs.{Leads, Follow, SpelledTo, EndsAt, StopsAt, IsChain, values_in}
 
 -- one more value leads on
 pub leads_more : {S A : Type 0} (step : S → A → Option S) (s : S) (xs : List A) (t : S) (x : A) (u : S) → Leads step s xs t → step t x ≡ Some u → Leads step s (xs ++ x ∷ []) u
@@ -95,3 +83,55 @@ pub told : {A : Type 0} (F : Form A) → IsForm F → AreTold F
 told {A = A} F f x y rest tail fits also e =
     let same : (x, rest) ≡ (y, tail) = same_Some (x, rest) (y, tail) (sym (f x rest fits) ∙ ap F.read e ∙ f y tail also) in
     (ap (λ (p : A × List ℕ). p.0) same, ap (λ (p : A × List ℕ). p.1) same)
+
+-- ---- what is spelled so is read
+
+-- a chain is read as it is
+chain_again : {S A : Type 0} (F : Form A) (step : S → A → Option S) (s : S) (count : ℕ) (bytes : List ℕ) (xs : List A) (rest : List ℕ) → IsForm F → IsChain F step s count bytes xs rest → each F.read count bytes ≡ Some (xs, rest)
+chain_again F step s count bytes xs rest f h =
+    ap (each F.read count) h.there ∙ ap (λ k. each F.read k (flat_map F.spell xs ++ rest)) (sym h.size) ∙ each_again F f xs rest h.each
+
+-- so there is one
+pub chain_only : {S A : Type 0} (F : Form A) (step : S → A → Option S) (s : S) (count : ℕ) (bytes : List ℕ) (xs ys : List A) (rest tail : List ℕ) → IsForm F
+    → IsChain F step s count bytes xs rest → IsChain F step s count bytes ys tail → (xs ≡ ys) × (rest ≡ tail)
+chain_only {A = A} F step s count bytes xs ys rest tail f h k =
+    let same : (xs, rest) ≡ (ys, tail) = same_Some (xs, rest) (ys, tail) (sym (chain_again F step s count bytes xs rest f h) ∙ chain_again F step s count bytes ys tail f k) in
+    (ap (λ (p : List A × List ℕ). p.0) same, ap (λ (p : List A × List ℕ). p.1) same)
+
+-- a value that is spelled there and allowed
+record Next {S A : Type 0} (F : Form A) (step : S → A → Option S) (t : S) (bytes : List ℕ) : Type 0 where
+  value : A
+  fits : F.Fits value
+  to : S
+  allowed : step t value ≡ Some to
+  rest : List ℕ
+  there : bytes ≡ F.spell value ++ rest
+
+-- behind fewer values than a chain has, the next of them is there
+next_of : {S A : Type 0} (F : Form A) (step : S → A → Option S) → IsForm F → (before xs : List A) (s t : S) (bytes rest : List ℕ) → AllByRecursion F.Fits before → Leads step s before t → AllByRecursion F.Fits xs → Follow step s xs
+    → length before < length xs → flat_map F.spell before ++ bytes ≡ flat_map F.spell xs ++ rest → Next F step t bytes
+next_of F step f [] [] s t bytes rest fits leads also follow lt e = absurd (omega (arith, lt))
+next_of {S = S} F step f [] (x ∷ xs) s t bytes rest fits leads also follow lt e = record {
+  value = x;
+  fits = also.0;
+  to = follow.1.0;
+  allowed = subst (λ (r : S). step r x ≡ Some follow.1.0) leads follow.1.1;
+  rest = flat_map F.spell xs ++ rest;
+  there = e ∙ ap (λ (front : List ℕ). front ++ rest) (flat_map-cons F.spell x xs) ∙ append_assoc (F.spell x) (flat_map F.spell xs) rest;
+}
+next_of F step f (b ∷ before) [] s t bytes rest fits leads also follow lt e = absurd (omega (arith, lt))
+next_of {S = S} {A = A} F step f (b ∷ before) (x ∷ xs) s t bytes rest fits leads also follow lt e =
+    let regrouped : F.spell b ++ (flat_map F.spell before ++ bytes) ≡ F.spell x ++ (flat_map F.spell xs ++ rest) =
+    sym (append_assoc (F.spell b) (flat_map F.spell before) bytes) ∙ ap (λ (front : List ℕ). front ++ bytes) (sym (flat_map-cons F.spell b before)) ∙ e
+    ∙ ap (λ (front : List ℕ). front ++ rest) (flat_map-cons F.spell x xs) ∙ append_assoc (F.spell x) (flat_map F.spell xs) rest in
+    let apart = told F f b x (flat_map F.spell before ++ bytes) (flat_map F.spell xs ++ rest) fits.0 also.0 regrouped in
+    let same : leads.0 ≡ follow.1.0 = same_Some leads.0 follow.1.0 (sym leads.1 ∙ ap (step s) apart.0 ∙ follow.1.1) in
+    let behind : Leads step follow.1.0 before t = subst (λ (r : S). Leads step r before t) same leads.2 in
+    next_of F step f before xs follow.1.0 t bytes rest fits.1 behind also.1 (follow.0, follow.1.2) (omega (arith, lt)) apart.1
+
+-- so a chain stops nowhere
+pub never_stops : {S A : Type 0} (F : Form A) (step : S → A → Option S) (s : S) (count : ℕ) (bytes : List ℕ) (at : ℕ) (xs : List A) (rest : List ℕ) → IsForm F
+    → IsChain F step s count bytes xs rest → StopsAt F step s count bytes at → ⊥
+never_stops F step s count bytes at xs rest f h stop =
+    let next = next_of F step f stop.before xs s stop.state (drop at bytes) rest stop.spelled.each stop.leads h.each h.follow (omega (arith, stop.fewer, h.size)) (sym stop.spelled.there ∙ h.there) in
+    stop.none next.value next.rest next.to next.fits next.allowed next.there

@@ -1,12 +1,8 @@
 -- Bytes put behind others.
-use Rattle.std.proofs.Common.{◌≡◌, ℕ, zero, suc, ◌+◌, ◌<◌, get_or, List, [], ◌∷◌, ◌++◌, refl, sym, ap, ◌∙◌, append_assoc, arith}
+use Rattle.std.proofs.Common.{◌≡◌, ℕ, zero, suc, ◌+◌, Option, None, Some, List, [], ◌∷◌, ◌++◌, refl, sym, ap, ◌∙◌, append_assoc, arith}
 use Rattle.std.specs.Prelude.{replicate}
 use Rattle.std.proofs.lemmas.List.{append-nil}
-use Rattle.rep_forms.specs.Forms.{zeros, AreBytes}
-
--- one piece after another
-pub joined : (a b c d : List ℕ) → b ≡ a ++ c → b ++ d ≡ a ++ (c ++ d)
-joined a b c d e = rw (e, append_assoc) refl
+use Rattle.rep_forms.specs.Forms.{Form, zeros, Strips, StripsFront}
 
 -- one zero more
 zeros_snoc : (n : ℕ) (old : List ℕ) → old ≡ replicate n 0 → old ++ 0 ∷ [] ≡ 0 ∷ old
@@ -26,7 +22,10 @@ pub zeros_none : (old : List ℕ) → old ≡ old ++ zeros 0
 unfolding zeros
 zeros_none old = sym (append-nil old)
 
--- each of so many bytes is one
-pub all_fit : (bytes : List ℕ) → ((i : ℕ) → get_or bytes i 0 < 256) → AreBytes bytes
-all_fit [] h = tt
-all_fit (b ∷ bytes) h = (omega (arith, h 0), all_fit bytes (λ i. h (suc i)))
+-- what stands behind a spelling
+pub stripped : {A : Type 0} (F : Form A) (x : A) (front bytes : List ℕ) (result : Option (List ℕ)) → F.Fits x → front ≡ F.spell x → Strips front bytes result → StripsFront F x bytes result
+stripped F x front bytes None fits e h = record { found = tt; only = λ rest also there. h.only rest (there ∙ ap (λ (f : List ℕ). f ++ rest) (sym e)) }
+stripped F x front bytes (Some found) fits e h = record {
+  found = (fits, h.found ∙ ap (λ (f : List ℕ). f ++ found) e);
+  only = λ rest also there. h.only rest (there ∙ ap (λ (f : List ℕ). f ++ rest) (sym e));
+}

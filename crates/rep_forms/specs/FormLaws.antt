@@ -1,14 +1,14 @@
 -- The laws of forms, and of how forms are made of others.
 use Rattle.std.proofs.Common.{◌≡◌, ℕ, zero, suc, ◌+◌, ◌*◌, ◌<◌, ◌≤◌, ◌^◌, Bool, true, false, eqb, ltb, List, [], ◌∷◌, ◌++◌, length, take, drop, Option, Some, None, refl, sym, ap, subst, ◌∙◌, append_assoc, arith}
-use Rattle.std.specs.Prelude.{replicate}
+use Rattle.std.specs.Prelude.{replicate, ◌&&◌}
 use Rattle.std.specs.List.{flat_map, AllByRecursion}
-use Rattle.std.proofs.lemmas.Bool.{le-ltb}
+use Rattle.std.proofs.lemmas.Bool.{le-ltb, eqb-true}
 use Rattle.std.proofs.lemmas.List.{take_at, drop_at, length-append, append-nil, length-replicate}
 use Rattle.std.proofs.lemmas.List.Concat.{flat_map-cons}
 use Rattle.std.specs.Int.{bytes_high_first}
 use Rattle.byteorder.specs.Numbers.{big_number-reads_back, length-bytes_high_first}
 use Rattle.rep_forms.specs.Options.{◌>>=◌}
-use Rattle.rep_forms.specs.Forms.{Form, IsForm, part, IsPart, part_of, byte, first_byte, number, number_bytes, number_in, zeros, both, via, each, AreMany, many, as_named}
+use Rattle.rep_forms.specs.Forms.{Form, IsForm, part, IsPart, part_of, byte, first_byte, number, number_bytes, number_in, zeros, are_blank, both, via, each, AreMany, many, as_named}
 
 -- ---- sizes
 
@@ -22,6 +22,11 @@ length_zeros n = length-replicate {A = ℕ} n 0
 
 -- the sizes of the parts
 pub ruleset sizes = (length_number, length_zeros, length-append)
+
+-- ---- one piece behind another
+
+pub joined : (a b c d : List ℕ) → b ≡ a ++ c → b ++ d ≡ a ++ (c ++ d)
+joined a b c d e = rw (e, append_assoc) refl
 
 -- ---- what is spelled is read
 
@@ -75,3 +80,46 @@ many_is_form limit n F f xs rest h =
 -- the same in other words
 pub named_is_form : {A : Type 0} (F : Form A) (Fits : A → Type 0) (spell : A → List ℕ) → IsForm F → ((x : A) → Fits x → F.Fits x) → ((x : A) → Fits x → spell x ≡ F.spell x) → IsForm (as_named F Fits spell)
 named_is_form F Fits spell f fits same x rest h = ap (λ (bytes : List ℕ). F.read (bytes ++ rest)) (same x h) ∙ f x rest (fits x h)
+
+-- ---- runs
+
+-- one more at the end
+pub run_more : {A : Type 0} (spell : A → List ℕ) (xs : List A) (x : A) → flat_map spell (xs ++ x ∷ []) ≡ flat_map spell xs ++ spell x
+run_more spell [] x = flat_map-cons spell x [] ∙ append-nil (spell x)
+run_more spell (y ∷ xs) x =
+    flat_map-cons spell y (xs ++ x ∷ []) ∙ ap (λ bytes. spell y ++ bytes) (run_more spell xs x)
+    ∙ sym (append_assoc (spell y) (flat_map spell xs) (spell x)) ∙ ap (λ bytes. bytes ++ spell x) (sym (flat_map-cons spell y xs))
+
+-- what holds of each holds with one more
+pub all_more : {A : Type 0} (P : A → Type 0) (xs : List A) (x : A) → AllByRecursion P xs → P x → AllByRecursion P (xs ++ x ∷ [])
+all_more P [] x h p = (p, tt)
+all_more P (y ∷ xs) x h p = (h.0, all_more P xs x h.1 p)
+
+-- so many spellings of at most so many bytes
+pub run_short : {A : Type 0} (spell : A → List ℕ) (P : A → Type 0) (most : ℕ) → ((x : A) → P x → length (spell x) ≤ most) → (xs : List A) → AllByRecursion P xs → length (flat_map spell xs) ≤ most * length xs
+run_short spell P most short [] h = omega arith
+run_short spell P most short (x ∷ xs) h =
+    let more : most * suc (length xs) ≡ most + most * length xs = grind arith in
+    omega (arith, short x h.0, run_short spell P most short xs h.1, ap length (flat_map-cons spell x xs), length-append (spell x) (flat_map spell xs), more)
+
+-- ---- zeros
+
+-- both sides of a conjunction that holds
+pub conjuncts : (a b : Bool) → (a && b) ≡ true → (a ≡ true) × (b ≡ true)
+conjuncts true b e = (refl, e)
+conjuncts false b e = absurd cc
+
+-- bytes that all are zero
+pub blank_is : (bytes : List ℕ) → are_blank bytes ≡ true → bytes ≡ zeros (length bytes)
+unfolding zeros
+blank_is [] e = refl
+blank_is (b ∷ bytes) e =
+    let p = conjuncts (eqb b 0) (are_blank bytes) e in
+    let zero_is : b ≡ 0 = eqb-true b 0 p.0 in
+    subst (λ (c : ℕ). (c ∷ bytes) ≡ 0 ∷ replicate (length bytes) 0) (sym zero_is) (ap (λ (rest : List ℕ). 0 ∷ rest) (blank_is bytes p.1))
+
+-- and zeros are
+pub zeros_blank : (n : ℕ) → are_blank (zeros n) ≡ true
+unfolding zeros
+zeros_blank zero = refl
+zeros_blank (suc n) = zeros_blank n

@@ -111,10 +111,15 @@ pub record TakesFront {A : Type 0} (F : Form A) (bytes : List ℕ) (result : Opt
   pub found : IfSome result (λ x. F.Fits x.0 × (bytes ≡ F.spell x.0 ++ x.1))
   pub only : (x : A) (rest : List ℕ) → F.Fits x → bytes ≡ F.spell x ++ rest → result ≡ Some (x, rest)
 
+-- What stands behind a front, where the bytes begin with it.
+pub record Strips (front bytes : List ℕ) (result : Option (List ℕ)) : Type 0 where
+  pub found : IfSome result (λ rest. bytes ≡ front ++ rest)
+  pub only : (rest : List ℕ) → bytes ≡ front ++ rest → result ≡ Some rest
+
 -- What stands behind the spelling of a value, where the bytes begin with it.
 pub record StripsFront {A : Type 0} (F : Form A) (x : A) (bytes : List ℕ) (result : Option (List ℕ)) : Type 0 where
   pub found : IfSome result (λ rest. F.Fits x × (bytes ≡ F.spell x ++ rest))
-  pub only : (rest : List ℕ) → bytes ≡ F.spell x ++ rest → result ≡ Some rest
+  pub only : (rest : List ℕ) → F.Fits x → bytes ≡ F.spell x ++ rest → result ≡ Some rest
 
 -- What a writer does to what was put before: the value has a spelling, and that comes behind.
 pub record Puts {A : Type 0} (F : Form A) (x : A) (old new : List ℕ) : Type 0 where

@@ -1,8 +1,8 @@
 -- The law of keys as bytes.
-use Rattle.std.proofs.Common.{◌≡◌, ℕ, Some, List, ◌∷◌, ◌++◌, refl}
+use Rattle.std.proofs.Common.{◌≡◌, ℕ, ◌≤◌, Some, List, ◌∷◌, ◌++◌, length, refl, arith}
 use Rattle.rep_types.specs.declared.key.Key.{Key}
 use Rattle.rep_forms.specs.Forms.{Form, IsForm, byte, number, ◌⊗◌, via}
-use Rattle.rep_forms.specs.FormLaws.{byte_is_form, number_is_form, both_is_form, via_is_form, named_is_form}
+use Rattle.rep_forms.specs.FormLaws.{length_number, byte_is_form, number_is_form, both_is_form, via_is_form, named_is_form}
 use Rattle.rep_forms.specs.Keys.{KeyFits, key_bytes, key_fields, key_form}
 
 key_fields_is_form : IsForm key_fields
@@ -12,3 +12,7 @@ key_fields_is_form =
 
 pub key_is_form : IsForm key_form
 key_is_form = named_is_form key_fields KeyFits key_bytes key_fields_is_form (λ key h. (h, refl)) (λ key h. refl)
+
+-- a key takes 5 bytes
+pub key_short : (key : Key) → KeyFits key → length (key_bytes key) ≤ 5
+key_short key h = omega (arith, length_number 4 key.row)

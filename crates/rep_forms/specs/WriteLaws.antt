@@ -1,12 +1,12 @@
 -- The law of writes as bytes.
-use Rattle.std.proofs.Common.{◌≡◌, ℕ, ◌<◌, ◌≤◌, ◌^◌, Option, Some, None, List, [], ◌∷◌, ◌++◌, length, refl, arith, lit<}
+use Rattle.std.proofs.Common.{◌≡◌, ℕ, ◌<◌, ◌≤◌, ◌^◌, Option, Some, None, List, [], ◌∷◌, ◌++◌, length, refl, arith, lit<, length-append}
 use Rattle.std.specs.Prelude.{IfSome}
 use Rattle.std.proofs.lemmas.Bool.{le-leb}
 use Rattle.rep_types.specs.declared.value.Write.{Write}
 use Rattle.rep_forms.specs.Forms.{Form, IsForm, AreBytes, part_of, byte, both, ◌⊗◌, via}
 use Rattle.rep_forms.specs.FormLaws.{byte_is_form, part_is_form, both_is_form, via_is_form, named_is_form}
-use Rattle.rep_forms.specs.Keys.{key_form}
-use Rattle.rep_forms.specs.KeyLaws.{key_is_form}
+use Rattle.rep_forms.specs.Keys.{key_bytes, key_form}
+use Rattle.rep_forms.specs.KeyLaws.{key_is_form, key_short}
 use Rattle.rep_forms.specs.Writes.{value_bytes, value_parts, value_of, value_fields, WriteFits, write_bytes, write_fields, write_form}
 
 value_is_form : IsForm value_fields
@@ -32,3 +32,11 @@ write_is_form =
     named_is_form write_fields WriteFits write_bytes write_fields_is_form
     (λ write h. ((h.key, value_fits write.value h.short h.bytes), refl))
     (λ write h. rw (value_same write.value) refl)
+
+-- a write takes at most 69 bytes
+value_short : (value : Option (List ℕ)) → IfSome value (λ bytes. length bytes ≤ 62) → length (value_bytes value) ≤ 64
+value_short None short = omega arith
+value_short (Some bytes) short = omega (arith, short)
+
+pub write_short : (write : Write) → WriteFits write → length (write_bytes write) ≤ 69
+write_short write h = omega (arith, key_short write.key h.key, value_short write.value h.short, length-append (key_bytes write.key) (value_bytes write.value))

@@ -29,7 +29,7 @@ impl Form for Entry {
 }
 
 impl<const N: usize> Put<N> for Entry {
-    #[tactic(auto, using(crate::specs::FormLaws::sizes, crate::proofs::Putting::joined))]
+    #[tactic(auto, using(crate::specs::FormLaws::sizes, crate::specs::FormLaws::joined))]
     fn put(&self, out: &mut ArrayVec<u8, N>) {
         put_u64(out, self.seqno());
         put_u8(out, self.keys().len() as u8);

@@ -24,7 +24,7 @@ impl Form for Key {
 }
 
 impl<const N: usize> Put<N> for Key {
-    #[tactic(auto, using(crate::specs::FormLaws::sizes, crate::proofs::Putting::joined))]
+    #[tactic(auto, using(crate::specs::FormLaws::sizes, crate::specs::FormLaws::joined))]
     fn put(&self, out: &mut ArrayVec<u8, N>) {
         put_u8(out, self.table);
         put_u32(out, self.row);

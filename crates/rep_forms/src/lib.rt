@@ -15,7 +15,7 @@ mod write;
 
 pub use entry::MAX_ENTRY;
 pub use form::{Chain, Exact, Form, Put, read_front};
-pub use laws::spellings_are_told;
+pub use laws::{runs_are_told, spellings_are_told};
 pub use numbers::{
     are_blank, put_bytes, put_u8, put_u16, put_u32, put_u64, put_zeros, read_part, read_u8,
     read_u16, read_u32, read_u64, strip_front,

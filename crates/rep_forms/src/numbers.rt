@@ -1,7 +1,7 @@
 //! Numbers and bytes.
 
 ghost use Rattle.std.specs.Prelude.{◌≡◌, ◌+◌, ◌≤◌, ◌++◌, length, option_map};
-ghost use Rattle.rep_forms.specs.Forms.{Puts, StripsFront, number, byte, part, part_of, first_byte, zeros, are_blank};
+ghost use Rattle.rep_forms.specs.Forms.{Puts, Strips, number, byte, part, part_of, first_byte, zeros, are_blank};
 
 use arrayvec::ArrayVec;
 use byteorder::{BigEndian, ByteOrder};
@@ -126,7 +126,7 @@ pub fn put_zeros<const N: usize>(out: &mut ArrayVec<u8, N>, count: usize)
 
 /// What stands behind this front, where the bytes begin with it.
 pub fn strip_front<'a>(bytes: &'a [u8], front: &[u8]) -> Option<&'a [u8]>
-    ensures { StripsFront (part_of (length front.now)) front.now bytes.now (option_map (λ rest. rest.now) result) }
+    ensures { Strips front.now bytes.now (option_map (λ rest. rest.now) result) }
 {
     if !bytes.starts_with(front) {
         return None;

@@ -1,6 +1,6 @@
 //! Values one after another.
 
-ghost use Rattle.std.specs.Prelude.{◌≡◌, ◌+◌, ◌*◌, ◌≤◌, ◌++◌, [], ◌∷◌, ℕ, List, length, MatchOption, IfOk, IfErr, option_map};
+ghost use Rattle.std.specs.Prelude.{◌≡◌, ◌+◌, ◌*◌, ◌≤◌, ◌++◌, [], ◌∷◌, ℕ, List, length, MatchOption, IfOk, IfErr, IsOkAnd, option_map};
 ghost use Rattle.std.specs.List.{flat_map, AllByRecursion};
 ghost use Rattle.rep_forms.specs.Forms.{many};
 ghost use Rattle.rep_forms.specs.Runs.{IsChain, EndsAt, StopsAt};
@@ -114,7 +114,10 @@ pub fn read_chain<'a, T: Exact, C: Chain<T>>(
     bytes: &'a [u8],
     count: u16,
 ) -> Result<(Run<'a, T>, &'a [u8]), usize>
+    // What is read is spelled so and allowed.
     ensures found { IfOk result (λ r. IsChain T.form C.step chain count bytes.now r.0 r.1.now) }
+    // What is spelled so and allowed is read.
+    ensures only { (xs : List T) (rest : List ℕ) → IsChain T.form C.step chain count bytes.now xs rest → IsOkAnd result (λ r. (r.0 ≡ xs) × (r.1.now ≡ rest)) }
     ensures stops { IfErr result (λ at. StopsAt T.form C.step chain count bytes.now at) }
 {
     let end = chain_end::<T, C>(chain, bytes, count)?;

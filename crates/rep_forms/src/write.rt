@@ -24,7 +24,7 @@ fn read_value(bytes: &[u8]) -> Option<(Option<Value>, &[u8])>
 }
 
 /// Puts what is written under a key: at most 64 bytes.
-#[tactic(auto, using(crate::specs::FormLaws::sizes, crate::proofs::Putting::joined))]
+#[tactic(auto, using(crate::specs::FormLaws::sizes, crate::specs::FormLaws::joined))]
 fn put_value<const N: usize>(out: &mut ArrayVec<u8, N>, value: &Option<Value>)
     requires { length out.old.items + 64 ≤ N }
     ensures bytes { out.new.items ≡ out.old.items ++ value_bytes value.now }
@@ -63,7 +63,7 @@ impl Form for Write {
 }
 
 impl<const N: usize> Put<N> for Write {
-    #[tactic(auto, using(crate::specs::FormLaws::sizes, crate::proofs::Putting::joined))]
+    #[tactic(auto, using(crate::specs::FormLaws::sizes, crate::specs::FormLaws::joined))]
     fn put(&self, out: &mut ArrayVec<u8, N>) {
         self.key.put(out);
         put_value(out, &self.value);

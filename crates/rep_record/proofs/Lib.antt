@@ -8,8 +8,5 @@ pub mod Outcomes
 pub mod TextLines
 pub mod NextLine
 pub mod Writing
-pub mod Repeats
-pub mod RecordFronts
-pub mod RecordRanges
-pub mod Runs
-pub mod BlockFronts
+pub mod Blocks
+pub mod Gathering

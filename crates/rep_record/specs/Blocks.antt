@@ -1,37 +1,142 @@
--- A block of records while it is gathered.
-use Rattle.std.specs.Prelude.{◌≡◌, ℕ, ◌+◌, ◌<◌, Bool, ◌==◌, ◌&&◌, nat_lt, nat_le, if◌then◌else◌, List, [], ◌∷◌, ◌++◌, length, slice_index_or}
-use Rattle.std.specs.List.{flat_map}
+-- Blocks of records as a log keeps them: what a block takes, its one spelling, and where bytes stop to be one.
+use Rattle.std.specs.Prelude.{◌≡◌, ℕ, ◌+◌, ◌-◌, ◌≤◌, ◌<◌, ◌^◌, ◌==◌, ◌&&◌, ◌⊎◌, Bool, true, nat_lt, nat_le, if◌then◌else◌, List, [], ◌∷◌, ◌++◌, length, Option, None, Some}
+use Rattle.std.specs.List.{flat_map, AllByRecursion}
 use Rattle.rep_types.specs.declared.judged.Judged.{Judged}
-use Rattle.rep_record.specs.Records.{record_bytes}
+use Rattle.rep_types.specs.declared.refusal.Refusal.{Refusal}
+use Rattle.rep_types.specs.declared.refusal.Refusal.TheVariants.{Malformed}
+use Rattle.rep_record.specs.declared.block_reader.Head.{Head}
+use Rattle.rep_forms.specs.Options.{given}
+use Rattle.rep_forms.specs.Forms.{Form, number, number_bytes, zeros, are_blank, ◌⊗◌, via, as_named}
+use Rattle.rep_forms.specs.Runs.{IsChain, StopsAt}
+use Rattle.rep_record.specs.Records.{IsRecord, is_placed, record_bytes, record_form}
 
--- the seqno of the first record, how many there are, and their bytes
-pub record Block : Type 0 where
-  pub first : ℕ
-  pub count : ℕ
-  pub bytes : List ℕ
+-- ---- records in the order of their seqnos
 
-abbrev pub empty_block : Block
-empty_block = record { first = 0; count = 0; bytes = [] }
+-- the seqno of the first record
+abbrev pub first_seqno : List Judged → ℕ
+first_seqno [] = 0
+first_seqno (j ∷ records) = j.seqno
 
--- whether there is room for the record: at most 64 records, and 7,662 bytes of them
-abbrev pub has_room : Block → Judged → Bool
-has_room block j = nat_lt block.count 64 && nat_le (length block.bytes + length (record_bytes j)) 7662
+-- the records' seqnos are this one and those that follow
+abbrev pub SeqnosFrom : ℕ → List Judged → Type 0
+SeqnosFrom n [] = Unit {0}
+SeqnosFrom n (j ∷ records) = (j.seqno ≡ n) × SeqnosFrom (n + 1) records
 
--- the block with the record at its end
-abbrev pub with_record : Block → Judged → Block
-with_record block j = record {
-  first = if block.count == 0 then j.seqno else block.first;
-  count = block.count + 1;
-  bytes = block.bytes ++ record_bytes j;
-}
+-- the bytes of the records, one after another
+abbrev pub run_bytes : List Judged → List ℕ
+run_bytes records = flat_map record_bytes records
 
--- The block is of these records, in their order.
-pub record IsOfRecords (block : Block) (records : List Judged) : Type 0 where
-  pub count : block.count ≡ length records
-  pub bytes : block.bytes ≡ flat_map record_bytes records
-  pub first : (d : Judged) → 0 < length records → block.first ≡ (slice_index_or records 0 d).seqno
+-- ---- a block while it is gathered
 
--- An empty block is of no records, and a record that is added comes after the others.
-pub record BlocksGather : Type 0 where
-  pub empty : IsOfRecords empty_block []
-  pub more : (block : Block) (records : List Judged) (j : Judged) → IsOfRecords block records → IsOfRecords (with_record block j) (records ++ j ∷ [])
+-- whether the record's seqno is the next one; the first may have any
+abbrev pub is_next : List Judged → Judged → Bool
+is_next [] j = true
+is_next (r ∷ records) j = j.seqno == r.seqno + (length records + 1)
+
+-- whether the block takes the record: it has a spelling, it is the next one, and there is room, for 64 records of 7,662 bytes
+abbrev pub has_room : List Judged → Judged → Bool
+has_room records j = is_placed j && is_next records j && nat_lt (length records) 64 && nat_le (length (run_bytes records) + length (record_bytes j)) 7662
+
+-- ---- the spelling
+
+-- What a block holds: the number of its cell, and 1 to 64 records of seqnos that follow each other, of at most 7,662 bytes.
+pub record IsBlock (cell : ℕ) (records : List Judged) : Type 0 where
+  pub cell_fits : cell < 2 ^ 64
+  pub some : 1 ≤ length records
+  pub few : length records ≤ 64
+  pub are_records : AllByRecursion IsRecord records
+  pub follow : SeqnosFrom (first_seqno records) records
+  pub fits : length (run_bytes records) ≤ 7662
+
+-- A block, of 7,680 bytes: the number of the cell, the first seqno, how many records there are, the records, and zeros.
+abbrev pub block_bytes : ℕ → List Judged → List ℕ
+block_bytes cell records =
+    number_bytes 8 cell ++ (number_bytes 8 (first_seqno records) ++ (number_bytes 2 (length records) ++ (run_bytes records ++ zeros (7662 - length (run_bytes records)))))
+
+-- a block while it is handed out: the number of its cell, and the records that are left
+pub record Contents : Type 0 where
+  pub cell : ℕ
+  pub records : List Judged
+
+abbrev pub contents : ℕ → List Judged → Contents
+contents cell records = record { cell = cell; records = records }
+
+-- ---- its head
+
+-- the number of the cell, the first seqno, and how many records there are
+abbrev pub head_parts : Head → ℕ × (ℕ × ℕ)
+head_parts head = (head.cell, (head.first, head.count))
+
+abbrev pub head_of : ℕ × (ℕ × ℕ) → Option Head
+head_of x = Some (record { cell = x.0; first = x.1.0; count = x.1.1 })
+
+abbrev pub head_fields : Form Head
+head_fields = via (number 8 ⊗ (number 8 ⊗ number 2)) head_parts head_of
+
+pub record HeadFits (head : Head) : Type 0 where
+  pub cell : head.cell < 2 ^ 64
+  pub first : head.first < 2 ^ 64
+  pub count : head.count < 2 ^ 16
+
+abbrev pub head_bytes : Head → List ℕ
+head_bytes head = number_bytes 8 head.cell ++ (number_bytes 8 head.first ++ number_bytes 2 head.count)
+
+abbrev pub head_form : Form Head
+head_form = as_named head_fields HeadFits head_bytes
+
+-- ---- what is read
+
+-- The head is of the form: there are 7,680 bytes, and they begin with it; it says 1 to 64 records.
+pub record HasHead (bytes : List ℕ) (head : Head) (rest : List ℕ) : Type 0 where
+  pub size : length bytes ≡ 7680
+  pub fits : HeadFits head
+  pub there : bytes ≡ head_bytes head ++ rest
+  pub some : 1 ≤ head.count
+  pub few : head.count ≤ 64
+
+-- where the next seqno leads, which is this one, at most 2^60
+abbrev pub next_seqno : ℕ → Judged → Option ℕ
+next_seqno n j = given ((j.seqno == n) && nat_le n (2 ^ 60)) (n + 1)
+
+-- So many records are spelled behind the head, of the first seqno and those that follow.
+abbrev pub AreRecords : Head → List ℕ → List Judged → List ℕ → Type 0
+AreRecords head bytes records rest = IsChain record_form next_seqno head.first head.count bytes records rest
+
+-- What is read: the head, all records that it says, and zeros.
+pub record IsRead (bytes : List ℕ) (cell : ℕ) (records : List Judged) : Type 0 where
+  pub head : Head
+  pub body : List ℕ
+  pub has_head : HasHead bytes head body
+  pub is_cell : cell ≡ head.cell
+  pub rest : List ℕ
+  pub are_records : AreRecords head body records rest
+  pub blank : are_blank rest ≡ true
+
+-- Why bytes are refused as a block: for the head or for the closing zeros at 0, and else at the offset of the first record
+-- that isn't of the form or whose seqno doesn't follow.
+abbrev pub HasNoHead : List ℕ → Type 0
+HasNoHead bytes = (head : Head) (rest : List ℕ) → HasHead bytes head rest → ⊥
+
+pub record HasNoEnd (bytes : List ℕ) : Type 0 where
+  pub head : Head
+  pub body : List ℕ
+  pub has_head : HasHead bytes head body
+  pub records : List Judged
+  pub rest : List ℕ
+  pub are_records : AreRecords head body records rest
+  pub not_zero : are_blank rest ≡ true → ⊥
+
+pub record HasNoRecord (bytes : List ℕ) (at : ℕ) : Type 0 where
+  pub head : Head
+  pub body : List ℕ
+  pub has_head : HasHead bytes head body
+  pub stop : ℕ
+  pub place : at ≡ 18 + stop
+  pub stops : StopsAt record_form next_seqno head.first head.count body stop
+
+abbrev pub Refuses : List ℕ → Refusal → Type 0
+Refuses bytes e = (HasNoHead bytes × (e ≡ Malformed 0)) ⊎ ((HasNoEnd bytes × (e ≡ Malformed 0)) ⊎ ((at : ℕ) × HasNoRecord bytes at × (e ≡ Malformed at)))
+
+-- The bytes of a block tell its cell and its records.
+abbrev pub BlocksAreTold : Type 0
+BlocksAreTold = (c d : ℕ) (is js : List Judged) → IsBlock c is → IsBlock d js → block_bytes c is ≡ block_bytes d js → (c ≡ d) × (is ≡ js)

@@ -1,19 +1,55 @@
 -- Records as bytes: a delivered item with its verdict, in the one spelling that it has.
-use Rattle.std.specs.Prelude.{ℕ, ◌+◌, List, [], ◌∷◌, ◌++◌, length, Option, None, Some}
-use Rattle.std.specs.List.{flat_map}
+use Rattle.std.specs.Prelude.{◌≡◌, ℕ, ◌+◌, ◌≤◌, ◌<◌, ◌^◌, Bool, true, ◌==◌, ◌&&◌, nat_lt, nat_le, if◌then◌else◌, List, [], ◌∷◌, ◌++◌, length, drop, Option, None, Some, Result, Ok, Err}
+use Rattle.std.specs.List.{flat_map, AllByRecursion}
+use Rattle.rep_types.specs.declared.key.Key.{Key}
 use Rattle.rep_types.specs.declared.value.Write.{Write}
 use Rattle.rep_types.specs.declared.judged.Judged.{Judged}
+use Rattle.rep_types.specs.declared.refusal.Refusal.{Refusal}
 use Rattle.rep_types.specs.declared.verdict.Verdict.{Verdict}
 use Rattle.rep_types.specs.declared.verdict.Verdict.TheVariants.{Commit, Conflict, Stale, Future, BadKey}
-use Rattle.rep_types.specs.Bytes.{two_bytes, eight_bytes, key_bytes}
+use Rattle.rep_types.specs.Transactions.{Transaction, transaction, IsWithinLimits, checked}
+use Rattle.rep_record.specs.declared.record.Labels.{Labels}
+use Rattle.rep_forms.specs.Options.{◌>>=◌}
+use Rattle.rep_forms.specs.Forms.{Form, byte, number, number_bytes, both, ◌⊗◌, many, via, as_named}
+use Rattle.rep_forms.specs.Keys.{KeyFits, key_bytes, key_form}
+use Rattle.rep_forms.specs.Writes.{WriteFits, write_bytes, write_form}
 
--- what is written: 0 and 0 for a delete, 1 and the length and the bytes for a put
-abbrev pub value_bytes : Option (List ℕ) → List ℕ
-value_bytes None = 0 ∷ 0 ∷ []
-value_bytes (Some bytes) = 1 ∷ length bytes ∷ bytes
+-- ---- which items have a spelling
 
-abbrev pub write_bytes : Write → List ℕ
-write_bytes write = key_bytes write.key ++ value_bytes write.value
+-- a conflict is with an item before this one
+abbrev pub IsVerdictAt : ℕ → Verdict → Type 0
+IsVerdictAt seqno Commit = Unit {0}
+IsVerdictAt seqno (Conflict m) = (1 ≤ m) × (m < seqno)
+IsVerdictAt seqno Stale = Unit {0}
+IsVerdictAt seqno Future = Unit {0}
+IsVerdictAt seqno BadKey = Unit {0}
+
+-- What has a spelling: a seqno from 1 to 2^60, a write set within the limits, a verdict that fits the seqno, and numbers
+-- in the range of their types.
+pub record IsRecord (j : Judged) : Type 0 where
+  pub positive : 1 ≤ j.seqno
+  pub seqno : j.seqno ≤ 2 ^ 60
+  pub limits : IsWithinLimits j.item
+  pub verdict : IsVerdictAt j.seqno j.verdict
+  pub last_seen : j.item.last_seen < 2 ^ 64
+  pub source : j.item.source < 2 ^ 64
+  pub trx : j.item.trx < 2 ^ 64
+  pub reads : AllByRecursion KeyFits j.item.reads
+  pub writes : AllByRecursion WriteFits j.item.writes
+
+-- whether a conflict is with an item before this one
+abbrev pub is_verdict_at : ℕ → Verdict → Bool
+is_verdict_at seqno Commit = true
+is_verdict_at seqno (Conflict m) = nat_le 1 m && nat_lt m seqno
+is_verdict_at seqno Stale = true
+is_verdict_at seqno Future = true
+is_verdict_at seqno BadKey = true
+
+-- whether the seqno is from 1 to 2^60 and the verdict fits it: what a write set and numbers of their types leave open
+abbrev pub is_placed : Judged → Bool
+is_placed j = nat_le 1 j.seqno && nat_le j.seqno (2 ^ 60) && is_verdict_at j.seqno j.verdict
+
+-- ---- the spelling
 
 -- a verdict: its number, and the seqno of a conflict
 abbrev pub verdict_code : Verdict → ℕ
@@ -31,20 +67,90 @@ conflict_seqno Future = 0
 conflict_seqno BadKey = 0
 
 abbrev pub verdict_bytes : Verdict → List ℕ
-verdict_bytes verdict = verdict_code verdict ∷ eight_bytes (conflict_seqno verdict)
+verdict_bytes verdict = verdict_code verdict ∷ number_bytes 8 (conflict_seqno verdict)
 
 -- the numbers of a record: seqno, last_seen, source and trx
 abbrev pub label_bytes : Judged → List ℕ
-label_bytes j = eight_bytes j.seqno ++ (eight_bytes j.item.last_seen ++ (eight_bytes j.item.source ++ eight_bytes j.item.trx))
+label_bytes j = number_bytes 8 j.seqno ++ (number_bytes 8 j.item.last_seen ++ (number_bytes 8 j.item.source ++ number_bytes 8 j.item.trx))
 
--- the fields of fixed length: those, the verdict, and the numbers of reads and of writes
-abbrev pub head_bytes : Judged → List ℕ
-head_bytes j = label_bytes j ++ (verdict_bytes j.verdict ++ (length j.item.reads ∷ length j.item.writes ∷ []))
+-- how many reads and how many writes there are, the reads, and the writes
+abbrev pub list_bytes : Transaction → List ℕ
+list_bytes w = length w.reads ∷ length w.writes ∷ (flat_map key_bytes w.reads ++ flat_map write_bytes w.writes)
 
 -- the record behind its length
 abbrev pub body_bytes : Judged → List ℕ
-body_bytes j = head_bytes j ++ (flat_map key_bytes j.item.reads ++ flat_map write_bytes j.item.writes)
+body_bytes j = label_bytes j ++ (verdict_bytes j.verdict ++ list_bytes j.item)
 
 -- A record: the length of all of it, and the rest.
 abbrev pub record_bytes : Judged → List ℕ
-record_bytes j = two_bytes (length (body_bytes j) + 2) ++ body_bytes j
+record_bytes j = number_bytes 2 (length (body_bytes j) + 2) ++ body_bytes j
+
+-- ---- the form
+
+abbrev pub label_parts : Labels → ℕ × (ℕ × (ℕ × ℕ))
+label_parts l = (l.seqno, (l.last_seen, (l.source, l.trx)))
+
+abbrev pub labels_of : ℕ × (ℕ × (ℕ × ℕ)) → Option Labels
+labels_of x = Some (record { seqno = x.0; last_seen = x.1.0; source = x.1.1.0; trx = x.1.1.1 })
+
+abbrev pub label_fields : Form Labels
+label_fields = via (number 8 ⊗ (number 8 ⊗ (number 8 ⊗ number 8))) label_parts labels_of
+
+-- the verdict of this number, with the seqno of a conflict
+abbrev pub verdict_of : ℕ → ℕ → Option Verdict
+verdict_of code m =
+    if code == 0 then Some Commit
+    else if code == 1 then Some (Conflict m)
+    else if code == 2 then Some Stale
+    else if code == 3 then Some Future
+    else if code == 4 then Some BadKey
+    else None
+
+abbrev pub verdict_fields : Form Verdict
+verdict_fields = via (byte ⊗ number 8) (λ v. (verdict_code v, conflict_seqno v)) (λ x. verdict_of x.0 x.1)
+
+-- reads and writes
+abbrev pub Lists : Type 0
+Lists = List Key × List Write
+
+abbrev pub list_fields : Form Lists
+list_fields =
+    via (both byte (λ reads. both byte (λ writes. many 16 reads key_form ⊗ many 16 writes write_form)))
+    (λ (l : Lists). (length l.0, (length l.1, (l.0, l.1)))) (λ x. Some (x.1.1.0, x.1.1.1))
+
+-- what is not refused
+abbrev pub unrefused : {A : Type 0} → Result A Refusal → Option A
+unrefused (Ok x) = Some x
+unrefused (Err e) = None
+
+-- a record's length, its numbers, its verdict, and its reads and writes
+abbrev pub Parts : Type 0
+Parts = ℕ × (Labels × (Verdict × Lists))
+
+abbrev pub parts_of : Judged → Parts
+parts_of j = (length (body_bytes j) + 2, (record { seqno = j.seqno; last_seen = j.item.last_seen; source = j.item.source; trx = j.item.trx }, (j.verdict, (j.item.reads, j.item.writes))))
+
+-- the item that these are of
+abbrev pub item_of : Labels → Verdict → Lists → Option Judged
+item_of labels verdict lists =
+    unrefused (checked (transaction labels.source labels.trx labels.last_seen lists.0 lists.1)) >>= λ item. Some (record { seqno = labels.seqno; item = item; verdict = verdict })
+
+abbrev pub record_fields : Form Judged
+record_fields = via (number 2 ⊗ (label_fields ⊗ (verdict_fields ⊗ list_fields))) parts_of (λ (x : Parts). item_of x.1.0 x.1.1.0 x.1.1.1)
+
+abbrev pub record_form : Form Judged
+record_form = as_named record_fields IsRecord record_bytes
+
+-- ---- what is read
+
+-- The bytes begin with the record, which takes n of them.
+pub record IsFront (bytes : List ℕ) (j : Judged) (n : ℕ) : Type 0 where
+  pub is_record : IsRecord j
+  pub size : n ≡ length (record_bytes j)
+  pub front : bytes ≡ record_bytes j ++ drop n bytes
+  pub within : n ≤ length bytes
+
+-- The spelling of a record tells the record and where it ends: none begins that of another.
+pub record RecordsAreTold : Type 0 where
+  pub apart : (i j : Judged) (x y : List ℕ) → IsRecord i → IsRecord j → record_bytes i ++ x ≡ record_bytes j ++ y → (i ≡ j) × (x ≡ y)
+  pub one_spelling : (i j : Judged) → IsRecord i → IsRecord j → record_bytes i ≡ record_bytes j → i ≡ j

@@ -1,42 +1,50 @@
-//! Blocks of records, as a log keeps them.
+//! Blocks of records while they are gathered.
 
-ghost use Rattle.std.specs.Prelude.{◌≡◌, ◌≤◌, ◌==◌, length, if◌then◌else◌};
-ghost use Rattle.rep_record.specs.Blocks.{has_room, with_record, empty_block, BlocksGather};
+ghost use Rattle.std.specs.Prelude.{◌≡◌, ◌≤◌, ◌==◌, ◌<◌, ◌^◌, ◌++◌, ◌∷◌, ◌↔◌, [], length, if◌then◌else◌, IsSome, IfSome};
+ghost use Rattle.rep_record.specs.Blocks.{has_room, is_next, first_seqno, run_bytes, IsBlock, block_bytes};
 
+use crate::block_reader::{BLOCK, HEAD, Head, MAX_RECORDS};
 use crate::record::put_record;
 use arrayvec::ArrayVec;
+use rep_forms::{Put, put_bytes, put_zeros};
 use rep_types::Judged;
 use std::marker::Model;
 
-/// The greatest number of records of a block.
-pub const MAX_RECORDS: u16 = 64;
-
-/// The greatest number of bytes of a block's records.
+/// The greatest number of bytes of a block's records: what a block of 7,680 bytes has behind its head.
 pub const MAX_BLOCK: usize = 7662;
 
-/// Gathers the records of a block: at most 64, of at most 7,662 bytes together.
-#[derive(Debug, Drop)]
+/// Gathers the records of a block: at most 64, of at most 7,662 bytes together, of seqnos that follow
+/// one another.
+#[derive(Drop)]
 pub struct BlockBuilder {
     first: u64,
     count: u16,
-    bytes: ArrayVec<u8, 7662>,
+    bytes: ArrayVec<u8, MAX_BLOCK>,
 }
 
 impl Model for BlockBuilder {
-    ghost use Rattle.std.specs.Prelude.{◌≤◌, length};
-    ghost use Rattle.rep_record.specs.Blocks.{Block};
+    ghost use Rattle.std.specs.Prelude.{List};
+    ghost use Rattle.rep_types.specs.declared.judged.Judged.{Judged};
+    ghost use Rattle.rep_record.specs.Gathered.{gathered_in, IsGathered};
 
-    ghost Value = { Block };
+    ghost Value = { List Judged };
 
-    ghost view = { λ b. record { first = b.first; count = b.count; bytes = b.bytes.items } };
+    ghost view = { λ b. gathered_in b.count b.bytes.items };
 
-    ghost invariant = { λ b. (b.count ≤ 64) × (length b.bytes.items ≤ 7662) };
+    ghost invariant = { λ b. IsGathered b.first b.count b.bytes.items };
+}
+
+/// The first seqno of a block of so many records with one more.
+fn first_of(count: u16, first: u64, seqno: u64) -> u64
+    ensures { result ≡ (if count == 0 then seqno else first) }
+{
+    if count == 0 { seqno } else { first }
 }
 
 impl BlockBuilder {
     /// A block without records.
     pub fn new() -> BlockBuilder
-        ensures { result ≡ empty_block }
+        ensures { result ≡ [] }
     {
         BlockBuilder {
             first: 0,
@@ -45,26 +53,38 @@ impl BlockBuilder {
         }
     }
 
-    /// Adds the record at the end, where there is room for it, and says whether there was. A block
-    /// without room stays as it is.
+    /// Whether the seqno is the next one; the first may be any.
+    fn is_next(&self, record: &Judged) -> bool
+        ensures { result ≡ is_next self.now record.now }
+    {
+        self.count == 0 || (record.seqno >= self.first && record.seqno - self.first == u64::from(self.count))
+    }
+
+    /// Adds the record at the end, where the block takes it, and says whether it did: where the
+    /// record has a spelling, its seqno is the one after the last, and there is room for it. A block
+    /// that does not take it stays as it is.
     pub fn push(&mut self, record: &Judged) -> bool
         ensures room { result ≡ has_room self.old record.now }
-        ensures after { self.new ≡ (if has_room self.old record.now then with_record self.old record.now else self.old) }
+        ensures after { self.new ≡ (if has_room self.old record.now then self.old ++ record.now ∷ [] else self.old) }
     {
-        let bytes = put_record(record);
-        if self.count >= MAX_RECORDS || self.bytes.try_extend_from_slice(&bytes).is_err() {
+        let Some(bytes) = put_record(record) else {
+            return false;
+        };
+        if !self.is_next(record) || self.count >= MAX_RECORDS {
             return false;
         }
-        if self.count == 0 {
-            self.first = record.seqno;
+        if self.bytes.len() + bytes.len() > MAX_BLOCK {
+            return false;
         }
+        put_bytes(&mut self.bytes, bytes.as_slice());
+        self.first = first_of(self.count, self.first, record.seqno);
         self.count += 1;
         true
     }
 
     /// How many records there are.
     pub fn len(&self) -> u16
-        ensures count { result ≡ self.now.count }
+        ensures count { result ≡ length self.now }
         ensures few { result ≤ 64 }
     {
         self.count
@@ -72,28 +92,45 @@ impl BlockBuilder {
 
     /// Whether there is no record.
     pub fn is_empty(&self) -> bool
-        ensures { result ≡ (self.now.count == 0) }
+        ensures { result ≡ (length self.now == 0) }
     {
         self.count == 0
     }
 
-    /// The seqno of the first record; 0 where there is none and none was.
+    /// The seqno of the first record; 0 where there is none.
     pub fn first(&self) -> u64
-        ensures { result ≡ self.now.first }
+        ensures { result ≡ first_seqno self.now }
     {
         self.first
     }
 
     /// The bytes of the records, one after another.
     pub fn as_bytes(&self) -> &[u8]
-        ensures bytes { result.now ≡ self.now.bytes }
-        ensures few { length self.now.bytes ≤ 7662 }
+        ensures bytes { result.now ≡ run_bytes self.now }
+        ensures few { length (run_bytes self.now) ≤ 7662 }
     {
         self.bytes.as_slice()
     }
-}
 
-/// An empty block is of no records, and a record that is added comes after the others.
-pub fn blocks_gather()
-    ensures { BlocksGather }
-{}
+    /// The bytes of the block for the cell with this number, 7,680; None where there is no record.
+    pub fn write_body(&self, cell: u64) -> Option<ArrayVec<u8, BLOCK>>
+        ensures some { IsSome result ↔ (0 < length self.now) }
+        // What is written is a block, so it is read again.
+        ensures bytes { IfSome result (λ b. IsBlock cell self.now × (b.items ≡ block_bytes cell self.now)) }
+        ensures size { IfSome result (λ b. length b.items ≡ 7680) }
+    {
+        if self.count == 0 {
+            return None;
+        }
+        let head = Head {
+            cell,
+            first: self.first,
+            count: self.count,
+        };
+        let mut out: ArrayVec<u8, BLOCK> = ArrayVec::new();
+        head.put(&mut out);
+        put_bytes(&mut out, self.bytes.as_slice());
+        put_zeros(&mut out, MAX_BLOCK - self.bytes.len());
+        Some(out)
+    }
+}

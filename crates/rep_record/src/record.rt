@@ -1,75 +1,58 @@
 //! Records as bytes.
 
-ghost use Rattle.std.specs.Prelude.{◌≡◌, ◌+◌, ◌≤◌, ◌*◌, ◌++◌, length};
-ghost use Rattle.std.specs.List.{flat_map};
+ghost use Rattle.std.specs.Prelude.{◌≡◌, ◌+◌, ◌≤◌, ◌<◌, ◌^◌, ◌++◌, ◌↔◌, ℕ, List, length, true, Ok, IfOk, IfErr, IsSome, IfSome, option_map};
+ghost use Rattle.std.specs.List.{AllByRecursion};
+ghost use Rattle.rep_types.specs.declared.judged.Judged.{Judged};
 ghost use Rattle.rep_types.specs.Transactions.{IsWithinLimits};
-ghost use Rattle.rep_types.specs.Bytes.{key_bytes};
-ghost use Rattle.rep_record.specs.Records.{value_bytes, write_bytes, verdict_bytes, label_bytes, head_bytes, body_bytes, record_bytes};
+ghost use Rattle.rep_forms.specs.Keys.{KeyFits};
+ghost use Rattle.rep_forms.specs.Writes.{WriteFits};
+ghost use Rattle.rep_record.specs.Records.{IsRecord, IsFront, RecordsAreTold, is_verdict_at, is_placed, conflict_seqno, verdict_bytes, label_bytes, list_bytes, body_bytes, record_bytes, label_fields, verdict_of, verdict_fields, list_fields, record_form};
 
 use arrayvec::ArrayVec;
-use rep_types::bytes::{put_bytes, put_key, put_u16, put_u64};
-use rep_types::{Judged, Key, Value, Verdict, Write};
+use rep_forms::{
+    Exact, Form, put_bytes, put_run, put_u8, put_u16, put_u64, read_front, read_run, read_u8,
+    read_u16, read_u64, spellings_are_told, strip_front,
+};
+use rep_types::{Judged, Key, MAX_SEQNO, Refusal, Verdict, Write, WriteSet};
+use std::marker::Model;
 
 /// The greatest number of bytes of a record: 45, 16 reads of 5 bytes and 16 writes of 69.
 pub const MAX_RECORD: usize = 1229;
 
-type Bytes = ArrayVec<u8, 1229>;
+type Bytes = ArrayVec<u8, MAX_RECORD>;
 
-/// Puts what is written under a key.
-#[tactic(auto, using(rep_types::proofs::Spellings::sizes))]
-fn put_value(out: &mut Bytes, value: &Option<Value>)
-    requires { length out.old.items + 64 ≤ 1229 }
-    ensures bytes { out.new.items ≡ out.old.items ++ value_bytes value.now }
-    ensures size { length (value_bytes value.now) ≤ 64 }
+/// The numbers of a record, in their order.
+#[derive(Drop)]
+struct Labels {
+    seqno: u64,
+    last_seen: u64,
+    source: u64,
+    trx: u64,
+}
+
+/// Whether a conflict is with an item before this one.
+fn is_verdict_at(seqno: u64, verdict: Verdict) -> bool
+    ensures { result ≡ is_verdict_at seqno verdict }
 {
-    match value {
-        None => put_bytes(out, &[0, 0]),
-        Some(value) => {
-            let bytes = value.as_bytes();
-            put_bytes(out, &[1, bytes.len() as u8]);
-            put_bytes(out, bytes);
-        }
+    match verdict {
+        Verdict::Conflict(with) => 1 <= with && with < seqno,
+        Verdict::Commit | Verdict::Stale | Verdict::Future | Verdict::BadKey => true,
     }
 }
 
-/// Puts a write.
-#[tactic(auto, using(rep_types::proofs::Spellings::sizes))]
-fn put_write(out: &mut Bytes, write: &Write)
-    requires { length out.old.items + 69 ≤ 1229 }
-    ensures bytes { out.new.items ≡ out.old.items ++ write_bytes write.now }
-    ensures size { length (write_bytes write.now) ≤ 69 }
+/// Whether the item can be written as a record: its seqno is from 1 to 2^60, and a conflict is with
+/// an item before it.
+pub fn is_placed(judged: &Judged) -> bool
+    ensures { result ≡ is_placed judged.now }
 {
-    put_key(out, write.key);
-    put_value(out, &write.value);
+    1 <= judged.seqno && judged.seqno <= MAX_SEQNO && is_verdict_at(judged.seqno, judged.verdict)
 }
 
-/// Puts the keys, one after another.
-fn put_keys(out: &mut Bytes, keys: &[Key])
-    requires { length out.old.items + 5 * length keys.now ≤ 1229 }
-    ensures bytes { out.new.items ≡ out.old.items ++ flat_map key_bytes keys.now }
-    ensures size { length out.new.items ≡ length out.old.items + 5 * length keys.now }
-{
-    for key in keys {
-        put_key(out, *key);
-    }
-}
-
-/// Puts the writes, one after another.
-fn put_writes(out: &mut Bytes, writes: &[Write])
-    requires { length out.old.items + 69 * length writes.now ≤ 1229 }
-    ensures bytes { out.new.items ≡ out.old.items ++ flat_map write_bytes writes.now }
-    ensures size { length out.new.items ≤ length out.old.items + 69 * length writes.now }
-{
-    for write in writes {
-        put_write(out, write);
-    }
-}
-
-/// Puts a verdict.
-#[tactic(auto, using(rep_types::proofs::Spellings::sizes, rep_types::proofs::Spellings::joined))]
+/// Puts a verdict: 9 bytes.
+#[tactic(auto, using(rep_forms::specs::FormLaws::sizes, rep_forms::specs::FormLaws::joined))]
 fn put_verdict(out: &mut Bytes, verdict: Verdict)
     requires { length out.old.items + 9 ≤ 1229 }
-    ensures { out.new.items ≡ out.old.items ++ verdict_bytes verdict }
+    ensures bytes { out.new.items ≡ out.old.items ++ verdict_bytes verdict }
 {
     let (code, seqno) = match verdict {
         Verdict::Commit => (0, 0),
@@ -78,16 +61,18 @@ fn put_verdict(out: &mut Bytes, verdict: Verdict)
         Verdict::Future => (3, 0),
         Verdict::BadKey => (4, 0),
     };
-    put_bytes(out, &[code]);
+    put_u8(out, code);
     put_u64(out, seqno);
 }
 
-/// Puts the numbers of a record.
-#[tactic(auto, using(rep_types::proofs::Spellings::sizes, rep_types::proofs::Spellings::joined))]
+/// Puts the numbers of a record: 32 bytes.
+#[tactic(auto, using(rep_forms::specs::FormLaws::sizes, rep_forms::specs::FormLaws::joined))]
 fn put_labels(out: &mut Bytes, record: &Judged)
     requires { length out.old.items + 32 ≤ 1229 }
     ensures bytes { out.new.items ≡ out.old.items ++ label_bytes record.now }
-    ensures size { length out.new.items ≡ length out.old.items + 32 }
+    ensures last_seen { record.now.item.last_seen < 2 ^ 64 }
+    ensures source { record.now.item.source < 2 ^ 64 }
+    ensures trx { record.now.item.trx < 2 ^ 64 }
 {
     put_u64(out, record.seqno);
     put_u64(out, record.item.last_seen());
@@ -95,45 +80,208 @@ fn put_labels(out: &mut Bytes, record: &Judged)
     put_u64(out, record.item.trx());
 }
 
-/// Puts the fields of fixed length that follow the record's own.
-#[tactic(auto, using(rep_types::proofs::Spellings::sizes, rep_types::proofs::Spellings::joined))]
-fn put_head(out: &mut Bytes, record: &Judged)
-    requires { length out.old.items + 43 ≤ 1229 }
-    ensures bytes { out.new.items ≡ out.old.items ++ head_bytes record.now }
-    ensures size { length out.new.items ≡ length out.old.items + 43 }
-    ensures limits { IsWithinLimits record.now.item }
+/// Puts the reads and the writes, behind how many there are: at most 1,186 bytes.
+#[tactic(auto, using(rep_forms::specs::FormLaws::sizes, rep_forms::specs::FormLaws::joined))]
+fn put_lists(out: &mut Bytes, item: &WriteSet)
+    requires { length out.old.items + 1186 ≤ 1229 }
+    ensures bytes { out.new.items ≡ out.old.items ++ list_bytes item.now }
+    ensures size { length (list_bytes item.now) ≤ 1186 }
+    ensures limits { IsWithinLimits item.now }
+    ensures reads { AllByRecursion KeyFits item.now.reads }
+    ensures writes { AllByRecursion WriteFits item.now.writes }
 {
-    put_labels(out, record);
-    put_verdict(out, record.verdict);
-    let reads = record.item.reads().len();
-    let writes = record.item.writes().len();
-    put_bytes(out, &[reads as u8, writes as u8]);
+    let reads = item.reads();
+    let writes = item.writes();
+    put_u8(out, reads.len() as u8);
+    put_u8(out, writes.len() as u8);
+    put_run(out, reads);
+    put_run(out, writes);
 }
 
 /// The record behind its length.
-#[tactic(auto, using(rep_types::proofs::Spellings::sizes, rep_types::proofs::Spellings::joined))]
+#[tactic(auto, using(rep_forms::specs::FormLaws::sizes, rep_forms::specs::FormLaws::joined))]
 fn body_of(record: &Judged) -> Bytes
     ensures bytes { result.items ≡ body_bytes record.now }
     ensures size { length result.items ≤ 1227 }
-    ensures limits { IsWithinLimits record.now.item }
+    ensures fits { is_placed record.now ≡ true → IsRecord record.now }
 {
     let mut body = ArrayVec::new();
-    put_head(&mut body, record);
-    put_keys(&mut body, record.item.reads());
-    put_writes(&mut body, record.item.writes());
+    put_labels(&mut body, record);
+    put_verdict(&mut body, record.verdict);
+    put_lists(&mut body, &record.item);
     body
 }
 
-/// The bytes of a record: a delivered item with its seqno and its verdict. They are at most 1,229.
-#[tactic(auto, using(rep_types::proofs::Spellings::sizes, rep_types::proofs::Spellings::joined))]
-pub fn put_record(record: &Judged) -> ArrayVec<u8, 1229>
-    ensures bytes { result.items ≡ record_bytes record.now }
+/// The bytes of a record, at most 1,229: a delivered item with its seqno and its verdict. None where
+/// it has no spelling: where its seqno is not from 1 to 2^60, or a conflict is not with an item
+/// before it.
+#[tactic(auto, using(rep_forms::specs::FormLaws::sizes, rep_forms::specs::FormLaws::joined))]
+pub fn put_record(record: &Judged) -> Option<ArrayVec<u8, MAX_RECORD>>
+    ensures placed { IsSome result ↔ (is_placed record.now ≡ true) }
+    // What is put has a spelling, and that is it: so it is read again.
+    ensures bytes { IfSome result (λ b. IsRecord record.now × (b.items ≡ record_bytes record.now)) }
     ensures size { length (record_bytes record.now) ≤ 1229 }
-    ensures limits { IsWithinLimits record.now.item }
 {
     let body = body_of(record);
+    if !is_placed(record) {
+        return None;
+    }
     let mut out = ArrayVec::new();
     put_u16(&mut out, body.len() as u16 + 2);
     put_bytes(&mut out, body.as_slice());
-    out
+    Some(out)
+}
+
+/// The numbers of a record, and the bytes behind them.
+fn read_labels(bytes: &[u8]) -> Option<(Labels, &[u8])>
+    ensures { option_map (λ x. (x.0, x.1.now)) result ≡ label_fields.read bytes.now }
+{
+    let (seqno, rest) = read_u64(bytes)?;
+    let (last_seen, rest) = read_u64(rest)?;
+    let (source, rest) = read_u64(rest)?;
+    let (trx, rest) = read_u64(rest)?;
+    let labels = Labels {
+        seqno,
+        last_seen,
+        source,
+        trx,
+    };
+    Some((labels, rest))
+}
+
+/// The verdict of this number, with the seqno of a conflict.
+fn verdict_from(code: u8, seqno: u64) -> Option<Verdict>
+    ensures { result ≡ verdict_of code seqno }
+{
+    match code {
+        0 => Some(Verdict::Commit),
+        1 => Some(Verdict::Conflict(seqno)),
+        2 => Some(Verdict::Stale),
+        3 => Some(Verdict::Future),
+        4 => Some(Verdict::BadKey),
+        _ => None,
+    }
+}
+
+/// A verdict, and the bytes behind it.
+fn read_verdict(bytes: &[u8]) -> Option<(Verdict, &[u8])>
+    ensures { option_map (λ x. (x.0, x.1.now)) result ≡ verdict_fields.read bytes.now }
+{
+    let (code, rest) = read_u8(bytes)?;
+    let (seqno, rest) = read_u64(rest)?;
+    let verdict = verdict_from(code, seqno)?;
+    Some((verdict, rest))
+}
+
+/// The reads and the writes behind their numbers, and the bytes behind them.
+fn read_lists(bytes: &[u8]) -> Option<((ArrayVec<Key, 16>, ArrayVec<Write, 16>), &[u8])>
+    ensures { option_map (λ x. ((x.0.0.items, x.0.1.items), x.1.now)) result ≡ list_fields.read bytes.now }
+{
+    let (read_count, rest) = read_u8(bytes)?;
+    let (write_count, rest) = read_u8(rest)?;
+    let (reads, rest) = read_run::<Key, 16>(rest, usize::from(read_count))?;
+    let (writes, rest) = read_run::<Write, 16>(rest, usize::from(write_count))?;
+    Some(((reads, writes), rest))
+}
+
+/// A judged item as it is read. It is a type of its own because a form belongs to a type of the crate
+/// that states it.
+#[derive(Drop)]
+pub(crate) struct Record {
+    judged: Judged,
+}
+
+impl Model for Record {
+    ghost use Rattle.rep_types.specs.declared.judged.Judged.{Judged};
+
+    ghost Value = { Judged };
+
+    ghost view = { λ r. r.judged };
+}
+
+impl Record {
+    /// The item.
+    pub(crate) fn judged(&self) -> &Judged
+        ensures { result.now ≡ self.now }
+    {
+        &self.judged
+    }
+
+    /// The item itself.
+    pub(crate) fn into_judged(self) -> Judged
+        ensures { result ≡ self }
+    {
+        self.judged
+    }
+}
+
+impl Form for Record {
+    ghost use Rattle.rep_record.specs.RecordLaws.{record_is_form};
+
+    ghost form = { record_form };
+
+    ghost most = { 1229 };
+
+    fn read(bytes: &[u8]) -> Option<(Record, &[u8])> {
+        let (_, rest) = read_u16(bytes)?;
+        let (labels, rest) = read_labels(rest)?;
+        let (verdict, rest) = read_verdict(rest)?;
+        let ((reads, writes), rest) = read_lists(rest)?;
+        let item = WriteSet::new(
+            labels.source,
+            labels.trx,
+            labels.last_seen,
+            reads.as_slice(),
+            writes.as_slice(),
+        )
+        .ok()?;
+        let judged = Judged {
+            seqno: labels.seqno,
+            item,
+            verdict,
+        };
+        Some((Record { judged }, rest))
+    }
+
+    ghost is_form = { record_is_form };
+}
+
+impl Exact for Record {
+    fn strip<'a>(&self, bytes: &'a [u8]) -> Option<&'a [u8]> {
+        let spelling = put_record(&self.judged)?;
+        strip_front(bytes, spelling.as_slice())
+    }
+}
+
+/// Reads one record from the front of the bytes, and says how many bytes it takes. What follows them
+/// is not looked at.
+///
+/// Refuses with `Malformed`, `at` being 0, bytes that do not begin with the spelling of a record:
+/// the length of all of it in 2 bytes; the seqno, from 1 to 2^60, last_seen, source and trx in 8
+/// bytes each; the number of the verdict, 0 for commit, 1 for conflict, 2 for stale, 3 for future
+/// and 4 for badkey, in 1 byte; in 8 bytes the seqno of a conflict, from 1 to the one before the
+/// record's own, and zero for the others; how many reads, 0 to 16, and how many writes, 1 to 16, in
+/// 1 byte each; the keys that are read, each its table in 1 byte and its row in 4; and the writes,
+/// each its key, 1 byte that is 0 for a delete and 1 for a put, the length of the value in 1 byte, 0
+/// to 62 and 0 for a delete, and the value. The highest byte of a number stands first, and the keys
+/// of the reads and of the writes ascend strictly.
+pub fn read_record(bytes: &[u8]) -> Result<(Judged, usize), Refusal>
+    // What is read is spelled so.
+    ensures found { IfOk result (λ r. IsFront bytes.now r.0 r.1) }
+    // What is spelled so is read, whatever follows.
+    ensures only { (j : Judged) (rest : List ℕ) → IsRecord j → bytes.now ≡ record_bytes j ++ rest → result ≡ Ok (j, length (record_bytes j)) }
+    // Anything else is refused.
+    ensures refused { IfErr result (λ e. e ≡ Refusal.Malformed 0) }
+{
+    match read_front::<Record>(bytes) {
+        Some((record, rest)) => Ok((record.into_judged(), bytes.len() - rest.len())),
+        None => Err(Refusal::Malformed { at: 0 }),
+    }
+}
+
+/// The spelling of a record tells the record and where it ends: none begins that of another.
+pub fn records_are_told()
+    ensures { RecordsAreTold }
+{
+    spellings_are_told::<Record>();
 }

@@ -1,47 +1,57 @@
-use Rattle.std.proofs.Common.{◌≡◌, List, Option, drop, false, refl, sym, ap, subst, ◌∙◌, arith, inl, inr, []}
-use Rattle.std.specs.Prelude.{is_some}
-use Rattle.std.specs.Option.{option_map_or}
-use Rattle.std.proofs.lemmas.List.{take_rest}
+use Rattle.std.proofs.Common.{◌≡◌, ℕ, List, length, true, sym, ap, subst, ◌∙◌, arith}
+use Rattle.std.proofs.lemmas.Option.{same_Some}
 use Rattle.rep_types.specs.declared.judged.Judged.{Judged}
-use Rattle.rep_types.specs.Bytes.{are_blank}
-use Rattle.rep_record.specs.BlockForm.{HasHead, HasNoEnd, IsRead}
-use Rattle.rep_record.proofs.BlockFronts.{not_false, run_again}
+use Rattle.rep_forms.specs.Forms.{are_blank}
+use Rattle.rep_record.specs.declared.block_reader.Head.{Head}
+use Rattle.rep_record.specs.Blocks.{IsBlock, block_bytes, AreRecords}
+use Rattle.rep_record.proofs.Blocks.{Says, says}
 use Rattle.rep_record.proofs.block_reader.read_body.Goals as goal
+use Rattle.rep_record.proofs.block_reader.read_body.Goals.{then-head-eq0-via-then-head-eq0, then-head-eq0-via-else-head-eq0+then-head-gt-MAX_RECORDS}
 
-pub returns-then-not-are_blank-clause-refused : goal.returns-then-not-are_blank-clause-refused
-returns-then-not-are_blank-clause-refused c =
-    let head : HasHead c.args.bytes.now = record {
-      size = c.if-bytes-ne-BLOCK.false;
-      some = omega (arith, c.u16_at-count.ensures, c.if-count-eq0.false);
-      few = omega (arith, c.u16_at-count.ensures, c.if-count-gt-MAX_RECORDS.false);
-    } in
-    let test : are_blank (drop c.in_ok-end.end c.args.bytes.now) ≡ false =
-    ap are_blank (sym (take_rest c.args.bytes.now c.in_ok-end.end)) ∙ sym c.are_blank.ensures ∙ c.if-not-are_blank.true in
-    let no_end : HasNoEnd c.args.bytes.now = record {
-      records = c.in_ok-end.ensures.all.records;
-      end = c.in_ok-end.end;
-      spelled = c.in_ok-end.ensures.all.spelled;
-      all = c.in_ok-end.ensures.all.all ∙ c.u16_at-count.ensures;
-      not_zero = not_false _ test;
-    } in
-    inr (inl (head, no_end, refl))
+-- what was taken from the front is the block's head
+same_head : (head : Head) (body : List ℕ) (bytes : List ℕ) (cell : ℕ) (js : List Judged) (s : Says bytes cell js) → ◌≡◌ {A = Head × List ℕ} (head, body) (s.head, s.body) → (head ≡ s.head) × (body ≡ s.body)
+same_head head body bytes cell js s e = (ap (λ (x : Head × List ℕ). x.0) e, ap (λ (x : Head × List ℕ). x.1) e)
 
-pub invariant_of-result : goal.invariant_of-result
-invariant_of-result c = ap is_some (run_again c.args.bytes.now _ c.in_ok-end.end c.u16_at-count.result c.in_ok-end.ensures.all (take_rest c.args.bytes.now 18))
+-- so its records are behind it
+records_there : (head : Head) (body : List ℕ) (bytes : List ℕ) (cell : ℕ) (js : List Judged) (s : Says bytes cell js) → ◌≡◌ {A = Head × List ℕ} (head, body) (s.head, s.body) → AreRecords head body js s.rest
+records_there head body bytes cell js s e = subst (λ (x : Head × List ℕ). AreRecords x.0 x.1 js s.rest) (sym e) s.are_records
 
-pub returns-clause-read : goal.returns-clause-read
-returns-clause-read c =
-    let again = run_again c.args.bytes.now _ c.in_ok-end.end c.u16_at-count.result c.in_ok-end.ensures.all (take_rest c.args.bytes.now 18) in
-    let same = ap (λ (o : Option (List Judged)). option_map_or (λ (records : List Judged). records) o []) again in
-    subst (λ (records : List Judged). IsRead c.args.bytes.now c.u64_at-2.result records) (sym same) (record {
-      head = record {
-        size = c.if-bytes-ne-BLOCK.false;
-        some = omega (arith, c.u16_at-count.ensures, c.if-count-eq0.false);
-        few = omega (arith, c.u16_at-count.ensures, c.if-count-gt-MAX_RECORDS.false);
-      };
-      is_cell = c.u64_at-2.ensures;
-      all = c.in_ok-end.ensures.all.all ∙ c.u16_at-count.ensures;
-      end = c.in_ok-end.end;
-      spelled = c.in_ok-end.ensures.all.spelled;
-      blank = ap are_blank (sym (take_rest c.args.bytes.now c.in_ok-end.end)) ∙ sym c.are_blank.ensures ∙ c.if-not-are_blank.false;
-    })
+pub returns-then-bytes-ne-BLOCK-clause-only : goal.returns-then-bytes-ne-BLOCK-clause-only
+returns-then-bytes-ne-BLOCK-clause-only c = λ cell js h e. absurd (c.if-bytes-ne-BLOCK.true (says c.args.bytes.now cell js h e).has_head.size)
+
+pub returns-in_default-clause-only : goal.returns-in_default-clause-only
+returns-in_default-clause-only c = λ cell js h e.
+    let s = says c.args.bytes.now cell js h e in
+    let read = rw c.in_default.is at (c.read_front.ensures.only s.head s.body s.has_head.fits s.has_head.there) in
+    absurd cc
+
+pub returns-then-head-eq0-clause-only : goal.returns-then-head-eq0-clause-only
+returns-then-head-eq0-clause-only c = λ cell js h e.
+    let s = says c.args.bytes.now cell js h e in
+    let same = same_head _ _ c.args.bytes.now cell js s (same_Some _ (s.head, s.body) (c.in-Some.ensures.only s.head s.body s.has_head.fits s.has_head.there)) in
+    let count : c.in-Some.head.count ≡ s.head.count = ap (λ (head : Head). head.count) same.0 in
+    absurd (elim c.then-head-eq0.branch [
+        then-head-eq0-via-then-head-eq0 w ↦ omega (arith, count, s.has_head.some, w.if-head-eq0.true)
+        | then-head-eq0-via-else-head-eq0+then-head-gt-MAX_RECORDS w ↦ omega (arith, count, s.has_head.few, w.if-head-gt-MAX_RECORDS.true)
+    ])
+
+pub returns-in-Err-clause-only : goal.returns-in-Err-clause-only
+returns-in-Err-clause-only c = λ cell js h e.
+    let s = says c.args.bytes.now cell js h e in
+    let there = records_there _ _ c.args.bytes.now cell js s (same_Some _ (s.head, s.body) (c.in-Some.ensures.only s.head s.body s.has_head.fits s.has_head.there)) in
+    c.in-Err.ensures.only js s.rest there
+
+pub returns-in-Ok-clause-only : goal.returns-in-Ok-clause-only
+returns-in-Ok-clause-only c = λ cell js h e.
+    let s = says c.args.bytes.now cell js h e in
+    let there = records_there _ _ c.args.bytes.now cell js s (same_Some _ (s.head, s.body) (c.in-Some.ensures.only s.head s.body s.has_head.fits s.has_head.there)) in
+    let read = c.in-Ok.ensures.only js s.rest there in
+    let blank : are_blank c.in-Ok.rest.now ≡ true = ap are_blank read.1 ∙ s.blank in
+    absurd cc
+
+pub returns-in-Ok-2-clause-only : goal.returns-in-Ok-2-clause-only
+returns-in-Ok-2-clause-only c = λ cell js h e.
+    let s = says c.args.bytes.now cell js h e in
+    let front = same_Some _ (s.head, s.body) (c.in-Some.ensures.only s.head s.body s.has_head.fits s.has_head.there) in
+    let read = c.in-Ok.ensures.only js s.rest (records_there _ _ c.args.bytes.now cell js s front) in
+    (ap (λ (head : Head). head.cell) (same_head _ _ c.args.bytes.now cell js s front).0 ∙ s.is_cell, read.0)

@@ -1,7 +1,0 @@
-use Rattle.std.proofs.Common.{◌∙◌, ap, sym, length, eqb}
-use Rattle.rep_record.specs.BlockForm.{Contents}
-use Rattle.rep_record.proofs.BlockFronts.{length-in}
-use Rattle.rep_record.proofs.block_reader.Block.is_empty.Goals as goal
-
-pub returns : goal.returns
-returns c = ap (λ n. eqb n 0) (sym (length-in c.self.inside.left c.self.inside.rest.now c.self.invariant) ∙ ap (λ (b : Contents). length b.records) c.self.view_is)

@@ -1,0 +1,81 @@
+-- The law of records as bytes.
+use Rattle.std.proofs.Common.{◌≡◌, ℕ, ◌+◌, ◌≤◌, ◌<◌, ◌^◌, Bool, true, false, ltb, leb, List, [], ◌∷◌, ◌++◌, length, Option, Some, None, Ok, refl, arith, lit<, ◌*◌, length-append}
+use Rattle.std.specs.Prelude.{◌&&◌}
+use Rattle.std.specs.List.{flat_map, AllByRecursion}
+use Rattle.std.proofs.lemmas.Bool.{le-ltb, lt-ltb, le-leb, leb-true, ltb-true}
+use Rattle.rep_types.specs.declared.judged.Judged.{Judged}
+use Rattle.rep_types.specs.declared.verdict.Verdict.{Verdict}
+use Rattle.rep_types.specs.declared.verdict.Verdict.TheVariants.{Commit, Conflict, Stale, Future, BadKey}
+use Rattle.rep_types.specs.Transactions.{Transaction, IsWithinLimits, checked}
+use Rattle.rep_forms.specs.Forms.{Form, IsForm, byte, number, both, ◌⊗◌, many, via}
+use Rattle.rep_forms.specs.FormLaws.{length_number, run_short, byte_is_form, number_is_form, both_is_form, many_is_form, via_is_form, named_is_form}
+use Rattle.rep_forms.specs.Keys.{KeyFits, key_bytes, key_form}
+use Rattle.rep_forms.specs.KeyLaws.{key_is_form, key_short}
+use Rattle.rep_forms.specs.Writes.{WriteFits, write_bytes, write_form}
+use Rattle.rep_forms.specs.WriteLaws.{write_is_form, write_short}
+use Rattle.rep_record.specs.Records.{IsVerdictAt, IsRecord, verdict_code, conflict_seqno, body_bytes, record_bytes, label_parts, labels_of, label_fields, verdict_of, verdict_fields, Lists, list_fields, Parts, parts_of, item_of, record_fields, record_form}
+
+labels_is_form : IsForm label_fields
+labels_is_form =
+    via_is_form (number 8 ⊗ (number 8 ⊗ (number 8 ⊗ number 8))) label_parts labels_of
+    (both_is_form (number 8) (λ _. number 8 ⊗ (number 8 ⊗ number 8)) (number_is_form 8) (λ _.
+        both_is_form (number 8) (λ _. number 8 ⊗ number 8) (number_is_form 8) (λ _. both_is_form (number 8) (λ _. number 8) (number_is_form 8) (λ _. number_is_form 8))
+    ))
+
+verdict_is_form : IsForm verdict_fields
+verdict_is_form =
+    via_is_form (byte ⊗ number 8) (λ v. (verdict_code v, conflict_seqno v)) (λ x. verdict_of x.0 x.1) (both_is_form byte (λ _. number 8) byte_is_form (λ _. number_is_form 8))
+
+lists_is_form : IsForm list_fields
+lists_is_form =
+    via_is_form (both byte (λ reads. both byte (λ writes. many 16 reads key_form ⊗ many 16 writes write_form)))
+    (λ (l : Lists). (length l.0, (length l.1, (l.0, l.1)))) (λ x. Some (x.1.1.0, x.1.1.1))
+    (both_is_form byte (λ reads. both byte (λ writes. many 16 reads key_form ⊗ many 16 writes write_form)) byte_is_form (λ reads.
+        both_is_form byte (λ writes. many 16 reads key_form ⊗ many 16 writes write_form) byte_is_form (λ writes.
+            both_is_form (many 16 reads key_form) (λ _. many 16 writes write_form) (many_is_form 16 reads key_form key_is_form) (λ _. many_is_form 16 writes write_form write_is_form)
+        )
+    ))
+
+fields_is_form : IsForm record_fields
+fields_is_form =
+    via_is_form (number 2 ⊗ (label_fields ⊗ (verdict_fields ⊗ list_fields))) parts_of (λ (x : Parts). item_of x.1.0 x.1.1.0 x.1.1.1)
+    (both_is_form (number 2) (λ _. label_fields ⊗ (verdict_fields ⊗ list_fields)) (number_is_form 2) (λ _.
+        both_is_form label_fields (λ _. verdict_fields ⊗ list_fields) labels_is_form (λ _. both_is_form verdict_fields (λ _. list_fields) verdict_is_form (λ _. lists_is_form))
+    ))
+
+-- a verdict that fits its item
+verdict_fits : (seqno : ℕ) (v : Verdict) → seqno ≤ 2 ^ 60 → IsVerdictAt seqno v → verdict_fields.Fits v
+verdict_fits seqno Commit le h = ((lit< tt, lit< tt), refl)
+verdict_fits seqno (Conflict m) le h = ((lit< tt, omega (arith, h.1)), refl)
+verdict_fits seqno Stale le h = ((lit< tt, lit< tt), refl)
+verdict_fits seqno Future le h = ((lit< tt, lit< tt), refl)
+verdict_fits seqno BadKey le h = ((lit< tt, lit< tt), refl)
+
+-- what is within the limits is not refused
+checked_again : (w : Transaction) → IsWithinLimits w → checked w ≡ Ok w
+checked_again w h =
+    rw (le-ltb 16 (length w.reads) h.few_reads, le-ltb 16 (length w.writes) h.few_writes, h.reads_ascend, h.writes_ascend, lt-ltb 0 (length w.writes) h.some_write) refl
+
+lists_fit : (j : Judged) → IsRecord j → list_fields.Fits (j.item.reads, j.item.writes)
+lists_fit j h = (
+  (omega (arith, h.limits.few_reads), (omega (arith, h.limits.few_writes), (record { size = refl; few = h.limits.few_reads; each = h.reads }, record { size = refl; few = h.limits.few_writes; each = h.writes }))),
+  refl,
+)
+
+labels_fit : (j : Judged) → IsRecord j → label_fields.Fits (record { seqno = j.seqno; last_seen = j.item.last_seen; source = j.item.source; trx = j.item.trx })
+labels_fit j h = ((omega (arith, h.seqno), (h.last_seen, (h.source, h.trx))), refl)
+
+-- a record's body takes at most 1,227 bytes
+pub body_short : (j : Judged) → IsRecord j → length (body_bytes j) ≤ 1227
+body_short j h =
+    let reads = run_short key_bytes KeyFits 5 key_short j.item.reads h.reads in
+    let writes = run_short write_bytes WriteFits 69 write_short j.item.writes h.writes in
+    let few : 5 * length j.item.reads ≤ 80 = omega (arith, h.limits.few_reads) in
+    let many : 69 * length j.item.writes ≤ 1104 = omega (arith, h.limits.few_writes) in
+    simp (length-append, length_number) (omega (arith, reads, writes, few, many))
+
+pub record_is_form : IsForm record_form
+record_is_form =
+    named_is_form record_fields IsRecord record_bytes fields_is_form
+    (λ j h. ((omega (arith, body_short j h), (labels_fit j h, (verdict_fits j.seqno j.verdict h.seqno h.verdict, lists_fit j h))), rw (checked_again j.item h.limits) refl))
+    (λ j h. refl)
