@@ -1,5 +1,8 @@
 pub mod Disorder
 pub mod Latest
+pub mod Members
+pub mod Greatest
+pub mod Committed
 pub mod Histories
 pub mod Windows
 pub mod Rows
