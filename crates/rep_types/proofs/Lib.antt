@@ -9,6 +9,7 @@ pub mod Rows
 pub mod Touches
 pub mod SerialReads
 pub mod VerdictsByPairs
+pub mod RowsByItems
 pub mod Tests
 pub mod Digits
 pub mod Gtids

@@ -13,10 +13,10 @@ use Rattle.rep_types.specs.Settings.{Setting, IsRow, has_row}
 use Rattle.rep_types.specs.Entries.{Entry}
 use Rattle.rep_types.specs.Order.{Order, item, touches, in_schema, against, seqnos_against, greatest, floor, conflict_with, entries, history, verdict}
 use Rattle.rep_types.specs.Verdicts.{Meets, IsVerdict, AreVerdicts}
-use Rattle.rep_types.specs.ByItems.{IsCommittedItem}
+use Rattle.rep_types.specs.ByItems.{IsEntry}
 use Rattle.rep_types.proofs.Members.{Contains-map, Contains-from_map, Contains-filter, Contains-from_filter}
 use Rattle.rep_types.proofs.Greatest.{IsGreatest, IsGreatest-greatest}
-use Rattle.rep_types.proofs.Committed.{Contains-entries, IsCommittedItem-from_entries}
+use Rattle.rep_types.proofs.Committed.{Contains-entries, IsEntry-from_entries}
 use Rattle.rep_types.proofs.Touches.{touches_from_common, common_from_touches}
 use Rattle.rep_types.proofs.Histories.{item_take, verdict_take}
 
@@ -87,18 +87,20 @@ Meets-from_seqno p L n k pos inside has =
     let e : Entry = found.0 in
     let kept : Contains (entries (history p front)) e × (against (item L n) e ≡ true) =
     Contains-from_filter (against (item L n)) (entries (history p front)) e found.1 in
-    let is : IsCommittedItem p front e = IsCommittedItem-from_entries p front e kept.0 in
-    let within : e.seqno ≤ n - 1 = omega (arith, is.last, length_before L n pos inside) in
+    let is : IsEntry p front e = IsEntry-from_entries p front e kept.0 in
+    let within : e.seqno ≤ n - 1 = omega (arith, is.committed.last, length_before L n pos inside) in
     let both : (nat_lt (item L n).last_seen e.seqno ≡ true) × (touches e.keys (named (item L n)) ≡ true) =
     and_parts (nat_lt (item L n).last_seen e.seqno) (touches e.keys (named (item L n))) kept.1 in
-    let keys : e.keys ≡ written (item L e.seqno) = is.keys ∙ ap written (item_take L (n - 1) e.seqno is.first within) in
+    let keys : e.keys ≡ written (item L e.seqno) = is.keys ∙ ap written (item_take L (n - 1) e.seqno is.committed.first within) in
     let P : List Key → Type 0 = λ ks. touches ks (named (item L n)) ≡ true in
-    let here : Meets L e.seqno n × (verdict p L e.seqno ≡ Commit) =
-    (record {
-      unseen = ltb-true (item L n).last_seen e.seqno both.0;
-      before = omega (arith, within, is.first);
-      common = common_from_touches (written (item L e.seqno)) (named (item L n)) (subst P keys both.1);
-    }, sym (verdict_take p L (n - 1) e.seqno is.first within) ∙ is.commit) in
+    let here : Meets L e.seqno n × (verdict p L e.seqno ≡ Commit) = (
+      record {
+        unseen = ltb-true (item L n).last_seen e.seqno both.0;
+        before = omega (arith, within, is.committed.first);
+        common = common_from_touches (written (item L e.seqno)) (named (item L n)) (subst P keys both.1);
+      },
+      sym (verdict_take p L (n - 1) e.seqno is.committed.first within) ∙ is.committed.commit,
+    ) in
     let Q : ℕ → Type 0 = λ m. Meets L m n × (verdict p L m ≡ Commit) in
     subst Q found.2 here
 

@@ -22,7 +22,10 @@ pub use entry::Entry;
 pub use gtid::{Gtid, gtids_read_back};
 pub use judged::Judged;
 pub use key::Key;
-pub use laws::{reads_are_serial, state_is_enough, verdicts_are_determined};
+pub use laws::{
+    history_by_items, reads_are_serial, reads_by_items, rows_by_items, state_by_parts,
+    state_is_enough, verdicts_are_determined, window_by_items,
+};
 pub use limits::{
     MAX_AHEAD, MAX_CELLS, MAX_PAGES, MAX_READS, MAX_SEQNO, MAX_TABLES, MAX_VALUE, MAX_WINDOW,
     MAX_WRITES, MIN_CELLS, ROWS_PER_PAGE, limits_are_these,
