@@ -48,7 +48,7 @@ fn last_write(writes: &[Write], key: Key) -> Option<&Write>
 {
     let mut found = None;
     for write in writes {
-        if write.key.is(key) {
+        if write.key == key {
             found = Some(write);
         }
     }

@@ -43,7 +43,7 @@ fn first_disorder(keys: &[Key]) -> Option<usize>
     ensures within { IfSome result (λ i. i < length keys.now) }
 {
     for i in 1..keys.len() {
-        if !keys[i - 1].is_below(keys[i]) {
+        if keys[i - 1] >= keys[i] {
             return Some(i);
         }
     }
@@ -86,14 +86,14 @@ fn first_misplaced(reads: &[Key], writes: &[Write]) -> Option<usize>
 fn is_among(keys: &[Key], key: Key) -> bool
     ensures { result ≡ list_any (key_eq key) keys.now }
 {
-    keys.iter().any(|other| key.is(*other))
+    keys.iter().any(|other| key == *other)
 }
 
 /// Whether one of the writes is of the key.
 fn is_written(writes: &[Write], key: Key) -> bool
     ensures { result ≡ list_any (λ write. key_eq key write.key) writes.now }
 {
-    writes.iter().any(|write| key.is(write.key))
+    writes.iter().any(|write| key == write.key)
 }
 
 /// A copy of the writes.
