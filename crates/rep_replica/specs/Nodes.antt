@@ -4,7 +4,7 @@ use Rattle.uuid.specs.Parts.{is_nil_bytes}
 use Rattle.rep_types.specs.declared.key.Key.{Key}
 use Rattle.rep_types.specs.declared.judged.Judged.{Judged}
 use Rattle.rep_types.specs.declared.reply.Reply.{Reply}
-use Rattle.rep_types.specs.declared.gtid.Gtid.{Gtid}
+use Rattle.rep_types.specs.Gtids.{Gtid}
 use Rattle.rep_types.specs.declared.refusal.Refusal.{Refusal}
 use Rattle.rep_types.specs.declared.refusal.Refusal.TheVariants.{OutOfMemory, OutOfOrder, Backlogged, LogFull, NotDue, TooOld, NotYet, BadKey, Undefined, Exhausted}
 use Rattle.rep_types.specs.declared.limits.TheConstants.{MAX_SEQNO, MAX_AHEAD}

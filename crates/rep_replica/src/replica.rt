@@ -302,9 +302,9 @@ impl Replica {
     pub fn gtid(&self) -> Gtid
         ensures { result ≡ gtid self.now }
     {
-        Gtid {
-            uuid: self.uuid,
-            seqno: self.durable as i64,
+        match Gtid::new(self.uuid, self.durable as i64) {
+            Some(gtid) => gtid,
+            None => unreachable!(),
         }
     }
 
