@@ -6,16 +6,14 @@ ghost use Rattle.rep_backlog.specs.Fronts.{fitting, with_records};
 
 use circular_buffer::HeapCircularBuffer;
 use rep_record::BlockBuilder;
-use rep_types::{Judged, Refusal};
+use rep_types::{Judged, MAX_AHEAD, Refusal};
 use std::alloc::Global;
 use std::marker::Model;
 
-/// The greatest number of items of a backlog: a node is never further ahead of its durable position.
-pub const MAX_BACKLOG: usize = 256;
-
-/// Judged items that were delivered and are not yet in a block of the log, at most 256, in the order
-/// in which they were pushed. Where each is pushed with the seqno after the last, that is the order
-/// of the seqnos, and it stays so.
+/// Judged items that were delivered and are not yet in a block of the log, in the order in which they
+/// were pushed: at most `MAX_AHEAD` (256), since a node is never further ahead of its durable
+/// position. Where each is pushed with the seqno after the last, that is the order of the seqnos, and
+/// it stays so.
 #[derive(Debug, Drop)]
 pub struct Backlog {
     items: HeapCircularBuffer<Judged>,
@@ -24,13 +22,13 @@ pub struct Backlog {
 impl Model for Backlog {
     ghost use Rattle.std.specs.Prelude.{◌≡◌, ◌≤◌, List, length};
     ghost use Rattle.rep_types.specs.declared.judged.Judged.{Judged};
-    ghost use Rattle.rep_backlog.specs.declared.backlog.TheConstants.{MAX_BACKLOG};
+    ghost use Rattle.rep_types.specs.declared.limits.TheConstants.{MAX_AHEAD};
 
     ghost Value = { List Judged };
 
     ghost view = { λ b. b.items.items };
 
-    ghost invariant = { λ b. (b.items.capacity ≡ MAX_BACKLOG) × (length b.items.items ≤ MAX_BACKLOG) };
+    ghost invariant = { λ b. (b.items.capacity ≡ MAX_AHEAD) × (length b.items.items ≤ MAX_AHEAD) };
 }
 
 impl Backlog {
@@ -42,17 +40,17 @@ impl Backlog {
         ensures refused { IfErr result (λ refusal. refusal ≡ Refusal.OutOfMemory) }
     {
         Ok(Backlog {
-            items: HeapCircularBuffer::with_capacity(alloc, MAX_BACKLOG)?,
+            items: HeapCircularBuffer::with_capacity(alloc, MAX_AHEAD as usize)?,
         })
     }
 
     /// Adds the item at the end. It takes no memory.
     ///
-    /// Refuses with `Backlogged` where it holds 256; it is then as it was, and the item is let go.
+    /// Refuses with `Backlogged` where it holds `MAX_AHEAD` items (256); it is then as it was, and the item is let go.
     pub fn push(&mut self, judged: Judged) -> Result<(), Refusal>
         ensures pushed { OnOk result (self.new ≡ self.old ++ judged ∷ []) }
 
-        ensures backlogged { IsErr result ↔ (length self.old ≡ MAX_BACKLOG) }
+        ensures backlogged { IsErr result ↔ (length self.old ≡ MAX_AHEAD) }
         ensures refused { IfErr result (λ refusal. refusal ≡ Refusal.Backlogged) }
         ensures unchanged { OnErr result (self.new ≡ self.old) }
     {
@@ -84,7 +82,7 @@ impl Backlog {
     /// How many items there are.
     pub fn len(&self) -> usize
         ensures count { result ≡ length self.now }
-        ensures few { result ≤ MAX_BACKLOG }
+        ensures few { result ≤ MAX_AHEAD }
     {
         self.items.len()
     }

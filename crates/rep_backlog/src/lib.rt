@@ -4,7 +4,7 @@
 mod backlog;
 mod laws;
 
-pub use backlog::{Backlog, MAX_BACKLOG};
+pub use backlog::Backlog;
 pub use laws::{fronts_are_determined, moved_items_are_gathered, stays_in_order};
 
 #[cfg(test)]

@@ -1,23 +1,21 @@
 -- What the kept entries give at each position, as items come and are undone.
-use Rattle.std.proofs.Common.{not, ⊎_elim, subst, IsSome, IsTrue, Option, Some, None, ◌≢◌, option_map, slice_get, take, ◌≡◌, ℕ, ◌+◌, ◌-◌, ◌<◌, ◌≤◌, Bool, true, false, nat_le, if◌then◌else◌, List, [], ◌∷◌, ◌++◌, length, refl, sym, ap, ◌∙◌, le_refl, arith, All, append_assoc}
+use Rattle.std.proofs.Common.{not, ⊎_elim, subst, IsSome, IsTrue, Option, Some, None, ◌≢◌, filter, ◌&&◌, slice_get, take, ◌≡◌, ℕ, ◌+◌, ◌-◌, ◌<◌, ◌≤◌, Bool, true, false, nat_le, if◌then◌else◌, List, [], ◌∷◌, ◌++◌, length, refl, sym, ap, ◌∙◌, le_refl, arith, All, append_assoc}
 use Rattle.std.proofs.lemmas.List.{append-nil, length-drop, take_all, take_more}
 use Rattle.std.proofs.lemmas.Option.{slice_get_cases, slice_get_within, get_or_from_slice_get}
 use Rattle.std.proofs.lemmas.List.Filters.{length-filter_both}
 use Rattle.std.proofs.lemmas.Bool.{leb-true}
-use Rattle.std.specs.Option.{option_or}
 use Rattle.std.proofs.lemmas.List.Elements.{filter-append}
 use Rattle.std.proofs.lemmas.Bool.Decides.{nat_tests}
 use Rattle.circular_buffer.specs.Buffer.{keep_last}
-use Rattle.rep_types.specs.declared.verdict.Verdict.{Verdict}
-use Rattle.rep_types.specs.declared.verdict.Verdict.TheVariants.{Commit, Conflict}
+use Rattle.rep_types.specs.declared.limits.TheConstants.{MAX_WINDOW}
 use Rattle.rep_types.specs.Entries.{Entry}
 use Rattle.rep_types.specs.Transactions.{Transaction}
 use Rattle.rep_types.specs.Settings.{Setting, is_setting}
-use Rattle.rep_types.specs.Order.{in_schema, latest, against, conflict_with, recent, floor, verdict_among, is_commit}
-use Rattle.rep_types.proofs.Latest.{latest-append}
+use Rattle.rep_types.specs.Order.{in_schema, greatest, seqnos_against, conflict_with, recent, floor, verdict_among, is_commit}
+use Rattle.rep_types.proofs.Greatest.{greater, greater_assoc, greatest_against-append}
 use Rattle.rep_types.proofs.Windows.{recent-recent, recent-append, verdict_among-recent}
 use Rattle.rep_cert.specs.declared.ring.TheConstants.{KEPT_ENTRIES}
-use Rattle.rep_cert.specs.Holdings.{made_at, seqno_of, Holding, IsAskable, Admits, upto, window_of, verdict_of}
+use Rattle.rep_cert.specs.Holdings.{made_at, Holding, IsAskable, Admits, upto, window_of, verdict_of}
 use Rattle.rep_cert.specs.Kept.{holdings, own_entry, Ascends, oldest, holding}
 use Rattle.rep_cert.proofs.Ascending.{Ascends_last, Ascends-wider, Ascends_push, upto_all, upto_below, recent-keep_last}
 
@@ -90,14 +88,14 @@ kept_before lowest k low d w commits given es earlier room a =
     (ap (upto k) (sym (append_assoc given es own)) ∙ (split ∙ (ap (λ (fs : List Entry). upto k (given ++ es) ++ fs) (upto_own d k w commits earlier) ∙ append-nil (upto k (given ++ es)))))
 
 -- what is held of the items before one more is the same after it
-pub holding_before : (p : Setting) (made low d : ℕ) (w : Transaction) (commits : Bool) (given es : List Entry) → p.window ≤ 256 → Ascends low (d + 1) es →
+pub holding_before : (p : Setting) (made low d : ℕ) (w : Transaction) (commits : Bool) (given es : List Entry) → p.window ≤ MAX_WINDOW → Ascends low (d + 1) es →
     holding p made d (given ++ keep_last KEPT_ENTRIES (es ++ own_entry (d + 1) w commits)) ≡ holding p made d (given ++ es)
 holding_before p made low d w commits given es narrow a =
     ap (λ (fs : List Entry). record { setting = p; made = made; delivered = d; entries = fs })
     (kept_before (floor p (oldest made d)) d low d w commits given es (le_refl d) (omega arith) a)
 
 -- one more item: what is held after it
-pub Admits_holding : (p : Setting) (made d : ℕ) (w : Transaction) (given es : List Entry) → p.window ≤ 256 → made ≤ d →
+pub Admits_holding : (p : Setting) (made d : ℕ) (w : Transaction) (given es : List Entry) → p.window ≤ MAX_WINDOW → made ≤ d →
     All (λ (e : Entry). e.seqno ≤ made) given → Ascends (made + 1) (d + 1) es →
     Admits (holding p made d (given ++ es)) w
     (holding p made (d + 1) (given ++ keep_last KEPT_ENTRIES (es ++ own_entry (d + 1) w (is_commit (verdict_of (holding p made d (given ++ es)) w)))))
@@ -133,36 +131,27 @@ Admits_holding p made d w given es narrow start below a =
           ∙ sym (window_of_holding p made d k all (record { made = askable.made; near = omega (arith, askable.near); past = earlier })));
     }
 
--- what a verdict among all entries that are kept is, where the item is certifiable: a conflict with the latest that stands against it
+-- what a verdict among all entries that are kept is, where the item is certifiable: a conflict with the greatest seqno that stands against it
 pub certified : (p : Setting) (d : ℕ) (es : List Entry) (w : Transaction) → w.last_seen < d + 1 → in_schema p w ≡ true → d + 1 ≤ w.last_seen + p.window + 1 →
-    verdict_among p (floor p d) (d + 1) es w ≡ conflict_with (latest (against w) es)
+    verdict_among p (floor p d) (d + 1) es w ≡ conflict_with (greatest (seqnos_against w es))
 certified p d es w past keys near = grind (arith, nat_tests)
 
--- the verdict that names a seqno, or commits where there is none
-abbrev pub conflict_at : Option ℕ → Verdict
-conflict_at None = Commit
-conflict_at (Some m) = Conflict m
-
--- a conflict with an entry names its seqno
-pub conflict_at-entry : (o : Option Entry) → conflict_with o ≡ conflict_at (option_map seqno_of o)
-conflict_at-entry None = refl
-conflict_at-entry (Some e) = refl
-
--- the verdict of a certifier on a certifiable item, by the seqno of the latest entry against it
+-- the verdict of a certifier on a certifiable item, by the greatest seqno against it
 pub verdict_found : (p : Setting) (made d : ℕ) (es : List Entry) (w : Transaction) (found : Option ℕ) → made ≤ d → upto d es ≡ es →
-    w.last_seen < d + 1 → in_schema p w ≡ true → d + 1 ≤ w.last_seen + p.window + 1 → found ≡ option_map seqno_of (latest (against w) es) →
-    conflict_at found ≡ verdict_of (holding p made d es) w
+    w.last_seen < d + 1 → in_schema p w ≡ true → d + 1 ≤ w.last_seen + p.window + 1 → found ≡ greatest (seqnos_against w es) →
+    conflict_with found ≡ verdict_of (holding p made d es) w
 verdict_found p made d es w found start whole past keys near is =
-    ap conflict_at is ∙ (sym (conflict_at-entry (latest (against w) es)) ∙ (sym (certified p d es w past keys near) ∙ sym (verdict_of_holding p made d es w start whole)))
+    ap conflict_with is ∙ (sym (certified p d es w past keys near) ∙ sym (verdict_of_holding p made d es w start whole))
 
--- the latest seqno of two parts is that of the second, or else of the first
-pub latest_seqno_append : (test : Entry → Bool) (xs ys : List Entry) →
-    option_map seqno_of (latest test (xs ++ ys)) ≡ option_or (option_map seqno_of (latest test ys)) (option_map seqno_of (latest test xs))
-latest_seqno_append test xs ys = ap (option_map seqno_of) (latest-append test xs ys) ∙ either (latest test ys)
-  where
-    either : (o : Option Entry) → option_map seqno_of (option_or o (latest test xs)) ≡ option_or (option_map seqno_of o) (option_map seqno_of (latest test xs))
-    either None = refl
-    either (Some e) = refl
+-- the greatest seqno of three parts, of which the second and the third are in a ring
+pub greatest_of_three : (w : Transaction) (given older newer : List Entry) (g o n : Option ℕ) → g ≡ greatest (seqnos_against w given) →
+    o ≡ greatest (seqnos_against w older) → n ≡ greatest (seqnos_against w newer) → greater (greater g o) n ≡ greatest (seqnos_against w (given ++ (older ++ newer)))
+greatest_of_three w given older newer g o n is_g is_o is_n =
+    rw (is_g, is_o, is_n)
+    (sym
+    (greatest_against-append w given (older ++ newer)
+    ∙ (ap (greater (greatest (seqnos_against w given))) (greatest_against-append w older newer)
+    ∙ sym (greater_assoc (greatest (seqnos_against w given)) (greatest (seqnos_against w older)) (greatest (seqnos_against w newer))))))
 
 -- no more than n entries are kept
 pub length-keep_last : (n : ℕ) (es : List Entry) → length (keep_last n es) ≤ n
@@ -245,17 +234,26 @@ before_undo p made d undoable given es is =
     ap (λ (fs : List Entry). record { setting = p; made = made; delivered = d - 1; entries = recent (floor p (oldest made (d - 1))) fs }) cut in
     rw is (ap Some same)
 
--- the window of a setting spans from 1 to 256 seqnos
-pub narrow : (p : Setting) → IsTrue (is_setting p) → p.window ≤ 256
+-- the window of a setting spans from 1 to MAX_WINDOW seqnos
+pub narrow : (p : Setting) → IsTrue (is_setting p) → p.window ≤ MAX_WINDOW
 narrow p limits = grind (arith, nat_tests)
 
 pub spans : (p : Setting) → IsTrue (is_setting p) → 1 ≤ p.window
 spans p limits = grind (arith, nat_tests)
 
--- what a new certifier holds
-pub holding_made : (p : Setting) (position : ℕ) (es : List Entry) → holding p position position (upto position es ++ []) ≡ made_at p position es
+-- both cuts in one test
+pub between : (low k : ℕ) (es : List Entry) → filter (λ (e : Entry). nat_le low e.seqno && nat_le e.seqno k) es ≡ recent low (upto k es)
+between low k [] = refl
+between low k (e ∷ es) = grind (arith, nat_tests, between low k es)
+
+-- what a new certifier holds, from the entries that it was made with
+pub holding_made : (p : Setting) (position : ℕ) (es : List Entry) →
+    holding p position position (recent (floor p position) (upto position es) ++ []) ≡ made_at p position es
 holding_made p position es =
     let here : oldest position position ≡ position = omega arith in
+    let low : ℕ = floor p position in
+    let cut : List Entry = recent low (upto position es) in
+    let again : recent low (upto position (cut ++ [])) ≡ cut =
+    ap (λ (fs : List Entry). recent low (upto position fs)) (append-nil cut) ∙ recent_within low low position position es (le_refl low) (le_refl position) in
     ap (λ (fs : List Entry). record { setting = p; made = position; delivered = position; entries = fs })
-    (ap (λ (k : ℕ). recent (floor p k) (upto position (upto position es ++ []))) here
-    ∙ ap (recent (floor p position)) (ap (upto position) (append-nil (upto position es)) ∙ upto-upto position es))
+    (ap (λ (k : ℕ). recent (floor p k) (upto position (cut ++ []))) here ∙ again)

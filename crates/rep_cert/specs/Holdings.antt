@@ -1,5 +1,6 @@
 -- What a certifier holds, and what one more item makes of it.
 use Rattle.std.specs.Prelude.{◌≡◌, ℕ, ◌+◌, ◌≤◌, nat_le, List, filter, Option}
+use Rattle.rep_types.specs.declared.limits.TheConstants.{MAX_AHEAD}
 use Rattle.rep_types.specs.declared.verdict.Verdict.{Verdict}
 use Rattle.rep_types.specs.Transactions.{Transaction}
 use Rattle.rep_types.specs.Settings.{Setting}
@@ -14,11 +15,11 @@ pub record Holding : Type 0 where
   pub delivered : ℕ
   pub entries : List Entry
 
--- The positions whose windows can be asked for: none below the one that it was made at, and none more than 256 items back,
--- since a node is never further ahead of its durable position.
+-- The positions whose windows can be asked for: none below the one that it was made at, and none more than MAX_AHEAD items
+-- back, since a node is never further ahead of its durable position.
 pub record IsAskable (h : Holding) (k : ℕ) : Type 0 where
   pub made : h.made ≤ k
-  pub near : h.delivered ≤ k + 256
+  pub near : h.delivered ≤ k + MAX_AHEAD
   pub past : k ≤ h.delivered
 
 -- the entries up to the seqno k
@@ -45,10 +46,6 @@ pub record Admits (h : Holding) (w : Transaction) (new : Holding) : Type 0 where
 pub record Holdings : Type 0 where
   pub current : Holding
   pub before : Option Holding
-
--- the seqno of an entry
-abbrev pub seqno_of : Entry → ℕ
-seqno_of e = e.seqno
 
 -- What a certifier holds that is made at a position with these entries: those that the window spans there, in the given order.
 abbrev pub made_at : Setting → ℕ → List Entry → Holding

@@ -4,13 +4,13 @@ use Rattle.rep_types.specs.Transactions.{Transaction, written}
 use Rattle.rep_types.specs.Settings.{Setting}
 use Rattle.rep_types.specs.Entries.{Entry}
 use Rattle.rep_types.specs.Order.{floor, recent}
-use Rattle.rep_types.specs.declared.judged.TheConstants.{MAX_SEQNO}
+use Rattle.rep_types.specs.declared.limits.TheConstants.{MAX_SEQNO, MAX_AHEAD, MAX_WINDOW}
 use Rattle.rep_cert.specs.declared.ring.TheConstants.{KEPT_ENTRIES}
 use Rattle.rep_cert.specs.Holdings.{Holding, Holdings, upto}
 
 -- the oldest position whose window can be asked for
 abbrev pub oldest : ℕ → ℕ → ℕ
-oldest made delivered = max made (delivered - 256)
+oldest made delivered = max made (delivered - MAX_AHEAD)
 
 -- the entry of the item with the seqno n, if it commits
 abbrev pub own_entry : ℕ → Transaction → Bool → List Entry
@@ -31,12 +31,13 @@ abbrev pub Ascends : ℕ → ℕ → List Entry → Type 0
 Ascends low high [] = low ≤ high
 Ascends low high (e ∷ es) = (low ≤ e.seqno) × Ascends (e.seqno + 1) high es
 
--- What holds of the entries that a certifier keeps, and of its counts: none that it was made with is above that position,
--- the others are of the items that came since, and there is room for all of them that a window which can be asked for, or
--- the one before an undo, may hold.
+-- What holds of the entries that a certifier keeps, and of its counts: those that it was made with are of the seqnos that the
+-- window spans at that position, the others are of the items that came since, and there is room for all of them that a window
+-- which can be asked for, or the one before an undo, may hold.
 pub record IsKept (p : Setting) (made delivered : ℕ) (undoable : Bool) (given admitted : List Entry) (capacity : ℕ) : Type 0 where
-  pub span : p.window ≤ 256
+  pub span : p.window ≤ MAX_WINDOW
   pub past : All (λ (e : Entry). e.seqno ≤ made) given
+  pub spanned : All (λ (e : Entry). floor p made ≤ e.seqno) given
   pub ascending : Ascends (made + 1) (delivered + 1) admitted
   pub few : length admitted ≤ KEPT_ENTRIES
   pub room : capacity ≡ KEPT_ENTRIES

@@ -3,7 +3,8 @@
 ghost use Rattle.std.specs.Prelude.{◌≡◌, ◌+◌, ◌≤◌, ◌↔◌, max, IfOk, IfErr, OnOk, OnErr, IsErr, IsSome, Some, None};
 ghost use Rattle.rep_cert.specs.Holdings.{IsAskable, Admits, made_at, window_of, verdict_of};
 
-use crate::ring::{KEPT_ENTRIES, entries_between, forget, keep, latest_kept_conflict};
+use crate::ring::{KEPT_ENTRIES, entries_between, forget, greatest_kept_conflict, keep};
+use crate::scan::is_of_window;
 use circular_buffer::HeapCircularBuffer;
 use rep_types::{Entry, MAX_SEQNO, Params, Refusal, Verdict, WriteSet};
 use std::alloc::Global;
@@ -21,7 +22,7 @@ pub struct Certifier {
     delivered: u64,
     /// Whether the last change was an `admit`. No code reads it: `undo_last` asks for it.
     undoable: bool,
-    /// The entries that it was made with, none above that position.
+    /// The entries that it was made with: those that the window spans at that position.
     given: Vec<Entry>,
     /// The entries of the items that committed since, the last of them.
     admitted: HeapCircularBuffer<Entry>,
@@ -43,10 +44,11 @@ impl Certifier {
     /// A certifier at a position, the number of items that were delivered so far. It holds the
     /// window of that position: the committed items that the window spans, in ascending order.
     ///
-    /// Any position and any entries are taken. Of the entries it holds those that the window spans,
-    /// in the order given: none above the position, and none whose seqno and the size of the window
-    /// come to no more than the position. Where the seqnos do not ascend, a conflict is with the
-    /// last entry that stands against the item, and a window is in the order given.
+    /// Any position and any entries are taken. The entries that the window does not span are shed:
+    /// those above the position, and those whose seqno and the size of the window come to no more
+    /// than the position. The others are held as they are, in the order given, out of order or
+    /// doubled as they may be: a conflict is with the greatest seqno among those that stand against
+    /// the item, and `window_at` gives each of them, in that order and as often as it was given.
     ///
     /// Refuses with `OutOfMemory` where there is no room for the entries that it may come to keep.
     pub fn new(
@@ -58,10 +60,9 @@ impl Certifier {
         ensures made { IfOk result (λ c. c ≡ record { current = made_at params position window.items; before = None }) }
         ensures refused { IfErr result (λ refusal. refusal ≡ Refusal.OutOfMemory) }
     {
-        // Tells the proof that the window spans at most 256 seqnos.
-        let _span = params.window();
+        let floor = position.saturating_sub(u64::from(params.window()) - 1);
         let admitted = HeapCircularBuffer::with_capacity(alloc, KEPT_ENTRIES)?;
-        window.retain(|entry| entry.seqno() <= position);
+        window.retain(|entry| is_of_window(entry.seqno(), floor, position));
         Ok(Certifier {
             params,
             made_at: position,
@@ -87,7 +88,7 @@ impl Certifier {
         if self.delivered - seen > u64::from(self.params.window()) {
             return Verdict::Stale;
         }
-        match latest_kept_conflict(&self.given, &self.admitted, item) {
+        match greatest_kept_conflict(&self.given, &self.admitted, item) {
             Some(seqno) => Verdict::Conflict(seqno),
             None => Verdict::Commit,
         }
@@ -133,8 +134,8 @@ impl Certifier {
     }
 
     /// The window at a position: the committed items that it spans, in ascending order. The position
-    /// is not below the one that the certifier was made at, and is one of the last 257, from 256
-    /// below the present one to the present one.
+    /// is not below the one that the certifier was made at, and is one of the last 257, from
+    /// `MAX_AHEAD` (256) below the present one to the present one.
     ///
     /// Refuses with `OutOfMemory` where the list cannot grow.
     pub fn window_at(&self, alloc: Global, position: u64) -> Result<Vec<Entry>, Refusal>
@@ -203,7 +204,7 @@ mod tests {
         }
         let params = Params::new(4, 4, &[10])?;
         let mut certifier = Certifier::new(alloc, params, u64::MAX - 1, window)?;
-        assert_eq!(rt; certifier.judge(&item), Verdict::Conflict(u64::MAX - 4));
+        assert_eq!(rt; certifier.judge(&item), Verdict::Conflict(u64::MAX - 2));
         assert_eq!(rt; certifier.admit(&item), Err(Refusal::Exhausted));
         assert_eq!(rt; certifier.delivered(), u64::MAX - 1);
         let held = certifier.window_at(alloc, certifier.delivered())?;

@@ -7,4 +7,5 @@ mod ring;
 mod scan;
 
 pub use certifier::Certifier;
-pub use laws::{follows_from_the_start, follows_on, judges_as_the_order};
+pub use laws::{follows_from_the_start, follows_on, judges_as_the_order, limits_are_these};
+pub use ring::KEPT_ENTRIES;

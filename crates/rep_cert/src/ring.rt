@@ -2,36 +2,33 @@
 //! since.
 
 ghost use Rattle.std.specs.Prelude.{◌≡◌, ◌+◌, ◌-◌, ◌<◌, ◌≤◌, ◌++◌, length, IfOk, IfErr};
-ghost use Rattle.std.specs.Option.{option_map};
 ghost use Rattle.circular_buffer.specs.Buffer.{buffer, keep_last};
-ghost use Rattle.rep_types.specs.Order.{latest, against, is_commit, recent};
-ghost use Rattle.rep_cert.specs.Holdings.{upto, seqno_of};
+ghost use Rattle.rep_types.specs.Order.{seqnos_against, greatest, is_commit, recent};
+ghost use Rattle.rep_cert.specs.Holdings.{upto};
 ghost use Rattle.rep_cert.specs.Kept.{Ascends, own_entry};
 
-use crate::scan::{latest_conflict, push_window};
+use crate::scan::{greatest_conflict, push_window};
 use circular_buffer::HeapCircularBuffer;
-use rep_types::{Entry, Refusal, Verdict, WriteSet};
+use rep_types::{Entry, MAX_AHEAD, MAX_WINDOW, Refusal, Verdict, WriteSet};
 use std::alloc::Global;
 
 /// How many of the items that committed since it was made a certifier keeps. A window that can be
-/// asked for lies at most 256 positions back and spans at most 256 seqnos, so such windows hold
-/// entries of the last 512 seqnos. Undoing the last item asks for one more.
-pub(crate) const KEPT_ENTRIES: usize = 513;
+/// asked for lies at most `MAX_AHEAD` positions back and spans at most `MAX_WINDOW` seqnos, so such
+/// windows hold entries of so many last seqnos together. Undoing the last item asks for one more.
+pub const KEPT_ENTRIES: usize = MAX_WINDOW as usize + MAX_AHEAD as usize + 1;
 
-/// The seqno of the last of these entries, those of the ring behind the others, that stands against
-/// the item.
-#[tactic(auto, using(crate::proofs::Kept::latest_seqno_append))]
-pub(crate) fn latest_kept_conflict(
+/// The greatest seqno among these entries and those of the ring that stand against the item.
+pub(crate) fn greatest_kept_conflict(
     given: &[Entry],
     admitted: &HeapCircularBuffer<Entry>,
     item: &WriteSet,
 ) -> Option<u64>
-    ensures { result ≡ option_map seqno_of (latest (against item.now) (given.now ++ admitted.now.items)) }
+    ensures { result ≡ greatest (seqnos_against item.now (given.now ++ admitted.now.items)) }
 {
     let (older, newer) = admitted.as_slices();
-    latest_conflict(newer, item)
-        .or_else(|| latest_conflict(older, item))
-        .or_else(|| latest_conflict(given, item))
+    greatest_conflict(given, item)
+        .max(greatest_conflict(older, item))
+        .max(greatest_conflict(newer, item))
 }
 
 /// Keeps the entry of the item with this seqno, if it commits; the oldest entry goes where there is

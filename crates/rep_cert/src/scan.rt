@@ -1,9 +1,8 @@
 //! Comparisons of an item with the entries before it.
 
 ghost use Rattle.std.specs.Prelude.{◌≡◌, ◌++◌, ◌&&◌, nat_le, OnOk, IfErr};
-ghost use Rattle.std.specs.Option.{option_map};
-ghost use Rattle.rep_types.specs.Order.{against, latest, recent};
-ghost use Rattle.rep_cert.specs.Holdings.{seqno_of, upto};
+ghost use Rattle.rep_types.specs.Order.{against, seqnos_against, greatest, recent};
+ghost use Rattle.rep_cert.specs.Holdings.{upto};
 
 use rep_types::{Entry, Refusal, WriteSet};
 
@@ -15,22 +14,21 @@ fn is_against(entry: &Entry, item: &WriteSet) -> bool
     item.last_seen() < entry.seqno() && item.names_one_of(entry.keys())
 }
 
-/// The seqno of the last of the entries that stands against the item.
-#[tactic(auto, using(rep_types::proofs::Latest::latest_more, rep_types::proofs::Latest::latest_all))]
-pub(crate) fn latest_conflict(entries: &[Entry], item: &WriteSet) -> Option<u64>
-    ensures { result ≡ option_map seqno_of (latest (against item.now) entries.now) }
+/// The greatest seqno among the entries that stand against the item.
+pub(crate) fn greatest_conflict(entries: &[Entry], item: &WriteSet) -> Option<u64>
+    ensures { result ≡ greatest (seqnos_against item.now entries.now) }
 {
     let mut found = None;
     for entry in entries {
         if is_against(entry, item) {
-            found = Some(entry.seqno());
+            found = found.max(Some(entry.seqno()));
         }
     }
     found
 }
 
 /// Whether the seqno is from the floor on and up to the position.
-fn is_of_window(seqno: u64, floor: u64, position: u64) -> bool
+pub(crate) fn is_of_window(seqno: u64, floor: u64, position: u64) -> bool
     ensures { result ≡ (nat_le floor seqno && nat_le seqno position) }
 {
     floor <= seqno && seqno <= position

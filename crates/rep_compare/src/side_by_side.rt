@@ -4,7 +4,7 @@ ghost use Rattle.std.specs.Prelude.{◌≡◌, ◌≤◌};
 
 use rep_cert::Certifier;
 use rep_plain::PlainNode;
-use rep_types::{Entry, Params, Verdict, WriteSet};
+use rep_types::{Entry, MAX_AHEAD, Params, Verdict, WriteSet};
 use std::alloc::Global;
 use std::process::Abort;
 use std::test::Fail;
@@ -69,12 +69,12 @@ impl SideBySide {
         self.certifier.undo_last();
         assert_eq!(rt; self.certifier.delivered(), self.plain.position());
         self.compare_window(rt, alloc, 0)?;
-        self.compare_window(rt, alloc, 256)
+        self.compare_window(rt, alloc, MAX_AHEAD)
     }
 
     /// Compares the windows of so many positions back, or where the certifier was made.
     fn compare_window(&self, rt: &impl Abort, alloc: Global, back: u64) -> Result<(), Fail>
-        requires { back ≤ 256 }
+        requires { back ≤ MAX_AHEAD }
     {
         let delivered = self.certifier.delivered();
         let position = delivered.saturating_sub(back).max(self.made_at);
@@ -91,7 +91,7 @@ impl SideBySide {
 
     /// Compares the windows of all positions that can be asked for.
     pub(crate) fn compare_windows(&self, rt: &impl Abort, alloc: Global) -> Result<(), Fail> {
-        for back in 0..257 {
+        for back in 0..MAX_AHEAD + 1 {
             self.compare_window(rt, alloc, back)?;
         }
         Ok(())

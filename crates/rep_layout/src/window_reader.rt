@@ -103,7 +103,7 @@ fn is_ascending(keys: &[Key]) -> bool
     ensures { result ≡ is_none (disorder keys.now) }
 {
     for i in 1..keys.len() {
-        if !keys[i - 1].is_below(keys[i]) {
+        if keys[i - 1] >= keys[i] {
             return false;
         }
     }

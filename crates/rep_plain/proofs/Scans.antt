@@ -1,7 +1,6 @@
 -- One more item under a scan of the order from its front.
 use Rattle.std.proofs.Common.{◌≡◌, ℕ, ◌+◌, ◌-◌, ◌<◌, Bool, true, false, cond, Option, Some, List, [], ◌∷◌, ◌++◌, length, get_or, take, refl, ap, sym, ◌∙◌, append-nil}
 use Rattle.std.specs.Prelude.{◌&&◌}
-use Rattle.std.specs.Option.{option_map}
 use Rattle.std.proofs.lemmas.List.{take_more}
 use Rattle.rep_types.specs.declared.key.Key.{Key}
 use Rattle.rep_types.specs.declared.value.Write.{Write}
@@ -9,10 +8,9 @@ use Rattle.rep_types.specs.declared.judged.Judged.{Judged}
 use Rattle.rep_types.specs.Keys.{key_eq}
 use Rattle.rep_types.specs.Transactions.{Transaction}
 use Rattle.rep_types.specs.Settings.{Setting}
-use Rattle.rep_types.specs.Entries.{Entry}
-use Rattle.rep_types.specs.Order.{Order, counts, against, entries, entry_of, latest, effects, row_in, overwritten, floor, recent, history, window}
+use Rattle.rep_types.specs.Order.{Order, counts, against, seqnos_against, greatest, entries, entry_of, latest, effects, row_in, overwritten, floor, recent, history, window}
 use Rattle.rep_types.proofs.Histories.{length_history}
-use Rattle.rep_types.proofs.Latest.{latest_push}
+use Rattle.rep_types.proofs.Greatest.{greater, greatest_against_push}
 use Rattle.rep_types.proofs.Windows.{entries_push}
 use Rattle.rep_types.proofs.Rows.{effects_push, row_in-append}
 
@@ -20,22 +18,16 @@ use Rattle.rep_types.proofs.Rows.{effects_push, row_in-append}
 pub take_read : {A : Type 0} (xs : List A) (i : ℕ) (x : A) → x ≡ get_or xs i x → i < length xs → take (i + 1) xs ≡ take i xs ++ x ∷ []
 take_read xs i x read within = take_more xs i x within ∙ ap (λ y. take i xs ++ y ∷ []) (sym read)
 
--- the seqno of the latest that stands against w
-abbrev pub latest_seqno : Transaction → List Judged → Option ℕ
-latest_seqno w h = option_map (λ (e : Entry). e.seqno) (latest (against w) (entries h))
-
--- one more item is the latest against w, or leaves it
-pub latest_seqno_push : (w : Transaction) (h : List Judged) (j : Judged) →
-    latest_seqno w (h ++ j ∷ []) ≡ cond (counts j && against w (entry_of j)) (Some j.seqno) (latest_seqno w h)
-latest_seqno_push w h j = rw entries_push (by_test (counts j))
+-- one more item, whose seqno may be the greatest that stands against w
+pub greatest_seqno_push : (w : Transaction) (h : List Judged) (j : Judged) →
+    greatest (seqnos_against w (entries (h ++ j ∷ []))) ≡
+    cond (counts j && against w (entry_of j)) (greater (greatest (seqnos_against w (entries h))) (Some j.seqno)) (greatest (seqnos_against w (entries h)))
+greatest_seqno_push w h j = rw entries_push (by_test (counts j))
   where
     by_test : (b : Bool) →
-        option_map (λ (e : Entry). e.seqno) (latest (against w) (entries h ++ cond b (entry_of j ∷ []) [])) ≡ cond (b && against w (entry_of j)) (Some j.seqno) (latest_seqno w h)
-    by_test true = rw latest_push (by_conflict (against w (entry_of j)))
-      where
-        by_conflict : (b : Bool) → option_map (λ (e : Entry). e.seqno) (cond b (Some (entry_of j)) (latest (against w) (entries h))) ≡ cond b (Some j.seqno) (latest_seqno w h)
-        by_conflict true = refl
-        by_conflict false = refl
+        greatest (seqnos_against w (entries h ++ cond b (entry_of j ∷ []) [])) ≡
+        cond (b && against w (entry_of j)) (greater (greatest (seqnos_against w (entries h))) (Some j.seqno)) (greatest (seqnos_against w (entries h)))
+    by_test true = greatest_against_push w (entries h) (entry_of j)
     by_test false = rw append-nil refl
 
 -- the writes that one more item puts on top

@@ -4,7 +4,7 @@ ghost use Rattle.std.specs.Prelude.{◌≡◌, ◌+◌, ◌≤◌, [], ◌∷◌
 ghost use Rattle.std.specs.Option.{option_copied};
 ghost use Rattle.rep_types.specs.Order.{verdict, read, window, history};
 
-use crate::scan::{latest_conflict, recent_entries, row_of};
+use crate::scan::{greatest_conflict, recent_entries, row_of};
 use rep_types::{Entry, Judged, Key, Params, Refusal, Value, Verdict, WriteSet};
 use std::alloc::Global;
 use std::marker::Model;
@@ -55,7 +55,7 @@ impl PlainNode {
         if seen + u64::from(self.params.window()) + 1 < seqno {
             return Verdict::Stale;
         }
-        match latest_conflict(&self.items, item) {
+        match greatest_conflict(&self.items, item) {
             Some(seqno) => Verdict::Conflict(seqno),
             None => Verdict::Commit,
         }

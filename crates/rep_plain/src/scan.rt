@@ -2,10 +2,10 @@
 
 ghost use Rattle.std.specs.Prelude.{◌≡◌, ◌&&◌, IfOk, IfErr};
 ghost use Rattle.std.specs.List.{list_any};
-ghost use Rattle.std.specs.Option.{option_map, option_copied};
+ghost use Rattle.std.specs.Option.{option_copied};
 ghost use Rattle.rep_types.specs.Keys.{key_eq};
 ghost use Rattle.rep_types.specs.Transactions.{named};
-ghost use Rattle.rep_types.specs.Order.{counts, against, entries, entry_of, latest, effects, row_in, recent};
+ghost use Rattle.rep_types.specs.Order.{counts, against, seqnos_against, greatest, entries, entry_of, latest, effects, row_in, recent};
 
 use rep_types::{Entry, Judged, Key, Refusal, Value, Write, WriteSet};
 use std::alloc::Global;
@@ -29,13 +29,13 @@ fn is_against(earlier: &Judged, item: &WriteSet) -> bool
 }
 
 /// The greatest seqno among the items that stand against this one.
-pub(crate) fn latest_conflict(items: &[Judged], item: &WriteSet) -> Option<u64>
-    ensures { result ≡ option_map (λ e. e.seqno) (latest (against item.now) (entries items.now)) }
+pub(crate) fn greatest_conflict(items: &[Judged], item: &WriteSet) -> Option<u64>
+    ensures { result ≡ greatest (seqnos_against item.now (entries items.now)) }
 {
     let mut found = None;
     for earlier in items {
         if is_against(earlier, item) {
-            found = Some(earlier.seqno);
+            found = found.max(Some(earlier.seqno));
         }
     }
     found
@@ -48,7 +48,7 @@ fn last_write(writes: &[Write], key: Key) -> Option<&Write>
 {
     let mut found = None;
     for write in writes {
-        if write.key.is(key) {
+        if write.key == key {
             found = Some(write);
         }
     }

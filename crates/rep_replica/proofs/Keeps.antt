@@ -7,7 +7,7 @@ use Rattle.uuid.specs.Parts.{is_nil_bytes}
 use Rattle.rep_types.specs.declared.judged.Judged.{Judged}
 use Rattle.rep_types.specs.declared.refusal.Refusal.{Refusal}
 use Rattle.rep_types.specs.declared.refusal.Refusal.TheVariants.{OutOfOrder, Backlogged, LogFull, NotDue, Undefined, Exhausted}
-use Rattle.rep_types.specs.declared.judged.TheConstants.{MAX_SEQNO}
+use Rattle.rep_types.specs.declared.limits.TheConstants.{MAX_SEQNO, MAX_AHEAD, MAX_CELLS}
 use Rattle.rep_types.specs.Settings.{Setting, is_setting, is_schema}
 use Rattle.rep_types.specs.Transactions.{Transaction}
 use Rattle.rep_types.specs.Order.{history}
@@ -107,7 +107,7 @@ keeps_sync n h = keeps_sync_at n n.phase refl h
 
 -- the refusals of a delivery, from the last one on
 abbrev unbacklogged : Node → Option Refusal
-unbacklogged n = cond (leb (n.durable + 256) (length n.order)) (Some Backlogged) None
+unbacklogged n = cond (leb (n.durable + MAX_AHEAD) (length n.order)) (Some Backlogged) None
 
 abbrev in_order : Node → ℕ → Option Refusal
 in_order n seqno = cond (not (eqb seqno (length n.order + 1))) (Some (OutOfOrder (length n.order + 1))) (unbacklogged n)
@@ -121,8 +121,8 @@ keeps_delivery n seqno w h r =
     let a = unrefused (is_nil_bytes n.uuid) Undefined (unexhausted n seqno) r in
     let b = unrefused (eqb (length n.order) MAX_SEQNO) Exhausted (in_order n seqno) a.1 in
     let c = unrefused (not (eqb seqno (length n.order + 1))) (OutOfOrder (length n.order + 1)) (unbacklogged n) b.1 in
-    let d = unrefused (leb (n.durable + 256) (length n.order)) Backlogged None c.1 in
-    let near : length n.order < n.durable + 256 = leb-false (n.durable + 256) (length n.order) d.0 in
+    let d = unrefused (leb (n.durable + MAX_AHEAD) (length n.order)) Backlogged None c.1 in
+    let near : length n.order < n.durable + MAX_AHEAD = leb-false (n.durable + MAX_AHEAD) (length n.order) d.0 in
     let fewer = eqb-false (length n.order) MAX_SEQNO b.0 in
     let long : length (n.order ++ w ∷ []) ≡ length n.order + 1 = length-append n.order (w ∷ []) in
     record {
@@ -135,16 +135,16 @@ keeps_delivery n seqno w h r =
       room = h.room;
     }
 
--- the cells of the log are at most 1,024
+-- the cells of the log are at most MAX_CELLS
 both_true : (a b : Bool) → (a && b) ≡ true → (a ≡ true) × (b ≡ true)
 both_true true b e = (refl, e)
 both_true false b e = absurd cc
 
-pub few_cells : (p : Setting) → IsTrue (is_setting p) → p.cells ≤ 1024
+pub few_cells : (p : Setting) → IsTrue (is_setting p) → p.cells ≤ MAX_CELLS
 few_cells p h =
     let a = both_true _ (is_schema p.rows) h in
-    let b = both_true _ (leb p.cells 1024) a.0 in
-    leb-true p.cells 1024 b.1
+    let b = both_true _ (leb p.cells MAX_CELLS) a.0 in
+    leb-true p.cells MAX_CELLS b.1
 
 -- ---- the sync that opens a block
 
@@ -155,7 +155,7 @@ opening_within n k h e =
     omega (arith, delivered, length_pending n)
 
 -- its cell is one of the log's first lap, where none was freed
-pub next_small : (n : Node) (k : ℕ) → IsNode n → n.phase ≡ Opening k → n.start ≡ 0 → n.next + 1 ≤ 1024
+pub next_small : (n : Node) (k : ℕ) → IsNode n → n.phase ≡ Opening k → n.start ≡ 0 → n.next + 1 ≤ MAX_CELLS
 next_small n k h e first =
     let room : n.next + 1 ≤ n.start + n.setting.cells = subst (λ p. n.next + claimed p ≤ n.start + n.setting.cells) e h.room in
     omega (arith, room, first, few_cells n.setting h.allowed)

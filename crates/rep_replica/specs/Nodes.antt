@@ -4,10 +4,10 @@ use Rattle.uuid.specs.Parts.{is_nil_bytes}
 use Rattle.rep_types.specs.declared.key.Key.{Key}
 use Rattle.rep_types.specs.declared.judged.Judged.{Judged}
 use Rattle.rep_types.specs.declared.reply.Reply.{Reply}
-use Rattle.rep_types.specs.declared.gtid.Gtid.{Gtid}
+use Rattle.rep_types.specs.Gtids.{Gtid}
 use Rattle.rep_types.specs.declared.refusal.Refusal.{Refusal}
 use Rattle.rep_types.specs.declared.refusal.Refusal.TheVariants.{OutOfMemory, OutOfOrder, Backlogged, LogFull, NotDue, TooOld, NotYet, BadKey, Undefined, Exhausted}
-use Rattle.rep_types.specs.declared.judged.TheConstants.{MAX_SEQNO}
+use Rattle.rep_types.specs.declared.limits.TheConstants.{MAX_SEQNO, MAX_AHEAD}
 use Rattle.rep_types.specs.Settings.{Setting, is_setting, has_row}
 use Rattle.rep_types.specs.Replies.{reply_of}
 use Rattle.rep_types.specs.Order.{Order, history, verdict, read}
@@ -48,12 +48,12 @@ claimed (Filled k) = 1
 claimed (Opening k) = 1
 
 -- What holds of every node: the parameters are within their limits, durable is at or above the base, the block is of delivered
--- items, delivered is at most 256 above durable, no item is behind the last seqno, and no cell is used that is still needed.
+-- items, delivered is at most MAX_AHEAD above durable, no item is behind the last seqno, and no cell is used that is still needed.
 pub record IsNode (n : Node) : Type 0 where
   pub allowed : IsTrue (is_setting n.setting)
   pub based : n.base ≤ n.durable
   pub delivered : n.durable + underway n.phase ≤ length n.order
-  pub near : length n.order ≤ n.durable + 256
+  pub near : length n.order ≤ n.durable + MAX_AHEAD
   pub limit : length n.order ≤ MAX_SEQNO
   pub few : underway n.phase ≤ 64
   pub room : n.next + claimed n.phase ≤ n.start + n.setting.cells
@@ -88,7 +88,7 @@ delivery_refusal n seqno =
     if is_nil_bytes n.uuid then Some Undefined
     else if length n.order == MAX_SEQNO then Some Exhausted
     else if not (seqno == length n.order + 1) then Some (OutOfOrder (length n.order + 1))
-    else if nat_le (n.durable + 256) (length n.order) then Some Backlogged
+    else if nat_le (n.durable + MAX_AHEAD) (length n.order) then Some Backlogged
     else None
 
 -- the log waits for items, or for a sync, or for the checkpoint that frees its next cell

@@ -15,13 +15,10 @@ use crate::event::Event;
 use crate::phase::Phase;
 use rep_plain::PlainNode;
 use rep_record::BlockBuilder;
-use rep_types::{Entry, Gtid, Judged, Key, MAX_SEQNO, Params, Refusal, WriteSet};
+use rep_types::{Entry, Gtid, Judged, Key, MAX_AHEAD, MAX_SEQNO, Params, Refusal, WriteSet};
 use std::alloc::Global;
 use std::marker::Model;
 use uuid::Uuid;
-
-/// The greatest number of items that are delivered and not durable.
-const MAX_AHEAD: u64 = 256;
 
 /// One node, in memory: it acts out what a node on a disk does. It keeps the delivered order as a
 /// list, judges by comparing pairs, and reads by going over the order from its front.
@@ -305,9 +302,9 @@ impl Replica {
     pub fn gtid(&self) -> Gtid
         ensures { result ≡ gtid self.now }
     {
-        Gtid {
-            uuid: self.uuid,
-            seqno: self.durable as i64,
+        match Gtid::new(self.uuid, self.durable as i64) {
+            Some(gtid) => gtid,
+            None => unreachable!(),
         }
     }
 

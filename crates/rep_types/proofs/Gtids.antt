@@ -1,6 +1,6 @@
 -- GTIDs as texts: what is read is of the form, and what is of the form is read.
 use Rattle.std.proofs.Common.{◌≡◌, ℕ, ◌<◌, ◌≤◌, ◌^◌, Bool, true, false, cond, leb, ltb, eqb, List, [], ◌∷◌, ◌++◌, append_assoc, length, length-append, take, drop, Option, None, Some, Result, Ok, Err, refl, sym, ap, ◌∙◌, arith, inl, inr}
-use Rattle.std.specs.Prelude.{ℤ, pos, negsuc, codes, ◌⊎◌, ◌↔◌, IfOk, IsOk}
+use Rattle.std.specs.Prelude.{ℤ, pos, negsuc, codes, ◌⊎◌, ◌↔◌, ◌&&◌, IfOk, IfSome, IsOk, IsTrue}
 use mir.Val.{SFits}
 use mir.Syntax.{w64}
 use Rattle.std.specs.Option.{option_map}
@@ -14,13 +14,14 @@ use Rattle.std.proofs.lemmas.List.{take-append-drop, length-take-le}
 use Rattle.std.proofs.lemmas.Slice.Eq.{bytes_eq-Decides}
 use Rattle.uuid.specs.Text.{lower, hyphenated_text, parsed}
 use Rattle.uuid.proofs.TextLemmas.{by_index_length}
-use Rattle.uuid.proofs.RoundTrips.{parses_hyphenated}
-use Rattle.rep_types.specs.declared.gtid.Gtid.{Gtid}
 use Rattle.rep_types.specs.declared.refusal.Refusal.{Refusal}
 use Rattle.rep_types.specs.declared.refusal.Refusal.TheVariants.{Malformed}
-use Rattle.rep_types.specs.Numbers.{number_in}
+use Rattle.std.specs.Char.{is_digit}
+use Rattle.std.specs.List.{list_all}
+use Rattle.std.specs.Str.Parse.{digits_value}
+use Rattle.rep_types.specs.Numbers.{given, number_in}
 use Rattle.rep_types.proofs.Digits.{number_of, number_below}
-use Rattle.rep_types.specs.Gtids.{IsGtid, IsSeqno, seqno_in, uuid_in, gtid_of, gtid_with, gtid_in, gtid_text, GtidsReadBack}
+use Rattle.rep_types.specs.Gtids.{Gtid, IsGtid, IsSeqno, is_seqno, seqno_in, uuid_in, gtid_of, gtid_with, gtid_in, gtid_text}
 
 -- no value, where each would be absurd
 pub none_if_never : {A : Type 0} → (o : Option A) → ((x : A) → o ≡ Some x → ⊥) → o ≡ None
@@ -119,14 +120,42 @@ seqno_text : (s : ℤ) → (s ≡ negsuc 0) ⊎ ((n : ℕ) × (n < 2 ^ 63) × (s
 seqno_text s (inl e) = rw e (refl, ap (λ ds. 45 ∷ ds) (decimal_digit 1 (omega arith)))
 seqno_text s (inr h) = rw h.2 (length-decimal-le 19 h.0 (omega arith) (omega (arith, h.1)) (omega (arith, h.1)), decimal_again h.0 h.1)
 
-pub gtids_back : GtidsReadBack
-gtids_back g size small seqno = gtid_again (gtid_text g) g (record {
+-- what a GTID's seqno is
+seqno_cases : (s : ℤ) → IsTrue (is_seqno s) → (s ≡ negsuc 0) ⊎ ((n : ℕ) × (n < 2 ^ 63) × (s ≡ pos n))
+seqno_cases (pos n) is = inr (n, ltb-true n (2 ^ 63) is, refl)
+seqno_cases (negsuc n) is = inl (ap negsuc (eqb-true n 0 is))
+
+-- what was read as a number below a limit is below it
+given_small : (a b : Bool) (v limit n : ℕ) → ltb v limit ≡ b → given (a && b) v ≡ Some n → n < limit
+given_small true true v limit n t e = let same : v ≡ n = cc in omega (arith, same, ltb-true v limit t)
+given_small true false v limit n t e = absurd cc
+given_small false b v limit n t e = absurd cc
+
+number_small : (limit : ℕ) (word : List ℕ) (n : ℕ) → number_in limit word ≡ Some n → n < limit
+unfolding number_in
+number_small limit word n e =
+    let v = digits_value 10 word in
+    given_small (ltb 0 (length word) && list_all (λ (c : ℕ). is_digit c 10) word) (ltb v limit) v limit n refl e
+
+-- a seqno that a text can have is a GTID's
+is_seqno-from_text : (text : List ℕ) (s : ℤ) → IsSeqno text s → IsTrue (is_seqno s)
+is_seqno-from_text text (pos n) is = lt-ltb n (2 ^ 63) (number_small (2 ^ 63) text n is.1)
+is_seqno-from_text text (negsuc n) is = ap (λ m. eqb m 0) is.0
+
+-- so is each that is read
+pub seqno_limit : (text : List ℕ) (o : Option ℤ) → o ≡ seqno_in text → IfSome o (λ s. IsTrue (is_seqno s))
+seqno_limit text None e = tt
+seqno_limit text (Some s) e = is_seqno-from_text text s (seqno_found text s (sym e))
+
+-- what a GTID is written as reads back as that GTID
+pub gtid_back : (g : Gtid) → Some g.uuid ≡ parsed (hyphenated_text lower g.uuid) → IsTrue (is_seqno g.seqno) → gtid_in (gtid_text g) ≡ Ok g
+gtid_back g own seqno = gtid_again (gtid_text g) g (record {
   head = hyphenated_text lower g.uuid;
   tail = signed_decimal g.seqno;
   whole = append_assoc (hyphenated_text lower g.uuid) (codes ":") (signed_decimal g.seqno);
   size = by_index_length 36 _;
-  is_uuid = sym (parses_hyphenated lower g.uuid (inl refl) size small);
-  is_seqno = seqno_text g.seqno seqno;
+  is_uuid = sym own;
+  is_seqno = seqno_text g.seqno (seqno_cases g.seqno seqno);
 })
 
 -- what a reader gives that reads so is of the form

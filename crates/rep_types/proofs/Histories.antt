@@ -52,7 +52,7 @@ abbrev pub judged : Setting → Order → ℕ → Judged
 judged p L n = record { seqno = n; item = item L n; verdict = verdict p L n }
 
 -- one more item, in front of whose seqno stand n - 1 items
-history_next : (p : Setting) (L : Order) (n : ℕ) → 0 < n → n ≤ length L → history p (take n L) ≡ history p (take (n - 1) L) ++ judged p L n ∷ []
+pub history_next : (p : Setting) (L : Order) (n : ℕ) → 0 < n → n ≤ length L → history p (take n L) ≡ history p (take (n - 1) L) ++ judged p L n ∷ []
 history_next p L n pos h =
     let one : n - 1 + 1 ≡ n = omega arith in
     let before : List Judged = history p (take (n - 1) L) in

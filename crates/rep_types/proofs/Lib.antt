@@ -1,11 +1,15 @@
 pub mod Disorder
 pub mod Latest
+pub mod Members
+pub mod Greatest
+pub mod Committed
 pub mod Histories
 pub mod Windows
 pub mod Rows
 pub mod Touches
 pub mod SerialReads
 pub mod VerdictsByPairs
+pub mod RowsByItems
 pub mod Tests
 pub mod Digits
 pub mod Gtids

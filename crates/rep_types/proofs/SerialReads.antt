@@ -14,8 +14,9 @@ use Rattle.rep_types.specs.Keys.{key_eq}
 use Rattle.rep_types.specs.Transactions.{Transaction, named, written}
 use Rattle.rep_types.specs.Settings.{Setting}
 use Rattle.rep_types.specs.Entries.{Entry}
-use Rattle.rep_types.specs.Order.{Order, touches, in_schema, latest, against, verdict_among, entries, effects, history, row_in, rows}
-use Rattle.rep_types.proofs.Latest.{latest-append, list_any-from_latest}
+use Rattle.rep_types.specs.Order.{Order, touches, in_schema, latest, against, greatest, seqnos_against, verdict_among, entries, effects, history, row_in, rows}
+use Rattle.rep_types.proofs.Latest.{latest-append}
+use Rattle.rep_types.proofs.Greatest.{none_against}
 use Rattle.rep_types.proofs.Histories.{take_history, later_history}
 use Rattle.rep_types.proofs.Touches.{latest_untouched}
 use Rattle.rep_types.proofs.Rows.{effects-append, row_in-append, content_after_none}
@@ -26,7 +27,7 @@ pub record IsClear (p : Setting) (lowest n : ℕ) (es : List Entry) (w : Transac
   pub past : w.last_seen < n
   pub keys : in_schema p w ≡ true
   pub recent : lowest ≤ w.last_seen + 1
-  pub free : latest (against w) es ≡ None
+  pub free : greatest (seqnos_against w es) ≡ None
 
 -- a commit says those four things
 pub IsClear-from_commit : (p : Setting) (lowest n : ℕ) (es : List Entry) (w : Transaction) → verdict_among p lowest n es w ≡ Commit → IsClear p lowest n es w
@@ -51,7 +52,7 @@ rows_seen p L lowest n w key commit has =
     let h : List Judged = history p L in
     let s : ℕ = w.last_seen in
     let split : take s h ++ drop s h ≡ h = take-append-drop s h in
-    let none : list_any (against w) (entries h) ≡ false = list_any-from_latest (against w) (entries h) (IsClear-from_commit p lowest n (entries h) w commit).free in
+    let none : list_any (against w) (entries h) ≡ false = none_against w (entries h) (IsClear-from_commit p lowest n (entries h) w commit).free in
     let parts : list_any (against w) (entries h) ≡ (list_any (against w) (entries (take s h)) || list_any (against w) (entries (drop s h))) =
     ap (λ (xs : List Judged). list_any (against w) (entries xs)) (sym split)
     ∙ (ap (list_any (against w)) (entries-append (take s h) (drop s h)) ∙ list_any-append (against w) (entries (take s h)) (entries (drop s h))) in

@@ -9,8 +9,7 @@ use Rattle.rep_types.specs.declared.verdict.Verdict.{Verdict}
 use Rattle.rep_types.specs.Transactions.{Transaction, written}
 use Rattle.rep_types.specs.Settings.{Setting}
 use Rattle.rep_types.specs.Entries.{Entry}
-use Rattle.rep_types.specs.Order.{Order, latest, against, floor, verdict_among, is_commit, counts, entry_of, entries, history, verdict, recent, window, judge, window_after}
-use Rattle.rep_types.proofs.Latest.{latest-filter}
+use Rattle.rep_types.specs.Order.{Order, seqnos_against, floor, verdict_among, is_commit, counts, entry_of, entries, history, verdict, recent, window, judge, window_after}
 use Rattle.rep_types.proofs.Histories.{history_push_judged, verdict_push, seqnos_history}
 
 -- the committed items of a joined list are those of its two parts
@@ -31,16 +30,14 @@ recent-recent low high h [] = refl
 recent-recent low high h (e ∷ es) = grind (arith, nat_tests, recent-recent low high h es)
 
 -- entries below what w had seen are not against it
-pub latest-recent : (lowest : ℕ) (w : Transaction) → lowest ≤ w.last_seen + 1 → (es : List Entry) → latest (against w) (recent lowest es) ≡ latest (against w) es
-latest-recent lowest w h es = latest-filter (against w) (λ (e : Entry). nat_le lowest e.seqno) below es
-  where
-    below : (e : Entry) → nat_le lowest e.seqno ≡ false → against w e ≡ false
-    below e f = grind (arith, nat_tests)
+pub against-recent : (lowest : ℕ) (w : Transaction) → lowest ≤ w.last_seen + 1 → (es : List Entry) → seqnos_against w (recent lowest es) ≡ seqnos_against w es
+against-recent lowest w h [] = refl
+against-recent lowest w h (e ∷ es) = grind (arith, nat_tests, against-recent lowest w h es)
 
 -- entries below the floor of the verdict, or of an earlier one, don't change the verdict
 pub verdict_among-recent : (p : Setting) (low lowest n : ℕ) (es : List Entry) (w : Transaction) → low ≤ lowest →
     verdict_among p lowest n (recent low es) w ≡ verdict_among p lowest n es w
-verdict_among-recent p low lowest n es w h = grind (arith, nat_tests, latest-recent low w)
+verdict_among-recent p low lowest n es w h = grind (arith, nat_tests, against-recent low w)
 
 -- judging from the window is judging the whole order
 pub judge_window : (p : Setting) (L : Order) (w : Transaction) → judge p (length L) (window p L) w ≡ verdict p (L ++ w ∷ []) (length L + 1)

@@ -1,13 +1,22 @@
 -- Global transaction identifiers as texts.
-use Rattle.std.specs.Prelude.{◌≡◌, ℕ, ℤ, pos, negsuc, ◌^◌, ◌<◌, ◌≤◌, ◌==◌, nat_le, if◌then◌else◌, List, [], ◌∷◌, ◌++◌, length, take, drop, codes, All, Option, None, Some, Result, Ok, Err, ◌⊎◌}
+use Rattle.std.specs.Prelude.{◌≡◌, ℕ, ℤ, pos, negsuc, ◌^◌, ◌≤◌, ◌==◌, Bool, nat_lt, nat_le, if◌then◌else◌, List, [], ◌∷◌, ◌++◌, length, take, drop, codes, Option, None, Some, Result, Ok, Err}
 use Rattle.std.specs.Option.{option_map}
 use Rattle.std.specs.Str.{bytes_eq}
 use Rattle.std.specs.Fmt.{signed_decimal}
 use Rattle.uuid.specs.Text.{lower, hyphenated_text, parsed}
-use Rattle.rep_types.specs.declared.gtid.Gtid.{Gtid}
 use Rattle.rep_types.specs.declared.refusal.Refusal.{Refusal}
 use Rattle.rep_types.specs.declared.refusal.Refusal.TheVariants.{Malformed}
 use Rattle.rep_types.specs.Numbers.{number_in}
+
+-- A GTID (Galera documentation): a state UUID and a seqno.
+pub record Gtid : Type 0 where
+  pub uuid : List ℕ
+  pub seqno : ℤ
+
+-- whether the number is the seqno of a GTID: -1, or from 0 on, below 2^63
+abbrev pub is_seqno : ℤ → Bool
+is_seqno (pos n) = nat_lt n (2 ^ 63)
+is_seqno (negsuc n) = n == 0
 
 -- how a GTID is written (Galera documentation): the UUID with hyphens and in lower case, a colon, and the seqno
 abbrev pub gtid_text : Gtid → List ℕ
@@ -52,8 +61,3 @@ gtid_with (Some uuid) (mark ∷ rest) = if mark == 58 then gtid_of uuid (seqno_i
 -- The GTID that the text is, or where its first fault lies: at 0 for the UUID, 36 for the colon, 37 for the seqno.
 abbrev pub gtid_in : List ℕ → Result Gtid Refusal
 gtid_in text = gtid_with (uuid_in text) (drop 36 text)
-
--- What a GTID is written as reads back as that GTID, where the seqno is one that a text can have.
-abbrev pub GtidsReadBack : Type 0
-GtidsReadBack = (g : Gtid) → length g.uuid ≡ 16 → All (λ b. b < 256) g.uuid →
-    (g.seqno ≡ negsuc 0) ⊎ ((n : ℕ) × (n < 2 ^ 63) × (g.seqno ≡ pos n)) → gtid_in (gtid_text g) ≡ Ok g

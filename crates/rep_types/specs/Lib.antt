@@ -5,6 +5,7 @@ pub mod Settings
 pub mod Entries
 pub mod Order
 pub mod Verdicts
+pub mod ByItems
 pub mod Texts
 pub mod Numbers
 pub mod Gtids

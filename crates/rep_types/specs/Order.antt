@@ -1,6 +1,6 @@
 -- The delivered order, and what follows from it: verdicts, rows, windows and states.
-use Rattle.std.specs.Prelude.{ℕ, ◌+◌, ◌-◌, Bool, nat_lt, nat_le, ◌&&◌, true, false, not, if◌then◌else◌, List, [], ◌∷◌, ◌++◌, length, map, filter, take, fold, slice_index_or, Option, None, Some}
-use Rattle.std.specs.List.{list_any, list_all, flat_map}
+use Rattle.std.specs.Prelude.{ℕ, ◌+◌, ◌-◌, Bool, nat_lt, nat_le, ◌&&◌, true, false, not, if◌then◌else◌, List, [], ◌∷◌, ◌++◌, length, map, filter, take, fold, max, slice_index_or, Option, None, Some}
+use Rattle.std.specs.List.{list_any, list_all, flat_map, reduce}
 use Rattle.std.specs.Option.{option_and_then, option_or}
 use Rattle.rep_types.specs.declared.key.Key.{Key}
 use Rattle.rep_types.specs.declared.value.Write.{Write}
@@ -46,10 +46,18 @@ against w e = nat_lt w.last_seen e.seqno && touches e.keys (named w)
 abbrev pub floor : Setting → ℕ → ℕ
 floor p position = position + 1 - p.window
 
--- a conflict with the entry, if there is one
-abbrev pub conflict_with : Option Entry → Verdict
+-- the seqnos of the entries that stand against w
+abbrev pub seqnos_against : Transaction → List Entry → List ℕ
+seqnos_against w es = map (λ (e : Entry). e.seqno) (filter (against w) es)
+
+-- the greatest of these seqnos, if there is one
+abbrev pub greatest : List ℕ → Option ℕ
+greatest seqnos = reduce max seqnos
+
+-- a conflict with the item of that seqno, if there is one
+abbrev pub conflict_with : Option ℕ → Verdict
 conflict_with None = Commit
-conflict_with (Some e) = Conflict e.seqno
+conflict_with (Some m) = Conflict m
 
 -- The verdict on w at the seqno n, where these items are committed and the window reaches down to the floor: the first
 -- line that applies. (Pedone, Guerraoui and Schiper 2003 have conflict and commit; the other lines are this project's.)
@@ -58,7 +66,7 @@ verdict_among p lowest n entries w =
     if nat_le n w.last_seen then Future
     else if not (in_schema p w) then BadKey
     else if nat_lt (w.last_seen + 1) lowest then Stale
-    else conflict_with (latest (against w) entries)
+    else conflict_with (greatest (seqnos_against w entries))
 
 abbrev pub is_commit : Verdict → Bool
 is_commit Commit = true

@@ -1,6 +1,7 @@
 -- A node's parameters, and their limits.
-use Rattle.std.specs.Prelude.{ℕ, ◌+◌, ◌/◌, ◌<◌, Bool, nat_lt, nat_le, ◌&&◌, if◌then◌else◌, List, length, sum_by, slice_index, Result, Ok, Err}
+use Rattle.std.specs.Prelude.{ℕ, ◌+◌, ◌-◌, ◌/◌, ◌<◌, Bool, nat_lt, nat_le, ◌&&◌, if◌then◌else◌, List, length, sum_by, slice_index, Result, Ok, Err}
 use Rattle.std.specs.List.{list_all}
+use Rattle.rep_types.specs.declared.limits.TheConstants.{MAX_TABLES, MAX_PAGES, ROWS_PER_PAGE, MAX_WINDOW, MIN_CELLS, MAX_CELLS}
 use Rattle.rep_types.specs.declared.key.Key.{Key}
 use Rattle.rep_types.specs.declared.refusal.Refusal.{Refusal}
 use Rattle.rep_types.specs.declared.refusal.Refusal.TheVariants.{BadParams}
@@ -16,7 +17,7 @@ setting window cells rows = record { window = window; cells = cells; rows = rows
 
 -- the pages that so many rows take, 63 in a page
 abbrev pub page_count : ℕ → ℕ
-page_count rows = (rows + 62) / 63
+page_count rows = (rows + (ROWS_PER_PAGE - 1)) / ROWS_PER_PAGE
 
 -- the pages of all tables
 abbrev pub pages_of : List ℕ → ℕ
@@ -24,11 +25,11 @@ pages_of rows = sum_by page_count rows
 
 -- The limits of a schema: 1 to 8 tables of at least one row each, and at most 4,096 pages in all.
 abbrev pub is_schema : List ℕ → Bool
-is_schema rows = nat_lt 0 (length rows) && nat_le (length rows) 8 && list_all (nat_lt 0) rows && nat_le (pages_of rows) 4096
+is_schema rows = nat_lt 0 (length rows) && nat_le (length rows) MAX_TABLES && list_all (nat_lt 0) rows && nat_le (pages_of rows) MAX_PAGES
 
 -- The limits of the parameters: a window of 1 to 256 seqnos, 4 to 1,024 log cells, and a schema.
 abbrev pub is_setting : Setting → Bool
-is_setting p = nat_le 1 p.window && nat_le p.window 256 && nat_le 4 p.cells && nat_le p.cells 1024 && is_schema p.rows
+is_setting p = nat_le 1 p.window && nat_le p.window MAX_WINDOW && nat_le MIN_CELLS p.cells && nat_le p.cells MAX_CELLS && is_schema p.rows
 
 -- the parameters, or the refusal
 abbrev pub allowed : Setting → Result Setting Refusal

@@ -1,6 +1,7 @@
 -- What certification sees of a write set, and the limits of a write set.
 use Rattle.std.specs.Prelude.{◌≡◌, ℕ, ◌+◌, ◌<◌, ◌≤◌, nat_lt, if◌then◌else◌, List, ◌++◌, length, map, Option, None, Some, Result, Ok, Err, IfSome}
 use Rattle.std.specs.List.{AllByRecursion}
+use Rattle.rep_types.specs.declared.limits.TheConstants.{MAX_VALUE, MAX_READS, MAX_WRITES}
 use Rattle.rep_types.specs.declared.key.Key.{Key}
 use Rattle.rep_types.specs.declared.value.Write.{Write}
 use Rattle.rep_types.specs.declared.refusal.Refusal.{Refusal}
@@ -33,13 +34,13 @@ named w = w.reads ++ written w
 
 -- the value has at most 62 bytes, where there is one
 abbrev pub HasShortValue : Write → Type 0
-HasShortValue write = IfSome write.value (λ bytes. length bytes ≤ 62)
+HasShortValue write = IfSome write.value (λ bytes. length bytes ≤ MAX_VALUE)
 
 -- The limits of a write set: at most 16 reads, 1 to 16 writes, each list strictly ascending by key, each value of at most 62 bytes.
 pub record IsWithinLimits (w : Transaction) : Type 0 where
-  pub few_reads : length w.reads ≤ 16
+  pub few_reads : length w.reads ≤ MAX_READS
   pub some_write : 0 < length w.writes
-  pub few_writes : length w.writes ≤ 16
+  pub few_writes : length w.writes ≤ MAX_WRITES
   pub reads_ascend : disorder w.reads ≡ None
   pub writes_ascend : disorder (written w) ≡ None
   pub short_values : AllByRecursion HasShortValue w.writes
@@ -64,6 +65,6 @@ in_order w None = Ok w
 -- the write set, or the first refusal that applies
 abbrev pub checked : Transaction → Result Transaction Refusal
 checked w =
-    if nat_lt 16 (length w.reads) then Err TooManyReads
-    else if nat_lt 16 (length w.writes) then Err TooManyWrites
+    if nat_lt MAX_READS (length w.reads) then Err TooManyReads
+    else if nat_lt MAX_WRITES (length w.writes) then Err TooManyWrites
     else in_order w (misplaced w.reads w.writes)

@@ -3,6 +3,7 @@
 ghost use Rattle.std.specs.Prelude.{◌≡◌, ◌≤◌, length, ⊤};
 
 use crate::key::Key;
+use crate::limits::MAX_WRITES;
 use arrayvec::ArrayVec;
 use std::alloc::AllocError;
 use std::marker::Model;
@@ -12,25 +13,26 @@ use std::marker::Model;
 #[derive(Debug, Drop, PartialEq, Eq)]
 pub struct Entry {
     seqno: u64,
-    keys: ArrayVec<Key, 16>,
+    keys: ArrayVec<Key, MAX_WRITES>,
 }
 
 impl Model for Entry {
     ghost use Rattle.std.specs.Prelude.{◌≤◌, length};
     ghost use Rattle.rep_types.specs.Entries.{Entry as View};
+    ghost use Rattle.rep_types.specs.declared.limits.TheConstants.{MAX_WRITES};
 
     ghost Value = { View };
 
     ghost view = { λ e. record { seqno = e.seqno; keys = e.keys.items } };
 
-    ghost invariant = { λ e. length e.keys.items ≤ 16 };
+    ghost invariant = { λ e. length e.keys.items ≤ MAX_WRITES };
 
     ghost inverse = { λ e. record { seqno = e.seqno; keys = record { items = e.keys } } };
 }
 
 impl Entry {
     /// The entry of the item with this seqno that wrote these keys.
-    pub fn new(seqno: u64, keys: ArrayVec<Key, 16>) -> Entry
+    pub fn new(seqno: u64, keys: ArrayVec<Key, MAX_WRITES>) -> Entry
         ensures { result ≡ record { seqno = seqno; keys = keys.items } }
     {
         Entry { seqno, keys }
@@ -46,7 +48,7 @@ impl Entry {
     /// The keys that the item wrote.
     pub fn keys(&self) -> &[Key]
         ensures keys { result.now ≡ self.now.keys }
-        ensures few { length self.now.keys ≤ 16 }
+        ensures few { length self.now.keys ≤ MAX_WRITES }
     {
         self.keys.as_slice()
     }

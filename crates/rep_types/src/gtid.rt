@@ -1,22 +1,35 @@
 //! Global transaction identifiers.
 
-ghost use Rattle.std.specs.Prelude.{◌≡◌, IfOk, Ok, Some};
-ghost use Rattle.rep_types.specs.declared.gtid.Gtid.{Gtid};
-ghost use Rattle.rep_types.specs.Gtids.{IsGtid, GtidsReadBack, seqno_in, uuid_in, gtid_with, gtid_in};
+ghost use Rattle.std.specs.Prelude.{◌≡◌, IfOk, IfSome, IsTrue, Ok, Some};
+ghost use Rattle.rep_types.specs.Numbers.{given};
+ghost use Rattle.rep_types.specs.Gtids.{Gtid as View, IsGtid, is_seqno, seqno_in, uuid_in, gtid_with, gtid_in, gtid_text};
 
 use crate::number::read_number;
 use crate::refusal::Refusal;
 use std::fmt;
+use std::marker::Model;
 use uuid::Uuid;
 
 /// A global transaction identifier (Galera documentation): the state UUID of a group of nodes, and a
-/// seqno in the order that they share. The undefined one has the nil UUID and the seqno -1.
+/// seqno in the order that they share, which is -1 or more. The undefined one has the nil UUID and
+/// the seqno -1.
 #[derive(Clone, Copy, Debug, PartialEq, Eq)]
 pub struct Gtid {
-    /// The state UUID.
-    pub uuid: Uuid,
-    /// How many items of the order came, or -1.
-    pub seqno: i64,
+    uuid: Uuid,
+    seqno: i64,
+}
+
+impl Model for Gtid {
+    ghost use Rattle.std.specs.Prelude.{IsTrue};
+    ghost use Rattle.rep_types.specs.Gtids.{Gtid as View, is_seqno};
+
+    ghost Value = { View };
+
+    ghost view = { λ g. record { uuid = g.uuid; seqno = g.seqno } };
+
+    ghost invariant = { λ g. IsTrue (is_seqno g.seqno) };
+
+    ghost inverse = { λ g. record { uuid = g.uuid; seqno = g.seqno } };
 }
 
 /// The number of characters of a UUID with its hyphens.
@@ -25,7 +38,8 @@ const UUID_LEN: usize = 36;
 /// The seqno that the text is.
 #[tactic(auto, unfolding(crate::specs::Gtids::seqno_in))]
 fn read_seqno(text: &[u8]) -> Option<i64>
-    ensures { result ≡ seqno_in text.now }
+    ensures value { result ≡ seqno_in text.now }
+    ensures limit { IfSome result (λ n. IsTrue (is_seqno n)) }
 {
     if text == b"-1".as_slice() {
         return Some(-1);
@@ -58,6 +72,32 @@ fn with_uuid(uuid: Uuid, rest: &[u8]) -> Result<Gtid, Refusal>
 }
 
 impl Gtid {
+    /// The GTID of this state UUID and seqno, or `None` where the seqno is below -1: there is no such
+    /// GTID.
+    pub fn new(uuid: Uuid, seqno: i64) -> Option<Gtid>
+        ensures { result ≡ given (is_seqno seqno) (record { uuid = uuid; seqno = seqno }) }
+    {
+        if seqno < -1 {
+            return None;
+        }
+        Some(Gtid { uuid, seqno })
+    }
+
+    /// The state UUID.
+    pub fn uuid(self) -> Uuid
+        ensures { result ≡ self.uuid }
+    {
+        self.uuid
+    }
+
+    /// How many items of the order came, or -1.
+    pub fn seqno(self) -> i64
+        ensures seqno { result ≡ self.seqno }
+        ensures limit { IsTrue (is_seqno self.seqno) }
+    {
+        self.seqno
+    }
+
     /// The GTID that the text is: 36 characters of a UUID (RFC 9562: in either case or mixed), a
     /// colon, and a seqno, which is `-1`, or 1 to 19 digits of a number below 2^63.
     ///
@@ -67,7 +107,7 @@ impl Gtid {
         // What is read is of the form.
         ensures found { IfOk result (λ g. IsGtid text.now g) }
         // What is of the form is read.
-        ensures only { (g : Gtid) → IsGtid text.now g → result ≡ Ok g }
+        ensures only { (g : View) → IsGtid text.now g → result ≡ Ok g }
         // The first fault is named.
         ensures exact { result ≡ gtid_in text.now }
     {
@@ -89,7 +129,12 @@ impl fmt::Display for Gtid {
     }
 }
 
-/// What a GTID is written as reads back as that GTID, where the seqno is -1 or more.
-pub fn gtids_read_back()
-    ensures { GtidsReadBack }
-{}
+/// What a GTID is written as reads back as that GTID. A law, as the contract of a function that does
+/// nothing: it holds by its proof, and calling the function brings it to the caller.
+pub fn gtids_read_back(gtid: Gtid)
+    ensures { gtid_in (gtid_text gtid) ≡ Ok gtid }
+{
+    // Brings the law of the UUID's own text.
+    let mut room = [0; UUID_LEN];
+    let _text = gtid.uuid.hyphenated().encode_lower(&mut room);
+}

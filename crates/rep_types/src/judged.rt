@@ -6,9 +6,6 @@ use crate::reply::Reply;
 use crate::verdict::Verdict;
 use crate::write_set::WriteSet;
 
-/// The greatest seqno: no item is admitted behind it.
-pub const MAX_SEQNO: u64 = 1 << 60;
-
 /// A delivered write set, its seqno and its verdict.
 #[derive(Debug, Drop, PartialEq, Eq)]
 pub struct Judged {

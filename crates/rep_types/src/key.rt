@@ -1,10 +1,16 @@
 //! The name of a row.
 
-ghost use Rattle.std.specs.Prelude.{◌≡◌};
+ghost use Rattle.std.proofs.Common.{rules};
+ghost use Rattle.std.specs.Cmp.{partial_order_from_own_ties};
+ghost use Rattle.std.specs.Cmp.Rules.{comparing};
+ghost use Rattle.std.specs.Ordering.{as_partial_cmp};
+ghost use Rattle.rep_types.specs.Keys.{key_cmp};
+
+use std::cmp::Ordering;
 
 /// The name of a row: the number of its table, and its number in that table. Keys are ordered by
 /// table, then by row.
-#[derive(Clone, Copy, Debug, Default, PartialEq, Eq, PartialOrd, Ord, Hash)]
+#[derive(Clone, Copy, Debug, Default, PartialEq, Eq, Hash)]
 pub struct Key {
     /// The table, counted from 0.
     pub table: u8,
@@ -12,20 +18,28 @@ pub struct Key {
     pub row: u32,
 }
 
-impl Key {
-    ghost use Rattle.rep_types.specs.Keys.{key_eq, key_lt};
+impl Ord for Key {
+    ghost cmp = { key_cmp };
 
-    /// Whether both name one row.
-    pub fn is(self, other: Key) -> bool
-        ensures { result ≡ key_eq self other }
-    {
-        self.table == other.table && self.row == other.row
+    ghost total = { Prim.search (comparing, rules) };
+
+    ghost matches_partial_cmp = { Prim.search (comparing, rules) };
+
+    ghost matches_eq = { Prim.search (comparing, rules) };
+
+    fn cmp(&self, other: &Key) -> Ordering {
+        self.table
+            .cmp(&other.table)
+            .then(self.row.cmp(&other.row))
     }
+}
 
-    /// Whether this key comes before the other: by table, then by row.
-    pub fn is_below(self, other: Key) -> bool
-        ensures { result ≡ key_lt self other }
-    {
-        self.table < other.table || (self.table == other.table && self.row < other.row)
+impl PartialOrd for Key {
+    ghost partial_cmp = { as_partial_cmp key_cmp };
+
+    ghost laws = { partial_order_from_own_ties (Prim.search (comparing, rules)) (Prim.search (comparing, rules)) };
+
+    fn partial_cmp(&self, other: &Key) -> Option<Ordering> {
+        Some(self.cmp(other))
     }
 }

@@ -2,6 +2,7 @@
 //! its proof, and calling the function brings it to the caller.
 
 ghost use Rattle.rep_types.specs.Verdicts.{VerdictsAreDetermined, StateIsEnough, ReadsAreSerial};
+ghost use Rattle.rep_types.specs.ByItems.{HistoryByItems, WindowByItems, RowsByItems, ReadsByItems, StateByParts};
 
 /// The verdicts of an order are the one assignment in which each item has the verdict that its
 /// definition by pairs says: a conflict names the greatest committed item that meets it.
@@ -19,4 +20,32 @@ pub fn state_is_enough()
 /// transactions are serializable in the order of their seqnos.
 pub fn reads_are_serial()
     ensures { ReadsAreSerial }
+{}
+
+/// The item that `n` items stand before has the seqno `n + 1`, and the history has as many items as
+/// the order, each at its place, with its seqno and its verdict.
+pub fn history_by_items()
+    ensures { HistoryByItems }
+{}
+
+/// An entry is in the window exactly where its item committed and wrote its keys, and the seqno and
+/// the size of the window come to more than the number of items; the window ascends by seqno.
+pub fn window_by_items()
+    ensures { WindowByItems }
+{}
+
+/// A key that no committed item writes has no row; else the row is the value of the last write of the
+/// key by the last committed item that writes it, and there is none where that is a delete.
+pub fn rows_by_items()
+    ensures { RowsByItems }
+{}
+
+/// A read at a position is of the rows after so many items, and more items do not change it.
+pub fn reads_by_items()
+    ensures { ReadsByItems }
+{}
+
+/// A state is how many items came, the rows after them, and the window.
+pub fn state_by_parts()
+    ensures { StateByParts }
 {}

@@ -9,6 +9,7 @@ mod gtid;
 mod judged;
 mod key;
 mod laws;
+mod limits;
 mod number;
 mod params;
 mod refusal;
@@ -19,13 +20,20 @@ mod write_set;
 
 pub use entry::Entry;
 pub use gtid::{Gtid, gtids_read_back};
-pub use judged::{Judged, MAX_SEQNO};
+pub use judged::Judged;
 pub use key::Key;
-pub use laws::{reads_are_serial, state_is_enough, verdicts_are_determined};
+pub use laws::{
+    history_by_items, reads_are_serial, reads_by_items, rows_by_items, state_by_parts,
+    state_is_enough, verdicts_are_determined, window_by_items,
+};
+pub use limits::{
+    MAX_AHEAD, MAX_CELLS, MAX_PAGES, MAX_READS, MAX_SEQNO, MAX_TABLES, MAX_VALUE, MAX_WINDOW,
+    MAX_WRITES, MIN_CELLS, ROWS_PER_PAGE, limits_are_these,
+};
 pub use number::read_number;
 pub use params::{Params, Schema};
 pub use refusal::{Part, Refusal};
 pub use reply::Reply;
-pub use value::{MAX_VALUE, Value, Write};
+pub use value::{Value, Write};
 pub use verdict::Verdict;
-pub use write_set::{MAX_READS, MAX_WRITES, WriteSet};
+pub use write_set::WriteSet;

@@ -5,6 +5,7 @@ ghost use Rattle.std.specs.List.{list_all};
 ghost use Rattle.rep_types.specs.Settings.{pages_of, has_row};
 
 use crate::key::Key;
+use crate::limits::{MAX_CELLS, MAX_PAGES, MAX_TABLES, MAX_WINDOW, MIN_CELLS, ROWS_PER_PAGE};
 use crate::refusal::Refusal;
 use crate::value::Write;
 use crate::write_set::WriteSet;
@@ -15,7 +16,7 @@ use std::marker::Model;
 /// rows of one table, and all tables together take at most 4,096 pages.
 #[derive(Debug, Drop, PartialEq, Eq)]
 pub struct Schema {
-    rows: ArrayVec<u32, 8>,
+    rows: ArrayVec<u32, MAX_TABLES>,
 }
 
 impl Model for Schema {
@@ -33,11 +34,11 @@ impl Model for Schema {
 
 /// How many pages the tables take, 63 rows in a page, each table its own.
 fn pages_taken(rows: &[u32]) -> u64
-    requires { length rows.now ≤ 8 }
+    requires { length rows.now ≤ MAX_TABLES }
     ensures { result ≡ pages_of rows.now }
 {
     rows.iter()
-        .map(|count| u64::from(*count).div_ceil(63))
+        .map(|count| u64::from(*count).div_ceil(u64::from(ROWS_PER_PAGE)))
         .sum()
 }
 
@@ -75,7 +76,7 @@ impl Schema {
         let Ok(kept) = ArrayVec::try_from(rows) else {
             return Err(Refusal::BadParams);
         };
-        if rows.is_empty() || !has_rows(rows) || pages_taken(rows) > 4096 {
+        if rows.is_empty() || !has_rows(rows) || pages_taken(rows) > MAX_PAGES {
             return Err(Refusal::BadParams);
         }
         Ok(Schema { rows: kept })
@@ -147,7 +148,7 @@ impl Params {
     pub fn new(w: u32, n: u32, rows: &[u32]) -> Result<Params, Refusal>
         ensures { result ≡ allowed (setting w n rows.now) }
     {
-        if w < 1 || w > 256 || n < 4 || n > 1024 {
+        if w < 1 || w > MAX_WINDOW || n < MIN_CELLS || n > MAX_CELLS {
             return Err(Refusal::BadParams);
         }
         let schema = Schema::new(rows)?;

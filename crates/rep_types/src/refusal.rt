@@ -32,10 +32,10 @@ pub enum Refusal {
     /// The engine met a device fault, or the node was halted.
     #[error("stopped")]
     Stopped,
-    /// The seqno is not the next one.
+    /// The seqno is not the next one, which is `expected`.
     #[error("out-of-order {expected}")]
     OutOfOrder { expected: u64 },
-    /// 256 items are delivered and not yet durable.
+    /// `MAX_AHEAD` (256) items are delivered and not yet durable.
     #[error("backlogged")]
     Backlogged,
     /// The next cell of the log is still needed.
@@ -44,10 +44,11 @@ pub enum Refusal {
     /// Nothing of this kind is due.
     #[error("not-due")]
     NotDue,
-    /// The snapshot is below what is kept.
+    /// The snapshot is below what is kept: the oldest state that can be read is that after `oldest`
+    /// items.
     #[error("too-old {oldest}")]
     TooOld { oldest: u64 },
-    /// The snapshot is above what is durable.
+    /// The snapshot is above what is durable, which is the first `durable` items.
     #[error("not-yet {durable}")]
     NotYet { durable: u64 },
     /// A key is outside the schema.
@@ -62,28 +63,29 @@ pub enum Refusal {
     /// Bytes of this part of the disk are not of their form.
     #[error("corrupt {part}")]
     Corrupt { part: Part },
-    /// The device is smaller than it must be.
+    /// The device is smaller than the `need` bytes that it must have.
     #[error("too-small {need}")]
     TooSmall { need: u64 },
     /// The window, the log or the schema is outside the limits.
     #[error("bad-params")]
     BadParams,
-    /// Text or bytes are not of their form.
+    /// Text or bytes are not of their form. What `at` counts is said at the call: the line of a text,
+    /// from 1; a byte, from 0; or an entry of a write set, from 0 in the reads followed by the writes.
     #[error("malformed {at}")]
     Malformed { at: u64 },
-    /// More than 16 reads.
+    /// More than `MAX_READS` (16) reads.
     #[error("too-many-reads")]
     TooManyReads,
-    /// More than 16 writes.
+    /// More than `MAX_WRITES` (16) writes.
     #[error("too-many-writes")]
     TooManyWrites,
-    /// A value of more than 62 bytes.
+    /// A value of more than `MAX_VALUE` (62) bytes.
     #[error("value-too-long")]
     ValueTooLong,
     /// Another state UUID, window or schema.
     #[error("wrong-cluster")]
     WrongCluster,
-    /// The joiner is past the donor's durable position.
+    /// The joiner is past the donor's durable position, which is `position`.
     #[error("ahead {position}")]
     Ahead { position: u64 },
     /// The session or the publisher has ended.

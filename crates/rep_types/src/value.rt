@@ -1,28 +1,29 @@
 //! What is stored under a key, and a write of it.
 
-ghost use Rattle.std.specs.Prelude.{◌≡◌, ℕ, ◌<◌, ◌≤◌, List, length, nat_le, Ok, Err, if◌then◌else◌, ⊤};
+ghost use Rattle.std.specs.Prelude.{◌≡◌, ◌≤◌, length, nat_le, Ok, Err, if◌then◌else◌, ⊤};
 
 use crate::key::Key;
+use crate::limits::MAX_VALUE;
 use crate::refusal::Refusal;
 use arrayvec::ArrayVec;
 use std::alloc::AllocError;
 use std::marker::Model;
 
-/// The greatest number of bytes of a value.
-pub const MAX_VALUE: usize = 62;
-
 /// What is stored under a key: 0 to 62 bytes.
 #[derive(Debug, Drop, PartialEq, Eq)]
 pub struct Value {
-    bytes: ArrayVec<u8, 62>,
+    bytes: ArrayVec<u8, MAX_VALUE>,
 }
 
 impl Model for Value {
+    ghost use Rattle.std.specs.Prelude.{ℕ, ◌≤◌, List, length};
+    ghost use Rattle.rep_types.specs.declared.limits.TheConstants.{MAX_VALUE};
+
     ghost Value = { List ℕ };
 
     ghost view = { λ v. v.bytes.items };
 
-    ghost invariant = { λ v. length v.bytes.items ≤ 62 };
+    ghost invariant = { λ v. length v.bytes.items ≤ MAX_VALUE };
 
     ghost inverse = { λ bytes. record { bytes = record { items = bytes } } };
 }
@@ -32,7 +33,7 @@ impl Value {
     ///
     /// Refuses more than 62 bytes with `ValueTooLong`.
     pub fn new(bytes: &[u8]) -> Result<Value, Refusal>
-        ensures { result ≡ (if nat_le (length bytes.now) 62 then Ok bytes.now else Err Refusal.ValueTooLong) }
+        ensures { result ≡ (if nat_le (length bytes.now) MAX_VALUE then Ok bytes.now else Err Refusal.ValueTooLong) }
     {
         match ArrayVec::try_from(bytes) {
             Ok(bytes) => Ok(Value { bytes }),
@@ -43,7 +44,7 @@ impl Value {
     /// The bytes.
     pub fn as_bytes(&self) -> &[u8]
         ensures bytes { result.now ≡ self.now }
-        ensures fits { length self.now ≤ 62 }
+        ensures fits { length self.now ≤ MAX_VALUE }
     {
         self.bytes.as_slice()
     }
@@ -51,7 +52,7 @@ impl Value {
     /// A copy, which takes no memory.
     pub fn copied(&self) -> Value
         ensures same { result ≡ self.now }
-        ensures fits { length self.now ≤ 62 }
+        ensures fits { length self.now ≤ MAX_VALUE }
     {
         match ArrayVec::try_from(self.bytes.as_slice()) {
             Ok(bytes) => Value { bytes },

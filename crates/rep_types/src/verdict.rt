@@ -4,10 +4,9 @@ use std::fmt;
 
 /// What certification says of a delivered write set. Every write set takes the next seqno,
 /// whatever its verdict; one that commits takes effect, and the others are dropped.
-#[derive(Clone, Copy, Debug, Default, PartialEq, Eq)]
+#[derive(Clone, Copy, Debug, PartialEq, Eq)]
 pub enum Verdict {
     /// The write set takes effect.
-    #[default]
     Commit,
     /// A committed write set that the transaction had not seen wrote a key that it read or wrote:
     /// the greatest seqno of such a one.
@@ -32,6 +31,19 @@ impl Verdict {
             Verdict::Commit => true,
             Verdict::Conflict(_) | Verdict::Stale | Verdict::Future | Verdict::BadKey => false,
         }
+    }
+}
+
+impl Default for Verdict {
+    ghost use Rattle.std.specs.Prelude.{◌≡◌};
+    ghost use Rattle.rep_types.specs.declared.verdict.Verdict.TheVariants.{Stale};
+
+    ghost is_default = { λ verdict. verdict ≡ Stale };
+
+    /// A verdict that drops the write set and says nothing of others, so that none commits by a value
+    /// that was never filled in.
+    fn default() -> Verdict {
+        Verdict::Stale
     }
 }
 

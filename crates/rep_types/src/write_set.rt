@@ -1,22 +1,17 @@
 //! What a transaction hands in when it asks to commit.
 
-ghost use Rattle.std.specs.Prelude.{◌≡◌, ◌<◌, ◌≤◌, length, map, IfSome, ⊤};
+ghost use Rattle.std.specs.Prelude.{◌≡◌, ◌+◌, ◌<◌, ◌≤◌, length, map, IfSome, ⊤};
 ghost use Rattle.std.specs.List.{AllByRecursion, list_any};
 ghost use Rattle.rep_types.specs.Keys.{disorder, key_eq};
 ghost use Rattle.rep_types.specs.Transactions.{key_of, misplaced, HasShortValue, written};
 
 use crate::key::Key;
+use crate::limits::{MAX_READS, MAX_WRITES};
 use crate::refusal::Refusal;
 use crate::value::Write;
 use arrayvec::ArrayVec;
 use std::alloc::AllocError;
 use std::marker::Model;
-
-/// The greatest number of keys that a write set reads.
-pub const MAX_READS: usize = 16;
-
-/// The greatest number of keys that a write set writes.
-pub const MAX_WRITES: usize = 16;
 
 /// What a transaction hands in when it asks to commit: the keys that it read, its writes, and the
 /// position of the state that it saw (deferred update: Pedone, Guerraoui and Schiper, 2003).
@@ -25,8 +20,8 @@ pub struct WriteSet {
     source: u64,
     trx: u64,
     last_seen: u64,
-    reads: ArrayVec<Key, 16>,
-    writes: ArrayVec<Write, 16>,
+    reads: ArrayVec<Key, MAX_READS>,
+    writes: ArrayVec<Write, MAX_WRITES>,
 }
 
 impl Model for WriteSet {
@@ -48,7 +43,7 @@ fn first_disorder(keys: &[Key]) -> Option<usize>
     ensures within { IfSome result (λ i. i < length keys.now) }
 {
     for i in 1..keys.len() {
-        if !keys[i - 1].is_below(keys[i]) {
+        if keys[i - 1] >= keys[i] {
             return Some(i);
         }
     }
@@ -56,8 +51,8 @@ fn first_disorder(keys: &[Key]) -> Option<usize>
 }
 
 /// The keys of the writes.
-fn keys_of(writes: &[Write]) -> ArrayVec<Key, 16>
-    requires { length writes.now ≤ 16 }
+fn keys_of(writes: &[Write]) -> ArrayVec<Key, MAX_WRITES>
+    requires { length writes.now ≤ MAX_WRITES }
     ensures { result.items ≡ map key_of writes.now }
 {
     let mut keys = ArrayVec::new();
@@ -70,10 +65,10 @@ fn keys_of(writes: &[Write]) -> ArrayVec<Key, 16>
 /// The index, in the reads followed by the writes, of the first entry that is not above its
 /// predecessor; where all are, the number of reads where there is no write.
 fn first_misplaced(reads: &[Key], writes: &[Write]) -> Option<usize>
-    requires few_reads { length reads.now ≤ 16 }
-    requires few_writes { length writes.now ≤ 16 }
+    requires few_reads { length reads.now ≤ MAX_READS }
+    requires few_writes { length writes.now ≤ MAX_WRITES }
     ensures value { result ≡ misplaced reads.now writes.now }
-    ensures small { IfSome result (λ at. at ≤ 32) }
+    ensures small { IfSome result (λ at. at ≤ MAX_READS + MAX_WRITES) }
 {
     if let Some(at) = first_disorder(reads) {
         return Some(at);
@@ -91,19 +86,19 @@ fn first_misplaced(reads: &[Key], writes: &[Write]) -> Option<usize>
 fn is_among(keys: &[Key], key: Key) -> bool
     ensures { result ≡ list_any (key_eq key) keys.now }
 {
-    keys.iter().any(|other| key.is(*other))
+    keys.iter().any(|other| key == *other)
 }
 
 /// Whether one of the writes is of the key.
 fn is_written(writes: &[Write], key: Key) -> bool
     ensures { result ≡ list_any (λ write. key_eq key write.key) writes.now }
 {
-    writes.iter().any(|write| key.is(write.key))
+    writes.iter().any(|write| key == write.key)
 }
 
 /// A copy of the writes.
-fn copy_of(writes: &[Write]) -> ArrayVec<Write, 16>
-    requires { length writes.now ≤ 16 }
+fn copy_of(writes: &[Write]) -> ArrayVec<Write, MAX_WRITES>
+    requires { length writes.now ≤ MAX_WRITES }
     ensures same { result.items ≡ writes.now }
     ensures short { AllByRecursion HasShortValue writes.now }
 {
@@ -206,7 +201,7 @@ impl WriteSet {
     }
 
     /// The keys that the transaction writes, in ascending order.
-    pub fn written(&self) -> ArrayVec<Key, 16>
+    pub fn written(&self) -> ArrayVec<Key, MAX_WRITES>
         ensures { result.items ≡ written self.now }
     {
         keys_of(self.writes())

@@ -62,7 +62,7 @@ fn a_run_answers_each_event(rt: HostRuntime) -> Result<(), Fail> {
     assert_eq!(rt; replica.delivered(), 1);
     assert_eq!(rt; replica.durable(), 1);
     assert_eq!(rt; replica.base(), 0);
-    assert_eq!(rt; replica.gtid().seqno, 1);
+    assert_eq!(rt; replica.gtid().seqno(), 1);
     assert_eq!(rt; replica.window(rt.alloc())?.len(), 1);
     Ok(())
 }
@@ -83,7 +83,7 @@ fn gtids_of_the_form_are_read(rt: HostRuntime) {
     ];
     for (text, seqno) in cases {
         assert_eq!(rt;
-            Gtid::parse(text).map(|gtid| gtid.seqno),
+            Gtid::parse(text).map(|gtid| gtid.seqno()),
             Ok(seqno),
             "{text:?}"
         );
@@ -127,9 +127,8 @@ fn gtids_are_written_in_lower_case(rt: HostRuntime) -> Result<(), Fail> {
         text.as_str(),
         "5ee99582-bb8d-11e2-b8e3-23de375c1d30:8204503945773"
     );
-    let undefined = Gtid {
-        uuid: Uuid::nil(),
-        seqno: -1,
+    let Some(undefined) = Gtid::new(Uuid::nil(), -1) else {
+        return Err(Fail::new("no undefined GTID"));
     };
     let text = format!(in rt.alloc(); "{undefined}")?;
     assert_eq!(rt; text.as_str(), "00000000-0000-0000-0000-000000000000:-1");

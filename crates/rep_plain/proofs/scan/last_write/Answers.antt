@@ -3,12 +3,12 @@ use Rattle.rep_types.specs.declared.value.Write.{Write}
 use Rattle.rep_types.specs.Keys.{key_eq}
 use Rattle.rep_types.proofs.Latest.{latest_more}
 use Rattle.rep_plain.proofs.scan.last_write.Goals as goal
-use Rattle.rep_plain.proofs.scan.last_write.Goals.{then-is, else-is}
+use Rattle.rep_plain.proofs.scan.last_write.Goals.{then-eq, else-eq}
 
 pub loop-write-preserved : goal.loop-write-preserved
 loop-write-preserved c =
     let more = latest_more (λ (write : Write). key_eq write.key c.args.key) c.args.writes.now c.loop-write.write-index c.write-item.result c.write-item.is c.loop-write-test.true in
-    elim c.if-is.branch [
-      | then-is w ↦ rw (more, sym c.is.ensures, w.if-is.true, w.found-is) refl
-      | else-is w ↦ rw (more, sym c.is.ensures, w.if-is.false, w.found-is) c.loop-write.invariant
+    elim c.if-eq.branch [
+      | then-eq w ↦ rw (more, sym c.eq.ensures, w.if-eq.true, w.found-is) refl
+      | else-eq w ↦ rw (more, sym c.eq.ensures, w.if-eq.false, w.found-is) c.loop-write.invariant
     ]

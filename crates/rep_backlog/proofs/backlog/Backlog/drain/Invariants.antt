@@ -1,5 +1,5 @@
 use Rattle.std.proofs.Common.{◌≡◌, ◌≤◌, ◌+◌, length, take, drop}
-use Rattle.rep_backlog.specs.declared.backlog.TheConstants.{MAX_BACKLOG}
+use Rattle.rep_types.specs.declared.limits.TheConstants.{MAX_AHEAD}
 use Rattle.rep_backlog.specs.Fronts.{fitting, with_records}
 use Rattle.rep_backlog.proofs.backlog.Backlog.drain.Given as goal
 
@@ -7,8 +7,8 @@ use Rattle.rep_backlog.proofs.backlog.Backlog.drain.Given as goal
 abbrev pub invariant-loop-first : goal.invariant-loop-first
 invariant-loop-first l = record {
   within : l.moved ≤ length l.initial.self-inside.items.items;
-  few : length l.initial.self-inside.items.items ≤ MAX_BACKLOG;
-  room : l.self-inside.items.capacity ≡ MAX_BACKLOG;
+  few : length l.initial.self-inside.items.items ≤ MAX_AHEAD;
+  room : l.self-inside.items.capacity ≡ MAX_AHEAD;
   rest : l.self-inside.items.items ≡ drop l.moved l.initial.self-inside.items.items;
   gathered : l.builder ≡ with_records l.initial.builder (take l.moved l.initial.self-inside.items.items);
   counted : fitting l.initial.builder l.initial.self-inside.items.items ≡ fitting l.builder l.self-inside.items.items + l.moved;

@@ -22,6 +22,7 @@ invariant_of-self c =
     (record {
       span = c.self.invariant.span;
       past = c.self.invariant.past;
+      spanned = c.self.invariant.spanned;
       ascending =
           Ascends-wider low (s.delivered + 2) low (s.delivered + 1 + 1) (keep_last KEPT_ENTRIES more) (le_refl low) (omega arith)
           (Ascends-drop (length more - KEPT_ENTRIES) low (s.delivered + 2) more wide);

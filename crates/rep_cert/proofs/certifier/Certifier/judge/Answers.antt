@@ -1,8 +1,8 @@
-use Rattle.std.proofs.Common.{◌++◌, List, Some, None, ap, ◌∙◌, sym, arith, option_map}
+use Rattle.std.proofs.Common.{◌++◌, List, Some, None, ap, ◌∙◌, sym, arith}
 use Rattle.std.proofs.lemmas.Grind.{common_steps}
 use Rattle.rep_types.specs.Entries.{Entry}
-use Rattle.rep_types.specs.Order.{latest, against}
-use Rattle.rep_cert.specs.Holdings.{Holdings, seqno_of, verdict_of}
+use Rattle.rep_types.specs.Order.{greatest, seqnos_against}
+use Rattle.rep_cert.specs.Holdings.{Holdings, verdict_of}
 use Rattle.rep_cert.proofs.Kept.{upto_kept, verdict_found}
 use Rattle.rep_cert.proofs.certifier.Certifier.judge.Goals as goal
 
@@ -13,7 +13,7 @@ returns-in-Some c =
     (upto_kept s.made_at s.delivered s.given.items s.admitted.items c.self.invariant.start c.self.invariant.past c.self.invariant.ascending)
     (omega arith) (grind (arith, common_steps)) (omega arith)
     (sym c.in-Some.is
-    ∙ (c.latest_kept_conflict.ensures ∙ ap (λ (es : List Entry). option_map seqno_of (latest (against c.args.item.now) (es ++ s.admitted.items))) c.deref.ensures.value))
+    ∙ (c.greatest_kept_conflict.ensures ∙ ap (λ (es : List Entry). greatest (seqnos_against c.args.item.now (es ++ s.admitted.items))) c.deref.ensures.value))
     ∙ ap (λ (v : Holdings). verdict_of v.current c.args.item.now) c.self.view_is
 
 pub returns-in-None : goal.returns-in-None
@@ -23,5 +23,5 @@ returns-in-None c =
     (upto_kept s.made_at s.delivered s.given.items s.admitted.items c.self.invariant.start c.self.invariant.past c.self.invariant.ascending)
     (omega arith) (grind (arith, common_steps)) (omega arith)
     (sym c.in-None.is
-    ∙ (c.latest_kept_conflict.ensures ∙ ap (λ (es : List Entry). option_map seqno_of (latest (against c.args.item.now) (es ++ s.admitted.items))) c.deref.ensures.value))
+    ∙ (c.greatest_kept_conflict.ensures ∙ ap (λ (es : List Entry). greatest (seqnos_against c.args.item.now (es ++ s.admitted.items))) c.deref.ensures.value))
     ∙ ap (λ (v : Holdings). verdict_of v.current c.args.item.now) c.self.view_is

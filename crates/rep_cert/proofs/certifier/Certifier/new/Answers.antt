@@ -1,20 +1,39 @@
-use Rattle.std.proofs.Common.{◌≡◌, ◌≤◌, ◌+◌, ◌++◌, List, [], All, None, rules, refl, sym, ap, ◌∙◌, subst, le_refl, arith}
+use Rattle.std.proofs.Common.{◌≡◌, ◌≤◌, ◌+◌, ◌++◌, ◌&&◌, nat_le, List, [], filter, All, None, rules, refl, sym, ap, ◌∙◌, subst, le_refl, arith}
 use Rattle.std.proofs.lemmas.Fn.{filter_same}
+use Rattle.std.proofs.lemmas.List.Elements.{All-filter}
 use Rattle.rep_types.specs.Entries.{Entry}
+use Rattle.rep_types.specs.Order.{floor, recent}
+use Rattle.rep_types.proofs.Windows.{recent_above}
 use Rattle.rep_cert.specs.Holdings.{Holding, upto}
 use Rattle.rep_cert.specs.Kept.{holding}
 use Rattle.rep_cert.proofs.Ascending.{upto_past}
-use Rattle.rep_cert.proofs.Kept.{narrow, holding_made}
+use Rattle.rep_cert.proofs.Kept.{narrow, spans, between, holding_made}
 use Rattle.rep_cert.proofs.certifier.Certifier.new.Goals as goal
+
+-- of the entries given, those that the window spans are held
+held : (c : goal.After-retain) → c.retain.new.self.items ≡ recent (floor c.args.params c.args.position) (upto c.args.position c.args.window.items)
+held c =
+    let one : 1 ≤ c.args.params.window = spans c.args.params c.window.ensures.limits in
+    let lowest : c.saturating_sub-floor.result ≡ floor c.args.params c.args.position = omega (arith, one, c.saturating_sub-floor.ensures, c.from.ensures, c.window.ensures.window) in
+    let cut : c.retain.new.self.items ≡ filter (λ (e : Entry). nat_le c.saturating_sub-floor.result e.seqno && nat_le e.seqno c.args.position) c.args.window.items =
+    filter_same _ _ _ (λ e b f k. search rules) _ _ c.retain.ensures.filtered in
+    cut
+    ∙ (between c.saturating_sub-floor.result c.args.position c.args.window.items
+    ∙ ap (λ low. recent low (upto c.args.position c.args.window.items)) lowest)
 
 pub invariant_of-result : goal.invariant_of-result
 invariant_of-result c =
-    let held : c.retain.new.self.items ≡ upto c.args.position c.args.window.items = filter_same _ _ _ (λ e b f k. search rules) _ _ c.retain.ensures.filtered in
+    let low = floor c.args.params c.args.position in
+    let all : List Entry = upto c.args.position c.args.window.items in
     let P : List Entry → Type 0 = λ es. All (λ (e : Entry). e.seqno ≤ c.args.position) es in
+    let Q : List Entry → Type 0 = λ es. All (λ (e : Entry). low ≤ e.seqno) es in
     rw c.in_ok-admitted.ensures
     (record {
-      span = narrow c.args.params c.window-span.ensures.limits;
-      past = subst P (sym held) (upto_past c.args.position c.args.window.items);
+      span = narrow c.args.params c.window.ensures.limits;
+      past =
+          subst P (sym (held c))
+          (All-filter (λ (e : Entry). nat_le low e.seqno) (λ (e : Entry). e.seqno ≤ c.args.position) all (upto_past c.args.position c.args.window.items));
+      spanned = subst Q (sym (held c)) (recent_above low all);
       ascending = le_refl (c.args.position + 1);
       few = omega arith;
       room = refl;
@@ -25,7 +44,7 @@ invariant_of-result c =
 
 pub returns-clause-made : goal.returns-clause-made
 returns-clause-made c =
-    let held : c.retain.new.self.items ≡ upto c.args.position c.args.window.items = filter_same _ _ _ (λ e b f k. search rules) _ _ c.retain.ensures.filtered in
     rw c.in_ok-admitted.ensures
     (ap (λ (h : Holding). record { current = h; before = None })
-    (ap (λ (es : List Entry). holding c.args.params c.args.position c.args.position (es ++ [])) held ∙ holding_made c.args.params c.args.position c.args.window.items))
+    (ap (λ (es : List Entry). holding c.args.params c.args.position c.args.position (es ++ [])) (held c)
+    ∙ holding_made c.args.params c.args.position c.args.window.items))

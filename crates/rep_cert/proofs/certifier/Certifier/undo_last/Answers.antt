@@ -16,6 +16,7 @@ invariant_of-self c =
     (record {
       span = c.self.invariant.span;
       past = c.self.invariant.past;
+      spanned = c.self.invariant.spanned;
       ascending = Ascends-upto (s.delivered - 1) (s.made_at + 1) (s.delivered + 1) s.admitted.items (omega arith) c.self.invariant.ascending;
       few = omega (arith, length-upto (s.delivered - 1) s.admitted.items, c.self.invariant.few);
       room = c.self.invariant.room;

@@ -1,0 +1,19 @@
+use Rattle.std.proofs.Common.{◌≡◌, ℕ, ◌+◌, ◌-◌, ◌≤◌, List, [], ◌∷◌, ◌++◌, length, get_or, refl, ap, ◌∙◌, arith}
+use Rattle.rep_types.specs.Transactions.{Transaction}
+use Rattle.rep_types.specs.Order.{Order, no_item, item}
+use Rattle.rep_types.proofs.Histories.{length_history, history_at}
+use Rattle.rep_types.proofs.laws.history_by_items.Goals as goal
+
+-- what stands behind a list
+behind : {X : Type 0} (xs ys : List X) (x d : X) → get_or (xs ++ x ∷ ys) (length xs) d ≡ x
+behind [] ys x d = refl
+behind (y ∷ xs) ys x d = behind xs ys x d
+
+-- the item that so many stand before
+item_behind : (before rest : Order) (w : Transaction) → item (before ++ w ∷ rest) (length before + 1) ≡ w
+item_behind before rest w =
+    let same : length before + 1 - 1 ≡ length before = omega arith in
+    ap (λ k. get_or (before ++ w ∷ rest) k no_item) same ∙ behind before rest w no_item
+
+pub returns : goal.returns
+returns c = record { seqno = item_behind; as_many = length_history; items = λ p L n d first last. history_at p L n d first last }

@@ -1,0 +1,68 @@
+-- The history, the rows, the window and the state in the subject's own words, by the items of the order.
+use Rattle.std.specs.Prelude.{◌≡◌, ◌≢◌, ◌↔◌, ℕ, ◌+◌, ◌-◌, ◌<◌, ◌≤◌, List, ◌∷◌, ◌++◌, length, take, slice_index_or, Contains, None}
+use Rattle.rep_types.specs.declared.key.Key.{Key}
+use Rattle.rep_types.specs.declared.value.Write.{Write}
+use Rattle.rep_types.specs.declared.judged.Judged.{Judged}
+use Rattle.rep_types.specs.declared.verdict.Verdict.TheVariants.{Commit}
+use Rattle.rep_types.specs.Transactions.{Transaction, written}
+use Rattle.rep_types.specs.Settings.{Setting}
+use Rattle.rep_types.specs.Entries.{Entry}
+use Rattle.rep_types.specs.Order.{Order, item, verdict, history, entries, effects, rows, read, window, state}
+
+-- the order has an item n, and it committed
+pub record IsCommitted (p : Setting) (L : Order) (n : ℕ) : Type 0 where
+  pub first : 1 ≤ n
+  pub last : n ≤ length L
+  pub commit : verdict p L n ≡ Commit
+
+-- The history has the items of the order, each with its seqno and its verdict: its item n is at the place n, counted from 1.
+pub record HistoryByItems : Type 0 where
+  pub seqno : (before behind : Order) (w : Transaction) → item (before ++ w ∷ behind) (length before + 1) ≡ w
+  pub as_many : (p : Setting) (L : Order) → length (history p L) ≡ length L
+  pub items : (p : Setting) (L : Order) (n : ℕ) (d : Judged) → 1 ≤ n → n ≤ length L →
+      slice_index_or (history p L) (n - 1) d ≡ record { seqno = n; item = item L n; verdict = verdict p L n }
+
+-- e stands for a committed item of the order: the one with its seqno, which wrote its keys
+pub record IsEntry (p : Setting) (L : Order) (e : Entry) : Type 0 where
+  pub committed : IsCommitted p L e.seqno
+  pub keys : e.keys ≡ written (item L e.seqno)
+
+-- each seqno is below those behind it
+abbrev pub AscendBySeqno : List Entry → Type 0
+AscendBySeqno es = (i j : ℕ) (d : Entry) → i < j → j < length es → (slice_index_or es i d).seqno < (slice_index_or es j d).seqno
+
+-- The entries are those of the committed items, and the window has those of them whose seqno m has |L| < m + W; both in the
+-- order of their seqnos, each once.
+pub record WindowByItems : Type 0 where
+  pub all : (p : Setting) (L : Order) (e : Entry) → Contains (entries (history p L)) e ↔ IsEntry p L e
+  pub all_ascend : (p : Setting) (L : Order) → AscendBySeqno (entries (history p L))
+  pub spanned : (p : Setting) (L : Order) (e : Entry) → Contains (window p L) e ↔ (IsEntry p L e × (length L < e.seqno + p.window))
+  pub spanned_ascend : (p : Setting) (L : Order) → AscendBySeqno (window p L)
+
+-- the writes write the key, and this is the last that does
+pub record IsLastWrite (writes : List Write) (key : Key) (write : Write) : Type 0 where
+  pub place : ℕ
+  pub inside : place < length writes
+  pub is : slice_index_or writes place write ≡ write
+  pub of_key : write.key ≡ key
+  pub last : (k : ℕ) (d : Write) → place < k → k < length writes → (slice_index_or writes k d).key ≢ key
+
+-- A key that no committed item writes has no row. Where committed items write it, the last of them says the row: the value of
+-- its last write of the key, or no row where that is a delete. What takes effect is what committed items write.
+pub record RowsByItems : Type 0 where
+  pub absent : (p : Setting) (L : Order) (key : Key) → ((n : ℕ) → IsCommitted p L n → Contains (written (item L n)) key → ⊥) → rows p L key ≡ None
+  pub present : (p : Setting) (L : Order) (key : Key) (n : ℕ) (write : Write) → IsCommitted p L n → IsLastWrite (item L n).writes key write →
+      ((k : ℕ) → n < k → IsCommitted p L k → Contains (written (item L k)) key → ⊥) → rows p L key ≡ write.value
+  pub effects : (p : Setting) (L : Order) (write : Write) →
+      Contains (effects (history p L)) write ↔ ((n : ℕ) × IsCommitted p L n × Contains (item L n).writes write)
+
+-- A read at s is of the rows after the first s items. It stays the same as more items come.
+pub record ReadsByItems : Type 0 where
+  pub rows : (p : Setting) (L : Order) (key : Key) (s : ℕ) → read p L key s ≡ rows p (take s L) key
+  pub stays : (p : Setting) (L M : Order) (key : Key) (s : ℕ) → s ≤ length L → read p (L ++ M) key s ≡ read p L key s
+
+-- A state is how many items came, the rows after them, and the window.
+pub record StateByParts : Type 0 where
+  pub position : (p : Setting) (L : Order) → (state p L).position ≡ length L
+  pub content : (p : Setting) (L : Order) (key : Key) → (state p L).content key ≡ rows p L key
+  pub kept : (p : Setting) (L : Order) → (state p L).kept ≡ window p L
