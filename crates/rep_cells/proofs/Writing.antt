@@ -168,9 +168,9 @@ write_steps {T} {E} l h new s place at bytes step result is there from to w know
     succeeds : (r : Result T E) → Writes at bytes h new r → OnOk r (Assigns l new after)
     succeeds (Ok x) v =
         let each : (q : Place) → IsPlace l q → Stands l (Wrote at bytes h) q (after q) =
-            moved (λ q state. IsPlace l q → Stands l (Wrote at bytes h) q state) s after place step moves
-              (λ other. (known, λ now. is.readable place other (sure now)))
-              (λ q differ other. stands_elsewhere l h q (s q) at bytes (gate_fits l h s q is other) (apart q (length bytes) refl other differ) (stands l h s q is other)) in
+        moved (λ q state. IsPlace l q → Stands l (Wrote at bytes h) q state) s after place step moves
+        (λ other. (known, λ now. is.readable place other (sure now)))
+        (λ q differ other. stands_elsewhere l h q (s q) at bytes (gate_fits l h s q is other) (apart q (length bytes) refl other differ) (stands l h s q is other)) in
         subst (λ (g : History). Assigns l g after) (sym v.done) (assigned l (Wrote at bytes h) after is.fits each)
     succeeds (Err e) v = tt
 
@@ -194,8 +194,8 @@ write_steps {T} {E} l h new s place at bytes step result is there from to w know
     kept_after : (junk : List ℕ) → length junk ≡ length bytes → (q : Place) → IsPlace l q → Kept l (Wrote at junk h) q (after q)
     kept_after junk size =
         moved (λ q state. IsPlace l q → Kept l (Wrote at junk h) q state) s after place step moves
-          (λ other. kept junk size)
-          (λ q differ other. known_kept l (Wrote at junk h) q (s q) (known_elsewhere l h q (s q) at junk (gate_fits l h s q is other) (apart q (length junk) size other differ) (is.places q other)))
+        (λ other. kept junk size)
+        (λ q differ other. known_kept l (Wrote at junk h) q (s q) (known_elsewhere l h q (s q) at junk (gate_fits l h s q is other) (apart q (length junk) size other differ) (is.places q other)))
 
     allowed : (image : List ℕ) → IsImage new image → Allowed l after (reading_of l image)
     allowed image of q other =

@@ -63,7 +63,8 @@ impl<D: Disk> Cells<D> {
     pub fn into_disk(self) -> D
         ensures { result ≡ disk_of self }
     {
-        self.disk
+        let Cells { disk, .. } = self;
+        disk
     }
 
     /// Where the places lie.

@@ -45,7 +45,8 @@ impl<D: Disk> FaultOnce<D> {
     pub fn into_inner(self) -> D
         ensures { result ≡ faulty self }
     {
-        self.inner
+        let FaultOnce { inner, .. } = self;
+        inner
     }
 }
 

@@ -117,30 +117,70 @@ const CASES: [Case; 5] = [
     Case {
         fault: NO_FAULT,
         answers: [true, true, true, true],
-        asked: [Write(3, 3), Write(5, 1), Sync, Sync, Read(2, 4), Read(4, 2), Nothing],
+        asked: [
+            Write(3, 3),
+            Write(5, 1),
+            Sync,
+            Sync,
+            Read(2, 4),
+            Read(4, 2),
+            Nothing,
+        ],
     },
     // A piece of the write is refused.
     Case {
         fault: 1,
         answers: [false, true, true, true],
-        asked: [Write(3, 3), Write(5, 1), Sync, Sync, Read(2, 4), Read(4, 2), Nothing],
+        asked: [
+            Write(3, 3),
+            Write(5, 1),
+            Sync,
+            Sync,
+            Read(2, 4),
+            Read(4, 2),
+            Nothing,
+        ],
     },
     // After a failed sync the file is never asked for one again.
     Case {
         fault: 2,
         answers: [true, false, false, true],
-        asked: [Write(3, 3), Write(5, 1), Sync, Read(2, 4), Read(4, 2), Nothing, Nothing],
+        asked: [
+            Write(3, 3),
+            Write(5, 1),
+            Sync,
+            Read(2, 4),
+            Read(4, 2),
+            Nothing,
+            Nothing,
+        ],
     },
     Case {
         fault: 3,
         answers: [true, true, false, true],
-        asked: [Write(3, 3), Write(5, 1), Sync, Sync, Read(2, 4), Read(4, 2), Nothing],
+        asked: [
+            Write(3, 3),
+            Write(5, 1),
+            Sync,
+            Sync,
+            Read(2, 4),
+            Read(4, 2),
+            Nothing,
+        ],
     },
     // A piece of the read is refused.
     Case {
         fault: 5,
         answers: [true, true, true, false],
-        asked: [Write(3, 3), Write(5, 1), Sync, Sync, Read(2, 4), Read(4, 2), Nothing],
+        asked: [
+            Write(3, 3),
+            Write(5, 1),
+            Sync,
+            Sync,
+            Read(2, 4),
+            Read(4, 2),
+            Nothing,
+        ],
     },
 ];
 

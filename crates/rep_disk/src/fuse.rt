@@ -43,7 +43,8 @@ impl<D: Disk> FuseDisk<D> {
     pub fn into_inner(self) -> D
         ensures { result ≡ fused self }
     {
-        self.inner
+        let FuseDisk { inner, .. } = self;
+        inner
     }
 }
 

@@ -27,8 +27,8 @@ returns-clause-cleared g c = λ honest s is.
     let h2 : History = g.D.Disk.history c.sync.new.self.disk in
     let shut = c.in_ok-close_gate.ensures.states honest s is in
     let settled : Settled l h1 h2 shut.after c.sync.result =
-        subst (λ (k : Layout). Assigns k h1 shut.after → Settled k h1 h2 shut.after c.sync.result) c.close_gate.ensures.layout
-          (c.sync.ensures.states (c.close_gate.ensures.call.stays_honest honest) shut.after) shut.reaches.ok in
+    subst (λ (k : Layout). Assigns k h1 shut.after → Settled k h1 h2 shut.after c.sync.result) c.close_gate.ensures.layout
+    (c.sync.ensures.states (c.close_gate.ensures.call.stays_honest honest) shut.after) shut.reaches.ok in
     on_ok_weaker c.sync.result (λ assigns. record {
       states = settled.after;
       assigns = assigns;
