@@ -104,90 +104,44 @@ impl OpenFile for NotedFile {
     }
 }
 
-/// Which of a write, two syncs and a read succeed where the file's call of this number fails, and what
-/// the file is then asked for.
-#[derive(Clone, Copy)]
-struct Case {
-    fault: usize,
-    answers: [bool; 4],
-    asked: [Asked; 7],
-}
+/// All that a write, two syncs and a read ask for.
+const ALL: [Asked; 7] = [
+    Write(3, 3),
+    Write(5, 1),
+    Sync,
+    Sync,
+    Read(2, 4),
+    Read(4, 2),
+    Nothing,
+];
 
-const CASES: [Case; 5] = [
-    Case {
-        fault: NO_FAULT,
-        answers: [true, true, true, true],
-        asked: [
-            Write(3, 3),
-            Write(5, 1),
-            Sync,
-            Sync,
-            Read(2, 4),
-            Read(4, 2),
-            Nothing,
-        ],
-    },
+/// The same where the first sync fails: the file is not asked for another.
+const ONE_SYNC: [Asked; 7] = [
+    Write(3, 3),
+    Write(5, 1),
+    Sync,
+    Read(2, 4),
+    Read(4, 2),
+    Nothing,
+    Nothing,
+];
+
+/// The number of the file's call that fails, which of a write, two syncs and a read then succeed, and
+/// what the file is asked for.
+const CASES: [(usize, [bool; 4], [Asked; 7]); 5] = [
+    (NO_FAULT, [true, true, true, true], ALL),
     // A piece of the write is refused.
-    Case {
-        fault: 1,
-        answers: [false, true, true, true],
-        asked: [
-            Write(3, 3),
-            Write(5, 1),
-            Sync,
-            Sync,
-            Read(2, 4),
-            Read(4, 2),
-            Nothing,
-        ],
-    },
-    // After a failed sync the file is never asked for one again.
-    Case {
-        fault: 2,
-        answers: [true, false, false, true],
-        asked: [
-            Write(3, 3),
-            Write(5, 1),
-            Sync,
-            Read(2, 4),
-            Read(4, 2),
-            Nothing,
-            Nothing,
-        ],
-    },
-    Case {
-        fault: 3,
-        answers: [true, true, false, true],
-        asked: [
-            Write(3, 3),
-            Write(5, 1),
-            Sync,
-            Sync,
-            Read(2, 4),
-            Read(4, 2),
-            Nothing,
-        ],
-    },
+    (1, [false, true, true, true], ALL),
+    (2, [true, false, false, true], ONE_SYNC),
+    (3, [true, true, false, true], ALL),
     // A piece of the read is refused.
-    Case {
-        fault: 5,
-        answers: [true, true, true, false],
-        asked: [
-            Write(3, 3),
-            Write(5, 1),
-            Sync,
-            Sync,
-            Read(2, 4),
-            Read(4, 2),
-            Nothing,
-        ],
-    },
+    (5, [true, true, true, false], ALL),
 ];
 
 #[test]
 fn a_file_is_asked_for_all_bytes_and_each_sync(rt: HostRuntime) -> Result<(), Fail> {
-    for case in CASES {
-        let mut disk = FileDisk::new(NotedFile::new(case.fault))?;
+    for (fault, succeed, asked) in CASES {
+        let mut disk = FileDisk::new(NotedFile::new(fault))?;
         if disk.size() != SIZE {
             return Err(Fail::new("another size"));
         }
@@ -198,12 +152,12 @@ fn a_file_is_asked_for_all_bytes_and_each_sync(rt: HostRuntime) -> Result<(), Fa
             disk.sync().is_ok(),
             disk.read_at(2, &mut out).is_ok(),
         ];
-        assert_eq!(rt; answers, case.answers, "fault {}", case.fault);
+        assert_eq!(rt; answers, succeed, "fault {}", fault);
         let failed = answers.iter().filter(|answer| !**answer).count();
-        assert_eq!(rt; disk.failures(), failed as u64, "fault {}", case.fault);
+        assert_eq!(rt; disk.failures(), failed as u64, "fault {}", fault);
         let file = disk.into_file();
-        assert_eq!(rt; file.asked.get(), case.asked, "fault {}", case.fault);
-        if case.fault == NO_FAULT {
+        assert_eq!(rt; file.asked.get(), asked, "fault {}", fault);
+        if fault == NO_FAULT {
             assert_eq!(rt; out, [0, 7, 8, 9]);
             assert_eq!(rt; file.bytes.get(), [0, 0, 0, 7, 8, 9, 0, 0]);
         }
