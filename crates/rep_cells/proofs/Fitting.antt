@@ -9,7 +9,7 @@ use Rattle.rep_layout.specs.declared.place.Slot.TheVariants.{First, Second}
 use Rattle.rep_layout.specs.declared.place.Place.{Place}
 use Rattle.rep_layout.specs.declared.place.Place.TheVariants.{Super, Window, Log, Page}
 use Rattle.rep_layout.specs.declared.place.Layout.{Layout}
-use Rattle.rep_layout.specs.Places.{gate_of, end_of, gate_len}
+use Rattle.rep_layout.specs.Places.{number_of_side, number_of_slot, gate_of, end_of, gate_len}
 use Rattle.rep_layout.proofs.PlacesApart.{lies_inside}
 use Rattle.rep_cells.specs.Readings.{IsPlace}
 use Rattle.rep_cells.specs.States.{State, States, Moves}
@@ -27,24 +27,16 @@ gate_fits l h s place is there = omega (arith, is.fits, lies_inside l place ther
 abbrev pub Same : {A : Type 0} → A → A → Type 0
 Same x y = (x ≡ y) ⊎ (x ≡ y → ⊥)
 
-abbrev side_number : Side → ℕ
-side_number A = 0
-side_number B = 1
-
 side_same : (s t : Side) → Same s t
 side_same A A = inl refl
-side_same A B = inr (λ e. let differ : side_number A ≡ side_number B = ap side_number e in absurd (omega (arith, differ)))
-side_same B A = inr (λ e. let differ : side_number B ≡ side_number A = ap side_number e in absurd (omega (arith, differ)))
+side_same A B = inr (λ e. let differ : number_of_side A ≡ number_of_side B = ap number_of_side e in absurd (omega (arith, differ)))
+side_same B A = inr (λ e. let differ : number_of_side B ≡ number_of_side A = ap number_of_side e in absurd (omega (arith, differ)))
 side_same B B = inl refl
-
-abbrev slot_number : Slot → ℕ
-slot_number First = 0
-slot_number Second = 1
 
 slot_same : (s t : Slot) → Same s t
 slot_same First First = inl refl
-slot_same First Second = inr (λ e. let differ : slot_number First ≡ slot_number Second = ap slot_number e in absurd (omega (arith, differ)))
-slot_same Second First = inr (λ e. let differ : slot_number Second ≡ slot_number First = ap slot_number e in absurd (omega (arith, differ)))
+slot_same First Second = inr (λ e. let differ : number_of_slot First ≡ number_of_slot Second = ap number_of_slot e in absurd (omega (arith, differ)))
+slot_same Second First = inr (λ e. let differ : number_of_slot Second ≡ number_of_slot First = ap number_of_slot e in absurd (omega (arith, differ)))
 slot_same Second Second = inl refl
 
 number_same : (i j : ℕ) → Same i j

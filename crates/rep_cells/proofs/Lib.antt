@@ -4,4 +4,3 @@ pub mod Fitting
 pub mod Writing
 pub mod Syncing
 pub mod Reading
-pub mod Results

@@ -1,22 +1,22 @@
 -- What a write in a place comes to.
 use Rattle.std.proofs.Common.{◌≡◌, ℕ, ◌+◌, ◌<◌, ◌≤◌, ◌⊎◌, inl, inr, true, false, List, length, Result, Ok, Err, refl, sym, ap, subst, ◌∙◌, arith}
-use Rattle.std.specs.Prelude.{replicate, OnOk}
+use Rattle.std.specs.Prelude.{replicate, OnOk, OnErr}
 use Rattle.std.proofs.lemmas.List.{length-replicate}
 use Rattle.rep_disk.specs.History.{History, Wrote, Spoiled, stable, IsImage}
 use Rattle.rep_disk.specs.Moments.{IsNext, Stays, Writes as Written, Spoils}
 use Rattle.rep_disk.proofs.Images.{write_widens}
-use Rattle.rep_disk.proofs.Moments.{leaves_call}
+use Rattle.rep_disk.proofs.Moments.{call_adds}
 use Rattle.rep_layout.specs.declared.place.Layout.{Layout}
 use Rattle.rep_layout.specs.declared.place.Place.{Place}
 use Rattle.rep_layout.specs.Places.{body_len, gate_len, offset_of, gate_of, end_of, need_of}
 use Rattle.rep_layout.proofs.PlacesApart.{lie_apart, lies_inside}
 use Rattle.rep_cells.specs.Readings.{IsPlace, IsCell, IsArea, reading_of}
-use Rattle.rep_cells.specs.States.{State, States, Unknown, Shutting, Closed, Filling, Filled, Opening, Opened, Closing, Pending, Stable, Allowed, Moves, filling, opening, closing, writing}
+use Rattle.rep_cells.specs.States.{State, States, Unknown, Shutting, Closed, Filling, Filled, Opening, Opened, Closing, Pending, Stable, IsSure, Allowed, Moves, filling, opening, closing, writing}
 use Rattle.rep_cells.specs.Known.{GateIs, BodyIs, Known, Assigns}
-use Rattle.rep_cells.specs.Calls.{gate, Writes, Reaches}
+use Rattle.rep_cells.specs.Calls.{gate, Writes, Loses, Stepped}
 use Rattle.rep_cells.proofs.Ranges.{Apart, gate_stays_apart, gate_is_apart, body_stays_apart, body_written, gate_written}
-use Rattle.rep_cells.proofs.Kept.{Kept, known_kept, kept_allows, known_elsewhere}
-use Rattle.rep_cells.proofs.Fitting.{end_fits, gate_fits, place_same, gate_is_sector}
+use Rattle.rep_cells.proofs.Kept.{Kept, known_kept, kept_allows, known_elsewhere, Stands, stands, assigned, stands_elsewhere, stands_spoiled}
+use Rattle.rep_cells.proofs.Fitting.{end_fits, gate_fits, place_same, gate_is_sector, states_move}
 
 -- a write of a body: what is known where it succeeds, and what is kept whatever bytes stand in the range
 pub fill_known : (l : Layout) (h : History) (place : Place) (body : List ℕ) (state : State) → gate_of l place ≤ length (stable h) → length body ≡ body_len place → Known l h place state → Known l (Wrote (offset_of l place) body h) place (filling body state)
@@ -134,68 +134,119 @@ elsewhere_apart l p q at n there other differ from to = elim (lie_apart l p q th
   | inr behind ↦ inr (omega arith)
 ]
 
+-- what holds of each state after a step of one place
+moved : (P : Place → State → Type 0) (s t : States) (place : Place) (step : State → State) → Moves s t place step → P place (step (s place)) → ((q : Place) → (q ≡ place → ⊥) → P q (s q)) → (q : Place) → P q (t q)
+moved P s t place step moves here elsewhere q = elim (place_same q place) [
+  | inl same ↦ subst (λ p. P p (t p)) (sym same) (subst (λ state. P place state) (sym moves.there) here)
+  | inr differ ↦ subst (λ state. P q state) (sym (moves.elsewhere q differ)) (elsewhere q differ)
+]
+
 -- what a write in a place comes to, from what it does there
-pub write_reaches :
-    {T E : Type 0} → (l : Layout) (h new : History) (s t : States) (place : Place) (at : ℕ) (bytes : List ℕ) (step : State → State) (result : Result T E)
-    → Assigns l h s → IsPlace l place → offset_of l place ≤ at → at + length bytes ≤ end_of l place → Writes at bytes h new result → Moves s t place step
+write_steps :
+    {T E : Type 0} → (l : Layout) (h new : History) (s : States) (place : Place) (at : ℕ) (bytes : List ℕ) (step : State → State) (result : Result T E)
+    → Assigns l h s → IsPlace l place → offset_of l place ≤ at → at + length bytes ≤ end_of l place → Writes at bytes h new result
     → Known l (Wrote at bytes h) place (step (s place))
     → ((junk : List ℕ) → length junk ≡ length bytes → Kept l (Wrote at junk h) place (step (s place)))
-    → Reaches l h new t t result
-write_reaches {T} {E} l h new s t place at bytes step result is there from to w moves known kept = record {
-  ok = succeeds result w;
-  images = allowed;
-  moments = leaves_call h new (IsImage new) (one_call at bytes h new result w) (λ image of. of);
+    → (IsSure (step (s place)) → IsSure (s place))
+    → Stepped l h new s place step result
+write_steps {T} {E} l h new s place at bytes step result is there from to w known kept sure = record {
+  after = after;
+  moves = moves;
+  reaches = record { ok = succeeds result w; images = allowed; moments = call_adds h new (one_call at bytes h new result w) };
+  lost = fails result w;
 }
   where
-    known_after : (q : Place) → IsPlace l q → Known l (Wrote at bytes h) q (t q)
-    known_after q other = elim (place_same q place) [
-      | inl same ↦ subst (λ (p : Place). Known l (Wrote at bytes h) p (t p)) (sym same) (subst (λ (state : State). Known l (Wrote at bytes h) place state) (sym moves.there) known)
-      | inr differ ↦ subst (λ (state : State). Known l (Wrote at bytes h) q state) (sym (moves.elsewhere q differ)) (known_elsewhere l h q (s q) at bytes (gate_fits l h s q is other) (elsewhere_apart l place q at (length bytes) there other differ from to) (is.places q other))
-    ]
+    after : States
+    after = (states_move s place step).0
 
-    succeeds : (r : Result T E) → Writes at bytes h new r → OnOk r (Assigns l new t)
-    succeeds (Ok x) v = subst (λ (g : History). Assigns l g t) (sym v.done) (record { fits = is.fits; sound = is.sound; places = known_after })
+    moves : Moves s after place step
+    moves = (states_move s place step).1
+
+    apart : (q : Place) (n : ℕ) → n ≡ length bytes → IsPlace l q → (q ≡ place → ⊥) → (at + n ≤ offset_of l q) ⊎ (end_of l q ≤ at)
+    apart q n size other differ = elsewhere_apart l place q at n there other differ from (omega (arith, size, to))
+
+    succeeds : (r : Result T E) → Writes at bytes h new r → OnOk r (Assigns l new after)
+    succeeds (Ok x) v =
+        let each : (q : Place) → IsPlace l q → Stands l (Wrote at bytes h) q (after q) =
+        moved (λ q state. IsPlace l q → Stands l (Wrote at bytes h) q state) s after place step moves
+        (λ other. (known, λ now. is.readable place other (sure now)))
+        (λ q differ other. stands_elsewhere l h q (s q) at bytes (gate_fits l h s q is other) (apart q (length bytes) refl other differ) (stands l h s q is other)) in
+        subst (λ (g : History). Assigns l g after) (sym v.done) (assigned l (Wrote at bytes h) after is.fits each)
     succeeds (Err e) v = tt
 
-    kept_after : (junk : List ℕ) → length junk ≡ length bytes → (q : Place) → IsPlace l q → Kept l (Wrote at junk h) q (t q)
-    kept_after junk size q other = elim (place_same q place) [
-      | inl same ↦ subst (λ (p : Place). Kept l (Wrote at junk h) p (t p)) (sym same) (subst (λ (state : State). Kept l (Wrote at junk h) place state) (sym moves.there) (kept junk size))
-      | inr differ ↦ subst (λ (state : State). Kept l (Wrote at junk h) q state) (sym (moves.elsewhere q differ)) (known_kept l (Wrote at junk h) q (s q) (known_elsewhere l h q (s q) at junk (gate_fits l h s q is other) (elsewhere_apart l place q at (length junk) there other differ from (omega (arith, size, to))) (is.places q other)))
+    none : States
+    none = (states_move s place (λ state. Unknown)).0
+
+    lost_in : (g : History) → need_of l ≤ length (stable g) → ((q : Place) → (q ≡ place → ⊥) → IsPlace l q → Stands l g q (s q)) → Loses l g s place
+    lost_in g fits elsewhere = record {
+      states = none;
+      moves = (states_move s place (λ state. Unknown)).1;
+      assigns = assigned l g none fits (moved (λ q state. IsPlace l q → Stands l g q state) s none place (λ state. Unknown) (states_move s place (λ state. Unknown)).1 (λ other. (tt, λ now. absurd now)) elsewhere);
+    }
+
+    fails : (r : Result T E) → Writes at bytes h new r → OnErr r (Loses l new s place)
+    fails (Ok x) v = tt
+    fails (Err e) v = elim v.failed [
+      | inl same ↦ subst (λ (g : History). Loses l g s place) (sym same) (lost_in h is.fits (λ q differ other. stands l h s q is other))
+      | inr spoilt ↦ subst (λ (g : History). Loses l g s place) (sym spoilt.2) (lost_in (Spoiled at spoilt.0 h) is.fits (λ q differ other. stands_spoiled l h q (s q) at spoilt.0 (gate_fits l h s q is other) (apart q (length spoilt.0) spoilt.1 other differ) (stands l h s q is other)))
     ]
 
-    allowed : (image : List ℕ) → IsImage new image → Allowed l t (reading_of l image)
+    kept_after : (junk : List ℕ) → length junk ≡ length bytes → (q : Place) → IsPlace l q → Kept l (Wrote at junk h) q (after q)
+    kept_after junk size =
+        moved (λ q state. IsPlace l q → Kept l (Wrote at junk h) q state) s after place step moves
+        (λ other. kept junk size)
+        (λ q differ other. known_kept l (Wrote at junk h) q (s q) (known_elsewhere l h q (s q) at junk (gate_fits l h s q is other) (apart q (length junk) size other differ) (is.places q other)))
+
+    allowed : (image : List ℕ) → IsImage new image → Allowed l after (reading_of l image)
     allowed image of q other =
         let one = as_written at bytes h new result image w of in
-        kept_allows l (Wrote at one.0 h) q (t q) image (gate_fits l h s q is other) (kept_after one.0 one.1 q other) one.2
+        kept_allows l (Wrote at one.0 h) q (after q) image (gate_fits l h s q is other) (kept_after one.0 one.1 q other) one.2
+
+-- a step that makes no state sure leaves only those sure that were
+sure_before : (step : State → State) → (IsSure (step Unknown) → ⊥) → (IsSure (step Shutting) → ⊥) → ((body : List ℕ) → IsSure (step (Pending body)) → ⊥) → (state : State) → IsSure (step state) → IsSure state
+sure_before step unknown shutting pending Unknown sure = unknown sure
+sure_before step unknown shutting pending Shutting sure = shutting sure
+sure_before step unknown shutting pending Closed sure = tt
+sure_before step unknown shutting pending (Filling body) sure = tt
+sure_before step unknown shutting pending (Filled body) sure = tt
+sure_before step unknown shutting pending (Opening body) sure = tt
+sure_before step unknown shutting pending (Opened body) sure = tt
+sure_before step unknown shutting pending (Closing body) sure = tt
+sure_before step unknown shutting pending (Pending body) sure = pending body sure
+sure_before step unknown shutting pending (Stable body) sure = tt
 
 -- the four writes
-pub fill_reaches : {T E : Type 0} → (l : Layout) (h new : History) (s t : States) (place : Place) (body : List ℕ) (result : Result T E) → Assigns l h s → IsPlace l place → length body ≡ body_len place → Writes (offset_of l place) body h new result → Moves s t place (filling body) → Reaches l h new t t result
-fill_reaches l h new s t place body result is there size w moves =
-    write_reaches l h new s t place (offset_of l place) body (filling body) result is there (omega arith) (omega (arith, size)) w moves
+pub fill_steps : {T E : Type 0} → (l : Layout) (h new : History) (s : States) (place : Place) (body : List ℕ) (result : Result T E) → Assigns l h s → IsPlace l place → length body ≡ body_len place → Writes (offset_of l place) body h new result → Stepped l h new s place (filling body) result
+fill_steps l h new s place body result is there size w =
+    write_steps l h new s place (offset_of l place) body (filling body) result is there (omega arith) (omega (arith, size)) w
     (fill_known l h place body (s place) (gate_fits l h s place is there) size (is.places place there))
     (λ junk same. fill_kept l h place body junk (s place) (same ∙ size) (known_kept l h place (s place) (is.places place there)))
+    (sure_before (filling body) (λ e. e) (λ e. e) (λ b e. e) (s place))
 
-pub write_area_reaches : {T E : Type 0} → (l : Layout) (h new : History) (s t : States) (place : Place) (body : List ℕ) (result : Result T E) → Assigns l h s → IsArea l place → length body ≡ body_len place → Writes (offset_of l place) body h new result → Moves s t place (writing body) → Reaches l h new t t result
-write_area_reaches l h new s t place body result is area size w moves =
-    write_reaches l h new s t place (offset_of l place) body (writing body) result is area.0 (omega arith) (omega (arith, size)) w moves
+pub write_area_steps : {T E : Type 0} → (l : Layout) (h new : History) (s : States) (place : Place) (body : List ℕ) (result : Result T E) → Assigns l h s → IsArea l place → length body ≡ body_len place → Writes (offset_of l place) body h new result → Stepped l h new s place (writing body) result
+write_area_steps l h new s place body result is area size w =
+    write_steps l h new s place (offset_of l place) body (writing body) result is area.0 (omega arith) (omega (arith, size)) w
     (area.1, body_written l h place body (gate_fits l h s place is area.0) size)
     (λ junk same. tt)
+    (λ e. absurd e)
 
 -- a gate's sector
 gate_size : (first : ℕ) (place : Place) → 0 < gate_len place → length (gate first) ≡ gate_len place
 gate_size first place some = ap (λ (n : ℕ). 1 + n) (length-replicate {A = ℕ} 511 0) ∙ sym (gate_is_sector place some)
 
-pub open_reaches : {T E : Type 0} → (l : Layout) (h new : History) (s t : States) (place : Place) (result : Result T E) → Assigns l h s → IsCell l place → Writes (gate_of l place) (gate 0xA5) h new result → Moves s t place opening → Reaches l h new t t result
-open_reaches l h new s t place result is cell w moves =
-    write_reaches l h new s t place (gate_of l place) (gate 0xA5) opening result is cell.0 (omega arith) (omega (arith, gate_size 0xA5 place cell.1)) w moves
+pub open_steps : {T E : Type 0} → (l : Layout) (h new : History) (s : States) (place : Place) (result : Result T E) → Assigns l h s → IsCell l place → Writes (gate_of l place) (gate 0xA5) h new result → Stepped l h new s place opening result
+open_steps l h new s place result is cell w =
+    write_steps l h new s place (gate_of l place) (gate 0xA5) opening result is cell.0 (omega arith) (omega (arith, gate_size 0xA5 place cell.1)) w
     (open_known l h place (gate 0xA5) (s place) (gate_written l h place 0xA5 (replicate 511 0) true (end_fits l h s place is cell.0) cell.1 (gate_size 0xA5 place cell.1) refl) (is.places place cell.0))
     (λ junk same. open_kept l h place junk (s place) (is.places place cell.0))
+    (sure_before opening (λ e. e) (λ e. e) (λ b e. e) (s place))
 
-pub close_reaches : {T E : Type 0} → (l : Layout) (h new : History) (s t : States) (place : Place) (result : Result T E) → Assigns l h s → IsCell l place → Writes (gate_of l place) (gate 0) h new result → Moves s t place closing → Reaches l h new t t result
-close_reaches l h new s t place result is cell w moves =
-    write_reaches l h new s t place (gate_of l place) (gate 0) closing result is cell.0 (omega arith) (omega (arith, gate_size 0 place cell.1)) w moves
+pub close_steps : {T E : Type 0} → (l : Layout) (h new : History) (s : States) (place : Place) (result : Result T E) → Assigns l h s → IsCell l place → Writes (gate_of l place) (gate 0) h new result → Stepped l h new s place closing result
+close_steps l h new s place result is cell w =
+    write_steps l h new s place (gate_of l place) (gate 0) closing result is cell.0 (omega arith) (omega (arith, gate_size 0 place cell.1)) w
     (close_known l h place (gate 0) (s place) (gate_written l h place 0 (replicate 511 0) false (end_fits l h s place is cell.0) cell.1 (gate_size 0 place cell.1) refl) (is.places place cell.0))
     (λ junk same. close_kept l h place junk (s place) (is.places place cell.0))
+    (sure_before closing (λ e. e) (λ e. e) (λ b e. e) (s place))
 
 -- a gate's sector lies on the device
 pub gate_ends : (l : Layout) (place : Place) (at : ℕ) (sector : List ℕ) (first size : ℕ) → IsCell l place → need_of l ≤ size → at ≡ gate_of l place → sector ≡ gate first → at + length sector ≤ size

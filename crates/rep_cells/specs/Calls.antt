@@ -5,9 +5,9 @@ use Rattle.rep_disk.specs.Calls.{MaySpoil}
 use Rattle.rep_disk.specs.Moments.{LeavesOnly}
 use Rattle.rep_layout.specs.declared.place.Layout.{Layout}
 use Rattle.rep_layout.specs.declared.place.Place.{Place}
-use Rattle.rep_cells.specs.Readings.{reading_of}
-use Rattle.rep_cells.specs.States.{State, States, Allowed, Moves, Syncs}
-use Rattle.rep_cells.specs.Known.{Assigns, IsReadable}
+use Rattle.rep_cells.specs.Readings.{body_of, reading_of}
+use Rattle.rep_cells.specs.States.{State, States, Unknown, Opened, Allows, Shows, IsSure, Allowed, Moves, Syncs}
+use Rattle.rep_cells.specs.Known.{Assigns, IsBodyReadable, IsReadable}
 
 -- a gate whose first byte is this one
 abbrev pub gate : ℕ → List ℕ
@@ -25,18 +25,56 @@ pub record Reaches {T E : Type 0} (l : Layout) (old new : History) (during after
   pub images : (image : List ℕ) → IsImage new image → Allowed l during (reading_of l image)
   pub moments : LeavesOnly old new (IsImage new)
 
+-- Of one place nothing is known any more, and every other keeps its state.
+pub record Loses (l : Layout) (h : History) (s : States) (place : Place) : Type 0 where
+  pub states : States
+  pub moves : Moves s states place (λ state. Unknown)
+  pub assigns : Assigns l h states
+
+-- A write in a place: there are states that this step makes of those before it, and they stand during the call and after it.
+-- Where it fails, what was known of the place is lost.
+pub record Stepped {T E : Type 0} (l : Layout) (old new : History) (s : States) (place : Place) (step : State → State) (result : Result T E) : Type 0 where
+  pub after : States
+  pub moves : Moves s after place step
+  pub reaches : Reaches l old new after after result
+  pub lost : OnErr result (Loses l new s place)
+
+-- A sync: there are states that it makes of those before it. Those before it stand during the call, and where it fails after it
+-- too. It adds nothing: each image after it might be left before, and each place might read before as it may now. And a further
+-- sync changes no state.
+pub record Settled {T E : Type 0} (l : Layout) (old new : History) (s : States) (result : Result T E) : Type 0 where
+  pub after : States
+  pub syncs : Syncs s after
+  pub reaches : Reaches l old new s after result
+  pub stay : OnErr result (Assigns l new s)
+  pub fewer : (image : List ℕ) → IsImage new image → IsImage old image
+  pub narrows : (place : Place) (reading : Option (List ℕ)) → Allows (after place) reading → Allows (s place) reading
+  pub again : Syncs after after
+
 -- On an honest device: a write of these bytes, and of nothing else.
 abbrev pub WritesOnly : {D T E : Type 0} → (D → Type 0) → (D → History) → ℕ → List ℕ → D → D → Result T E → Type 0
 WritesOnly honest history at bytes old new result = honest old → Writes at bytes (history old) (history new) result
 
--- On an honest device: whatever the states were, one place takes this step, during the call and after it.
+-- On an honest device: whatever the states were, one place takes this step.
 abbrev pub StepsAt : {D T E : Type 0} → (D → Type 0) → (D → History) → Layout → Place → (State → State) → D → D → Result T E → Type 0
-StepsAt honest history l place step old new result = honest old → (s t : States) → Assigns l (history old) s → Moves s t place step → Reaches l (history old) (history new) t t result
+StepsAt honest history l place step old new result = honest old → (s : States) → Assigns l (history old) s → Stepped l (history old) (history new) s place step result
 
--- On an honest device: whatever the states were, a sync makes them stable, and until then they stay.
+-- On an honest device: whatever the states were, a sync makes them stable.
 abbrev pub Settles : {D T E : Type 0} → (D → Type 0) → (D → History) → Layout → D → D → Result T E → Type 0
-Settles honest history l old new result = honest old → (s t : States) → Assigns l (history old) s → Syncs s t → Reaches l (history old) (history new) s t result
+Settles honest history l old new result = honest old → (s : States) → Assigns l (history old) s → Settled l (history old) (history new) s result
 
--- On an honest device: what is read where no write failed is what the place reads as, and nothing changes.
+-- On an honest device: what is read where no write failed is what the place reads as.
 abbrev pub ReadsPlace : {D T E : Type 0} → (D → Type 0) → (D → History) → Layout → Place → D → Result T E → (T → Option (List ℕ)) → Type 0
 ReadsPlace honest history l place old result body_in = honest old → IsReadable l (history old) place → IfOk result (λ found. body_in found ≡ reading_of l (seen (history old)) place)
+
+-- On an honest device: what is read is what the place's state shows, where that is sure.
+abbrev pub ShowsPlace : {D T E : Type 0} → (D → Type 0) → (D → History) → Layout → Place → D → Result T E → (T → Option (List ℕ)) → Type 0
+ShowsPlace honest history l place old result body_in = honest old → (s : States) → Assigns l (history old) s → IsSure (s place) → IfOk result (λ found. Shows (s place) (body_in found))
+
+-- On an honest device: what is read where no write failed is the body that lies there.
+abbrev pub ReadsBody : {D T E : Type 0} → (D → Type 0) → (D → History) → Layout → Place → D → Result T E → List ℕ → Type 0
+ReadsBody honest history l place old result bytes = honest old → IsBodyReadable l (history old) place → OnOk result (bytes ≡ body_of l place (seen (history old)))
+
+-- On an honest device: what is read of a cell that stands open is its body.
+abbrev pub ReadsOpened : {D T E : Type 0} → (D → Type 0) → (D → History) → Layout → Place → D → Result T E → List ℕ → Type 0
+ReadsOpened honest history l place old result bytes = honest old → (s : States) (body : List ℕ) → Assigns l (history old) s → s place ≡ Opened body → OnOk result (bytes ≡ body)

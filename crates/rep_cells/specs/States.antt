@@ -56,6 +56,20 @@ Shows (Closing body) reading = reading ≡ None
 Shows (Pending body) reading = reading ≡ Some body
 Shows (Stable body) reading = reading ≡ Some body
 
+-- In these states no write in the place can have failed since the last successful sync: what is known of it rests on what was
+-- stable then, and on writes that succeeded.
+abbrev pub IsSure : State → Type 0
+IsSure Unknown = ⊥
+IsSure Shutting = ⊥
+IsSure Closed = Unit {0}
+IsSure (Filling body) = Unit {0}
+IsSure (Filled body) = Unit {0}
+IsSure (Opening body) = Unit {0}
+IsSure (Opened body) = Unit {0}
+IsSure (Closing body) = Unit {0}
+IsSure (Pending body) = ⊥
+IsSure (Stable body) = Unit {0}
+
 -- Each place reads as its state allows.
 abbrev pub Allowed : Layout → States → Reading → Type 0
 Allowed l s r = (place : Place) → IsPlace l place → Allows (s place) (r place)

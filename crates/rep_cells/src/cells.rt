@@ -1,12 +1,12 @@
 //! The device, its places, and the calls.
-ghost use Rattle.std.specs.Prelude.{◌≡◌, ◌↔◌, ◌<◌, ◌≤◌, ℕ, Some, length, IsErr, IfOk, IfErr, OnOk, OnErr, option_map};
+ghost use Rattle.std.specs.Prelude.{◌≡◌, ◌↔◌, ◌<◌, ◌≤◌, ℕ, Some, length, IsErr, IfOk, IfErr, IfSome, OnOk, OnErr, option_map};
 ghost use Rattle.rep_disk.specs.History.{Synced, seen};
 ghost use Rattle.rep_disk.specs.Calls.{IsCall};
 ghost use Rattle.rep_layout.specs.Places.{body_len, offset_of, gate_of, need_of};
-ghost use Rattle.rep_cells.specs.Readings.{IsCell, IsArea};
-ghost use Rattle.rep_cells.specs.States.{filling, opening, closing, writing};
+ghost use Rattle.rep_cells.specs.Readings.{IsPlace, IsCell, IsArea};
+ghost use Rattle.rep_cells.specs.States.{Unknown, filling, opening, closing, writing};
 ghost use Rattle.rep_cells.specs.Known.{Assigns, found};
-ghost use Rattle.rep_cells.specs.Calls.{gate, WritesOnly, StepsAt, Settles, ReadsPlace};
+ghost use Rattle.rep_cells.specs.Calls.{gate, WritesOnly, StepsAt, Settles, ReadsPlace, ShowsPlace, ReadsBody, ReadsOpened};
 
 use rep_disk::{Disk, DiskFault};
 use rep_layout::{GATE, Layout, Place};
@@ -38,11 +38,13 @@ impl<D: Disk> Cells<D> {
     ghost use Rattle.rep_cells.specs.Device.{disk_of, layout_of};
 
     /// The places of this layout on the device, or the device back where it is too small for them.
+    /// Nothing is known of any place yet.
     pub fn new(disk: D, layout: Layout) -> Result<Cells<D>, D>
         ensures small { IsErr result ↔ (D.size disk < need_of layout) }
         ensures back { IfErr result (λ back. back ≡ disk) }
         ensures disk { IfOk result (λ cells. disk_of cells ≡ disk) }
         ensures layout { IfOk result (λ cells. layout_of cells ≡ layout) }
+        ensures unknown { IfOk result (λ cells. D.honest (disk_of cells) → Assigns (layout_of cells) (D.history (disk_of cells)) (λ place. Unknown)) }
     {
         if (disk.size() as u64) < layout.need() {
             return Err(disk);
@@ -61,7 +63,8 @@ impl<D: Disk> Cells<D> {
     pub fn into_disk(self) -> D
         ensures { result ≡ disk_of self }
     {
-        self.disk
+        let Cells { disk, .. } = self;
+        disk
     }
 
     /// Where the places lie.
@@ -124,7 +127,6 @@ impl<D: Disk> Cells<D> {
 
     /// Makes all that was written stable. The first sync on a device of unknown past leaves each
     /// place in the state that its bytes show.
-    #[tactic(auto, using(crate::proofs::Syncing::found_assigns))]
     pub fn sync(&mut self) -> Result<(), DiskFault>
         ensures call { IsCall D.size D.failures D.honest (disk_of self.old) (disk_of self.new) result }
         ensures layout { layout_of self.new ≡ layout_of self.old }
@@ -136,7 +138,8 @@ impl<D: Disk> Cells<D> {
         self.disk.sync()
     }
 
-    /// Reads a cell: its body where the gate stands open, in the room that the caller lends.
+    /// Reads a cell: its body where the gate stands open, in the room that the caller lends. The device
+    /// is asked for a byte of the gate, and then for the body.
     pub fn read_cell<'a>(
         &mut self,
         cell: Place,
@@ -147,15 +150,31 @@ impl<D: Disk> Cells<D> {
         ensures call { IsCall D.size D.failures D.honest (disk_of self.old) (disk_of self.new) result }
         ensures layout { layout_of self.new ≡ layout_of self.old }
         ensures same { D.honest (disk_of self.old) → D.history (disk_of self.new) ≡ D.history (disk_of self.old) }
+        ensures size { IfOk result (λ found. IfSome found (λ bytes. length bytes.now ≡ body_len cell)) }
         ensures read { ReadsPlace D.honest D.history (layout_of self.old) cell (disk_of self.old) result (option_map (λ bytes. bytes.now)) }
+        ensures shown { ShowsPlace D.honest D.history (layout_of self.old) cell (disk_of self.old) result (option_map (λ bytes. bytes.now)) }
     {
         let mut first = [0; 1];
         self.disk.read_at(self.layout.gate(cell), &mut first)?;
         if first[0] != OPEN {
             return Ok(None);
         }
-        self.disk.read_at(self.layout.offset(cell), room)?;
+        self.read_body(cell, room)?;
         Ok(Some(room))
+    }
+
+    /// Reads a place's body alone, whatever its gate, into the room that the caller lends: for a cell
+    /// that the caller knows to stand open. The device is asked once.
+    pub fn read_body(&mut self, place: Place, room: &mut [u8]) -> Result<(), DiskFault>
+        requires place { IsPlace (layout_of self.old) place }
+        requires room { length room.old ≡ body_len place }
+        ensures call { IsCall D.size D.failures D.honest (disk_of self.old) (disk_of self.new) result }
+        ensures layout { layout_of self.new ≡ layout_of self.old }
+        ensures same { D.honest (disk_of self.old) → D.history (disk_of self.new) ≡ D.history (disk_of self.old) }
+        ensures read { ReadsBody D.honest D.history (layout_of self.old) place (disk_of self.old) result room.new }
+        ensures opened { ReadsOpened D.honest D.history (layout_of self.old) place (disk_of self.old) result room.new }
+    {
+        self.disk.read_at(self.layout.offset(place), room)
     }
 
     /// Reads an area's body into the room that the caller lends.
@@ -166,7 +185,8 @@ impl<D: Disk> Cells<D> {
         ensures layout { layout_of self.new ≡ layout_of self.old }
         ensures same { D.honest (disk_of self.old) → D.history (disk_of self.new) ≡ D.history (disk_of self.old) }
         ensures read { ReadsPlace D.honest D.history (layout_of self.old) area (disk_of self.old) result (λ _. Some room.new) }
+        ensures shown { ShowsPlace D.honest D.history (layout_of self.old) area (disk_of self.old) result (λ _. Some room.new) }
     {
-        self.disk.read_at(self.layout.offset(area), room)
+        self.read_body(area, room)
     }
 }

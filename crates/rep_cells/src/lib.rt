@@ -8,5 +8,6 @@ mod tests;
 
 pub use cells::Cells;
 pub use laws::{
-    filled_bodies_stand, images_read_as_allowed, moments_read_as_allowed, places_read_as_shown,
+    filled_bodies_stand, found_states_stand, images_read_as_allowed, moments_read_as_allowed,
+    places_read_as_shown, states_move, syncs_narrow,
 };

@@ -1,17 +1,19 @@
 //! A client of the gated cells, proved from their contracts alone: a body is put into a cell so that
-//! a stop at any moment leaves nothing or the whole body.
+//! a stop at any moment leaves nothing or the whole body, and a device of unknown past is taken up.
 #![tactic(auto)]
 
-ghost use Rattle.std.specs.Prelude.{◌≡◌, ◌⊎◌, ℕ, List, length};
-ghost use Rattle.rep_disk.specs.Calls.{IsCall};
-ghost use Rattle.rep_layout.specs.Places.{body_len};
+ghost use Rattle.std.specs.Prelude.{◌≡◌, ◌≤◌, ◌⊎◌, ℕ, List, length, IsErr, OnOk};
+ghost use Rattle.rep_disk.specs.History.{seen};
+ghost use Rattle.rep_disk.specs.Calls.{Rises};
+ghost use Rattle.rep_layout.specs.declared.place.Layout.{Layout};
+ghost use Rattle.rep_layout.specs.Places.{body_len, need_of};
 ghost use Rattle.rep_cells.specs.Device.{disk_of, layout_of};
 ghost use Rattle.rep_cells.specs.Readings.{IsCell};
 ghost use Rattle.rep_cells.specs.States.{States, Closed, Opened};
-ghost use Rattle.rep_cells.specs.Known.{Assigns};
-ghost use Rattle.rep_cells_uses.specs.Publishing.{Publishes};
+ghost use Rattle.rep_cells.specs.Known.{Assigns, found};
+ghost use Rattle.rep_cells_uses.specs.Publishing.{Publishes, IsCleared};
 
-use rep_cells::Cells;
+use rep_cells::{Cells, found_states_stand};
 use rep_disk::{Disk, DiskFault};
 use rep_layout::Place;
 
@@ -22,6 +24,7 @@ pub fn publish<D: Disk>(cells: &mut Cells<D>, cell: Place, body: &[u8]) -> Resul
     requires size { length body.now ≡ body_len cell }
     ensures layout { layout_of cells.new ≡ layout_of cells.old }
     ensures honest { D.honest (disk_of cells.old) → D.honest (disk_of cells.new) }
+    ensures fault { IsErr result → Rises (D.failures (disk_of cells.old)) (D.failures (disk_of cells.new)) }
     ensures published { D.honest (disk_of cells.old) → (s : States) → Assigns (layout_of cells.old) (D.history (disk_of cells.old)) s → s cell ≡ Closed → Publishes (layout_of cells.old) (D.history (disk_of cells.old)) (D.history (disk_of cells.new)) s cell body.now (λ one. one ≡ body.now) result }
 {
     cells.fill(cell, body)?;
@@ -37,9 +40,35 @@ pub fn replace<D: Disk>(cells: &mut Cells<D>, cell: Place, body: &[u8]) -> Resul
     requires size { length body.now ≡ body_len cell }
     ensures layout { layout_of cells.new ≡ layout_of cells.old }
     ensures honest { D.honest (disk_of cells.old) → D.honest (disk_of cells.new) }
+    ensures fault { IsErr result → Rises (D.failures (disk_of cells.old)) (D.failures (disk_of cells.new)) }
     ensures published { D.honest (disk_of cells.old) → (s : States) → (before : List ℕ) → Assigns (layout_of cells.old) (D.history (disk_of cells.old)) s → s cell ≡ Opened before → Publishes (layout_of cells.old) (D.history (disk_of cells.old)) (D.history (disk_of cells.new)) s cell body.now (λ one. (one ≡ before) ⊎ (one ≡ body.now)) result }
 {
     cells.close_gate(cell)?;
     cells.sync()?;
     publish(cells, cell, body)
+}
+
+/// Clears a cell, whatever is known of it: closes its gate and makes that stable.
+pub fn clear<D: Disk>(cells: &mut Cells<D>, stale: Place) -> Result<(), DiskFault>
+    requires { IsCell (layout_of cells.old) stale }
+    ensures layout { layout_of cells.new ≡ layout_of cells.old }
+    ensures honest { D.honest (disk_of cells.old) → D.honest (disk_of cells.new) }
+    ensures fault { IsErr result → Rises (D.failures (disk_of cells.old)) (D.failures (disk_of cells.new)) }
+    ensures cleared { D.honest (disk_of cells.old) → (s : States) → Assigns (layout_of cells.old) (D.history (disk_of cells.old)) s → OnOk result (IsCleared (layout_of cells.old) (D.history (disk_of cells.new)) s stale) }
+{
+    cells.close_gate(stale)?;
+    cells.sync()
+}
+
+/// Takes up a device of unknown past: one sync, and each place is in the state that its bytes show, in
+/// every layout that the device has room for.
+pub fn take_up<D: Disk>(cells: &mut Cells<D>) -> Result<(), DiskFault>
+    ensures layout { layout_of cells.new ≡ layout_of cells.old }
+    ensures honest { D.honest (disk_of cells.old) → D.honest (disk_of cells.new) }
+    ensures fault { IsErr result → Rises (D.failures (disk_of cells.old)) (D.failures (disk_of cells.new)) }
+    ensures found { D.honest (disk_of cells.old) → OnOk result ((l : Layout) → need_of l ≤ D.size (disk_of cells.old) → Assigns l (D.history (disk_of cells.new)) (found l (seen (D.history (disk_of cells.old))))) }
+{
+    cells.sync()?;
+    found_states_stand();
+    Ok(())
 }

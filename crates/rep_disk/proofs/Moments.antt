@@ -30,33 +30,12 @@ call_images old new image (Spoils at junk) (inr (late, is)) = inl (only_now old 
 call_images old new image Syncs (inl is) = inr is
 call_images old new image Syncs (inr (late, is)) = inl (only_now old image is)
 
--- a call leaves what has P at each moment, where the images at its end have P
-pub leaves_call : (old new : History) (P : List ℕ → Type 0) → IsNext old new → ((image : List ℕ) → IsImage new image → P image) → LeavesOnly old new P
-leaves_call old new P Stays each = record { later = omega arith; since = λ t image late is. inl is }
-leaves_call old new P (Writes at bytes) each = record { later = omega arith; since = λ t image late is. elim is [ inl now ↦ inr (each image now) | inr before ↦ inl before.1 ] }
-leaves_call old new P (Spoils at junk) each = record { later = omega arith; since = λ t image late is. elim is [ inl now ↦ inr (each image now) | inr before ↦ inl before.1 ] }
-leaves_call old new P Syncs each = record { later = omega arith; since = λ t image late is. elim is [ inl now ↦ inr (each image now) | inr before ↦ inl before.1 ] }
-
--- no call leaves nothing
-pub leaves_none : (h : History) (P : List ℕ → Type 0) → LeavesOnly h h P
-leaves_none h P = record { later = omega arith; since = λ t image late is. inl is }
-
--- what has P has Q
-pub leaves_weaker : (old new : History) (P Q : List ℕ → Type 0) → ((image : List ℕ) → P image → Q image) → LeavesOnly old new P → LeavesOnly old new Q
-leaves_weaker old new P Q weaker leaves =
-    record { later = leaves.later; since = λ t image late is. elim (leaves.since t image late is) [ inl before ↦ inl before | inr now ↦ inr (weaker image now) ] }
-
--- one call after another
-pub leaves_then : (old mid new : History) (P : List ℕ → Type 0) → LeavesOnly old mid P → LeavesOnly mid new P → LeavesOnly old new P
-leaves_then old mid new P first second = record {
-  later = omega (arith, first.later, second.later);
-  since = λ t image late is. elim (second.since t image (omega (arith, first.later)) is) [ inl before ↦ first.since t image late before | inr now ↦ inr now ];
-}
-
--- so all that the calls may have left has P, where all that was there before has it
-pub leaves_each : (old new : History) (P : List ℕ → Type 0) → LeavesOnly old new P → ((image : List ℕ) → IsImage old image → P image) → (image : List ℕ) → ImageSince new (moment old) image → P image
-leaves_each old new P leaves before image is =
-    elim (leaves.since (moment old) image (omega arith) is) [ inl since ↦ before image (only_now old image since) | inr now ↦ now ]
+-- and adds those at its end alone
+pub call_adds : (old new : History) → IsNext old new → LeavesOnly old new (IsImage new)
+call_adds old new Stays = record { later = omega arith; since = λ t image late is. inl is }
+call_adds old new (Writes at bytes) = record { later = omega arith; since = λ t image late is. elim is [ inl now ↦ inr now | inr before ↦ inl before.1 ] }
+call_adds old new (Spoils at junk) = record { later = omega arith; since = λ t image late is. elim is [ inl now ↦ inr now | inr before ↦ inl before.1 ] }
+call_adds old new Syncs = record { later = omega arith; since = λ t image late is. elim is [ inl now ↦ inr now | inr before ↦ inl before.1 ] }
 
 -- and those of its two moments are its images
 pub within_call : (old new : History) (image : List ℕ) → IsNext old new → IsImage old image ⊎ IsImage new image → ImageSince new (moment old) image

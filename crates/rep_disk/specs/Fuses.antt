@@ -1,14 +1,20 @@
 -- What the disks that fail some calls on purpose show, and one on a file.
-use Rattle.std.specs.Prelude.{◌≡◌, ℕ, zero, suc, Option, None, Some, Result, IsErr}
+use Rattle.std.specs.Prelude.{◌≡◌, ℕ, zero, suc, Bool, Option, None, Some, Result, IsErr}
 use Rattle.rep_disk.specs.declared.disk.DiskFault.{DiskFault}
 use Rattle.rep_disk.specs.declared.fuse.FuseDisk.{FuseDisk}
 use Rattle.rep_disk.specs.declared.file.FileDisk.{FileDisk}
 use Rattle.rep_disk.specs.declared.fault_once.FaultOnce.{FaultOnce}
+use Rattle.rep_disk.specs.Calls.{IsCall}
 
 -- A call that fails on purpose answers a fault and leaves the disk inside untouched.
 pub record IsRefused {D T : Type 0} (old new : D) (result : Result T DiskFault) : Type 0 where
   pub fault : IsErr result
   pub untouched : new ≡ old
+
+-- Where it is to fail a call is refused, and any other is one of the disk inside.
+pub record FailsWhere {D T : Type 0} (IsDue : Type 0) (size failures : D → ℕ) (honest : D → Type 0) (old new : D) (result : Result T DiskFault) : Type 0 where
+  pub refused : IsDue → IsRefused old new result
+  pub passed : (IsDue → ⊥) → IsCall size failures honest old new result
 
 -- the disk inside
 abbrev pub fused : {D : Type 0} → FuseDisk D → D
@@ -51,3 +57,7 @@ file_inside disk = disk.file
 -- the size that was found or asked for
 abbrev pub file_size : {F : Type 0} → FileDisk F → ℕ
 file_size disk = disk.size
+
+-- whether a sync of it has failed
+abbrev pub file_lost : {F : Type 0} → FileDisk F → Bool
+file_lost disk = disk.lost

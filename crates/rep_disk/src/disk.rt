@@ -1,7 +1,7 @@
 //! What a disk is, and what an honest one does.
-ghost use Rattle.std.specs.Prelude.{◌≡◌, ◌+◌, ◌≤◌, ℕ, List, length, OnOk, OnErr};
-ghost use Rattle.rep_disk.specs.History.{History, Wrote, Synced, stable, Reads};
-ghost use Rattle.rep_disk.specs.Calls.{IsCall, MaySpoil};
+ghost use Rattle.std.specs.Prelude.{◌≡◌, ◌+◌, ◌≤◌, ℕ, length};
+ghost use Rattle.rep_disk.specs.History.{History, stable};
+ghost use Rattle.rep_disk.specs.Calls.{IsRead, IsWrite, IsSync};
 
 use std::fmt;
 
@@ -56,22 +56,16 @@ pub trait Disk {
     /// Fills `out` with the bytes at this offset. After [`DiskFault`] nothing is known of `out`.
     fn read_at(&mut self, at: usize, out: &mut [u8]) -> Result<(), DiskFault>
         requires { at + length out.old ≤ size self.old }
-        ensures call { IsCall size failures honest self.old self.new result }
-        ensures same { honest self.old → history self.new ≡ history self.old }
-        ensures read { honest self.old → OnOk result (Reads (history self.old) at out.new) };
+        ensures { IsRead size failures honest history at out.new self.old self.new result };
 
     /// Writes the bytes at this offset. They are stable from the next successful sync on.
     fn write_at(&mut self, at: usize, bytes: &[u8]) -> Result<(), DiskFault>
         requires { at + length bytes.now ≤ size self.old }
-        ensures call { IsCall size failures honest self.old self.new result }
-        ensures written { honest self.old → OnOk result (history self.new ≡ Wrote at bytes.now (history self.old)) }
-        ensures spoiled { honest self.old → OnErr result (MaySpoil at (length bytes.now) (history self.old) (history self.new)) };
+        ensures { IsWrite size failures honest history at bytes.now self.old self.new result };
 
     /// Makes all that was written stable.
     fn sync(&mut self) -> Result<(), DiskFault>
-        ensures call { IsCall size failures honest self.old self.new result }
-        ensures synced { honest self.old → OnOk result (history self.new ≡ Synced (history self.old)) }
-        ensures unsynced { honest self.old → OnErr result (history self.new ≡ history self.old) };
+        ensures { IsSync size failures honest history self.old self.new result };
 
     /// An honest disk's bytes are as many as its size.
     ghost sized: { (disk : Self) → honest disk → length (stable (history disk)) ≡ size disk };

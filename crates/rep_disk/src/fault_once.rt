@@ -1,7 +1,6 @@
 //! A disk that fails one call.
 ghost use Rattle.std.specs.Prelude.{◌≡◌, ◌↔◌, ◌+◌, ◌≤◌, length, IsErr, OnOk, OnErr};
-ghost use Rattle.rep_disk.specs.History.{Wrote, Synced, Reads};
-ghost use Rattle.rep_disk.specs.Calls.{IsCall, MaySpoil, capped};
+ghost use Rattle.rep_disk.specs.Calls.{IsRead, IsWrite, IsSync, capped};
 ghost use Rattle.rep_disk.specs.Fuses.{counted_down};
 
 use crate::{Disk, DiskFault};
@@ -46,7 +45,8 @@ impl<D: Disk> FaultOnce<D> {
     pub fn into_inner(self) -> D
         ensures { result ≡ faulty self }
     {
-        self.inner
+        let FaultOnce { inner, .. } = self;
+        inner
     }
 }
 
@@ -72,7 +72,7 @@ fn spend(calls_before: &mut Option<u64>, faults: &mut u64) -> Result<(), DiskFau
 }
 
 impl<D: Disk> Disk for FaultOnce<D> {
-    ghost use Rattle.rep_disk.specs.Fuses.{faulty, calls_before, IsRefused};
+    ghost use Rattle.rep_disk.specs.Fuses.{faulty, calls_before, FailsWhere};
 
     ghost size = { λ f. D.size f.inner };
 
@@ -94,11 +94,8 @@ impl<D: Disk> Disk for FaultOnce<D> {
 
     fn read_at(&mut self, at: usize, out: &mut [u8]) -> Result<(), DiskFault>
         requires { at + length out.old ≤ D.size (faulty self.old) }
-        ensures call { IsCall ⟦<FaultOnce<D> as Disk>⟧.size ⟦<FaultOnce<D> as Disk>⟧.failures ⟦<FaultOnce<D> as Disk>⟧.honest self.old self.new result }
-        ensures same { ⟦<FaultOnce<D> as Disk>⟧.honest self.old → ⟦<FaultOnce<D> as Disk>⟧.history self.new ≡ ⟦<FaultOnce<D> as Disk>⟧.history self.old }
-        ensures read { ⟦<FaultOnce<D> as Disk>⟧.honest self.old → OnOk result (Reads (⟦<FaultOnce<D> as Disk>⟧.history self.old) at out.new) }
-        ensures fault { calls_before self.old ≡ Some 0 → IsRefused (faulty self.old) (faulty self.new) result }
-        ensures passed { (calls_before self.old ≡ Some 0 → ⊥) → IsCall D.size D.failures D.honest (faulty self.old) (faulty self.new) result }
+        ensures disk { IsRead ⟦<FaultOnce<D> as Disk>⟧.size ⟦<FaultOnce<D> as Disk>⟧.failures ⟦<FaultOnce<D> as Disk>⟧.honest ⟦<FaultOnce<D> as Disk>⟧.history at out.new self.old self.new result }
+        ensures inside { FailsWhere (calls_before self.old ≡ Some 0) D.size D.failures D.honest (faulty self.old) (faulty self.new) result }
         ensures before { calls_before self.new ≡ counted_down (calls_before self.old) }
     {
         spend(&mut self.calls_before, &mut self.faults)?;
@@ -107,11 +104,8 @@ impl<D: Disk> Disk for FaultOnce<D> {
 
     fn write_at(&mut self, at: usize, bytes: &[u8]) -> Result<(), DiskFault>
         requires { at + length bytes.now ≤ D.size (faulty self.old) }
-        ensures call { IsCall ⟦<FaultOnce<D> as Disk>⟧.size ⟦<FaultOnce<D> as Disk>⟧.failures ⟦<FaultOnce<D> as Disk>⟧.honest self.old self.new result }
-        ensures written { ⟦<FaultOnce<D> as Disk>⟧.honest self.old → OnOk result (⟦<FaultOnce<D> as Disk>⟧.history self.new ≡ Wrote at bytes.now (⟦<FaultOnce<D> as Disk>⟧.history self.old)) }
-        ensures spoiled { ⟦<FaultOnce<D> as Disk>⟧.honest self.old → OnErr result (MaySpoil at (length bytes.now) (⟦<FaultOnce<D> as Disk>⟧.history self.old) (⟦<FaultOnce<D> as Disk>⟧.history self.new)) }
-        ensures fault { calls_before self.old ≡ Some 0 → IsRefused (faulty self.old) (faulty self.new) result }
-        ensures passed { (calls_before self.old ≡ Some 0 → ⊥) → IsCall D.size D.failures D.honest (faulty self.old) (faulty self.new) result }
+        ensures disk { IsWrite ⟦<FaultOnce<D> as Disk>⟧.size ⟦<FaultOnce<D> as Disk>⟧.failures ⟦<FaultOnce<D> as Disk>⟧.honest ⟦<FaultOnce<D> as Disk>⟧.history at bytes.now self.old self.new result }
+        ensures inside { FailsWhere (calls_before self.old ≡ Some 0) D.size D.failures D.honest (faulty self.old) (faulty self.new) result }
         ensures before { calls_before self.new ≡ counted_down (calls_before self.old) }
     {
         spend(&mut self.calls_before, &mut self.faults)?;
@@ -119,11 +113,8 @@ impl<D: Disk> Disk for FaultOnce<D> {
     }
 
     fn sync(&mut self) -> Result<(), DiskFault>
-        ensures call { IsCall ⟦<FaultOnce<D> as Disk>⟧.size ⟦<FaultOnce<D> as Disk>⟧.failures ⟦<FaultOnce<D> as Disk>⟧.honest self.old self.new result }
-        ensures synced { ⟦<FaultOnce<D> as Disk>⟧.honest self.old → OnOk result (⟦<FaultOnce<D> as Disk>⟧.history self.new ≡ Synced (⟦<FaultOnce<D> as Disk>⟧.history self.old)) }
-        ensures unsynced { ⟦<FaultOnce<D> as Disk>⟧.honest self.old → OnErr result (⟦<FaultOnce<D> as Disk>⟧.history self.new ≡ ⟦<FaultOnce<D> as Disk>⟧.history self.old) }
-        ensures fault { calls_before self.old ≡ Some 0 → IsRefused (faulty self.old) (faulty self.new) result }
-        ensures passed { (calls_before self.old ≡ Some 0 → ⊥) → IsCall D.size D.failures D.honest (faulty self.old) (faulty self.new) result }
+        ensures disk { IsSync ⟦<FaultOnce<D> as Disk>⟧.size ⟦<FaultOnce<D> as Disk>⟧.failures ⟦<FaultOnce<D> as Disk>⟧.honest ⟦<FaultOnce<D> as Disk>⟧.history self.old self.new result }
+        ensures inside { FailsWhere (calls_before self.old ≡ Some 0) D.size D.failures D.honest (faulty self.old) (faulty self.new) result }
         ensures before { calls_before self.new ≡ counted_down (calls_before self.old) }
     {
         spend(&mut self.calls_before, &mut self.faults)?;

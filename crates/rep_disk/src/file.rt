@@ -1,6 +1,7 @@
 //! A disk on a file.
-ghost use Rattle.std.specs.Prelude.{◌≡◌, ◌+◌, ◌≤◌, ℕ, List, [], length, IfOk};
+ghost use Rattle.std.specs.Prelude.{◌≡◌, ◌+◌, ◌≤◌, [], length, true, false, is_err, IfOk, IsErr};
 ghost use Rattle.rep_disk.specs.History.{Begins};
+ghost use Rattle.rep_disk.specs.Calls.{IsRead, IsWrite, IsSync};
 
 use crate::counting::counted;
 use crate::{Disk, DiskFault};
@@ -8,8 +9,9 @@ use std::fs::{File, Files, OpenFile, OpenOptions};
 use std::io;
 use std::os::unix::fs::FileExt;
 
-/// A disk on a file, or on a device that opens as one. Nothing is claimed of it but its size and
-/// its count of failures: that it is honest is for the system to keep, and no proof says so.
+/// A disk on a file, or on a device that opens as one. Nothing is claimed of it but its size, its
+/// count of failures, and that no sync succeeds once one has failed: that it is honest is for the
+/// system to keep, and no proof says so.
 ///
 /// What it does on Linux:
 ///
@@ -19,10 +21,11 @@ use std::os::unix::fs::FileExt;
 /// - A sync is `fsync`: it ends once the file's bytes and its length are on the device, as far as
 ///   the device tells. The name of a new file is in its folder, which this does not sync.
 /// - A failed `fsync` tells of a write that the device refused, once: the kernel may have dropped
-///   the bytes, reads may still give them, and a later `fsync` may succeed without them. So after
-///   a failed sync nothing is known of what was written since the last one that succeeded, and the
-///   file is to be opened again. Bytes of the kernel's that the device never got may even then be
-///   read, until they leave its memory.
+///   the bytes, reads may still give them, and a later `fsync` may succeed without them. So once a
+///   sync has failed every later one fails too, and the file is not asked again. Nothing is known
+///   then of what was written since the last sync that succeeded, and the file is to be opened
+///   again. Bytes of the kernel's that the device never got may even then be read, until they leave
+///   its memory.
 ///
 /// No other program, and no other handle, may change the file meanwhile.
 #[derive(Drop)]
@@ -30,15 +33,18 @@ pub struct FileDisk<F: FileExt + OpenFile + Drop> {
     file: F,
     size: usize,
     failures: u64,
+    /// A sync has failed.
+    lost: bool,
 }
 
 impl<F: FileExt + OpenFile + Drop> FileDisk<F> {
-    ghost use Rattle.rep_disk.specs.Fuses.{file_inside, file_size, file_failures};
+    ghost use Rattle.rep_disk.specs.Fuses.{file_inside, file_size, file_failures, file_lost};
 
     /// A disk on an open file, which can be read and written. Its size is the file's length at this
     /// moment. Refuses where the system does not tell the length.
     pub fn new(file: F) -> io::Result<FileDisk<F>>
-        ensures { IfOk result (λ disk. file_failures disk ≡ 0) }
+        ensures unfailed { IfOk result (λ disk. file_failures disk ≡ 0) }
+        ensures kept { IfOk result (λ disk. file_lost disk ≡ false) }
     {
         let size = file.metadata()?.len() as usize;
         Ok(FileDisk::start(file, size))
@@ -47,11 +53,13 @@ impl<F: FileExt + OpenFile + Drop> FileDisk<F> {
     fn start(file: F, size: usize) -> FileDisk<F>
         ensures sized { file_size result ≡ size }
         ensures unfailed { file_failures result ≡ 0 }
+        ensures kept { file_lost result ≡ false }
     {
         FileDisk {
             file,
             size,
             failures: 0,
+            lost: false,
         }
     }
 
@@ -64,11 +72,12 @@ impl<F: FileExt + OpenFile + Drop> FileDisk<F> {
 }
 
 impl FileDisk<File> {
-    ghost use Rattle.rep_disk.specs.Fuses.{file_size, file_failures};
+    ghost use Rattle.rep_disk.specs.Fuses.{file_size, file_failures, file_lost};
 
     /// A disk on the file at this path, which has to be there. Refuses what the system refuses.
     pub fn open<R: Files<File = File>>(rt: &R, path: &str) -> io::Result<FileDisk<File>>
-        ensures { IfOk result (λ disk. file_failures disk ≡ 0) }
+        ensures unfailed { IfOk result (λ disk. file_failures disk ≡ 0) }
+        ensures kept { IfOk result (λ disk. file_lost disk ≡ false) }
     {
         FileDisk::new(OpenOptions::new().read(true).write(true).open(rt, path)?)
     }
@@ -82,6 +91,7 @@ impl FileDisk<File> {
     ) -> io::Result<FileDisk<File>>
         ensures sized { IfOk result (λ disk. file_size disk ≡ size) }
         ensures unfailed { IfOk result (λ disk. file_failures disk ≡ 0) }
+        ensures kept { IfOk result (λ disk. file_lost disk ≡ false) }
     {
         let file = File::create_new(rt, path)?;
         file.set_len(size as u64)?;
@@ -90,6 +100,8 @@ impl FileDisk<File> {
 }
 
 impl<F: FileExt + OpenFile + Drop> Disk for FileDisk<F> {
+    ghost use Rattle.rep_disk.specs.Fuses.{file_size, file_lost};
+
     ghost size = { λ f. f.size };
 
     ghost failures = { λ f. f.failures };
@@ -108,18 +120,34 @@ impl<F: FileExt + OpenFile + Drop> Disk for FileDisk<F> {
         self.failures
     }
 
-    fn read_at(&mut self, at: usize, out: &mut [u8]) -> Result<(), DiskFault> {
+    fn read_at(&mut self, at: usize, out: &mut [u8]) -> Result<(), DiskFault>
+        requires { at + length out.old ≤ file_size self.old }
+        ensures disk { IsRead ⟦<FileDisk<F> as Disk>⟧.size ⟦<FileDisk<F> as Disk>⟧.failures ⟦<FileDisk<F> as Disk>⟧.honest ⟦<FileDisk<F> as Disk>⟧.history at out.new self.old self.new result }
+        ensures lost { file_lost self.new ≡ file_lost self.old }
+    {
         let outcome = self.file.read_exact_at(out, at as u64);
         counted(outcome, &mut self.failures)
     }
 
-    fn write_at(&mut self, at: usize, bytes: &[u8]) -> Result<(), DiskFault> {
+    fn write_at(&mut self, at: usize, bytes: &[u8]) -> Result<(), DiskFault>
+        requires { at + length bytes.now ≤ file_size self.old }
+        ensures disk { IsWrite ⟦<FileDisk<F> as Disk>⟧.size ⟦<FileDisk<F> as Disk>⟧.failures ⟦<FileDisk<F> as Disk>⟧.honest ⟦<FileDisk<F> as Disk>⟧.history at bytes.now self.old self.new result }
+        ensures lost { file_lost self.new ≡ file_lost self.old }
+    {
         let outcome = self.file.write_all_at(bytes, at as u64);
         counted(outcome, &mut self.failures)
     }
 
-    fn sync(&mut self) -> Result<(), DiskFault> {
+    fn sync(&mut self) -> Result<(), DiskFault>
+        ensures disk { IsSync ⟦<FileDisk<F> as Disk>⟧.size ⟦<FileDisk<F> as Disk>⟧.failures ⟦<FileDisk<F> as Disk>⟧.honest ⟦<FileDisk<F> as Disk>⟧.history self.old self.new result }
+        ensures lost { file_lost self.new ≡ is_err result }
+        ensures for_good { file_lost self.old ≡ true → IsErr result }
+    {
+        if self.lost {
+            return counted(Err(DiskFault), &mut self.failures);
+        }
         let outcome = self.file.sync_all();
+        self.lost = outcome.is_err();
         counted(outcome, &mut self.failures)
     }
 }

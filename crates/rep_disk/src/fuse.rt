@@ -1,7 +1,6 @@
 //! A disk that fails from some call on.
 ghost use Rattle.std.specs.Prelude.{◌≡◌, ◌↔◌, ◌+◌, ◌-◌, ◌≤◌, ◌<◌, length, IsErr, OnOk, OnErr};
-ghost use Rattle.rep_disk.specs.History.{Wrote, Synced, Reads};
-ghost use Rattle.rep_disk.specs.Calls.{IsCall, MaySpoil, capped};
+ghost use Rattle.rep_disk.specs.Calls.{IsRead, IsWrite, IsSync, capped};
 
 use crate::{Disk, DiskFault};
 
@@ -44,7 +43,8 @@ impl<D: Disk> FuseDisk<D> {
     pub fn into_inner(self) -> D
         ensures { result ≡ fused self }
     {
-        self.inner
+        let FuseDisk { inner, .. } = self;
+        inner
     }
 }
 
@@ -64,7 +64,7 @@ fn spend(calls_left: &mut u64, refusals: &mut u64) -> Result<(), DiskFault>
 }
 
 impl<D: Disk> Disk for FuseDisk<D> {
-    ghost use Rattle.rep_disk.specs.Fuses.{fused, calls_left, IsRefused};
+    ghost use Rattle.rep_disk.specs.Fuses.{fused, calls_left, FailsWhere};
 
     ghost size = { λ f. D.size f.inner };
 
@@ -86,11 +86,8 @@ impl<D: Disk> Disk for FuseDisk<D> {
 
     fn read_at(&mut self, at: usize, out: &mut [u8]) -> Result<(), DiskFault>
         requires { at + length out.old ≤ D.size (fused self.old) }
-        ensures call { IsCall ⟦<FuseDisk<D> as Disk>⟧.size ⟦<FuseDisk<D> as Disk>⟧.failures ⟦<FuseDisk<D> as Disk>⟧.honest self.old self.new result }
-        ensures same { ⟦<FuseDisk<D> as Disk>⟧.honest self.old → ⟦<FuseDisk<D> as Disk>⟧.history self.new ≡ ⟦<FuseDisk<D> as Disk>⟧.history self.old }
-        ensures read { ⟦<FuseDisk<D> as Disk>⟧.honest self.old → OnOk result (Reads (⟦<FuseDisk<D> as Disk>⟧.history self.old) at out.new) }
-        ensures blown { calls_left self.old ≡ 0 → IsRefused (fused self.old) (fused self.new) result }
-        ensures passed { 0 < calls_left self.old → IsCall D.size D.failures D.honest (fused self.old) (fused self.new) result }
+        ensures disk { IsRead ⟦<FuseDisk<D> as Disk>⟧.size ⟦<FuseDisk<D> as Disk>⟧.failures ⟦<FuseDisk<D> as Disk>⟧.honest ⟦<FuseDisk<D> as Disk>⟧.history at out.new self.old self.new result }
+        ensures inside { FailsWhere (calls_left self.old ≡ 0) D.size D.failures D.honest (fused self.old) (fused self.new) result }
         ensures left { calls_left self.new ≡ calls_left self.old - 1 }
     {
         spend(&mut self.calls_left, &mut self.refusals)?;
@@ -99,11 +96,8 @@ impl<D: Disk> Disk for FuseDisk<D> {
 
     fn write_at(&mut self, at: usize, bytes: &[u8]) -> Result<(), DiskFault>
         requires { at + length bytes.now ≤ D.size (fused self.old) }
-        ensures call { IsCall ⟦<FuseDisk<D> as Disk>⟧.size ⟦<FuseDisk<D> as Disk>⟧.failures ⟦<FuseDisk<D> as Disk>⟧.honest self.old self.new result }
-        ensures written { ⟦<FuseDisk<D> as Disk>⟧.honest self.old → OnOk result (⟦<FuseDisk<D> as Disk>⟧.history self.new ≡ Wrote at bytes.now (⟦<FuseDisk<D> as Disk>⟧.history self.old)) }
-        ensures spoiled { ⟦<FuseDisk<D> as Disk>⟧.honest self.old → OnErr result (MaySpoil at (length bytes.now) (⟦<FuseDisk<D> as Disk>⟧.history self.old) (⟦<FuseDisk<D> as Disk>⟧.history self.new)) }
-        ensures blown { calls_left self.old ≡ 0 → IsRefused (fused self.old) (fused self.new) result }
-        ensures passed { 0 < calls_left self.old → IsCall D.size D.failures D.honest (fused self.old) (fused self.new) result }
+        ensures disk { IsWrite ⟦<FuseDisk<D> as Disk>⟧.size ⟦<FuseDisk<D> as Disk>⟧.failures ⟦<FuseDisk<D> as Disk>⟧.honest ⟦<FuseDisk<D> as Disk>⟧.history at bytes.now self.old self.new result }
+        ensures inside { FailsWhere (calls_left self.old ≡ 0) D.size D.failures D.honest (fused self.old) (fused self.new) result }
         ensures left { calls_left self.new ≡ calls_left self.old - 1 }
     {
         spend(&mut self.calls_left, &mut self.refusals)?;
@@ -111,11 +105,8 @@ impl<D: Disk> Disk for FuseDisk<D> {
     }
 
     fn sync(&mut self) -> Result<(), DiskFault>
-        ensures call { IsCall ⟦<FuseDisk<D> as Disk>⟧.size ⟦<FuseDisk<D> as Disk>⟧.failures ⟦<FuseDisk<D> as Disk>⟧.honest self.old self.new result }
-        ensures synced { ⟦<FuseDisk<D> as Disk>⟧.honest self.old → OnOk result (⟦<FuseDisk<D> as Disk>⟧.history self.new ≡ Synced (⟦<FuseDisk<D> as Disk>⟧.history self.old)) }
-        ensures unsynced { ⟦<FuseDisk<D> as Disk>⟧.honest self.old → OnErr result (⟦<FuseDisk<D> as Disk>⟧.history self.new ≡ ⟦<FuseDisk<D> as Disk>⟧.history self.old) }
-        ensures blown { calls_left self.old ≡ 0 → IsRefused (fused self.old) (fused self.new) result }
-        ensures passed { 0 < calls_left self.old → IsCall D.size D.failures D.honest (fused self.old) (fused self.new) result }
+        ensures disk { IsSync ⟦<FuseDisk<D> as Disk>⟧.size ⟦<FuseDisk<D> as Disk>⟧.failures ⟦<FuseDisk<D> as Disk>⟧.honest ⟦<FuseDisk<D> as Disk>⟧.history self.old self.new result }
+        ensures inside { FailsWhere (calls_left self.old ≡ 0) D.size D.failures D.honest (fused self.old) (fused self.new) result }
         ensures left { calls_left self.new ≡ calls_left self.old - 1 }
     {
         spend(&mut self.calls_left, &mut self.refusals)?;

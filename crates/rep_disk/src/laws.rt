@@ -3,7 +3,7 @@
 ghost use Rattle.std.specs.Prelude.{◌≡◌, ◌+◌, ◌≤◌, ℕ, List, length};
 ghost use Rattle.rep_disk.specs.Bytes.{part, Untouched};
 ghost use Rattle.rep_disk.specs.History.{History, seen, failed, IsImage, Reads};
-ghost use Rattle.rep_disk.specs.Laws.{ImagesOfAMoment, ImagesAfterACall, ImagesWithinACall, MomentsOfCalls, LeavesMore};
+ghost use Rattle.rep_disk.specs.Laws.{ImagesOfAMoment, ImagesAfterACall, MomentsOfCalls};
 
 use crate::Disk;
 
@@ -23,25 +23,10 @@ pub fn images_after_a_call()
     ensures { ImagesAfterACall }
 {}
 
-/// A stop within a call leaves an image of its start or of its end.
-pub fn images_within_a_call()
-    ensures { ImagesWithinACall }
-{}
-
-/// A property of images, for the laws below.
-pub trait Property {
-    /// The image has it.
-    ghost holds: { List ℕ → Type 0 };
-}
-
-/// What the calls of a run leave at each moment, from what each call leaves.
-pub fn moments_of_calls<P: Property>()
-    ensures { MomentsOfCalls P.holds }
-{}
-
-/// What leaves only images of one property leaves only those of a weaker one.
-pub fn moments_of_a_weaker_property<P: Property, Q: Property>()
-    ensures { LeavesMore P.holds Q.holds }
+/// A stop within a call leaves an image of its start or of its end, and so what several calls leave
+/// at each moment is what each of them leaves.
+pub fn moments_of_calls()
+    ensures { MomentsOfCalls }
 {}
 
 /// What a read gives in a range that the failed writes lie apart from is what was written.

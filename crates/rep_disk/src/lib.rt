@@ -6,6 +6,8 @@ mod counting;
 mod disk;
 mod fault_once;
 mod file;
+#[cfg(test)]
+mod file_tests;
 mod fuse;
 mod laws;
 mod memory;
@@ -17,7 +19,7 @@ pub use fault_once::FaultOnce;
 pub use file::FileDisk;
 pub use fuse::FuseDisk;
 pub use laws::{
-    Property, images_after_a_call, images_of_a_moment, images_within_a_call,
-    moments_of_a_weaker_property, moments_of_calls, reads_as_an_image, reads_what_was_written,
+    images_after_a_call, images_of_a_moment, moments_of_calls, reads_as_an_image,
+    reads_what_was_written,
 };
 pub use memory::{Loss, MemDisk};

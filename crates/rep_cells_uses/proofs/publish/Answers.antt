@@ -1,67 +1,54 @@
-use Rattle.std.proofs.Common.{◌≡◌, ℕ, List, inl, refl, ◌∙◌}
+use Rattle.std.proofs.Common.{◌≡◌, ℕ, List, Result, Ok, inl, refl, ◌∙◌}
 use Rattle.rep_disk.specs.History.{History}
-use Rattle.rep_cells.specs.States.{Closed, Filling, Filled, Opening, filling, opening}
-use Rattle.rep_cells_uses.proofs.Stages.{nothing_or_this, begins, went_on, went_stable, publishes, stops}
+use Rattle.rep_layout.specs.declared.place.Layout.{Layout}
+use Rattle.rep_layout.specs.declared.place.Place.{Place}
+use Rattle.rep_cells.specs.Readings.{IsPlace}
+use Rattle.rep_cells.specs.States.{States, Closed, Filling, Filled, Opening, Opened, filling, opening}
+use Rattle.rep_cells.specs.Known.{Assigns}
+use Rattle.rep_cells_uses.proofs.Stages.{Stage, AtRest, Went, Steps, Settles, nothing_or_this, begins, went_on, went_stable, publishes, stops}
 use Rattle.rep_cells_uses.proofs.publish.Goals as goal
+
+-- the four calls, each behind those before it
+fills :
+    {T E : Type 0} {l : Layout} {h new : History} {s : States} {cell : Place} {body : List ℕ} {result : Result T E}
+    → Assigns l h s → s cell ≡ Closed → IsPlace l cell → Steps l h new cell (filling body) result
+    → Went l h new s cell (λ one. one ≡ body) (Stage l h new s cell (λ one. one ≡ body) (Filling body)) result
+fills is closed place fill = went_on (begins _ is closed) place (λ r none. inl none) refl fill
+
+rests :
+    {T E F G : Type 0} {l l1 : Layout} {h h1 new : History} {s : States} {cell : Place} {body : List ℕ} {x : T} {result : Result F G}
+    → Assigns l h s → s cell ≡ Closed → IsPlace l cell → l1 ≡ l → Steps {T = T} {E = E} l h h1 cell (filling body) (Ok x) → Settles l1 h1 new result
+    → Went l h new s cell (λ one. one ≡ body) (AtRest l h new s cell (λ one. one ≡ body) (Filled body)) result
+rests is closed place same fill sync = went_stable (fills is closed place fill).ok place (λ r none. inl none) same sync
+
+opens :
+    {T E : Type 0} {l l1 l2 : Layout} {h h1 h2 new : History} {s : States} {cell : Place} {body : List ℕ} {x y : T} {result : Result T E}
+    → Assigns l h s → s cell ≡ Closed → IsPlace l cell → l1 ≡ l → l2 ≡ l → Steps {T = T} {E = E} l h h1 cell (filling body) (Ok x) → Settles {T = T} {E = E} l1 h1 h2 (Ok y) → Steps l2 h2 new cell opening result
+    → Went l h new s cell (λ one. one ≡ body) (Stage l h new s cell (λ one. one ≡ body) (Opening body)) result
+opens is closed place same same_2 fill sync gate = went_on (rests is closed place same fill sync).ok.stage place (nothing_or_this _) same_2 gate
 
 pub returns-in_err-fill-clause-published : goal.returns-in_err-fill-clause-published
 returns-in_err-fill-clause-published g c = λ honest s is closed.
-    let l = c.args.cells.now.layout in
-    let h0 : History = g.D.Disk.history c.args.cells.now.disk in
-    let h1 : History = g.D.Disk.history c.fill.new.self.disk in
-    let body : List ℕ = c.args.body.now in
-    let IsOne : List ℕ → Type 0 = λ one. one ≡ body in
-    let cell = c.args.cell in
-    let filled = went_on l h0 h0 h1 s cell IsOne Closed (filling body) c.fill.result (begins l h0 s cell IsOne Closed is closed) c.requires.cell.0 (λ r none. inl none) l refl (c.fill.ensures.states honest) in
-    stops l h0 h1 s cell body IsOne _ c.fill.result c.from_residual.result filled c.from_residual.ensures.0
+    stops (fills is closed c.requires.cell.0 (c.fill.ensures.states honest)) c.from_residual.ensures.0
 
 pub returns-in_err-sync-clause-published : goal.returns-in_err-sync-clause-published
 returns-in_err-sync-clause-published g c = λ honest s is closed.
-    let l = c.args.cells.now.layout in
-    let h0 : History = g.D.Disk.history c.args.cells.now.disk in
-    let h1 : History = g.D.Disk.history c.fill.new.self.disk in
-    let h2 : History = g.D.Disk.history c.sync.new.self.disk in
-    let body : List ℕ = c.args.body.now in
-    let IsOne : List ℕ → Type 0 = λ one. one ≡ body in
-    let cell = c.args.cell in
-    let filled = went_on l h0 h0 h1 s cell IsOne Closed (filling body) _ (begins l h0 s cell IsOne Closed is closed) c.requires.cell.0 (λ r none. inl none) l refl (c.in_ok-fill.ensures.states honest) in
     let honest_1 = c.fill.ensures.call.stays_honest honest in
-    let stable = went_stable l h0 h1 h2 s cell IsOne (Filling body) c.sync.result filled.ok c.requires.cell.0 (λ r none. inl none) c.fill.new.self.layout c.fill.ensures.layout (c.sync.ensures.states honest_1) in
-    stops l h0 h2 s cell body IsOne _ c.sync.result c.from_residual-in_err-sync.result stable c.from_residual-in_err-sync.ensures.0
+    stops (rests is closed c.requires.cell.0 c.fill.ensures.layout (c.in_ok-fill.ensures.states honest) (c.sync.ensures.states honest_1)) c.from_residual-in_err-sync.ensures.0
 
 pub returns-in_err-open_gate-clause-published : goal.returns-in_err-open_gate-clause-published
 returns-in_err-open_gate-clause-published g c = λ honest s is closed.
-    let l = c.args.cells.now.layout in
-    let h0 : History = g.D.Disk.history c.args.cells.now.disk in
-    let h1 : History = g.D.Disk.history c.fill.new.self.disk in
-    let h2 : History = g.D.Disk.history c.sync.new.self.disk in
-    let h3 : History = g.D.Disk.history c.open_gate.new.self.disk in
-    let body : List ℕ = c.args.body.now in
-    let IsOne : List ℕ → Type 0 = λ one. one ≡ body in
-    let cell = c.args.cell in
-    let filled = went_on l h0 h0 h1 s cell IsOne Closed (filling body) _ (begins l h0 s cell IsOne Closed is closed) c.requires.cell.0 (λ r none. inl none) l refl (c.in_ok-fill.ensures.states honest) in
     let honest_1 = c.fill.ensures.call.stays_honest honest in
-    let stable = went_stable l h0 h1 h2 s cell IsOne (Filling body) _ filled.ok c.requires.cell.0 (λ r none. inl none) c.fill.new.self.layout c.fill.ensures.layout (c.in_ok-sync.ensures.states honest_1) in
     let honest_2 = c.sync.ensures.call.stays_honest honest_1 in
-    let opened = went_on l h0 h2 h3 s cell IsOne (Filled body) opening c.open_gate.result stable.ok.stage c.requires.cell.0 (nothing_or_this body) c.sync.new.self.layout (c.sync.ensures.layout ∙ c.fill.ensures.layout) (c.open_gate.ensures.states honest_2) in
-    stops l h0 h3 s cell body IsOne _ c.open_gate.result c.from_residual-in_err-open_gate.result opened c.from_residual-in_err-open_gate.ensures.0
+    stops
+    (opens is closed c.requires.cell.0 c.fill.ensures.layout (c.sync.ensures.layout ∙ c.fill.ensures.layout) (c.in_ok-fill.ensures.states honest) (c.in_ok-sync.ensures.states honest_1) (c.open_gate.ensures.states honest_2))
+    c.from_residual-in_err-open_gate.ensures.0
 
 pub returns-clause-published : goal.returns-clause-published
 returns-clause-published g c = λ honest s is closed.
-    let l = c.args.cells.now.layout in
-    let h0 : History = g.D.Disk.history c.args.cells.now.disk in
-    let h1 : History = g.D.Disk.history c.fill.new.self.disk in
-    let h2 : History = g.D.Disk.history c.sync.new.self.disk in
-    let h3 : History = g.D.Disk.history c.open_gate.new.self.disk in
-    let h4 : History = g.D.Disk.history c.sync-2.new.self.disk in
-    let body : List ℕ = c.args.body.now in
-    let IsOne : List ℕ → Type 0 = λ one. one ≡ body in
-    let cell = c.args.cell in
-    let filled = went_on l h0 h0 h1 s cell IsOne Closed (filling body) _ (begins l h0 s cell IsOne Closed is closed) c.requires.cell.0 (λ r none. inl none) l refl (c.in_ok-fill.ensures.states honest) in
     let honest_1 = c.fill.ensures.call.stays_honest honest in
-    let stable = went_stable l h0 h1 h2 s cell IsOne (Filling body) _ filled.ok c.requires.cell.0 (λ r none. inl none) c.fill.new.self.layout c.fill.ensures.layout (c.in_ok-sync.ensures.states honest_1) in
     let honest_2 = c.sync.ensures.call.stays_honest honest_1 in
-    let opened = went_on l h0 h2 h3 s cell IsOne (Filled body) opening _ stable.ok.stage c.requires.cell.0 (nothing_or_this body) c.sync.new.self.layout (c.sync.ensures.layout ∙ c.fill.ensures.layout) (c.in_ok-open_gate.ensures.states honest_2) in
     let honest_3 = c.open_gate.ensures.call.stays_honest honest_2 in
-    publishes l h0 h4 s cell body IsOne c.sync-2.result
-    (went_stable l h0 h3 h4 s cell IsOne (Opening body) c.sync-2.result opened.ok c.requires.cell.0 (nothing_or_this body) c.open_gate.new.self.layout (c.open_gate.ensures.layout ∙ (c.sync.ensures.layout ∙ c.fill.ensures.layout)) (c.sync-2.ensures.states honest_3))
+    let same_2 = c.sync.ensures.layout ∙ c.fill.ensures.layout in
+    let opened = opens is closed c.requires.cell.0 c.fill.ensures.layout same_2 (c.in_ok-fill.ensures.states honest) (c.in_ok-sync.ensures.states honest_1) (c.in_ok-open_gate.ensures.states honest_2) in
+    publishes (went_stable opened.ok c.requires.cell.0 (nothing_or_this c.args.body.now) (c.open_gate.ensures.layout ∙ same_2) (c.sync-2.ensures.states honest_3))

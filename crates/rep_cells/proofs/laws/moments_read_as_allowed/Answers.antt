@@ -1,9 +1,8 @@
-use Rattle.rep_disk.specs.History.{IsImage}
-use Rattle.rep_disk.proofs.Moments.{leaves_weaker}
-use Rattle.rep_cells.specs.Readings.{reading_of}
-use Rattle.rep_cells.specs.States.{Allowed}
+use Rattle.std.proofs.Common.{inl, inr}
 use Rattle.rep_cells.proofs.laws.moments_read_as_allowed.Goals as goal
 
 pub returns : goal.returns
-returns c = λ l old new during after result reaches.
-    leaves_weaker old new (IsImage new) (λ image. Allowed l during (reading_of l image)) reaches.images reaches.moments
+returns c = λ l old new during after result reaches. record {
+  later = reaches.moments.later;
+  since = λ t image late is. elim (reaches.moments.since t image late is) [ inl before ↦ inl before | inr now ↦ inr (reaches.images image now) ];
+}

@@ -1,10 +1,11 @@
-use Rattle.rep_disk.proofs.Moments.{leaves_none, leaves_call, leaves_then, leaves_each}
+use Rattle.std.proofs.Common.{arith}
+use Rattle.rep_disk.specs.Moments.{moment}
+use Rattle.rep_disk.proofs.Moments.{counts_now, only_now, call_images, within_call, call_adds}
 use Rattle.rep_disk.proofs.laws.moments_of_calls.Goals as goal
 
 pub returns : goal.returns
-returns g c = record {
-  of_none = λ h. leaves_none h g.P.Property.holds;
-  of_one = λ old new next each. leaves_call old new g.P.Property.holds next each;
-  of_more = λ old mid new first second. leaves_then old mid new g.P.Property.holds first second;
-  each = λ old new leaves before. leaves_each old new g.P.Property.holds leaves before;
+returns c = record {
+  of_none = λ h image. (only_now h image, counts_now h (moment h) image (omega arith));
+  of_one = λ old new image next. (call_images old new image next, within_call old new image next);
+  adds = call_adds;
 }

@@ -1,9 +1,9 @@
 use Rattle.std.proofs.Common.{ℕ, subst}
 use Rattle.rep_cells.specs.Calls.{Writes}
-use Rattle.rep_cells.proofs.Writing.{fill_reaches}
+use Rattle.rep_cells.proofs.Writing.{fill_steps}
 use Rattle.rep_cells.proofs.cells.Cells.fill.Goals as goal
 
 pub returns-clause-states : goal.returns-clause-states
-returns-clause-states g c = λ honest s t is moves.
-    fill_reaches c.args.self.now.layout (g.D.Disk.history c.args.self.now.disk) (g.D.Disk.history c.write_at.new.self) s t c.args.cell c.args.body.now c.write_at.result is c.requires.cell.0 c.requires.size
-    (subst (λ (at : ℕ). Writes at c.args.body.now (g.D.Disk.history c.args.self.now.disk) (g.D.Disk.history c.write_at.new.self) c.write_at.result) c.offset.ensures (record { done = c.write_at.ensures.written honest; failed = c.write_at.ensures.spoiled honest })) moves
+returns-clause-states g c = λ honest s is.
+    fill_steps c.args.self.now.layout (g.D.Disk.history c.args.self.now.disk) (g.D.Disk.history c.write_at.new.self) s c.args.cell c.args.body.now c.write_at.result is c.requires.cell.0 c.requires.size
+    (subst (λ (at : ℕ). Writes at c.args.body.now (g.D.Disk.history c.args.self.now.disk) (g.D.Disk.history c.write_at.new.self) c.write_at.result) c.offset.ensures (record { done = c.write_at.ensures.written honest; failed = c.write_at.ensures.spoiled honest }))

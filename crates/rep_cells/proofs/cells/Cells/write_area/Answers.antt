@@ -1,9 +1,9 @@
 use Rattle.std.proofs.Common.{ℕ, subst}
 use Rattle.rep_cells.specs.Calls.{Writes}
-use Rattle.rep_cells.proofs.Writing.{write_area_reaches}
+use Rattle.rep_cells.proofs.Writing.{write_area_steps}
 use Rattle.rep_cells.proofs.cells.Cells.write_area.Goals as goal
 
 pub returns-clause-states : goal.returns-clause-states
-returns-clause-states g c = λ honest s t is moves.
-    write_area_reaches c.args.self.now.layout (g.D.Disk.history c.args.self.now.disk) (g.D.Disk.history c.write_at.new.self) s t c.args.area c.args.body.now c.write_at.result is c.requires.area c.requires.size
-    (subst (λ (at : ℕ). Writes at c.args.body.now (g.D.Disk.history c.args.self.now.disk) (g.D.Disk.history c.write_at.new.self) c.write_at.result) c.offset.ensures (record { done = c.write_at.ensures.written honest; failed = c.write_at.ensures.spoiled honest })) moves
+returns-clause-states g c = λ honest s is.
+    write_area_steps c.args.self.now.layout (g.D.Disk.history c.args.self.now.disk) (g.D.Disk.history c.write_at.new.self) s c.args.area c.args.body.now c.write_at.result is c.requires.area c.requires.size
+    (subst (λ (at : ℕ). Writes at c.args.body.now (g.D.Disk.history c.args.self.now.disk) (g.D.Disk.history c.write_at.new.self) c.write_at.result) c.offset.ensures (record { done = c.write_at.ensures.written honest; failed = c.write_at.ensures.spoiled honest }))
