@@ -2,7 +2,7 @@
 
 ghost use Rattle.std.specs.Prelude.{◌≡◌, ◌≤◌, ◌==◌, ◌↔◌, [], ◌∷◌, ◌++◌, length, take, drop, slice_get, IfOk, IfErr, OnOk, OnErr, IsErr};
 ghost use Rattle.std.specs.Option.{option_copied};
-ghost use Rattle.rep_backlog.specs.Fronts.{fitting, with_records};
+ghost use Rattle.rep_record.specs.Fronts.{fitting};
 
 use circular_buffer::HeapCircularBuffer;
 use rep_record::BlockBuilder;
@@ -60,12 +60,12 @@ impl Backlog {
         Ok(())
     }
 
-    /// Moves the longest front that the block has room for into the block, each item once and in
-    /// order, and says how many. The first record that has no room stays, and all behind it. It takes
-    /// no memory.
+    /// Moves the longest front that the block takes into the block, each item once and in order, and
+    /// says how many. The first item that it does not take stays, and all behind it. It takes no
+    /// memory.
     pub fn drain(&mut self, builder: &mut BlockBuilder) -> u16
         ensures moved { result ≡ fitting builder.old self.old }
-        ensures gathered { builder.new ≡ with_records builder.old (take result self.old) }
+        ensures gathered { builder.new ≡ builder.old ++ take result self.old }
         ensures rest { self.new ≡ drop result self.old }
     {
         let mut moved = 0;

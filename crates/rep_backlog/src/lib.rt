@@ -2,10 +2,8 @@
 #![tactic(auto)]
 
 mod backlog;
-mod laws;
 
 pub use backlog::Backlog;
-pub use laws::{fronts_are_determined, moved_items_are_gathered, stays_in_order};
 
 #[cfg(test)]
 mod tests;

@@ -1,5 +1,6 @@
 -- The law of entries as bytes.
 use Rattle.std.proofs.Common.{◌≡◌, ℕ, Some, List, ◌∷◌, ◌++◌, length, refl, arith}
+use Rattle.rep_types.specs.declared.limits.TheConstants.{MAX_WRITES}
 use Rattle.rep_types.specs.Entries.{Entry}
 use Rattle.rep_forms.specs.Forms.{Form, IsForm, byte, number, both, ◌⊗◌, many, via}
 use Rattle.rep_forms.specs.FormLaws.{byte_is_form, number_is_form, both_is_form, many_is_form, via_is_form, named_is_form}
@@ -9,8 +10,8 @@ use Rattle.rep_forms.specs.Entries.{EntryFits, entry_bytes, entry_fields, entry_
 
 entry_fields_is_form : IsForm entry_fields
 entry_fields_is_form =
-    via_is_form (number 8 ⊗ both byte (λ n. many 16 n key_form)) (λ (e : Entry). (e.seqno, (length e.keys, e.keys))) (λ x. Some (record { seqno = x.0; keys = x.1.1 }))
-    (both_is_form (number 8) (λ _. both byte (λ n. many 16 n key_form)) (number_is_form 8) (λ _. both_is_form byte (λ n. many 16 n key_form) byte_is_form (λ n. many_is_form 16 n key_form key_is_form)))
+    via_is_form (number 8 ⊗ both byte (λ n. many MAX_WRITES n key_form)) (λ (e : Entry). (e.seqno, (length e.keys, e.keys))) (λ x. Some (record { seqno = x.0; keys = x.1.1 }))
+    (both_is_form (number 8) (λ _. both byte (λ n. many MAX_WRITES n key_form)) (number_is_form 8) (λ _. both_is_form byte (λ n. many MAX_WRITES n key_form) byte_is_form (λ n. many_is_form MAX_WRITES n key_form key_is_form)))
 
 pub entry_is_form : IsForm entry_form
 entry_is_form =

@@ -2,6 +2,7 @@
 use Rattle.std.proofs.Common.{◌≡◌, ℕ, ◌<◌, ◌≤◌, ◌^◌, Option, Some, None, List, [], ◌∷◌, ◌++◌, length, refl, arith, lit<, length-append}
 use Rattle.std.specs.Prelude.{IfSome}
 use Rattle.std.proofs.lemmas.Bool.{le-leb}
+use Rattle.rep_types.specs.declared.limits.TheConstants.{MAX_VALUE}
 use Rattle.rep_types.specs.declared.value.Write.{Write}
 use Rattle.rep_forms.specs.Forms.{Form, IsForm, AreBytes, part_of, byte, both, ◌⊗◌, via}
 use Rattle.rep_forms.specs.FormLaws.{byte_is_form, part_is_form, both_is_form, via_is_form, named_is_form}
@@ -14,9 +15,9 @@ value_is_form =
     via_is_form (byte ⊗ both byte part_of) value_parts (λ x. value_of x.0 x.1.1)
     (both_is_form byte (λ _. both byte part_of) byte_is_form (λ _. both_is_form byte part_of byte_is_form part_is_form))
 
-value_fits : (value : Option (List ℕ)) → IfSome value (λ bytes. length bytes ≤ 62) → IfSome value AreBytes → value_fields.Fits value
+value_fits : (value : Option (List ℕ)) → IfSome value (λ bytes. length bytes ≤ MAX_VALUE) → IfSome value AreBytes → value_fields.Fits value
 value_fits None short bytes = ((lit< tt, (lit< tt, record { size = refl; each = tt })), refl)
-value_fits (Some xs) short bytes = ((lit< tt, (omega (arith, short), record { size = refl; each = bytes })), rw (le-leb (length xs) 62 short) refl)
+value_fits (Some xs) short bytes = ((lit< tt, (omega (arith, short), record { size = refl; each = bytes })), rw (le-leb (length xs) MAX_VALUE short) refl)
 
 value_same : (value : Option (List ℕ)) → value_bytes value ≡ value_fields.spell value
 value_same None = refl
@@ -34,7 +35,7 @@ write_is_form =
     (λ write h. rw (value_same write.value) refl)
 
 -- a write takes at most 69 bytes
-value_short : (value : Option (List ℕ)) → IfSome value (λ bytes. length bytes ≤ 62) → length (value_bytes value) ≤ 64
+value_short : (value : Option (List ℕ)) → IfSome value (λ bytes. length bytes ≤ MAX_VALUE) → length (value_bytes value) ≤ 64
 value_short None short = omega arith
 value_short (Some bytes) short = omega (arith, short)
 

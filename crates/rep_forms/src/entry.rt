@@ -6,22 +6,23 @@ use crate::form::{Exact, Form, Put};
 use crate::numbers::{put_u8, put_u64, read_u8, read_u64, strip_front};
 use crate::run::{put_run, read_run};
 use arrayvec::ArrayVec;
-use rep_types::{Entry, Key};
+use rep_types::{Entry, Key, MAX_WRITES};
 
-/// The greatest number of bytes of an entry: 9, and 16 keys of 5 bytes.
-pub const MAX_ENTRY: usize = 89;
+/// The greatest number of bytes of an entry: 9, and 5 for each key.
+pub const MAX_ENTRY: usize = 9 + 5 * MAX_WRITES;
 
 impl Form for Entry {
     ghost use Rattle.rep_forms.specs.EntryLaws.{entry_is_form};
+    ghost use Rattle.rep_forms.specs.declared.entry.TheConstants.{MAX_ENTRY};
 
     ghost form = { entry_form };
 
-    ghost most = { 89 };
+    ghost most = { MAX_ENTRY };
 
     fn read(bytes: &[u8]) -> Option<(Entry, &[u8])> {
         let (seqno, rest) = read_u64(bytes)?;
         let (count, rest) = read_u8(rest)?;
-        let (keys, rest) = read_run::<Key, 16>(rest, usize::from(count))?;
+        let (keys, rest) = read_run::<Key, MAX_WRITES>(rest, usize::from(count))?;
         Some((Entry::new(seqno, keys), rest))
     }
 
@@ -39,7 +40,7 @@ impl<const N: usize> Put<N> for Entry {
 
 impl Exact for Entry {
     fn strip<'a>(&self, bytes: &'a [u8]) -> Option<&'a [u8]> {
-        let mut spelling: ArrayVec<u8, 89> = ArrayVec::new();
+        let mut spelling: ArrayVec<u8, MAX_ENTRY> = ArrayVec::new();
         self.put(&mut spelling);
         strip_front(bytes, spelling.as_slice())
     }

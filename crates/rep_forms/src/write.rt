@@ -7,7 +7,7 @@ ghost use Rattle.rep_forms.specs.Writes.{value_bytes, value_fields, write_form};
 use crate::form::{Form, Put};
 use crate::numbers::{put_bytes, put_u8, read_part, read_u8};
 use arrayvec::ArrayVec;
-use rep_types::{Key, Value, Write};
+use rep_types::{Key, MAX_VALUE, Value, Write};
 
 /// What is written under a key, and the bytes behind it.
 fn read_value(bytes: &[u8]) -> Option<(Option<Value>, &[u8])>
@@ -29,7 +29,7 @@ fn put_value<const N: usize>(out: &mut ArrayVec<u8, N>, value: &Option<Value>)
     requires { length out.old.items + 64 ≤ N }
     ensures bytes { out.new.items ≡ out.old.items ++ value_bytes value.now }
     ensures size { length (value_bytes value.now) ≤ 64 }
-    ensures short { IfSome value.now (λ bytes. length bytes ≤ 62) }
+    ensures short { IfSome value.now (λ bytes. length bytes ≤ MAX_VALUE) }
     ensures fits { IfSome value.now AreBytes }
 {
     match value {

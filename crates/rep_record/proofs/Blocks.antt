@@ -4,6 +4,7 @@ use Rattle.std.specs.Prelude.{◌&&◌, Result, Ok, Err, IfOk, IsOkAnd, if◌the
 use Rattle.std.specs.List.{AllByRecursion}
 use Rattle.std.proofs.lemmas.Bool.{eqb-true, eq-eqb, le-leb}
 use Rattle.std.proofs.lemmas.Option.{same_Some, cond_some}
+use Rattle.rep_types.specs.declared.limits.TheConstants.{MAX_SEQNO}
 use Rattle.rep_types.specs.declared.judged.Judged.{Judged}
 use Rattle.rep_types.specs.declared.refusal.Refusal.{Refusal}
 use Rattle.rep_forms.specs.Forms.{number_bytes, zeros, are_blank, AreMany}
@@ -11,6 +12,7 @@ use Rattle.rep_forms.specs.Told.{AreTold, RunsAreTold}
 use Rattle.rep_forms.specs.FormLaws.{length_number, length_zeros, conjuncts, blank_is, zeros_blank}
 use Rattle.rep_forms.specs.Runs.{Leads, Follow}
 use Rattle.rep_record.specs.declared.block_reader.Head.{Head}
+use Rattle.rep_record.specs.declared.limits.TheConstants.{MAX_BLOCK, BLOCK}
 use Rattle.rep_record.specs.Records.{IsRecord, record_form}
 use Rattle.rep_record.specs.Blocks.{first_seqno, SeqnosFrom, run_bytes, IsBlock, block_bytes, Contents, contents, HeadFits, head_bytes, head_form, HasHead, next_seqno, AreRecords, IsRead}
 
@@ -19,8 +21,8 @@ use Rattle.rep_record.specs.Blocks.{first_seqno, SeqnosFrom, run_bytes, IsBlock,
 -- what a step says
 step_says : (n : ℕ) (j : Judged) (t : ℕ) → next_seqno n j ≡ Some t → (j.seqno ≡ n) × (n + 1 ≡ t)
 step_says n j t e =
-    let a = cond_some (eqb j.seqno n && leb n (2 ^ 60)) (n + 1) t e in
-    (eqb-true j.seqno n (conjuncts (eqb j.seqno n) (leb n (2 ^ 60)) a.0).0, a.1)
+    let a = cond_some (eqb j.seqno n && leb n MAX_SEQNO) (n + 1) t e in
+    (eqb-true j.seqno n (conjuncts (eqb j.seqno n) (leb n MAX_SEQNO) a.0).0, a.1)
 
 -- records that follow are of seqnos that do
 seqnos_of : (n : ℕ) (js : List Judged) (t : ℕ) → Leads next_seqno n js t → SeqnosFrom n js
@@ -34,8 +36,8 @@ follow_of : (n : ℕ) (js : List Judged) → AllByRecursion IsRecord js → Seqn
 follow_of n [] h s = (n, refl)
 follow_of n (j ∷ js) h s =
     let rest = follow_of (n + 1) js h.1 s.1 in
-    let small : n ≤ 2 ^ 60 = omega (arith, h.0.seqno, s.0) in
-    (rest.0, (n + 1, rw (eq-eqb j.seqno n s.0, le-leb n (2 ^ 60) small) refl, rest.1))
+    let small : n ≤ MAX_SEQNO = omega (arith, h.0.seqno, s.0) in
+    (rest.0, (n + 1, rw (eq-eqb j.seqno n s.0, le-leb n MAX_SEQNO small) refl, rest.1))
 
 -- the first seqno is that of the first record
 first_is : (n : ℕ) (js : List Judged) → 1 ≤ length js → SeqnosFrom n js → first_seqno js ≡ n
@@ -64,13 +66,13 @@ block_read bytes cell js h =
     let some : 1 ≤ length js = omega (arith, all, h.has_head.some) in
     let seqnos = seqnos_of h.head.first js h.are_records.follow.0 h.are_records.follow.1 in
     let first : first_seqno js ≡ h.head.first = first_is h.head.first js some seqnos in
-    let sizes : 7680 ≡ 18 + (length (run_bytes js) + length h.rest) =
+    let sizes : BLOCK ≡ 18 + (length (run_bytes js) + length h.rest) =
     sym h.has_head.size ∙ ap length h.has_head.there ∙ length-append (head_bytes h.head) h.body ∙ ap (λ n. n + length h.body) (length-head h.head)
     ∙ ap (λ n. 18 + n) (ap length h.are_records.there ∙ length-append (run_bytes js) h.rest) in
-    let filling : h.rest ≡ zeros (7662 - length (run_bytes js)) = blank_is h.rest h.blank ∙ ap zeros (omega (arith, sizes)) in
-    let body : h.body ≡ run_bytes js ++ zeros (7662 - length (run_bytes js)) = h.are_records.there ∙ ap (λ (rest : List ℕ). run_bytes js ++ rest) filling in
-    let spelled : bytes ≡ number_bytes 8 h.head.cell ++ (number_bytes 8 h.head.first ++ (number_bytes 2 h.head.count ++ (run_bytes js ++ zeros (7662 - length (run_bytes js))))) =
-    h.has_head.there ∙ ap (λ (rest : List ℕ). head_bytes h.head ++ rest) body ∙ whole h.head.cell h.head.first h.head.count (run_bytes js ++ zeros (7662 - length (run_bytes js))) in (
+    let filling : h.rest ≡ zeros (MAX_BLOCK - length (run_bytes js)) = blank_is h.rest h.blank ∙ ap zeros (omega (arith, sizes)) in
+    let body : h.body ≡ run_bytes js ++ zeros (MAX_BLOCK - length (run_bytes js)) = h.are_records.there ∙ ap (λ (rest : List ℕ). run_bytes js ++ rest) filling in
+    let spelled : bytes ≡ number_bytes 8 h.head.cell ++ (number_bytes 8 h.head.first ++ (number_bytes 2 h.head.count ++ (run_bytes js ++ zeros (MAX_BLOCK - length (run_bytes js))))) =
+    h.has_head.there ∙ ap (λ (rest : List ℕ). head_bytes h.head ++ rest) body ∙ whole h.head.cell h.head.first h.head.count (run_bytes js ++ zeros (MAX_BLOCK - length (run_bytes js))) in (
       record {
         cell_fits = omega (arith, h.is_cell, h.has_head.fits.cell);
         some = some;
@@ -97,11 +99,11 @@ pub record Says (bytes : List ℕ) (cell : ℕ) (js : List Judged) : Type 0 wher
 
 pub says : (bytes : List ℕ) (cell : ℕ) (js : List Judged) → IsBlock cell js → bytes ≡ block_bytes cell js → Says bytes cell js
 says bytes cell js h e =
-    let filling : List ℕ = zeros (7662 - length (run_bytes js)) in
+    let filling : List ℕ = zeros (MAX_BLOCK - length (run_bytes js)) in
     let head : Head = record { cell = cell; first = first_seqno js; count = length js } in
     let there : bytes ≡ head_bytes head ++ (run_bytes js ++ filling) = e ∙ sym (whole cell (first_seqno js) (length js) (run_bytes js ++ filling)) in
-    let size : length bytes ≡ 7680 =
-    ap length there ∙ length-append (head_bytes head) (run_bytes js ++ filling) ∙ omega (arith, length-head head, length-append (run_bytes js) filling, length_zeros (7662 - length (run_bytes js)), h.fits) in
+    let size : length bytes ≡ BLOCK =
+    ap length there ∙ length-append (head_bytes head) (run_bytes js ++ filling) ∙ omega (arith, length-head head, length-append (run_bytes js) filling, length_zeros (MAX_BLOCK - length (run_bytes js)), h.fits) in
     record {
       head = head;
       is_cell = refl;
@@ -116,7 +118,7 @@ says bytes cell js h e =
       };
       rest = filling;
       are_records = record { size = refl; each = h.are_records; follow = follow_of (first_seqno js) js h.are_records h.follow; there = refl };
-      blank = zeros_blank (7662 - length (run_bytes js));
+      blank = zeros_blank (MAX_BLOCK - length (run_bytes js));
     }
 
 -- ---- the answer

@@ -7,6 +7,7 @@ use Rattle.std.proofs.lemmas.List.{append-nil}
 use Rattle.rep_types.specs.declared.judged.Judged.{Judged}
 use Rattle.rep_forms.specs.Forms.{each}
 use Rattle.rep_forms.specs.FormLaws.{each_again, run_more, all_more}
+use Rattle.rep_record.specs.declared.limits.TheConstants.{MAX_RECORDS, MAX_BLOCK}
 use Rattle.rep_record.specs.Records.{IsRecord, record_bytes, record_form}
 use Rattle.rep_record.specs.RecordLaws.{record_is_form}
 use Rattle.rep_record.specs.Blocks.{first_seqno, SeqnosFrom, run_bytes, is_next}
@@ -42,8 +43,8 @@ pub gathered_is : (count : ℕ) (bytes : List ℕ) (js : List Judged) → each r
 gathered_is count bytes js e = ap (λ (o : Option (List Judged × List ℕ)). option_map_or (λ (x : List Judged × List ℕ). x.0) o []) e
 
 -- one more
-pub gathered_more : (first count : ℕ) (bytes more : List ℕ) (j : Judged) → IsGathered first count bytes → IsRecord j → is_next (gathered_in count bytes) j ≡ true → count < 64
-    → more ≡ bytes ++ record_bytes j → length more ≤ 7662 → IsGathered (cond (eqb count 0) j.seqno first) (count + 1) more × (gathered_in (count + 1) more ≡ gathered_in count bytes ++ j ∷ [])
+pub gathered_more : (first count : ℕ) (bytes more : List ℕ) (j : Judged) → IsGathered first count bytes → IsRecord j → is_next (gathered_in count bytes) j ≡ true → count < MAX_RECORDS
+    → more ≡ bytes ++ record_bytes j → length more ≤ MAX_BLOCK → IsGathered (cond (eqb count 0) j.seqno first) (count + 1) more × (gathered_in (count + 1) more ≡ gathered_in count bytes ++ j ∷ [])
 gathered_more first count bytes more j h r next room there fits =
     let js : List Judged = gathered_in count bytes in
     let run : more ≡ run_bytes (js ++ j ∷ []) = there ∙ ap (λ (xs : List ℕ). xs ++ record_bytes j) h.spelled ∙ sym (run_more record_bytes js j) in

@@ -10,3 +10,5 @@ pub mod NextLine
 pub mod Writing
 pub mod Blocks
 pub mod Gathering
+pub mod Fronts
+pub mod InOrder

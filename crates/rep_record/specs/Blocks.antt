@@ -1,9 +1,11 @@
 -- Blocks of records as a log keeps them: what a block takes, its one spelling, and where bytes stop to be one.
 use Rattle.std.specs.Prelude.{◌≡◌, ℕ, ◌+◌, ◌-◌, ◌≤◌, ◌<◌, ◌^◌, ◌==◌, ◌&&◌, ◌⊎◌, Bool, true, nat_lt, nat_le, if◌then◌else◌, List, [], ◌∷◌, ◌++◌, length, Option, None, Some}
 use Rattle.std.specs.List.{flat_map, AllByRecursion}
+use Rattle.rep_types.specs.declared.limits.TheConstants.{MAX_SEQNO}
 use Rattle.rep_types.specs.declared.judged.Judged.{Judged}
 use Rattle.rep_types.specs.declared.refusal.Refusal.{Refusal}
 use Rattle.rep_types.specs.declared.refusal.Refusal.TheVariants.{Malformed}
+use Rattle.rep_record.specs.declared.limits.TheConstants.{MAX_RECORDS, MAX_BLOCK, BLOCK}
 use Rattle.rep_record.specs.declared.block_reader.Head.{Head}
 use Rattle.rep_forms.specs.Options.{given}
 use Rattle.rep_forms.specs.Forms.{Form, number, number_bytes, zeros, are_blank, ◌⊗◌, via, as_named}
@@ -33,25 +35,25 @@ abbrev pub is_next : List Judged → Judged → Bool
 is_next [] j = true
 is_next (r ∷ records) j = j.seqno == r.seqno + (length records + 1)
 
--- whether the block takes the record: it has a spelling, it is the next one, and there is room, for 64 records of 7,662 bytes
+-- whether the block takes the record: it has a spelling, it is the next one, and there is room
 abbrev pub has_room : List Judged → Judged → Bool
-has_room records j = is_placed j && is_next records j && nat_lt (length records) 64 && nat_le (length (run_bytes records) + length (record_bytes j)) 7662
+has_room records j = is_placed j && is_next records j && nat_lt (length records) MAX_RECORDS && nat_le (length (run_bytes records) + length (record_bytes j)) MAX_BLOCK
 
 -- ---- the spelling
 
--- What a block holds: the number of its cell, and 1 to 64 records of seqnos that follow each other, of at most 7,662 bytes.
+-- What a block holds: the number of its cell, and 1 to 64 records of seqnos that follow each other, of at most 7,662 bytes together.
 pub record IsBlock (cell : ℕ) (records : List Judged) : Type 0 where
   pub cell_fits : cell < 2 ^ 64
   pub some : 1 ≤ length records
-  pub few : length records ≤ 64
+  pub few : length records ≤ MAX_RECORDS
   pub are_records : AllByRecursion IsRecord records
   pub follow : SeqnosFrom (first_seqno records) records
-  pub fits : length (run_bytes records) ≤ 7662
+  pub fits : length (run_bytes records) ≤ MAX_BLOCK
 
 -- A block, of 7,680 bytes: the number of the cell, the first seqno, how many records there are, the records, and zeros.
 abbrev pub block_bytes : ℕ → List Judged → List ℕ
 block_bytes cell records =
-    number_bytes 8 cell ++ (number_bytes 8 (first_seqno records) ++ (number_bytes 2 (length records) ++ (run_bytes records ++ zeros (7662 - length (run_bytes records)))))
+    number_bytes 8 cell ++ (number_bytes 8 (first_seqno records) ++ (number_bytes 2 (length records) ++ (run_bytes records ++ zeros (MAX_BLOCK - length (run_bytes records)))))
 
 -- a block while it is handed out: the number of its cell, and the records that are left
 pub record Contents : Type 0 where
@@ -88,15 +90,15 @@ head_form = as_named head_fields HeadFits head_bytes
 
 -- The head is of the form: there are 7,680 bytes, and they begin with it; it says 1 to 64 records.
 pub record HasHead (bytes : List ℕ) (head : Head) (rest : List ℕ) : Type 0 where
-  pub size : length bytes ≡ 7680
+  pub size : length bytes ≡ BLOCK
   pub fits : HeadFits head
   pub there : bytes ≡ head_bytes head ++ rest
   pub some : 1 ≤ head.count
-  pub few : head.count ≤ 64
+  pub few : head.count ≤ MAX_RECORDS
 
 -- where the next seqno leads, which is this one, at most 2^60
 abbrev pub next_seqno : ℕ → Judged → Option ℕ
-next_seqno n j = given ((j.seqno == n) && nat_le n (2 ^ 60)) (n + 1)
+next_seqno n j = given ((j.seqno == n) && nat_le n MAX_SEQNO) (n + 1)
 
 -- So many records are spelled behind the head, of the first seqno and those that follow.
 abbrev pub AreRecords : Head → List ℕ → List Judged → List ℕ → Type 0

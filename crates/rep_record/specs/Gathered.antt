@@ -2,6 +2,7 @@
 use Rattle.std.specs.Prelude.{◌≡◌, ℕ, ◌≤◌, ◌<◌, ◌^◌, List, [], length, Some}
 use Rattle.std.specs.List.{AllByRecursion}
 use Rattle.rep_types.specs.declared.judged.Judged.{Judged}
+use Rattle.rep_record.specs.declared.limits.TheConstants.{MAX_RECORDS, MAX_BLOCK}
 use Rattle.rep_forms.specs.Forms.{each}
 use Rattle.rep_forms.specs.Runs.{values_in}
 use Rattle.rep_record.specs.Records.{IsRecord, record_form}
@@ -19,5 +20,5 @@ pub record IsGathered (first count : ℕ) (bytes : List ℕ) : Type 0 where
   pub is_first : first ≡ first_seqno (gathered_in count bytes)
   pub follow : SeqnosFrom first (gathered_in count bytes)
   pub size : length (gathered_in count bytes) ≡ count
-  pub few : count ≤ 64
-  pub fits : length bytes ≤ 7662
+  pub few : count ≤ MAX_RECORDS
+  pub fits : length bytes ≤ MAX_BLOCK

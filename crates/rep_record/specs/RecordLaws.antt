@@ -6,6 +6,7 @@ use Rattle.std.proofs.lemmas.Bool.{le-ltb, lt-ltb, le-leb, leb-true, ltb-true}
 use Rattle.rep_types.specs.declared.judged.Judged.{Judged}
 use Rattle.rep_types.specs.declared.verdict.Verdict.{Verdict}
 use Rattle.rep_types.specs.declared.verdict.Verdict.TheVariants.{Commit, Conflict, Stale, Future, BadKey}
+use Rattle.rep_types.specs.declared.limits.TheConstants.{MAX_SEQNO, MAX_READS, MAX_WRITES}
 use Rattle.rep_types.specs.Transactions.{Transaction, IsWithinLimits, checked}
 use Rattle.rep_forms.specs.Forms.{Form, IsForm, byte, number, both, ◌⊗◌, many, via}
 use Rattle.rep_forms.specs.FormLaws.{length_number, run_short, byte_is_form, number_is_form, both_is_form, many_is_form, via_is_form, named_is_form}
@@ -28,11 +29,11 @@ verdict_is_form =
 
 lists_is_form : IsForm list_fields
 lists_is_form =
-    via_is_form (both byte (λ reads. both byte (λ writes. many 16 reads key_form ⊗ many 16 writes write_form)))
+    via_is_form (both byte (λ reads. both byte (λ writes. many MAX_READS reads key_form ⊗ many MAX_WRITES writes write_form)))
     (λ (l : Lists). (length l.0, (length l.1, (l.0, l.1)))) (λ x. Some (x.1.1.0, x.1.1.1))
-    (both_is_form byte (λ reads. both byte (λ writes. many 16 reads key_form ⊗ many 16 writes write_form)) byte_is_form (λ reads.
-        both_is_form byte (λ writes. many 16 reads key_form ⊗ many 16 writes write_form) byte_is_form (λ writes.
-            both_is_form (many 16 reads key_form) (λ _. many 16 writes write_form) (many_is_form 16 reads key_form key_is_form) (λ _. many_is_form 16 writes write_form write_is_form)
+    (both_is_form byte (λ reads. both byte (λ writes. many MAX_READS reads key_form ⊗ many MAX_WRITES writes write_form)) byte_is_form (λ reads.
+        both_is_form byte (λ writes. many MAX_READS reads key_form ⊗ many MAX_WRITES writes write_form) byte_is_form (λ writes.
+            both_is_form (many MAX_READS reads key_form) (λ _. many MAX_WRITES writes write_form) (many_is_form MAX_READS reads key_form key_is_form) (λ _. many_is_form MAX_WRITES writes write_form write_is_form)
         )
     ))
 
@@ -44,7 +45,7 @@ fields_is_form =
     ))
 
 -- a verdict that fits its item
-verdict_fits : (seqno : ℕ) (v : Verdict) → seqno ≤ 2 ^ 60 → IsVerdictAt seqno v → verdict_fields.Fits v
+verdict_fits : (seqno : ℕ) (v : Verdict) → seqno ≤ MAX_SEQNO → IsVerdictAt seqno v → verdict_fields.Fits v
 verdict_fits seqno Commit le h = ((lit< tt, lit< tt), refl)
 verdict_fits seqno (Conflict m) le h = ((lit< tt, omega (arith, h.1)), refl)
 verdict_fits seqno Stale le h = ((lit< tt, lit< tt), refl)
@@ -54,7 +55,7 @@ verdict_fits seqno BadKey le h = ((lit< tt, lit< tt), refl)
 -- what is within the limits is not refused
 checked_again : (w : Transaction) → IsWithinLimits w → checked w ≡ Ok w
 checked_again w h =
-    rw (le-ltb 16 (length w.reads) h.few_reads, le-ltb 16 (length w.writes) h.few_writes, h.reads_ascend, h.writes_ascend, lt-ltb 0 (length w.writes) h.some_write) refl
+    rw (le-ltb MAX_READS (length w.reads) h.few_reads, le-ltb MAX_WRITES (length w.writes) h.few_writes, h.reads_ascend, h.writes_ascend, lt-ltb 0 (length w.writes) h.some_write) refl
 
 lists_fit : (j : Judged) → IsRecord j → list_fields.Fits (j.item.reads, j.item.writes)
 lists_fit j h = (

@@ -7,6 +7,7 @@ use Rattle.rep_types.specs.declared.judged.Judged.{Judged}
 use Rattle.rep_types.specs.declared.refusal.Refusal.{Refusal}
 use Rattle.rep_types.specs.declared.verdict.Verdict.{Verdict}
 use Rattle.rep_types.specs.declared.verdict.Verdict.TheVariants.{Commit, Conflict, Stale, Future, BadKey}
+use Rattle.rep_types.specs.declared.limits.TheConstants.{MAX_SEQNO, MAX_READS, MAX_WRITES}
 use Rattle.rep_types.specs.Transactions.{Transaction, transaction, IsWithinLimits, checked}
 use Rattle.rep_record.specs.declared.record.Labels.{Labels}
 use Rattle.rep_forms.specs.Options.{◌>>=◌}
@@ -24,11 +25,11 @@ IsVerdictAt seqno Stale = Unit {0}
 IsVerdictAt seqno Future = Unit {0}
 IsVerdictAt seqno BadKey = Unit {0}
 
--- What has a spelling: a seqno from 1 to 2^60, a write set within the limits, a verdict that fits the seqno, and numbers
+-- What has a spelling: a seqno from 1 to the greatest, a write set within the limits, a verdict that fits the seqno, and numbers
 -- in the range of their types.
 pub record IsRecord (j : Judged) : Type 0 where
   pub positive : 1 ≤ j.seqno
-  pub seqno : j.seqno ≤ 2 ^ 60
+  pub seqno : j.seqno ≤ MAX_SEQNO
   pub limits : IsWithinLimits j.item
   pub verdict : IsVerdictAt j.seqno j.verdict
   pub last_seen : j.item.last_seen < 2 ^ 64
@@ -45,9 +46,9 @@ is_verdict_at seqno Stale = true
 is_verdict_at seqno Future = true
 is_verdict_at seqno BadKey = true
 
--- whether the seqno is from 1 to 2^60 and the verdict fits it: what a write set and numbers of their types leave open
+-- whether the seqno is from 1 to the greatest and the verdict fits it: what a write set and numbers of their types leave open
 abbrev pub is_placed : Judged → Bool
-is_placed j = nat_le 1 j.seqno && nat_le j.seqno (2 ^ 60) && is_verdict_at j.seqno j.verdict
+is_placed j = nat_le 1 j.seqno && nat_le j.seqno MAX_SEQNO && is_verdict_at j.seqno j.verdict
 
 -- ---- the spelling
 
@@ -115,7 +116,7 @@ Lists = List Key × List Write
 
 abbrev pub list_fields : Form Lists
 list_fields =
-    via (both byte (λ reads. both byte (λ writes. many 16 reads key_form ⊗ many 16 writes write_form)))
+    via (both byte (λ reads. both byte (λ writes. many MAX_READS reads key_form ⊗ many MAX_WRITES writes write_form)))
     (λ (l : Lists). (length l.0, (length l.1, (l.0, l.1)))) (λ x. Some (x.1.1.0, x.1.1.1))
 
 -- what is not refused

@@ -3,15 +3,13 @@
 ghost use Rattle.std.specs.Prelude.{◌≡◌, ◌≤◌, ◌==◌, ◌<◌, ◌^◌, ◌++◌, ◌∷◌, ◌↔◌, [], length, if◌then◌else◌, IsSome, IfSome};
 ghost use Rattle.rep_record.specs.Blocks.{has_room, is_next, first_seqno, run_bytes, IsBlock, block_bytes};
 
-use crate::block_reader::{BLOCK, HEAD, Head, MAX_RECORDS};
+use crate::block_reader::Head;
+use crate::limits::{BLOCK, MAX_BLOCK, MAX_RECORDS};
 use crate::record::put_record;
 use arrayvec::ArrayVec;
 use rep_forms::{Put, put_bytes, put_zeros};
 use rep_types::Judged;
 use std::marker::Model;
-
-/// The greatest number of bytes of a block's records: what a block of 7,680 bytes has behind its head.
-pub const MAX_BLOCK: usize = 7662;
 
 /// Gathers the records of a block: at most 64, of at most 7,662 bytes together, of seqnos that follow
 /// one another.
@@ -85,7 +83,7 @@ impl BlockBuilder {
     /// How many records there are.
     pub fn len(&self) -> u16
         ensures count { result ≡ length self.now }
-        ensures few { result ≤ 64 }
+        ensures few { result ≤ MAX_RECORDS }
     {
         self.count
     }
@@ -107,7 +105,7 @@ impl BlockBuilder {
     /// The bytes of the records, one after another.
     pub fn as_bytes(&self) -> &[u8]
         ensures bytes { result.now ≡ run_bytes self.now }
-        ensures few { length (run_bytes self.now) ≤ 7662 }
+        ensures few { length (run_bytes self.now) ≤ MAX_BLOCK }
     {
         self.bytes.as_slice()
     }
@@ -117,7 +115,7 @@ impl BlockBuilder {
         ensures some { IsSome result ↔ (0 < length self.now) }
         // What is written is a block, so it is read again.
         ensures bytes { IfSome result (λ b. IsBlock cell self.now × (b.items ≡ block_bytes cell self.now)) }
-        ensures size { IfSome result (λ b. length b.items ≡ 7680) }
+        ensures size { IfSome result (λ b. length b.items ≡ BLOCK) }
     {
         if self.count == 0 {
             return None;

@@ -4,6 +4,7 @@ ghost use Rattle.std.specs.Prelude.{◌≡◌, ◌+◌, ◌≤◌, ◌==◌, ℕ
 ghost use Rattle.rep_types.specs.declared.judged.Judged.{Judged};
 ghost use Rattle.rep_record.specs.Blocks.{contents, block_bytes, IsBlock, IsRead, Refuses, BlocksAreTold, next_seqno, head_form};
 
+use crate::limits::{BLOCK, HEAD, MAX_RECORDS};
 use crate::record::Record;
 use arrayvec::ArrayVec;
 use rep_forms::{
@@ -12,15 +13,6 @@ use rep_forms::{
 };
 use rep_types::{Judged, MAX_SEQNO, Refusal};
 use std::marker::Model;
-
-/// The number of bytes of a block.
-pub const BLOCK: usize = 7680;
-
-/// The number of bytes before its records.
-pub(crate) const HEAD: usize = 18;
-
-/// The greatest number of records of a block.
-pub const MAX_RECORDS: u16 = 64;
 
 /// What a block begins with: the number of its cell, the first seqno, and how many records there are.
 #[derive(Drop)]

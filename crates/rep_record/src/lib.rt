@@ -7,6 +7,7 @@ mod block_reader;
 mod few;
 mod item_line;
 mod laws;
+mod limits;
 mod params_line;
 mod pieces;
 mod record;
@@ -14,13 +15,16 @@ mod text_reader;
 mod verdict_line;
 mod words;
 
-pub use block::{BlockBuilder, MAX_BLOCK};
-pub use block_reader::{BLOCK, BlockReader, MAX_RECORDS, blocks_are_told, read_block};
+pub use block::BlockBuilder;
+pub use block_reader::{BlockReader, blocks_are_told, read_block};
 pub use item_line::{read_item_line, read_tail};
-pub use laws::{lines_make_the_text, reading_is_the_grammar};
+pub use laws::{
+    fronts_are_determined, lines_make_the_text, reading_is_the_grammar, stays_in_order,
+};
+pub use limits::{BLOCK, MAX_BLOCK, MAX_RECORD, MAX_RECORDS, block_limits_are_these};
 pub use params_line::read_params_line;
 pub use pieces::read_key;
-pub use record::{MAX_RECORD, is_placed, put_record, read_record, records_are_told};
+pub use record::{is_placed, put_record, read_record, records_are_told};
 pub use text_reader::{MAX_LINE, MAX_TEXT, TextReader};
 pub use verdict_line::{put_all, write_verdict};
 pub use words::{Words, is_blank};

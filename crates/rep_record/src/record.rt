@@ -8,16 +8,14 @@ ghost use Rattle.rep_forms.specs.Keys.{KeyFits};
 ghost use Rattle.rep_forms.specs.Writes.{WriteFits};
 ghost use Rattle.rep_record.specs.Records.{IsRecord, IsFront, RecordsAreTold, is_verdict_at, is_placed, conflict_seqno, verdict_bytes, label_bytes, list_bytes, body_bytes, record_bytes, label_fields, verdict_of, verdict_fields, list_fields, record_form};
 
+use crate::limits::MAX_RECORD;
 use arrayvec::ArrayVec;
 use rep_forms::{
     Exact, Form, put_bytes, put_run, put_u8, put_u16, put_u64, read_front, read_run, read_u8,
     read_u16, read_u64, spellings_are_told, strip_front,
 };
-use rep_types::{Judged, Key, MAX_SEQNO, Refusal, Verdict, Write, WriteSet};
+use rep_types::{Judged, Key, MAX_READS, MAX_SEQNO, MAX_WRITES, Refusal, Verdict, Write, WriteSet};
 use std::marker::Model;
-
-/// The greatest number of bytes of a record: 45, 16 reads of 5 bytes and 16 writes of 69.
-pub const MAX_RECORD: usize = 1229;
 
 type Bytes = ArrayVec<u8, MAX_RECORD>;
 
@@ -51,7 +49,7 @@ pub fn is_placed(judged: &Judged) -> bool
 /// Puts a verdict: 9 bytes.
 #[tactic(auto, using(rep_forms::specs::FormLaws::sizes, rep_forms::specs::FormLaws::joined))]
 fn put_verdict(out: &mut Bytes, verdict: Verdict)
-    requires { length out.old.items + 9 ≤ 1229 }
+    requires { length out.old.items + 9 ≤ MAX_RECORD }
     ensures bytes { out.new.items ≡ out.old.items ++ verdict_bytes verdict }
 {
     let (code, seqno) = match verdict {
@@ -68,7 +66,7 @@ fn put_verdict(out: &mut Bytes, verdict: Verdict)
 /// Puts the numbers of a record: 32 bytes.
 #[tactic(auto, using(rep_forms::specs::FormLaws::sizes, rep_forms::specs::FormLaws::joined))]
 fn put_labels(out: &mut Bytes, record: &Judged)
-    requires { length out.old.items + 32 ≤ 1229 }
+    requires { length out.old.items + 32 ≤ MAX_RECORD }
     ensures bytes { out.new.items ≡ out.old.items ++ label_bytes record.now }
     ensures last_seen { record.now.item.last_seen < 2 ^ 64 }
     ensures source { record.now.item.source < 2 ^ 64 }
@@ -83,7 +81,7 @@ fn put_labels(out: &mut Bytes, record: &Judged)
 /// Puts the reads and the writes, behind how many there are: at most 1,186 bytes.
 #[tactic(auto, using(rep_forms::specs::FormLaws::sizes, rep_forms::specs::FormLaws::joined))]
 fn put_lists(out: &mut Bytes, item: &WriteSet)
-    requires { length out.old.items + 1186 ≤ 1229 }
+    requires { length out.old.items + 1186 ≤ MAX_RECORD }
     ensures bytes { out.new.items ≡ out.old.items ++ list_bytes item.now }
     ensures size { length (list_bytes item.now) ≤ 1186 }
     ensures limits { IsWithinLimits item.now }
@@ -120,7 +118,7 @@ pub fn put_record(record: &Judged) -> Option<ArrayVec<u8, MAX_RECORD>>
     ensures placed { IsSome result ↔ (is_placed record.now ≡ true) }
     // What is put has a spelling, and that is it: so it is read again.
     ensures bytes { IfSome result (λ b. IsRecord record.now × (b.items ≡ record_bytes record.now)) }
-    ensures size { length (record_bytes record.now) ≤ 1229 }
+    ensures size { length (record_bytes record.now) ≤ MAX_RECORD }
 {
     let body = body_of(record);
     if !is_placed(record) {
@@ -174,13 +172,13 @@ fn read_verdict(bytes: &[u8]) -> Option<(Verdict, &[u8])>
 }
 
 /// The reads and the writes behind their numbers, and the bytes behind them.
-fn read_lists(bytes: &[u8]) -> Option<((ArrayVec<Key, 16>, ArrayVec<Write, 16>), &[u8])>
+fn read_lists(bytes: &[u8]) -> Option<((ArrayVec<Key, MAX_READS>, ArrayVec<Write, MAX_WRITES>), &[u8])>
     ensures { option_map (λ x. ((x.0.0.items, x.0.1.items), x.1.now)) result ≡ list_fields.read bytes.now }
 {
     let (read_count, rest) = read_u8(bytes)?;
     let (write_count, rest) = read_u8(rest)?;
-    let (reads, rest) = read_run::<Key, 16>(rest, usize::from(read_count))?;
-    let (writes, rest) = read_run::<Write, 16>(rest, usize::from(write_count))?;
+    let (reads, rest) = read_run::<Key, MAX_READS>(rest, usize::from(read_count))?;
+    let (writes, rest) = read_run::<Write, MAX_WRITES>(rest, usize::from(write_count))?;
     Some(((reads, writes), rest))
 }
 
@@ -217,10 +215,11 @@ impl Record {
 
 impl Form for Record {
     ghost use Rattle.rep_record.specs.RecordLaws.{record_is_form};
+    ghost use Rattle.rep_record.specs.declared.limits.TheConstants.{MAX_RECORD};
 
     ghost form = { record_form };
 
-    ghost most = { 1229 };
+    ghost most = { MAX_RECORD };
 
     fn read(bytes: &[u8]) -> Option<(Record, &[u8])> {
         let (_, rest) = read_u16(bytes)?;

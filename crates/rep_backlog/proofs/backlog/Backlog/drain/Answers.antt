@@ -1,7 +1,7 @@
-use Rattle.std.proofs.Common.{◌≡◌, ◌+◌, ◌<◌, List, length, drop, slice_get, Some, true, sym, ap, ◌∙◌, subst, arith}
+use Rattle.std.proofs.Common.{◌≡◌, ◌+◌, ◌<◌, List, [], ◌∷◌, ◌++◌, length, drop, slice_get, Some, true, sym, ap, ◌∙◌, subst, arith}
 use Rattle.rep_types.specs.declared.judged.Judged.{Judged}
-use Rattle.rep_record.specs.Blocks.{Block, has_room, with_record}
-use Rattle.rep_backlog.specs.Fronts.{fitting}
+use Rattle.rep_record.specs.Blocks.{has_room}
+use Rattle.rep_record.specs.Fronts.{fitting}
 use Rattle.rep_backlog.proofs.Fronts.{more_than, rest_after, with_one_more, fitting_first, fitting_no_first, fitting_none}
 use Rattle.rep_backlog.proofs.backlog.Backlog.drain.Goals as goal
 
@@ -16,18 +16,18 @@ loop-first-preserved c =
     let at : slice_get (drop m all) 0 ≡ Some j = subst P c.loop-first.invariant.rest first in
     let room : has_room c.loop-first.builder j ≡ true = sym c.if-not-push.ensures.room in
     let inside : m < length all = more_than all m j at in
-    let built : c.push.new.self ≡ with_record c.loop-first.builder j = rw room at c.push.ensures.after in
+    let built : c.push.new.self ≡ c.loop-first.builder ++ j ∷ [] = rw room at c.push.ensures.after in
     let left : c.pop_front.new.self.items ≡ drop 1 here = ap (λ b. b.items) c.pop_front.ensures.items in
-    let same : fitting c.push.new.self c.pop_front.new.self.items ≡ fitting (with_record c.loop-first.builder j) (drop 1 here) =
-    ap (λ (b : Block). fitting b c.pop_front.new.self.items) built ∙ ap (fitting (with_record c.loop-first.builder j)) left in
-    let one : fitting c.loop-first.builder here ≡ fitting (with_record c.loop-first.builder j) (drop 1 here) + 1 =
+    let same : fitting c.push.new.self c.pop_front.new.self.items ≡ fitting (c.loop-first.builder ++ j ∷ []) (drop 1 here) =
+    ap (λ (b : List Judged). fitting b c.pop_front.new.self.items) built ∙ ap (fitting (c.loop-first.builder ++ j ∷ [])) left in
+    let one : fitting c.loop-first.builder here ≡ fitting (c.loop-first.builder ++ j ∷ []) (drop 1 here) + 1 =
     fitting_first c.loop-first.builder here j first room in
     record {
       within = omega arith;
       few = c.loop-first.invariant.few;
       room = ap (λ b. b.capacity) c.pop_front.ensures.items ∙ c.loop-first.invariant.room;
       rest = left ∙ (ap (drop 1) c.loop-first.invariant.rest ∙ rest_after all m j at);
-      gathered = built ∙ (ap (λ (b : Block). with_record b j) c.loop-first.invariant.gathered ∙ sym (with_one_more c.args.builder.now all m j at));
+      gathered = built ∙ (ap (λ (b : List Judged). b ++ j ∷ []) c.loop-first.invariant.gathered ∙ sym (with_one_more c.args.builder.now all m j at));
       counted = omega (arith, c.loop-first.invariant.counted, one, same);
     }
 

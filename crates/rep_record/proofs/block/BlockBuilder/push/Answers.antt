@@ -1,6 +1,7 @@
 use Rattle.std.proofs.Common.{◌≡◌, List, ℕ, cond, eqb, length, ◌++◌, ◌∷◌, [], ◌+◌, ◌≤◌, ◌<◌, true, refl, subst, ap, sym, ◌∙◌, arith, length-append}
 use Rattle.rep_types.specs.declared.judged.Judged.{Judged}
 use Rattle.std.proofs.lemmas.Bool.{lt-ltb, le-leb}
+use Rattle.rep_record.specs.declared.limits.TheConstants.{MAX_RECORDS, MAX_BLOCK}
 use Rattle.rep_record.specs.Records.{record_bytes, is_placed}
 use Rattle.rep_record.specs.Blocks.{is_next, has_room, run_bytes}
 use Rattle.rep_record.specs.Gathered.{gathered_in, IsGathered}
@@ -15,7 +16,7 @@ gathered c =
     let next : is_next (gathered_in c.self.inside.count c.self.inside.bytes.items) c.args.record.now ≡ true =
     ap (λ (js : List Judged). is_next js c.args.record.now) c.self.view_is ∙ sym c.is_next.ensures ∙ c.if-not-is_next.false in
     let there = c.put_bytes.ensures.bytes ∙ ap (λ (xs : List ℕ). c.self.inside.bytes.items ++ xs) (c.as_slice.ensures.value ∙ c.in-Some.ensures.bytes.1) in
-    let fits : length c.put_bytes.new.out.items ≤ 7662 =
+    let fits : length c.put_bytes.new.out.items ≤ MAX_BLOCK =
     omega (arith, ap length c.put_bytes.ensures.bytes, length-append c.self.inside.bytes.items c.as_slice.result.now, ap length c.as_slice.ensures.value) in
     gathered_more c.self.inside.first c.self.inside.count c.self.inside.bytes.items c.put_bytes.new.out.items c.args.record.now c.self.invariant c.in-Some.ensures.bytes.0 next (omega arith) there fits
 
@@ -29,9 +30,9 @@ room c =
     let next : is_next c.args.self.now c.args.record.now ≡ true = sym c.is_next.ensures ∙ c.if-not-is_next.false in
     let size : length c.args.self.now ≡ c.self.inside.count = ap (λ (js : List Judged). length js) (sym c.self.view_is) ∙ c.self.invariant.size in
     let run : length (run_bytes c.args.self.now) ≡ length c.self.inside.bytes.items = ap (λ (js : List Judged). length (run_bytes js)) (sym c.self.view_is) ∙ ap length (sym c.self.invariant.spelled) in
-    let few : length c.args.self.now < 64 = omega arith in
-    let fits : length (run_bytes c.args.self.now) + length (record_bytes c.args.record.now) ≤ 7662 = omega (arith, run, ap length c.in-Some.ensures.bytes.1) in
-    rw (placed, next, lt-ltb (length c.args.self.now) 64 few, le-leb (length (run_bytes c.args.self.now) + length (record_bytes c.args.record.now)) 7662 fits) refl
+    let few : length c.args.self.now < MAX_RECORDS = omega arith in
+    let fits : length (run_bytes c.args.self.now) + length (record_bytes c.args.record.now) ≤ MAX_BLOCK = omega (arith, run, ap length c.in-Some.ensures.bytes.1) in
+    rw (placed, next, lt-ltb (length c.args.self.now) MAX_RECORDS few, le-leb (length (run_bytes c.args.self.now) + length (record_bytes c.args.record.now)) MAX_BLOCK fits) refl
 
 pub returns-clause-after : goal.returns-clause-after
 returns-clause-after c =

@@ -1,7 +1,7 @@
 -- Items in the order of their seqnos.
 use Rattle.std.proofs.Common.{◌≡◌, ℕ, zero, suc, ◌+◌, ◌≤◌, List, [], ◌∷◌, ◌++◌, length, take, drop, subst, arith}
 use Rattle.rep_types.specs.declared.judged.Judged.{Judged}
-use Rattle.rep_record.specs.BlockForm.{SeqnosFrom}
+use Rattle.rep_record.specs.Blocks.{SeqnosFrom}
 
 -- the next item behind those of a run
 pub SeqnosFrom_push : (n : ℕ) (js : List Judged) (j : Judged) → SeqnosFrom n js → j.seqno ≡ n + length js → SeqnosFrom n (js ++ j ∷ [])

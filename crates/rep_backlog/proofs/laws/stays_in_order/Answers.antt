@@ -1,5 +1,0 @@
-use Rattle.rep_backlog.proofs.InOrder.{SeqnosFrom_push, SeqnosFrom-drop, SeqnosFrom-take}
-use Rattle.rep_backlog.proofs.laws.stays_in_order.Goals as goal
-
-pub returns : goal.returns
-returns c = record { pushed = SeqnosFrom_push; drained = SeqnosFrom-drop; front = SeqnosFrom-take }

@@ -1,0 +1,109 @@
+-- What a block takes of a list.
+use Rattle.std.proofs.Common.{◌≡◌, ℕ, zero, suc, ◌+◌, ◌<◌, ◌≤◌, ◌^◌, Bool, true, false, ltb, leb, List, [], ◌∷◌, ◌++◌, length, take, get_or, refl, sym, ap, subst, ◌∙◌, append_assoc, arith, length-append}
+use Rattle.std.specs.Prelude.{◌&&◌, if◌then◌else◌, slice_index_or}
+use Rattle.std.proofs.lemmas.Bool.{ltb-true, lt-ltb, le-leb}
+use Rattle.std.proofs.lemmas.List.{append-nil}
+use Rattle.rep_types.specs.declared.limits.TheConstants.{MAX_SEQNO}
+use Rattle.rep_types.specs.declared.judged.Judged.{Judged}
+use Rattle.rep_types.specs.declared.verdict.Verdict.{Verdict}
+use Rattle.rep_types.specs.declared.verdict.Verdict.TheVariants.{Commit, Conflict, Stale, Future, BadKey}
+use Rattle.rep_forms.specs.Forms.{number_bytes}
+use Rattle.rep_forms.specs.FormLaws.{length_number, conjuncts}
+use Rattle.rep_record.specs.declared.limits.TheConstants.{MAX_RECORDS, MAX_BLOCK}
+use Rattle.rep_record.specs.Records.{IsRecord, IsVerdictAt, is_verdict_at, is_placed, body_bytes, record_bytes}
+use Rattle.rep_record.specs.RecordLaws.{body_short}
+use Rattle.rep_record.specs.Blocks.{has_room, is_next, run_bytes}
+use Rattle.rep_record.specs.Fronts.{fitting, IsLongestFront}
+
+-- where the block takes the first item, it is one of those that are taken
+fitting_room : (block : List Judged) (j : Judged) (js : List Judged) → has_room block j ≡ true → fitting block (j ∷ js) ≡ fitting (block ++ j ∷ []) js + 1
+fitting_room block j js room = rw room refl
+
+-- and else none is
+fitting_full : (block : List Judged) (j : Judged) (js : List Judged) → has_room block j ≡ false → fitting block (j ∷ js) ≡ 0
+fitting_full block j js full = rw full refl
+
+-- a block with an item and with those behind it
+behind : (block : List Judged) (j : Judged) (js : List Judged) (b : Bool) (d : Judged) → has_room ((block ++ j ∷ []) ++ js) d ≡ b → has_room (block ++ j ∷ js) d ≡ b
+behind block j js b d e = ap (λ (js : List Judged). has_room js d) (sym (append_assoc block (j ∷ []) js)) ∙ e
+
+-- each item of a longer front, where the first is taken and those behind it
+fits_cons : (block : List Judged) (j : Judged) (js : List Judged) (n : ℕ) → has_room block j ≡ true
+    → ((k : ℕ) (d : Judged) → k < n → has_room ((block ++ j ∷ []) ++ take k js) (slice_index_or js k d) ≡ true)
+    → (k : ℕ) (d : Judged) → k < n + 1 → has_room (block ++ take k (j ∷ js)) (slice_index_or (j ∷ js) k d) ≡ true
+fits_cons block j js n room rest zero d inside = ap (λ (bs : List Judged). has_room bs j) (append-nil block) ∙ room
+fits_cons block j js n room rest (suc k) d inside = behind block j (take k js) true (slice_index_or js k d) (rest k d (omega arith))
+
+-- a longest front of a list, from that behind its first item
+front_cases : (block : List Judged) (j : Judged) (js : List Judged) (n : ℕ) (b : Bool) → has_room block j ≡ b → IsLongestFront (block ++ j ∷ []) js n
+    → IsLongestFront block (j ∷ js) (if b then n + 1 else 0)
+front_cases block j js n true room is = record {
+  within = omega (arith, is.within);
+  fits = fits_cons block j js n room is.fits;
+  stops = λ d inside.
+      let P : ℕ → Type 0 = λ m. has_room (block ++ take m (j ∷ js)) (slice_index_or (j ∷ js) m d) ≡ false in
+      let same : suc n ≡ n + 1 = omega arith in
+      subst P same (behind block j (take n js) false (slice_index_or js n d) (is.stops d (omega arith)));
+}
+front_cases block j js n false full is = record {
+  within = omega arith;
+  fits = λ k d inside. absurd (omega arith);
+  stops = λ d inside. ap (λ (bs : List Judged). has_room bs j) (append-nil block) ∙ full;
+}
+
+-- what a block takes is the longest front
+pub IsLongestFront-fitting : (block js : List Judged) → IsLongestFront block js (fitting block js)
+IsLongestFront-fitting block [] = record { within = omega arith; fits = λ k d inside. absurd (omega arith); stops = λ d inside. absurd (omega arith) }
+IsLongestFront-fitting block (j ∷ js) = front_cases block j js (fitting (block ++ j ∷ []) js) (has_room block j) refl (IsLongestFront-fitting (block ++ j ∷ []) js)
+
+-- there is one longest front
+front_behind : (block : List Judged) (j : Judged) (js : List Judged) (n : ℕ) → IsLongestFront block (j ∷ js) (suc n) → IsLongestFront (block ++ j ∷ []) js n
+front_behind block j js n is = record {
+  within = omega (arith, is.within);
+  fits = λ k d inside. ap (λ (bs : List Judged). has_room bs (slice_index_or js k d)) (append_assoc block (j ∷ []) (take k js)) ∙ is.fits (suc k) d (omega arith);
+  stops = λ d inside. ap (λ (bs : List Judged). has_room bs (slice_index_or js n d)) (append_assoc block (j ∷ []) (take n js)) ∙ is.stops d (omega arith);
+}
+
+pub only_fitting : (block js : List Judged) (n : ℕ) → IsLongestFront block js n → n ≡ fitting block js
+only_fitting block [] n is = omega (arith, is.within)
+only_fitting block (j ∷ js) zero is = sym (fitting_full block j js (ap (λ (bs : List Judged). has_room bs j) (sym (append-nil block)) ∙ is.stops j (omega arith)))
+only_fitting block (j ∷ js) (suc n) is =
+    let rest : n ≡ fitting (block ++ j ∷ []) js = only_fitting (block ++ j ∷ []) js n (front_behind block j js n is) in
+    let more : suc n ≡ fitting (block ++ j ∷ []) js + 1 = omega (arith, rest) in
+    more ∙ sym (fitting_room block j js (ap (λ (bs : List Judged). has_room bs j) (sym (append-nil block)) ∙ is.fits 0 j (omega arith)))
+
+-- ---- an empty block
+
+-- a verdict that fits its item passes the test
+verdict_passes : (seqno : ℕ) (v : Verdict) → IsVerdictAt seqno v → is_verdict_at seqno v ≡ true
+verdict_passes seqno Commit h = refl
+verdict_passes seqno (Conflict m) h = rw (le-leb 1 m h.0, lt-ltb m seqno h.1) refl
+verdict_passes seqno Stale h = refl
+verdict_passes seqno Future h = refl
+verdict_passes seqno BadKey h = refl
+
+-- an empty block takes an item that has a spelling
+pub takes_first : (j : Judged) → IsRecord j → has_room [] j ≡ true
+takes_first j h =
+    let size : 0 + length (record_bytes j) ≤ MAX_BLOCK = omega (arith, body_short j h, length-append (number_bytes 2 (length (body_bytes j) + 2)) (body_bytes j), length_number 2 (length (body_bytes j) + 2)) in
+    rw (le-leb 1 j.seqno h.positive, le-leb j.seqno MAX_SEQNO h.seqno, verdict_passes j.seqno j.verdict h.verdict, le-leb (0 + length (record_bytes j)) MAX_BLOCK size) refl
+
+pub fitting_first : (j : Judged) (js : List Judged) → IsRecord j → 1 ≤ fitting [] (j ∷ js)
+fitting_first j js h = omega (arith, fitting_room [] j js (takes_first j h))
+
+-- ---- no more than a block may have
+
+-- a block that takes an item has fewer than it may have
+few_before : (block : List Judged) (j : Judged) → has_room block j ≡ true → length block < MAX_RECORDS
+few_before block j room =
+    let a = conjuncts (is_placed j && is_next block j && ltb (length block) MAX_RECORDS) (leb (length (run_bytes block) + length (record_bytes j)) MAX_BLOCK) room in
+    ltb-true (length block) MAX_RECORDS (conjuncts (is_placed j && is_next block j) (ltb (length block) MAX_RECORDS) a.0).1
+
+few_cases : (block : List Judged) (j : Judged) (n : ℕ) (b : Bool) → has_room block j ≡ b → length block ≤ MAX_RECORDS → (length block < MAX_RECORDS → length (block ++ j ∷ []) + n ≤ MAX_RECORDS) → length block + (if b then n + 1 else 0) ≤ MAX_RECORDS
+few_cases block j n true room few more = omega (arith, more (few_before block j room), length-append block (j ∷ []))
+few_cases block j n false full few more = omega (arith, few)
+
+pub fitting_few : (block js : List Judged) → length block ≤ MAX_RECORDS → length block + fitting block js ≤ MAX_RECORDS
+fitting_few block [] few = omega (arith, few)
+fitting_few block (j ∷ js) few =
+    few_cases block j (fitting (block ++ j ∷ []) js) (has_room block j) refl few (λ lt. fitting_few (block ++ j ∷ []) js (omega (arith, length-append block (j ∷ []))))
