@@ -157,6 +157,8 @@ impl Replica {
     fn deliver(&mut self, seqno: u64, item: WriteSet) -> Answer
         ensures { Steps self.old (Deliver seqno item) result self.new }
     {
+        // Tells the proof that the write set is within its limits.
+        let _reads = item.reads();
         if let Some(refusal) = self.delivery_refusal(seqno) {
             return Answer::Refused(refusal);
         }
