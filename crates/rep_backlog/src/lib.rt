@@ -6,6 +6,3 @@ mod laws;
 
 pub use backlog::{Backlog, MAX_BACKLOG};
 pub use laws::{fronts_are_determined, moved_items_are_gathered, stays_in_order};
-
-#[cfg(test)]
-mod tests;

@@ -303,7 +303,8 @@ impl Replica {
         0
     }
 
-    /// The state UUID, and how many items are durable.
+    /// The state UUID, and how many items are durable. (A node without a state UUID has -1; this replica
+    /// always has one.)
     pub fn gtid(&self) -> Gtid
         ensures { result ≡ gtid self.now }
     {

@@ -1,9 +1,140 @@
-//! Tests of records and blocks at their limits, against sizes that were counted by hand.
+//! Records and blocks: their bytes, and their limits against sizes that were counted by hand.
 
 use rep_record::{BlockBuilder, MAX_BLOCK, MAX_RECORD, put_record, read_block, read_record};
 use rep_types::{Judged, Key, Refusal, Value, Verdict, Write, WriteSet};
 use std::alloc::{AllocError, Global};
 use std::test::Fail;
+
+/// A write set that saw `last_seen` and puts one byte under `0/row`.
+fn put(last_seen: u64, row: u32, byte: u8) -> Result<WriteSet, Refusal> {
+    let write = Write {
+        key: Key { table: 0, row },
+        value: Some(Value::new(&[byte])?),
+    };
+    WriteSet::new(0, 0, last_seen, &[], &[write])
+}
+
+/// The bytes of the first item that writes `61` under `0/1`, as the format has them.
+const RECORD: [u8; 53] = [
+    0x00, 0x35, 0, 0, 0, 0, 0, 0, 0, 1, 0, 0, 0, 0, 0, 0, 0, 0, 0, 0, 0, 0, 0, 0, 0, 0, 0, 0, 0, 0,
+    0, 0, 0, 0, 0, 0, 0, 0, 0, 0, 0, 0, 0, 0, 1, 0, 0, 0, 0, 1, 1, 1, 0x61,
+];
+
+#[test]
+fn records_have_the_bytes_of_the_format(rt: HostRuntime) -> Result<(), Fail> {
+    let record = Judged {
+        seqno: 1,
+        item: put(0, 1, 0x61)?,
+        verdict: Verdict::Commit,
+    };
+    assert_eq!(rt; put_record(&record).as_slice(), RECORD.as_slice());
+    let mut bytes = Vec::from_slice(rt.alloc(), &RECORD)?;
+    bytes.extend_from_slice(b"anything")?;
+    assert!(rt; read_record(&RECORD[..52]) == Err(Refusal::Malformed { at: 0 }));
+    let (read, length) = read_record(&bytes)?;
+    assert!(rt; read == record);
+    assert_eq!(rt; length, 53);
+    Ok(())
+}
+
+/// The records of the items 7 to 9, each of which writes `61` under `0/1`.
+fn three_records() -> Result<BlockBuilder, Refusal> {
+    let mut block = BlockBuilder::new();
+    for seqno in 7..=9 {
+        let item = put(0, 1, 0x61)?;
+        let verdict = Verdict::Commit;
+        block.push(&Judged {
+            seqno,
+            item,
+            verdict,
+        });
+    }
+    Ok(block)
+}
+
+/// A block's body for this cell, of the records in the builder.
+fn body_of(alloc: Global, cell: u64, block: &BlockBuilder) -> Result<Vec<u8>, AllocError> {
+    let mut body = Vec::from_slice(alloc, &cell.to_be_bytes())?;
+    body.extend_from_slice(&block.first().to_be_bytes())?;
+    body.extend_from_slice(&block.len().to_be_bytes())?;
+    body.extend_from_slice(block.as_bytes())?;
+    for _ in 0..7_680usize.saturating_sub(body.len()) {
+        body.push(0)?;
+    }
+    Ok(body)
+}
+
+#[test]
+fn a_block_gathers_records(rt: HostRuntime) -> Result<(), Fail> {
+    assert!(rt; BlockBuilder::new().is_empty());
+    let block = three_records()?;
+    assert!(rt; !block.is_empty());
+    assert_eq!(rt; block.len(), 3);
+    assert_eq!(rt; block.first(), 7);
+    assert_eq!(rt; block.as_bytes().len(), 3 * 53);
+    Ok(())
+}
+
+#[test]
+fn a_block_hands_out_its_records_in_order(rt: HostRuntime) -> Result<(), Fail> {
+    let body = body_of(rt.alloc(), 5, &three_records()?)?;
+    let mut read = read_block(&body)?;
+    assert_eq!(rt; read.cell(), 5);
+    assert!(rt; !read.is_empty());
+    for seqno in 7..=9 {
+        assert_eq!(rt; read.len(), (10 - seqno) as u16);
+        let record = read.next_record().ok_or("a record is missing")?;
+        assert_eq!(rt; record.seqno, seqno);
+        assert!(rt; record.item == put(0, 1, 0x61)?);
+    }
+    assert!(rt; read.is_empty());
+    assert!(rt; read.next_record().is_none());
+    Ok(())
+}
+
+#[test]
+fn blocks_name_the_first_faulty_record(rt: HostRuntime) -> Result<(), Fail> {
+    let mut body = body_of(rt.alloc(), 5, &three_records()?)?;
+    let faults: [(usize, u8, u64); 4] = [
+        // the verdict of the first record
+        (18 + 34, 5, 18),
+        // the seqno of the second record
+        (18 + 53 + 9, 7, 18 + 53),
+        // the number of records
+        (17, 65, 0),
+        // a closing byte
+        (7679, 1, 0),
+    ];
+    for (place, byte, at) in faults {
+        assert!(rt; place < body.len());
+        let kept = body[place];
+        body[place] = byte;
+        match read_block(&body) {
+            Ok(_) => assert!(rt; false, "{place} was read"),
+            Err(refusal) => assert_eq!(rt; refusal, Refusal::Malformed { at }, "{place}"),
+        }
+        assert!(rt; place < body.len());
+        body[place] = kept;
+    }
+    Ok(())
+}
+
+#[test]
+fn a_block_is_full_at_64_records(rt: HostRuntime) -> Result<(), Fail> {
+    let mut block = BlockBuilder::new();
+    for seqno in 1..=65 {
+        let item = put(0, 1, 0x61)?;
+        let verdict = Verdict::Stale;
+        let has_room = block.push(&Judged {
+            seqno,
+            item,
+            verdict,
+        });
+        assert_eq!(rt; has_room, seqno <= 64, "{seqno}");
+    }
+    assert_eq!(rt; block.len(), 64);
+    Ok(())
+}
 
 /// A put of so many bytes under this row of table 0.
 fn put_of(row: u32, size: usize) -> Result<Write, Refusal> {
@@ -39,18 +170,6 @@ fn largest(alloc: Global) -> Result<Judged, Fail> {
     })
 }
 
-/// A block's body for cell 7, of the records in the builder.
-fn body_of(alloc: Global, block: &BlockBuilder) -> Result<Vec<u8>, AllocError> {
-    let mut body = Vec::from_slice(alloc, &7u64.to_be_bytes())?;
-    body.extend_from_slice(&block.first().to_be_bytes())?;
-    body.extend_from_slice(&block.len().to_be_bytes())?;
-    body.extend_from_slice(block.as_bytes())?;
-    for _ in 0..7_680usize.saturating_sub(body.len()) {
-        body.push(0)?;
-    }
-    Ok(body)
-}
-
 #[test]
 fn the_largest_record_has_1229_bytes(rt: HostRuntime) -> Result<(), Fail> {
     let record = largest(rt.alloc())?;
@@ -82,7 +201,7 @@ fn the_largest_block_has_64_records_and_7662_bytes(rt: HostRuntime) -> Result<()
     assert!(rt; block.push(&two_puts(64, 0)?));
     assert_eq!(rt; block.len(), 64);
     assert_eq!(rt; block.as_bytes().len(), MAX_BLOCK);
-    let body = body_of(rt.alloc(), &block)?;
+    let body = body_of(rt.alloc(), 7, &block)?;
     let mut read = read_block(&body)?;
     assert_eq!(rt; read.cell(), 7);
     assert_eq!(rt; read.len(), 64);
@@ -103,7 +222,7 @@ fn the_largest_block_has_64_records_and_7662_bytes(rt: HostRuntime) -> Result<()
 fn records_and_blocks_keep_their_zeros(rt: HostRuntime) -> Result<(), Fail> {
     let mut block = BlockBuilder::new();
     assert!(rt; block.push(&two_puts(1, 3)?));
-    let mut body = body_of(rt.alloc(), &block)?;
+    let mut body = body_of(rt.alloc(), 7, &block)?;
     assert_eq!(rt; body.len(), 7_680);
     // The seqno of a conflict, which the record of a commit has not; then all behind the record.
     for (place, at) in (53..61)
