@@ -17,7 +17,7 @@ run: toolchain
 try: toolchain
 	@cd crates/replicad && rt try -- judge < ../../examples/first-order.txt
 
-# All that CI runs: the gate, then each refused growth in turn.
+# All that CI runs: the gate, then the cases of the built program and each refused growth in turn.
 test: toolchain
 	@scripts/test
 

@@ -4,6 +4,3 @@
 mod backlog;
 
 pub use backlog::Backlog;
-
-#[cfg(test)]
-mod tests;

@@ -5,8 +5,6 @@ mod page_state;
 mod place;
 mod rows;
 mod super_body;
-#[cfg(test)]
-mod tests;
 mod window_body;
 mod window_reader;
 

@@ -1,7 +1,8 @@
 -- What holds of every node goes on holding after each event that is not refused.
-use Rattle.std.proofs.Common.{◌≡◌, ℕ, ◌+◌, ◌-◌, ◌<◌, ◌≤◌, Bool, true, false, cond, leb, ltb, eqb, List, [], ◌∷◌, ◌++◌, length, length-append, Option, None, Some, refl, ap, subst, ◌∙◌, arith}
+use Rattle.std.proofs.Common.{◌≡◌, ℕ, ◌+◌, ◌-◌, ◌<◌, ◌≤◌, Bool, true, false, cond, leb, ltb, eqb, List, [], ◌∷◌, ◌++◌, length, length-append, get_or, drop, Option, None, Some, refl, sym, ap, subst, ◌∙◌, arith, zero, suc, drop-cons}
 use Rattle.std.specs.Prelude.{◌&&◌, not, IsTrue}
-use Rattle.std.proofs.lemmas.Bool.{ltb-true, leb-true, leb-false, eqb-false}
+use Rattle.std.specs.List.{AllByRecursion}
+use Rattle.std.proofs.lemmas.Bool.{ltb-true, leb-true, leb-false, eqb-false, le-leb}
 use Rattle.std.proofs.lemmas.List.{length-drop}
 use Rattle.uuid.specs.Parts.{is_nil_bytes}
 use Rattle.rep_types.specs.declared.judged.Judged.{Judged}
@@ -9,13 +10,16 @@ use Rattle.rep_types.specs.declared.refusal.Refusal.{Refusal}
 use Rattle.rep_types.specs.declared.refusal.Refusal.TheVariants.{OutOfOrder, Backlogged, LogFull, NotDue, Undefined, Exhausted}
 use Rattle.rep_types.specs.declared.limits.TheConstants.{MAX_SEQNO, MAX_AHEAD, MAX_CELLS}
 use Rattle.rep_types.specs.Settings.{Setting, is_setting, is_schema}
-use Rattle.rep_types.specs.Transactions.{Transaction}
-use Rattle.rep_types.specs.Order.{history}
-use Rattle.rep_types.proofs.Histories.{length_history}
+use Rattle.rep_types.specs.Transactions.{Transaction, IsWithinLimits}
+use Rattle.rep_types.specs.Order.{Order, no_item, item, history}
+use Rattle.rep_types.proofs.Histories.{length_history, history_at_index, judged}
 use Rattle.rep_record.specs.Blocks.{Block, empty_block, has_room, with_record}
+use Rattle.rep_record.specs.Records.{record_bytes}
 use Rattle.rep_record.specs.Fronts.{fitting}
+use Rattle.rep_record.proofs.Runs.{all_more}
 use Rattle.rep_replica.specs.declared.phase.Phase.{Phase}
 use Rattle.rep_replica.specs.declared.phase.Phase.TheVariants.{Free, Filling, Filled, Opening}
+use Rattle.rep_replica.proofs.Sizes.{record_small}
 use Rattle.rep_replica.specs.Nodes.{Node, IsNode, underway, claimed, pending, gathered, opening, taken, logged, synced, log_refusal, delivery_refusal}
 
 -- a block takes no more items than there are
@@ -55,6 +59,33 @@ gathered_within n = omega (arith, fitting_within empty_block (pending n), length
 pub gathered_few : (n : Node) → gathered n ≤ 64
 gathered_few n = omega (arith, fitting_few empty_block (pending n) (omega arith))
 
+-- what holds of each item of an order holds of the one at a place
+each_at : (P : Transaction → Type 0) (L : Order) (i : ℕ) (d : Transaction) → AllByRecursion P L → i < length L → P (get_or L i d)
+each_at P [] i d h within = absurd (omega (arith, within))
+each_at P (w ∷ L) zero d h within = h.0
+each_at P (w ∷ L) (suc i) d h within = each_at P L i d h.1 (omega (arith, within))
+
+-- an empty block has room for each item within its limits
+first_fits : (j : Judged) (js : List Judged) → IsWithinLimits j.item → 1 ≤ fitting empty_block (j ∷ js)
+first_fits j js h =
+    let room : has_room empty_block j ≡ true =
+    ap (λ b. ltb 0 64 && b) (le-leb (length empty_block.bytes + length (record_bytes j)) 7662 (omega (arith, record_small j h))) in
+    let one : fitting empty_block (j ∷ js) ≡ fitting (with_record empty_block j) js + 1 = ap (λ b. cond b (fitting (with_record empty_block j) js + 1) 0) room in
+    omega (arith, one)
+
+-- so where an item waits, the next block has one
+pub gathered_some : (n : Node) → AllByRecursion IsWithinLimits n.order → n.durable < length n.order → 1 ≤ gathered n
+gathered_some n h due =
+    let p = n.setting in
+    let L = n.order in
+    let next : Judged = judged p L (n.durable + 1) in
+    let inside : n.durable < length (history p L) = omega (arith, due, length_history p L) in
+    let front : pending n ≡ next ∷ drop (suc n.durable) (history p L) =
+    drop-cons (history p L) n.durable next inside ∙ ap (λ j. j ∷ drop (suc n.durable) (history p L)) (history_at_index p L n.durable next due) in
+    let same : n.durable ≡ n.durable + 1 - 1 = omega arith in
+    let limits : IsWithinLimits next.item = subst (λ k. IsWithinLimits (get_or L k no_item)) same (each_at IsWithinLimits L n.durable no_item h due) in
+    subst (λ js. 1 ≤ fitting empty_block js) (sym front) (first_fits next (drop (suc n.durable) (history p L)) limits)
+
 -- a test that leads to no refusal
 unrefused : (b : Bool) (r : Refusal) (rest : Option Refusal) → cond b (Some r) rest ≡ None → (b ≡ false) × (rest ≡ None)
 unrefused true r rest e = absurd cc
@@ -67,20 +98,26 @@ keeps_log_at n Free e h r =
     let room = unrefused (leb (n.start + n.setting.cells) n.next) LogFull None due.1 in
     record {
       allowed = h.allowed;
+      limited = h.limited;
+      undefined = h.undefined;
       based = h.based;
       delivered = omega (arith, gathered_within n, leb-false (length n.order) n.durable due.0);
       near = h.near;
       limit = h.limit;
+      some = gathered_some n h.limited (leb-false (length n.order) n.durable due.0);
       few = gathered_few n;
       room = omega (arith, leb-false (n.start + n.setting.cells) n.next room.0);
     }
 keeps_log_at n (Filling k) e h r = absurd cc
 keeps_log_at n (Filled k) e h r = record {
   allowed = h.allowed;
+  limited = h.limited;
+  undefined = h.undefined;
   based = h.based;
   delivered = subst (λ p. n.durable + underway p ≤ length n.order) e h.delivered;
   near = h.near;
   limit = h.limit;
+  some = subst (λ p. claimed p ≤ underway p) e h.some;
   few = subst (λ p. underway p ≤ 64) e h.few;
   room = subst (λ p. n.next + claimed p ≤ n.start + n.setting.cells) e h.room;
 }
@@ -92,18 +129,23 @@ keeps_log n h r = keeps_log_at n n.phase refl h r
 -- a sync
 keeps_sync_at : (n : Node) (phase : Phase) → n.phase ≡ phase → IsNode n
     → IsNode (record n { durable = n.durable + opening phase; phase = synced phase; next = n.next + taken phase })
-keeps_sync_at n phase e h = at phase (subst (λ p. n.durable + underway p ≤ length n.order) e h.delivered) (subst (λ p. underway p ≤ 64) e h.few)
+keeps_sync_at n phase e h = at phase (subst (λ p. n.durable + underway p ≤ length n.order) e h.delivered) (subst (λ p. claimed p ≤ underway p) e h.some) (subst (λ p. underway p ≤ 64) e h.few)
     (subst (λ p. n.next + claimed p ≤ n.start + n.setting.cells) e h.room)
   where
-    at : (p : Phase) → n.durable + underway p ≤ length n.order → underway p ≤ 64 → n.next + claimed p ≤ n.start + n.setting.cells
+    at : (p : Phase) → n.durable + underway p ≤ length n.order → claimed p ≤ underway p → underway p ≤ 64 → n.next + claimed p ≤ n.start + n.setting.cells
         → IsNode (record n { durable = n.durable + opening p; phase = synced p; next = n.next + taken p })
-    at Free delivered few room = record { allowed = h.allowed; based = omega (arith, h.based); delivered = omega arith; near = omega (arith, h.near); limit = h.limit; few = omega arith; room = omega arith }
-    at (Filling k) delivered few room = record { allowed = h.allowed; based = omega (arith, h.based); delivered = omega arith; near = omega (arith, h.near); limit = h.limit; few = few; room = omega arith }
-    at (Filled k) delivered few room = record { allowed = h.allowed; based = omega (arith, h.based); delivered = omega arith; near = omega (arith, h.near); limit = h.limit; few = few; room = omega arith }
-    at (Opening k) delivered few room = record { allowed = h.allowed; based = omega (arith, h.based); delivered = omega arith; near = omega (arith, h.near); limit = h.limit; few = omega arith; room = omega arith }
+    at Free delivered some few room = record { allowed = h.allowed; limited = h.limited; undefined = h.undefined; based = omega (arith, h.based); delivered = omega arith; near = omega (arith, h.near); limit = h.limit; some = omega (arith, some); few = omega arith; room = omega arith }
+    at (Filling k) delivered some few room = record { allowed = h.allowed; limited = h.limited; undefined = h.undefined; based = omega (arith, h.based); delivered = omega arith; near = omega (arith, h.near); limit = h.limit; some = omega (arith, some); few = few; room = omega arith }
+    at (Filled k) delivered some few room = record { allowed = h.allowed; limited = h.limited; undefined = h.undefined; based = omega (arith, h.based); delivered = omega arith; near = omega (arith, h.near); limit = h.limit; some = omega (arith, some); few = few; room = omega arith }
+    at (Opening k) delivered some few room = record { allowed = h.allowed; limited = h.limited; undefined = h.undefined; based = omega (arith, h.based); delivered = omega arith; near = omega (arith, h.near); limit = h.limit; some = omega (arith, some); few = omega arith; room = omega arith }
 
 pub keeps_sync : (n : Node) → IsNode n → IsNode (record n { durable = n.durable + opening n.phase; phase = synced n.phase; next = n.next + taken n.phase })
 keeps_sync n h = keeps_sync_at n n.phase refl h
+
+-- a test has one outcome
+true_or_false : (b : Bool) → IsTrue b → b ≡ false → ⊥
+true_or_false true t f = absurd cc
+true_or_false false t f = absurd cc
 
 -- the refusals of a delivery, from the last one on
 abbrev unbacklogged : Node → Option Refusal
@@ -116,8 +158,8 @@ abbrev unexhausted : Node → ℕ → Option Refusal
 unexhausted n seqno = cond (eqb (length n.order) MAX_SEQNO) (Some Exhausted) (in_order n seqno)
 
 -- a delivery
-pub keeps_delivery : (n : Node) (seqno : ℕ) (w : Transaction) → IsNode n → delivery_refusal n seqno ≡ None → IsNode (record n { order = n.order ++ w ∷ [] })
-keeps_delivery n seqno w h r =
+pub keeps_delivery : (n : Node) (seqno : ℕ) (w : Transaction) → IsNode n → IsWithinLimits w → delivery_refusal n seqno ≡ None → IsNode (record n { order = n.order ++ w ∷ [] })
+keeps_delivery n seqno w h limits r =
     let a = unrefused (is_nil_bytes n.uuid) Undefined (unexhausted n seqno) r in
     let b = unrefused (eqb (length n.order) MAX_SEQNO) Exhausted (in_order n seqno) a.1 in
     let c = unrefused (not (eqb seqno (length n.order + 1))) (OutOfOrder (length n.order + 1)) (unbacklogged n) b.1 in
@@ -127,10 +169,13 @@ keeps_delivery n seqno w h r =
     let long : length (n.order ++ w ∷ []) ≡ length n.order + 1 = length-append n.order (w ∷ []) in
     record {
       allowed = h.allowed;
+      limited = all_more IsWithinLimits n.order w h.limited limits;
+      undefined = λ nil. absurd (true_or_false (is_nil_bytes n.uuid) nil a.0);
       based = h.based;
       delivered = omega (arith, h.delivered, long);
       near = omega (arith, near, long);
       limit = omega (arith, h.limit, fewer, long);
+      some = h.some;
       few = h.few;
       room = h.room;
     }

@@ -1,3 +1,4 @@
+mod Sizes
 pub mod Blocks
 pub mod Keeps
 pub mod Runs

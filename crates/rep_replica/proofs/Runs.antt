@@ -17,7 +17,7 @@ use Rattle.rep_replica.specs.declared.event.Event.{Event}
 use Rattle.rep_replica.specs.declared.event.Event.TheVariants.{Deliver, Log, Sync, Check, Flush, Read}
 use Rattle.rep_replica.specs.declared.answer.Answer.{Answer}
 use Rattle.rep_replica.specs.declared.answer.Answer.TheVariants.{Refused}
-use Rattle.rep_replica.specs.Nodes.{Node, IsNode, Steps, AsksForMemory, refusal, answer, after, opening, underway}
+use Rattle.rep_replica.specs.Nodes.{Node, IsNode, IsEvent, Steps, AsksForMemory, refusal, answer, after, opening, underway}
 use Rattle.rep_replica.specs.Runs.{Runs, delivered, acknowledged, verdict_of, between, ComesTo, RunsComeTo}
 use Rattle.rep_replica.proofs.Keeps.{keeps_log, keeps_sync, keeps_delivery}
 
@@ -41,13 +41,13 @@ step_by None n m e a none (inr s) = inl (OutOfMemory, s.1, s.2)
 step_by (Some r) n m e a some s = inl (r, s.0, s.1)
 
 -- what holds of every node holds after it
-keeps_step : (n : Node) (e : Event) → IsNode n → refusal n e ≡ None → IsNode (after n e)
-keeps_step n (Deliver seqno w) h r = keeps_delivery n seqno w h r
-keeps_step n Log h r = keeps_log n h r
-keeps_step n Sync h r = keeps_sync n h
-keeps_step n Check h r = absurd cc
-keeps_step n (Flush page) h r = absurd cc
-keeps_step n (Read key s) h r = h
+keeps_step : (n : Node) (e : Event) → IsNode n → IsEvent e → refusal n e ≡ None → IsNode (after n e)
+keeps_step n (Deliver seqno w) h i r = keeps_delivery n seqno w h i r
+keeps_step n Log h i r = keeps_log n h r
+keeps_step n Sync h i r = keeps_sync n h
+keeps_step n Check h i r = absurd cc
+keeps_step n (Flush page) h i r = absurd cc
+keeps_step n (Read key s) h i r = h
 
 -- ---- fronts of a history
 
@@ -172,9 +172,9 @@ done_comes n m (Read key s) events answers h r =
 one_comes : (n mid m : Node) (e : Event) (a : Answer) (events : List Event) (answers : List Answer) → IsNode n → Steps n e a mid
     → ((k : Node) → IsNode k → k ≡ mid → ComesTo k events answers m) → ComesTo n (e ∷ events) (a ∷ answers) m
 one_comes n mid m e a events answers h s rest =
-    elim (step_by (refusal n e) n mid e a refl s) [
+    elim (step_by (refusal n e) n mid e a refl s.1) [
       | inl c ↦ subst (λ b. ComesTo n (e ∷ events) (b ∷ answers) m) (sym c.1) (refused_comes n m e events answers c.0 (rest n h (sym c.2)))
-      | inr c ↦ subst (λ b. ComesTo n (e ∷ events) (b ∷ answers) m) (sym c.1) (done_comes n m e events answers h (rest (after n e) (keeps_step n e h c.0) (sym c.2)))
+      | inr c ↦ subst (λ b. ComesTo n (e ∷ events) (b ∷ answers) m) (sym c.1) (done_comes n m e events answers h (rest (after n e) (keeps_step n e h s.0 c.0) (sym c.2)))
     ]
 
 pub runs_come : RunsComeTo

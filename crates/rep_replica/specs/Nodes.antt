@@ -1,5 +1,6 @@
 -- A node as its callers see it: what it holds, what it answers to an event, and what the event makes of it.
-use Rattle.std.specs.Prelude.{◌≡◌, ℕ, pos, ◌+◌, ◌≤◌, ◌==◌, nat_lt, nat_le, not, if◌then◌else◌, List, [], ◌∷◌, ◌++◌, length, map, take, drop, Option, None, Some, MatchOption, ◌⊎◌, IsTrue}
+use Rattle.std.specs.Prelude.{◌≡◌, ℕ, pos, negsuc, ◌+◌, ◌≤◌, ◌==◌, nat_lt, nat_le, not, if◌then◌else◌, List, [], ◌∷◌, ◌++◌, length, map, take, drop, Option, None, Some, MatchOption, ◌⊎◌, IsTrue}
+use Rattle.std.specs.List.{AllByRecursion}
 use Rattle.uuid.specs.Parts.{is_nil_bytes}
 use Rattle.rep_types.specs.declared.key.Key.{Key}
 use Rattle.rep_types.specs.declared.judged.Judged.{Judged}
@@ -9,6 +10,7 @@ use Rattle.rep_types.specs.declared.refusal.Refusal.{Refusal}
 use Rattle.rep_types.specs.declared.refusal.Refusal.TheVariants.{OutOfMemory, OutOfOrder, Backlogged, LogFull, NotDue, TooOld, NotYet, BadKey, Undefined, Exhausted}
 use Rattle.rep_types.specs.declared.limits.TheConstants.{MAX_SEQNO, MAX_AHEAD}
 use Rattle.rep_types.specs.Settings.{Setting, is_setting, has_row}
+use Rattle.rep_types.specs.Transactions.{IsWithinLimits}
 use Rattle.rep_types.specs.Replies.{reply_of}
 use Rattle.rep_types.specs.Order.{Order, history, verdict, read}
 use Rattle.rep_record.specs.Blocks.{empty_block}
@@ -47,14 +49,18 @@ claimed (Filling k) = 1
 claimed (Filled k) = 1
 claimed (Opening k) = 1
 
--- What holds of every node: the parameters are within their limits, durable is at or above the base, the block is of delivered
--- items, delivered is at most MAX_AHEAD above durable, no item is behind the last seqno, and no cell is used that is still needed.
+-- What holds of every node: the parameters and the write sets are within their limits, an undefined node has no item, durable is
+-- at or above the base, the block is of delivered items and of at least one, delivered is at most MAX_AHEAD above durable, no item is
+-- behind the last seqno, and no cell is used that is still needed.
 pub record IsNode (n : Node) : Type 0 where
   pub allowed : IsTrue (is_setting n.setting)
+  pub limited : AllByRecursion IsWithinLimits n.order
+  pub undefined : IsTrue (is_nil_bytes n.uuid) → n.order ≡ []
   pub based : n.base ≤ n.durable
   pub delivered : n.durable + underway n.phase ≤ length n.order
   pub near : length n.order ≤ n.durable + MAX_AHEAD
   pub limit : length n.order ≤ MAX_SEQNO
+  pub some : claimed n.phase ≤ underway n.phase
   pub few : underway n.phase ≤ 64
   pub room : n.next + claimed n.phase ≤ n.start + n.setting.cells
 
@@ -77,9 +83,9 @@ abbrev pub opening : Phase → ℕ
 opening (Opening k) = k
 opening phase = 0
 
--- the GTID of the durable position
+-- the GTID of the durable position; that of an undefined node is the nil UUID and -1 (Galera documentation)
 abbrev pub gtid : Node → Gtid
-gtid n = record { uuid = n.uuid; seqno = pos n.durable }
+gtid n = record { uuid = n.uuid; seqno = if is_nil_bytes n.uuid then negsuc 0 else pos n.durable }
 
 -- ---- the first refusal that applies, want of memory aside
 
@@ -166,9 +172,18 @@ AsksForMemory Check = Unit {0}
 AsksForMemory (Flush page) = ⊥
 AsksForMemory (Read key s) = ⊥
 
+-- what holds of every event: a write set that comes is within its limits
+abbrev pub IsEvent : Event → Type 0
+IsEvent (Deliver seqno w) = IsWithinLimits w
+IsEvent Log = Unit {0}
+IsEvent Sync = Unit {0}
+IsEvent Check = Unit {0}
+IsEvent (Flush page) = Unit {0}
+IsEvent (Read key s) = Unit {0}
+
 -- An event at n, its answer, and the node m after it: where a refusal applies it is answered and changes nothing; and else the
 -- answer and the node are as above, or memory was wanted and nothing changed.
 abbrev pub Steps : Node → Event → Answer → Node → Type 0
-Steps n e a m = MatchOption (refusal n e)
+Steps n e a m = IsEvent e × MatchOption (refusal n e)
     (((a ≡ answer n e) × (m ≡ after n e)) ⊎ (AsksForMemory e × (a ≡ Refused OutOfMemory) × (m ≡ n)))
     (λ r. (a ≡ Refused r) × (m ≡ n))

@@ -154,6 +154,8 @@ impl Replica {
     fn deliver(&mut self, seqno: u64, item: WriteSet) -> Answer
         ensures { Steps self.old (Deliver seqno item) result self.new }
     {
+        // Tells the proof that the write set is within its limits.
+        let _reads = item.reads();
         if let Some(refusal) = self.delivery_refusal(seqno) {
             return Answer::Refused(refusal);
         }
@@ -298,7 +300,8 @@ impl Replica {
         0
     }
 
-    /// The state UUID, and how many items are durable.
+    /// The state UUID, and how many items are durable. (A node without a state UUID has -1; this replica
+    /// always has one.)
     pub fn gtid(&self) -> Gtid
         ensures { result ≡ gtid self.now }
     {

@@ -5,6 +5,9 @@ use clap::error::ErrorKind;
 use rep_types::Refusal;
 use std::alloc::{AllocError, Global};
 
+/// The status of a usage fault.
+pub(crate) const USAGE: u8 = 2;
+
 /// The command line that the program understands: one level of subcommands.
 fn command<'a>(alloc: Global) -> Result<Command<'a>, AllocError> {
     let judge = Command::new(alloc, "judge").about(
@@ -47,7 +50,7 @@ pub(crate) fn task_of<R: Print + Eprint>(
                 return Err(Refusal::OutOfMemory);
             }
             let _ = error.print(rt);
-            Ok(Task::Printed(if error.use_stderr() { 2 } else { 0 }))
+            Ok(Task::Printed(if error.use_stderr() { USAGE } else { 0 }))
         }
     }
 }

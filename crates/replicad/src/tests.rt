@@ -1,9 +1,6 @@
-//! Tests of what no contract says: worked orders, each refusal of a line, and streams that fail.
+//! Tests of judging a text: worked orders, each refusal of a line, and streams that fail.
 
 use super::*;
-use rep_plain::PlainNode;
-use rep_record::{BlockBuilder, put_record, read_block, read_record};
-use rep_types::{Judged, Key, Params, Part, Value, Verdict, Write, WriteSet};
 use std::alloc::{AllocError, Global};
 use std::io::Read;
 use std::test::Fail;
@@ -311,7 +308,7 @@ fn a_line_has_a_limit(rt: HostRuntime) -> Result<(), Fail> {
 
 /// Fails at every read.
 #[derive(Drop)]
-struct BrokenReader;
+pub(crate) struct BrokenReader;
 
 impl Read for BrokenReader {
     fn read(&mut self, _buf: &mut [u8]) -> io::Result<usize> {
@@ -333,9 +330,9 @@ fn a_verdict_is_written_before_more_is_read(rt: HostRuntime) {
 
 /// Takes so many bytes, one at a time, and then fails.
 #[derive(Drop)]
-struct ShortWriter {
-    taken: Vec<u8>,
-    room: usize,
+pub(crate) struct ShortWriter {
+    pub(crate) taken: Vec<u8>,
+    pub(crate) room: usize,
 }
 
 impl io::Write for ShortWriter {
@@ -377,236 +374,4 @@ fn a_writer_that_fails_has_a_front_of_the_lines(rt: HostRuntime) {
         );
         assert_eq!(rt; writer.taken.as_slice(), &lines[..room], "{room}");
     }
-}
-
-/// A write set that saw `last_seen` and puts one byte under `0/row`.
-fn put(last_seen: u64, row: u32, byte: u8) -> Result<WriteSet, Refusal> {
-    let write = Write {
-        key: Key { table: 0, row },
-        value: Some(Value::new(&[byte])?),
-    };
-    WriteSet::new(0, 0, last_seen, &[], &[write])
-}
-
-#[test]
-fn the_plain_node_keeps_rows_and_window(rt: HostRuntime) -> Result<(), Fail> {
-    let mut node = PlainNode::new(rt.alloc(), Params::new(2, 4, &[126])?);
-    assert_eq!(rt; node.position(), 0);
-    assert_eq!(rt; node.window(rt.alloc())?.len(), 0);
-    for (last_seen, row, byte, verdict) in [
-        (0, 1, b'a', Verdict::Commit),
-        (0, 1, b'b', Verdict::Conflict(1)),
-        (1, 1, b'c', Verdict::Commit),
-        (3, 2, b'd', Verdict::Commit),
-    ] {
-        assert_eq!(rt; node.deliver(put(last_seen, row, byte)?)?, verdict);
-    }
-    assert_eq!(rt; node.position(), 4);
-    for (row, s, value) in [
-        (1, 0, None),
-        (1, 1, Some(b'a')),
-        (1, 2, Some(b'a')),
-        (1, 3, Some(b'c')),
-        (2, 3, None),
-        (2, 4, Some(b'd')),
-    ] {
-        let found = node
-            .get(Key { table: 0, row }, s)
-            .map(|value| value.as_bytes());
-        match value {
-            Some(byte) => assert_eq!(rt; found, Some([byte].as_slice()), "{row} {s}"),
-            None => assert_eq!(rt; found, None, "{row} {s}"),
-        }
-    }
-    let window = node.window(rt.alloc())?;
-    assert_eq!(rt; window.len(), 2);
-    assert_eq!(rt; window[0].seqno(), 3);
-    assert_eq!(rt; window[0].keys(), [Key { table: 0, row: 1 }].as_slice());
-    assert_eq!(rt; window[1].seqno(), 4);
-    Ok(())
-}
-
-/// The number, the name and the data of a refusal.
-fn shown(alloc: Global, refusal: Refusal) -> Result<String, AllocError> {
-    let number = refusal.number();
-    format!(in alloc; "{number} {refusal}")
-}
-
-#[test]
-fn refusals_of_the_device_and_the_engine_show_their_names(rt: HostRuntime) -> Result<(), Fail> {
-    let refusals: [(Refusal, &str); 13] = [
-        (Refusal::OutOfMemory, "1 out-of-memory"),
-        (Refusal::DiskFault, "2 disk-fault"),
-        (Refusal::Stopped, "3 stopped"),
-        (Refusal::OutOfOrder { expected: 7 }, "4 out-of-order 7"),
-        (Refusal::Backlogged, "5 backlogged"),
-        (Refusal::LogFull, "6 log-full"),
-        (Refusal::NotDue, "7 not-due"),
-        (Refusal::TooOld { oldest: 3 }, "8 too-old 3"),
-        (Refusal::NotYet { durable: 3 }, "9 not-yet 3"),
-        (Refusal::BadKey, "10 bad-key"),
-        (Refusal::Undefined, "11 undefined"),
-        (Refusal::NotFormatted, "12 not-formatted"),
-        (Refusal::TooSmall { need: 103_424 }, "14 too-small 103424"),
-    ];
-    for (refusal, text) in refusals {
-        assert_eq!(rt; shown(rt.alloc(), refusal)?.as_str(), text);
-    }
-    Ok(())
-}
-
-#[test]
-fn corrupt_parts_show_their_names(rt: HostRuntime) -> Result<(), Fail> {
-    let parts: [(Part, &str); 4] = [
-        (Part::Superblock, "13 corrupt superblock"),
-        (Part::Window, "13 corrupt window"),
-        (Part::Log, "13 corrupt log"),
-        (Part::Pages, "13 corrupt pages"),
-    ];
-    for (part, text) in parts {
-        let refusal = Refusal::Corrupt { part };
-        assert_eq!(rt; shown(rt.alloc(), refusal)?.as_str(), text);
-    }
-    Ok(())
-}
-
-#[test]
-fn refusals_of_values_and_sessions_show_their_names(rt: HostRuntime) -> Result<(), Fail> {
-    let refusals: [(Refusal, &str); 10] = [
-        (Refusal::BadParams, "15 bad-params"),
-        (Refusal::Malformed { at: 59 }, "16 malformed 59"),
-        (Refusal::TooManyReads, "17 too-many-reads"),
-        (Refusal::TooManyWrites, "18 too-many-writes"),
-        (Refusal::ValueTooLong, "19 value-too-long"),
-        (Refusal::WrongCluster, "20 wrong-cluster"),
-        (Refusal::Ahead { position: 9 }, "21 ahead 9"),
-        (Refusal::Closed, "22 closed"),
-        (Refusal::Exhausted, "23 exhausted"),
-        (Refusal::StreamFault, "24 stream-fault"),
-    ];
-    for (refusal, text) in refusals {
-        assert_eq!(rt; shown(rt.alloc(), refusal)?.as_str(), text);
-    }
-    Ok(())
-}
-
-/// The bytes of the first item that writes `61` under `0/1`, as the format has them.
-const RECORD: [u8; 53] = [
-    0x00, 0x35, 0, 0, 0, 0, 0, 0, 0, 1, 0, 0, 0, 0, 0, 0, 0, 0, 0, 0, 0, 0, 0, 0, 0, 0, 0, 0, 0, 0,
-    0, 0, 0, 0, 0, 0, 0, 0, 0, 0, 0, 0, 0, 0, 1, 0, 0, 0, 0, 1, 1, 1, 0x61,
-];
-
-#[test]
-fn records_have_the_bytes_of_the_format(rt: HostRuntime) -> Result<(), Fail> {
-    let record = Judged {
-        seqno: 1,
-        item: put(0, 1, 0x61)?,
-        verdict: Verdict::Commit,
-    };
-    assert_eq!(rt; put_record(&record).as_slice(), RECORD.as_slice());
-    let mut bytes = Vec::from_slice(rt.alloc(), &RECORD)?;
-    bytes.extend_from_slice(b"anything")?;
-    assert!(rt; read_record(&RECORD[..52]) == Err(Refusal::Malformed { at: 0 }));
-    let (read, length) = read_record(&bytes)?;
-    assert!(rt; read == record);
-    assert_eq!(rt; length, 53);
-    Ok(())
-}
-
-/// The records of the items 7 to 9, each of which writes `61` under `0/1`.
-fn three_records() -> Result<BlockBuilder, Refusal> {
-    let mut block = BlockBuilder::new();
-    for seqno in 7..=9 {
-        let item = put(0, 1, 0x61)?;
-        let verdict = Verdict::Commit;
-        block.push(&Judged {
-            seqno,
-            item,
-            verdict,
-        });
-    }
-    Ok(block)
-}
-
-/// The body of cell 5 with these three records.
-fn body_of(alloc: Global, block: &BlockBuilder) -> Result<Vec<u8>, Fail> {
-    let mut body = Vec::from_slice(alloc, &[0, 0, 0, 0, 0, 0, 0, 5])?;
-    body.extend_from_slice(&[0, 0, 0, 0, 0, 0, 0, 7, 0, 3])?;
-    body.extend_from_slice(block.as_bytes())?;
-    for _ in 0..7680 - 18 - 3 * 53 {
-        body.push(0)?;
-    }
-    Ok(body)
-}
-
-#[test]
-fn a_block_gathers_records(rt: HostRuntime) -> Result<(), Fail> {
-    assert!(rt; BlockBuilder::new().is_empty());
-    let block = three_records()?;
-    assert!(rt; !block.is_empty());
-    assert_eq!(rt; block.len(), 3);
-    assert_eq!(rt; block.first(), 7);
-    assert_eq!(rt; block.as_bytes().len(), 3 * 53);
-    Ok(())
-}
-
-#[test]
-fn a_block_hands_out_its_records_in_order(rt: HostRuntime) -> Result<(), Fail> {
-    let body = body_of(rt.alloc(), &three_records()?)?;
-    let mut read = read_block(&body)?;
-    assert_eq!(rt; read.cell(), 5);
-    assert!(rt; !read.is_empty());
-    for seqno in 7..=9 {
-        assert_eq!(rt; read.len(), (10 - seqno) as u16);
-        let record = read.next_record().ok_or("a record is missing")?;
-        assert_eq!(rt; record.seqno, seqno);
-        assert!(rt; record.item == put(0, 1, 0x61)?);
-    }
-    assert!(rt; read.is_empty());
-    assert!(rt; read.next_record().is_none());
-    Ok(())
-}
-
-#[test]
-fn blocks_name_the_first_faulty_record(rt: HostRuntime) -> Result<(), Fail> {
-    let mut body = body_of(rt.alloc(), &three_records()?)?;
-    let faults: [(usize, u8, u64); 4] = [
-        // the verdict of the first record
-        (18 + 34, 5, 18),
-        // the seqno of the second record
-        (18 + 53 + 9, 7, 18 + 53),
-        // the number of records
-        (17, 65, 0),
-        // a closing byte
-        (7679, 1, 0),
-    ];
-    for (place, byte, at) in faults {
-        assert!(rt; place < body.len());
-        let kept = body[place];
-        body[place] = byte;
-        match read_block(&body) {
-            Ok(_) => assert!(rt; false, "{place} was read"),
-            Err(refusal) => assert_eq!(rt; refusal, Refusal::Malformed { at }, "{place}"),
-        }
-        assert!(rt; place < body.len());
-        body[place] = kept;
-    }
-    Ok(())
-}
-
-#[test]
-fn a_block_is_full_at_64_records(rt: HostRuntime) -> Result<(), Fail> {
-    let mut block = BlockBuilder::new();
-    for seqno in 1..=65 {
-        let item = put(0, 1, 0x61)?;
-        let verdict = Verdict::Stale;
-        let has_room = block.push(&Judged {
-            seqno,
-            item,
-            verdict,
-        });
-        assert_eq!(rt; has_room, seqno <= 64, "{seqno}");
-    }
-    assert_eq!(rt; block.len(), 64);
-    Ok(())
 }

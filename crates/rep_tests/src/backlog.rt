@@ -1,6 +1,6 @@
-//! Each call once, a full backlog, and drains that stop where a block is full.
+//! The backlog: each call once, a full backlog, and drains that stop where a block is full.
 
-use super::*;
+use rep_backlog::Backlog;
 use rep_record::BlockBuilder;
 use rep_types::{Judged, Key, Refusal, Value, Verdict, Write, WriteSet};
 use std::alloc::Global;

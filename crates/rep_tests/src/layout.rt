@@ -1,7 +1,10 @@
-//! Tests of what no contract says: the sizes, and each byte of the forms that may not be another.
+//! The layout of the device: the sizes, and each byte of the forms that may not be another.
 
-use super::*;
 use arrayvec::ArrayVec;
+use rep_layout::{
+    Layout, PageState, Place, RowPlace, Side, Slot, SuperBody, WindowBody, WindowReader, need,
+    page_of,
+};
 use rep_types::{Entry, Key, Params, Part, Refusal};
 use std::alloc::{AllocError, Global};
 use std::test::Fail;

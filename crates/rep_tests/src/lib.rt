@@ -1,0 +1,18 @@
+//! Tests of the libraries that stand below the program, one file for each crate, against values that
+//! were written by hand. They stand in a crate of their own so that a tested crate is proved once.
+#![tactic(auto)]
+
+#[cfg(test)]
+mod backlog;
+#[cfg(test)]
+mod cert;
+#[cfg(test)]
+mod layout;
+#[cfg(test)]
+mod plain;
+#[cfg(test)]
+mod record;
+#[cfg(test)]
+mod replica;
+#[cfg(test)]
+mod types;
