@@ -83,7 +83,7 @@ impl PlainNode {
         Ok(verdict)
     }
 
-    /// What stands under the key in the state after the first `s` items.
+    /// What stands under the key in the state after the first `s` items, which is at most the position.
     pub fn get(&self, key: Key, s: u64) -> Option<&Value>
         requires { s ≤ length self.now.order }
         ensures { option_copied result ≡ read self.now.setting self.now.order key s }
@@ -101,8 +101,8 @@ impl PlainNode {
         self.window_at(alloc, self.position())
     }
 
-    /// The window after the first `s` items: the committed items that certification needed for the
-    /// one behind them, in ascending order.
+    /// The window after the first `s` items, which is at most the position: the committed items that
+    /// certification needed for the one behind them, in ascending order.
     ///
     /// Refuses with `OutOfMemory` where the list cannot grow.
     pub fn window_at(&self, alloc: Global, s: u64) -> Result<Vec<Entry>, Refusal>

@@ -35,6 +35,9 @@ impl Model for Gtid {
 /// The number of characters of a UUID with its hyphens.
 const UUID_LEN: usize = 36;
 
+/// The greatest number of digits of a seqno: as many as the numbers below 2^63 have.
+const SEQNO_DIGITS: usize = 19;
+
 /// The seqno that the text is.
 #[tactic(auto, unfolding(crate::specs::Gtids::seqno_in))]
 fn read_seqno(text: &[u8]) -> Option<i64>
@@ -44,7 +47,7 @@ fn read_seqno(text: &[u8]) -> Option<i64>
     if text == b"-1".as_slice() {
         return Some(-1);
     }
-    if text.len() > 19 {
+    if text.len() > SEQNO_DIGITS {
         return None;
     }
     i64::try_from(read_number(text)?).ok()

@@ -4,12 +4,12 @@ use Rattle.rep_types.proofs.gtid.read_seqno.Goals as goal
 
 none_value : goal.returns-in_err-read_number-clause-value
 none_value c =
-    c.from_residual.ensures ∙ no_narrow c.args.text.now c.in_err-read_number.ensures ∙ sym (by_digits c.args.text.now (rw c.as_slice.ensures at c.if-eq.ensures) c.if-text-gt19.false)
+    c.from_residual.ensures ∙ no_narrow c.args.text.now c.in_err-read_number.ensures ∙ sym (by_digits c.args.text.now (rw c.as_slice.ensures at c.if-eq.ensures) c.if-text-gt-SEQNO_DIGITS.false)
 
 some_value : goal.returns-clause-value
 some_value c =
     c.ok.ensures.value ∙ narrowed c.args.text.now c.in_ok-read_number.field-0 c.try_from.result c.in_ok-read_number.ensures c.try_from.ensures
-    ∙ sym (by_digits c.args.text.now (rw c.as_slice.ensures at c.if-eq.ensures) c.if-text-gt19.false)
+    ∙ sym (by_digits c.args.text.now (rw c.as_slice.ensures at c.if-eq.ensures) c.if-text-gt-SEQNO_DIGITS.false)
 
 pub returns-in_err-read_number-clause-value : goal.returns-in_err-read_number-clause-value
 returns-in_err-read_number-clause-value c = none_value c
