@@ -102,6 +102,11 @@ run_short spell P most short (x ∷ xs) h =
     let more : most * suc (length xs) ≡ most + most * length xs = grind arith in
     omega (arith, short x h.0, run_short spell P most short xs h.1, ap length (flat_map-cons spell x xs), length-append (spell x) (flat_map spell xs), more)
 
+-- what holds of all holds of each
+pub all_of : {A : Type 0} (P : A → Type 0) → ((x : A) → P x) → (xs : List A) → AllByRecursion P xs
+all_of P h [] = tt
+all_of P h (x ∷ xs) = (h x, all_of P h xs)
+
 -- ---- zeros
 
 -- both sides of a conjunction that holds

@@ -14,5 +14,5 @@ pub key_is_form : IsForm key_form
 key_is_form = named_is_form key_fields KeyFits key_bytes key_fields_is_form (λ key h. (h, refl)) (λ key h. refl)
 
 -- a key takes 5 bytes
-pub key_short : (key : Key) → KeyFits key → length (key_bytes key) ≤ 5
-key_short key h = omega (arith, length_number 4 key.row)
+pub key_short : (key : Key) → length (key_bytes key) ≤ 5
+key_short key = omega (arith, length_number 4 key.row)

@@ -4,6 +4,7 @@ use Rattle.std.specs.Prelude.{IfSome}
 use Rattle.std.proofs.lemmas.Bool.{le-leb}
 use Rattle.rep_types.specs.declared.limits.TheConstants.{MAX_VALUE}
 use Rattle.rep_types.specs.declared.value.Write.{Write}
+use Rattle.rep_types.specs.Transactions.{HasShortValue}
 use Rattle.rep_forms.specs.Forms.{Form, IsForm, AreBytes, part_of, byte, both, ◌⊗◌, via}
 use Rattle.rep_forms.specs.FormLaws.{byte_is_form, part_is_form, both_is_form, via_is_form, named_is_form}
 use Rattle.rep_forms.specs.Keys.{key_bytes, key_form}
@@ -39,5 +40,5 @@ value_short : (value : Option (List ℕ)) → IfSome value (λ bytes. length byt
 value_short None short = omega arith
 value_short (Some bytes) short = omega (arith, short)
 
-pub write_short : (write : Write) → WriteFits write → length (write_bytes write) ≤ 69
-write_short write h = omega (arith, key_short write.key h.key, value_short write.value h.short, length-append (key_bytes write.key) (value_bytes write.value))
+pub write_short : (write : Write) → HasShortValue write → length (write_bytes write) ≤ 69
+write_short write h = omega (arith, key_short write.key, value_short write.value h, length-append (key_bytes write.key) (value_bytes write.value))

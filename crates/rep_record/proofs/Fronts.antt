@@ -5,12 +5,11 @@ use Rattle.std.proofs.lemmas.Bool.{ltb-true, lt-ltb, le-leb}
 use Rattle.std.proofs.lemmas.List.{append-nil}
 use Rattle.rep_types.specs.declared.limits.TheConstants.{MAX_SEQNO}
 use Rattle.rep_types.specs.declared.judged.Judged.{Judged}
-use Rattle.rep_types.specs.declared.verdict.Verdict.{Verdict}
-use Rattle.rep_types.specs.declared.verdict.Verdict.TheVariants.{Commit, Conflict, Stale, Future, BadKey}
+use Rattle.rep_types.specs.Transactions.{IsWithinLimits}
 use Rattle.rep_forms.specs.Forms.{number_bytes}
 use Rattle.rep_forms.specs.FormLaws.{length_number, conjuncts}
 use Rattle.rep_record.specs.declared.limits.TheConstants.{MAX_RECORDS, MAX_BLOCK}
-use Rattle.rep_record.specs.Records.{IsRecord, IsVerdictAt, is_verdict_at, is_placed, body_bytes, record_bytes}
+use Rattle.rep_record.specs.Records.{is_placed, body_bytes, record_bytes}
 use Rattle.rep_record.specs.RecordLaws.{body_short}
 use Rattle.rep_record.specs.Blocks.{has_room, is_next, run_bytes}
 use Rattle.rep_record.specs.Fronts.{fitting, IsLongestFront}
@@ -74,22 +73,14 @@ only_fitting block (j ∷ js) (suc n) is =
 
 -- ---- an empty block
 
--- a verdict that fits its item passes the test
-verdict_passes : (seqno : ℕ) (v : Verdict) → IsVerdictAt seqno v → is_verdict_at seqno v ≡ true
-verdict_passes seqno Commit h = refl
-verdict_passes seqno (Conflict m) h = rw (le-leb 1 m h.0, lt-ltb m seqno h.1) refl
-verdict_passes seqno Stale h = refl
-verdict_passes seqno Future h = refl
-verdict_passes seqno BadKey h = refl
-
 -- an empty block takes an item that has a spelling
-pub takes_first : (j : Judged) → IsRecord j → has_room [] j ≡ true
-takes_first j h =
+pub takes_first : (j : Judged) → is_placed j ≡ true → IsWithinLimits j.item → has_room [] j ≡ true
+takes_first j placed h =
     let size : 0 + length (record_bytes j) ≤ MAX_BLOCK = omega (arith, body_short j h, length-append (number_bytes 2 (length (body_bytes j) + 2)) (body_bytes j), length_number 2 (length (body_bytes j) + 2)) in
-    rw (le-leb 1 j.seqno h.positive, le-leb j.seqno MAX_SEQNO h.seqno, verdict_passes j.seqno j.verdict h.verdict, le-leb (0 + length (record_bytes j)) MAX_BLOCK size) refl
+    rw (placed, le-leb (0 + length (record_bytes j)) MAX_BLOCK size) refl
 
-pub fitting_first : (j : Judged) (js : List Judged) → IsRecord j → 1 ≤ fitting [] (j ∷ js)
-fitting_first j js h = omega (arith, fitting_room [] j js (takes_first j h))
+pub fitting_first : (j : Judged) (js : List Judged) → is_placed j ≡ true → IsWithinLimits j.item → 1 ≤ fitting [] (j ∷ js)
+fitting_first j js placed h = omega (arith, fitting_room [] j js (takes_first j placed h))
 
 -- ---- no more than a block may have
 

@@ -7,9 +7,10 @@ use Rattle.rep_types.specs.declared.judged.Judged.{Judged}
 use Rattle.rep_types.specs.declared.verdict.Verdict.{Verdict}
 use Rattle.rep_types.specs.declared.verdict.Verdict.TheVariants.{Commit, Conflict, Stale, Future, BadKey}
 use Rattle.rep_types.specs.declared.limits.TheConstants.{MAX_SEQNO, MAX_READS, MAX_WRITES}
-use Rattle.rep_types.specs.Transactions.{Transaction, IsWithinLimits, checked}
+use Rattle.rep_types.specs.declared.key.Key.{Key}
+use Rattle.rep_types.specs.Transactions.{Transaction, HasShortValue, IsWithinLimits, checked}
 use Rattle.rep_forms.specs.Forms.{Form, IsForm, byte, number, both, ◌⊗◌, many, via}
-use Rattle.rep_forms.specs.FormLaws.{length_number, run_short, byte_is_form, number_is_form, both_is_form, many_is_form, via_is_form, named_is_form}
+use Rattle.rep_forms.specs.FormLaws.{length_number, run_short, all_of, byte_is_form, number_is_form, both_is_form, many_is_form, via_is_form, named_is_form}
 use Rattle.rep_forms.specs.Keys.{KeyFits, key_bytes, key_form}
 use Rattle.rep_forms.specs.KeyLaws.{key_is_form, key_short}
 use Rattle.rep_forms.specs.Writes.{WriteFits, write_bytes, write_form}
@@ -67,16 +68,17 @@ labels_fit : (j : Judged) → IsRecord j → label_fields.Fits (record { seqno =
 labels_fit j h = ((omega (arith, h.seqno), (h.last_seen, (h.source, h.trx))), refl)
 
 -- a record's body takes at most 1,227 bytes
-pub body_short : (j : Judged) → IsRecord j → length (body_bytes j) ≤ 1227
+pub body_short : (j : Judged) → IsWithinLimits j.item → length (body_bytes j) ≤ 1227
 body_short j h =
-    let reads = run_short key_bytes KeyFits 5 key_short j.item.reads h.reads in
-    let writes = run_short write_bytes WriteFits 69 write_short j.item.writes h.writes in
-    let few : 5 * length j.item.reads ≤ 80 = omega (arith, h.limits.few_reads) in
-    let many : 69 * length j.item.writes ≤ 1104 = omega (arith, h.limits.few_writes) in
+    let Short : Key → Type 0 = λ key. length (key_bytes key) ≤ 5 in
+    let reads = run_short key_bytes Short 5 (λ key small. small) j.item.reads (all_of Short key_short j.item.reads) in
+    let writes = run_short write_bytes HasShortValue 69 write_short j.item.writes h.short_values in
+    let few : 5 * length j.item.reads ≤ 80 = omega (arith, h.few_reads) in
+    let many : 69 * length j.item.writes ≤ 1104 = omega (arith, h.few_writes) in
     simp (length-append, length_number) (omega (arith, reads, writes, few, many))
 
 pub record_is_form : IsForm record_form
 record_is_form =
     named_is_form record_fields IsRecord record_bytes fields_is_form
-    (λ j h. ((omega (arith, body_short j h), (labels_fit j h, (verdict_fits j.seqno j.verdict h.seqno h.verdict, lists_fit j h))), rw (checked_again j.item h.limits) refl))
+    (λ j h. ((omega (arith, body_short j h.limits), (labels_fit j h, (verdict_fits j.seqno j.verdict h.seqno h.verdict, lists_fit j h))), rw (checked_again j.item h.limits) refl))
     (λ j h. refl)

@@ -2,7 +2,7 @@
 use Rattle.std.proofs.Common.{◌≡◌, ℕ, ◌+◌, ◌-◌, ◌<◌, ◌≤◌, Bool, true, false, cond, leb, ltb, eqb, List, [], ◌∷◌, ◌++◌, length, length-append, get_or, drop, Option, None, Some, refl, sym, ap, subst, ◌∙◌, arith, zero, suc, drop-cons}
 use Rattle.std.specs.Prelude.{◌&&◌, not, IsTrue}
 use Rattle.std.specs.List.{AllByRecursion}
-use Rattle.std.proofs.lemmas.Bool.{ltb-true, leb-true, leb-false, eqb-false, le-leb}
+use Rattle.std.proofs.lemmas.Bool.{ltb-true, leb-true, leb-false, eqb-false, le-leb, lt-ltb}
 use Rattle.std.proofs.lemmas.List.{length-drop}
 use Rattle.uuid.specs.Parts.{is_nil_bytes}
 use Rattle.rep_types.specs.declared.judged.Judged.{Judged}
@@ -11,53 +11,39 @@ use Rattle.rep_types.specs.declared.refusal.Refusal.TheVariants.{OutOfOrder, Bac
 use Rattle.rep_types.specs.declared.limits.TheConstants.{MAX_SEQNO, MAX_AHEAD, MAX_CELLS}
 use Rattle.rep_types.specs.Settings.{Setting, is_setting, is_schema}
 use Rattle.rep_types.specs.Transactions.{Transaction, IsWithinLimits}
-use Rattle.rep_types.specs.Order.{Order, no_item, item, history}
+use Rattle.rep_types.specs.Order.{Order, no_item, item, history, verdict}
 use Rattle.rep_types.proofs.Histories.{length_history, history_at_index, judged}
-use Rattle.rep_record.specs.Blocks.{Block, empty_block, has_room, with_record}
-use Rattle.rep_record.specs.Records.{record_bytes}
+use Rattle.rep_types.specs.declared.verdict.Verdict.{Verdict}
+use Rattle.rep_types.specs.declared.verdict.Verdict.TheVariants.{Commit, Conflict, Stale, Future, BadKey}
+use Rattle.rep_types.specs.Verdicts.{IsVerdict}
+use Rattle.rep_types.proofs.VerdictsByPairs.{AreVerdicts-verdict}
+use Rattle.rep_forms.specs.FormLaws.{all_more}
+use Rattle.rep_record.specs.Blocks.{has_room}
+use Rattle.rep_record.specs.Records.{is_verdict_at, is_placed}
 use Rattle.rep_record.specs.Fronts.{fitting}
-use Rattle.rep_record.proofs.Runs.{all_more}
+use Rattle.rep_record.proofs.Fronts.{fitting_first, fitting_few}
 use Rattle.rep_replica.specs.declared.phase.Phase.{Phase}
 use Rattle.rep_replica.specs.declared.phase.Phase.TheVariants.{Free, Filling, Filled, Opening}
-use Rattle.rep_replica.proofs.Sizes.{record_small}
 use Rattle.rep_replica.specs.Nodes.{Node, IsNode, underway, claimed, pending, gathered, opening, taken, logged, synced, log_refusal, delivery_refusal}
 
 -- a block takes no more items than there are
-fitting_within : (block : Block) (js : List Judged) → fitting block js ≤ length js
+fitting_within : (block js : List Judged) → fitting block js ≤ length js
 fitting_within block [] = omega arith
-fitting_within block (j ∷ js) = by_test (has_room block j) (fitting_within (with_record block j) js)
+fitting_within block (j ∷ js) = by_test (has_room block j) (fitting_within (block ++ j ∷ []) js)
   where
-    by_test : (b : Bool) → fitting (with_record block j) js ≤ length js → cond b (fitting (with_record block j) js + 1) 0 ≤ length (j ∷ js)
+    by_test : (b : Bool) → fitting (block ++ j ∷ []) js ≤ length js → cond b (fitting (block ++ j ∷ []) js + 1) 0 ≤ length (j ∷ js)
     by_test true h = omega (arith, h)
     by_test false h = omega arith
-
--- where there is room, there are fewer than 64 records
-room_few : (block : Block) (j : Judged) → has_room block j ≡ true → block.count < 64
-room_few block j e = few_by (ltb block.count 64) _ refl e
-  where
-    few_by : (a b : Bool) → ltb block.count 64 ≡ a → (a && b) ≡ true → block.count < 64
-    few_by true b t e = ltb-true block.count 64 t
-    few_by false b t e = absurd cc
-
--- and no more than 64
-fitting_few : (block : Block) (js : List Judged) → block.count ≤ 64 → fitting block js + block.count ≤ 64
-fitting_few block [] few = omega arith
-fitting_few block (j ∷ js) few = by_test (has_room block j) refl (λ h. fitting_few (with_record block j) js h)
-  where
-    by_test : (b : Bool) → has_room block j ≡ b → (block.count + 1 ≤ 64 → fitting (with_record block j) js + (block.count + 1) ≤ 64)
-        → cond b (fitting (with_record block j) js + 1) 0 + block.count ≤ 64
-    by_test true t h = let few : block.count < 64 = room_few block j t in omega (arith, h (omega (arith, few)))
-    by_test false t h = omega arith
 
 -- as many items are not durable
 pub length_pending : (n : Node) → length (pending n) ≡ length n.order - n.durable
 length_pending n = length-drop n.durable (history n.setting n.order) ∙ ap (λ k. k - n.durable) (length_history n.setting n.order)
 
 pub gathered_within : (n : Node) → gathered n ≤ length n.order - n.durable
-gathered_within n = omega (arith, fitting_within empty_block (pending n), length_pending n)
+gathered_within n = omega (arith, fitting_within [] (pending n), length_pending n)
 
 pub gathered_few : (n : Node) → gathered n ≤ 64
-gathered_few n = omega (arith, fitting_few empty_block (pending n) (omega arith))
+gathered_few n = omega (arith, fitting_few [] (pending n) (omega arith))
 
 -- what holds of each item of an order holds of the one at a place
 each_at : (P : Transaction → Type 0) (L : Order) (i : ℕ) (d : Transaction) → AllByRecursion P L → i < length L → P (get_or L i d)
@@ -65,17 +51,25 @@ each_at P [] i d h within = absurd (omega (arith, within))
 each_at P (w ∷ L) zero d h within = h.0
 each_at P (w ∷ L) (suc i) d h within = each_at P L i d h.1 (omega (arith, within))
 
--- an empty block has room for each item within its limits
-first_fits : (j : Judged) (js : List Judged) → IsWithinLimits j.item → 1 ≤ fitting empty_block (j ∷ js)
-first_fits j js h =
-    let room : has_room empty_block j ≡ true =
-    ap (λ b. ltb 0 64 && b) (le-leb (length empty_block.bytes + length (record_bytes j)) 7662 (omega (arith, record_small j h))) in
-    let one : fitting empty_block (j ∷ js) ≡ fitting (with_record empty_block j) js + 1 = ap (λ b. cond b (fitting (with_record empty_block j) js + 1) 0) room in
-    omega (arith, one)
+-- a conflict of an item of an order is with one before it
+verdict_placed : (p : Setting) (L : Order) (n : ℕ) (v : Verdict) → IsVerdict p L (verdict p L) n v → is_verdict_at n v ≡ true
+verdict_placed p L n Commit h = refl
+verdict_placed p L n (Conflict m) h =
+    let some : 1 ≤ m = omega (arith, h.1.unseen) in
+    rw (le-leb 1 m some, lt-ltb m n h.1.before) refl
+verdict_placed p L n Stale h = refl
+verdict_placed p L n Future h = refl
+verdict_placed p L n BadKey h = refl
+
+-- so each has a place among records
+item_placed : (p : Setting) (L : Order) (n : ℕ) → 1 ≤ n → n ≤ length L → length L ≤ MAX_SEQNO → is_placed (judged p L n) ≡ true
+item_placed p L n some within limit =
+    let fits = verdict_placed p L n (verdict p L n) (AreVerdicts-verdict p L n (omega (arith, some)) within) in
+    rw (le-leb 1 n some, le-leb n MAX_SEQNO (omega (arith, within, limit)), fits) refl
 
 -- so where an item waits, the next block has one
-pub gathered_some : (n : Node) → AllByRecursion IsWithinLimits n.order → n.durable < length n.order → 1 ≤ gathered n
-gathered_some n h due =
+pub gathered_some : (n : Node) → AllByRecursion IsWithinLimits n.order → length n.order ≤ MAX_SEQNO → n.durable < length n.order → 1 ≤ gathered n
+gathered_some n h limit due =
     let p = n.setting in
     let L = n.order in
     let next : Judged = judged p L (n.durable + 1) in
@@ -84,7 +78,8 @@ gathered_some n h due =
     drop-cons (history p L) n.durable next inside ∙ ap (λ j. j ∷ drop (suc n.durable) (history p L)) (history_at_index p L n.durable next due) in
     let same : n.durable ≡ n.durable + 1 - 1 = omega arith in
     let limits : IsWithinLimits next.item = subst (λ k. IsWithinLimits (get_or L k no_item)) same (each_at IsWithinLimits L n.durable no_item h due) in
-    subst (λ js. 1 ≤ fitting empty_block js) (sym front) (first_fits next (drop (suc n.durable) (history p L)) limits)
+    let placed : is_placed next ≡ true = item_placed p L (n.durable + 1) (omega arith) (omega (arith, due)) limit in
+    subst (λ js. 1 ≤ fitting [] js) (sym front) (fitting_first next (drop (suc n.durable) (history p L)) placed limits)
 
 -- a test that leads to no refusal
 unrefused : (b : Bool) (r : Refusal) (rest : Option Refusal) → cond b (Some r) rest ≡ None → (b ≡ false) × (rest ≡ None)
@@ -104,7 +99,7 @@ keeps_log_at n Free e h r =
       delivered = omega (arith, gathered_within n, leb-false (length n.order) n.durable due.0);
       near = h.near;
       limit = h.limit;
-      some = gathered_some n h.limited (leb-false (length n.order) n.durable due.0);
+      some = gathered_some n h.limited h.limit (leb-false (length n.order) n.durable due.0);
       few = gathered_few n;
       room = omega (arith, leb-false (n.start + n.setting.cells) n.next room.0);
     }

@@ -1,4 +1,3 @@
-mod Sizes
 pub mod Blocks
 pub mod Keeps
 pub mod Runs

@@ -13,7 +13,6 @@ use Rattle.rep_types.specs.Settings.{Setting, is_setting, has_row}
 use Rattle.rep_types.specs.Transactions.{IsWithinLimits}
 use Rattle.rep_types.specs.Replies.{reply_of}
 use Rattle.rep_types.specs.Order.{Order, history, verdict, read}
-use Rattle.rep_record.specs.Blocks.{empty_block}
 use Rattle.rep_record.specs.Fronts.{fitting}
 use Rattle.rep_replica.specs.declared.phase.Phase.{Phase}
 use Rattle.rep_replica.specs.declared.phase.Phase.TheVariants.{Free, Filling, Filled, Opening}
@@ -72,7 +71,7 @@ pending n = drop n.durable (history n.setting n.order)
 
 -- how many of them the next block takes: the longest front that fits
 abbrev pub gathered : Node → ℕ
-gathered n = fitting empty_block (pending n)
+gathered n = fitting [] (pending n)
 
 -- the replies to the origins of the next k items
 abbrev pub replies : Node → ℕ → List Reply

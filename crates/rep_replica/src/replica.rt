@@ -4,7 +4,6 @@ ghost use Rattle.std.specs.Prelude.{◌≡◌, ◌≢◌, ◌+◌, ◌≤◌, �
 ghost use Rattle.uuid.specs.Parts.{is_nil_bytes};
 ghost use Rattle.rep_types.specs.Replies.{reply_of};
 ghost use Rattle.rep_types.specs.Order.{window};
-ghost use Rattle.rep_record.specs.Blocks.{empty_block};
 ghost use Rattle.rep_record.specs.Fronts.{fitting};
 ghost use Rattle.rep_replica.specs.declared.event.Event.TheVariants.{Deliver, Log, Sync, Read};
 ghost use Rattle.rep_replica.specs.Nodes.{IsNode, Steps, after, gtid, gathered, pending, replies, logged, delivery_refusal, log_refusal, read_refusal};
@@ -47,7 +46,7 @@ impl Model for Replica {
 
 /// How many of the items the next block takes.
 fn block_of(items: &[Judged]) -> u16
-    ensures value { result ≡ fitting empty_block items.now }
+    ensures value { result ≡ fitting [] items.now }
     ensures few { result ≤ 64 }
     ensures within { result ≤ length items.now }
 {

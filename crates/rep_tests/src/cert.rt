@@ -42,7 +42,7 @@ fn is_made_of_any_entries(rt: HostRuntime) -> Result<(), Fail> {
     }
     let params = Params::new(4, 4, &[10])?;
     let mut certifier = Certifier::new(alloc, params, u64::MAX - 1, window)?;
-    assert_eq!(rt; certifier.judge(&item), Verdict::Conflict(u64::MAX - 4));
+    assert_eq!(rt; certifier.judge(&item), Verdict::Conflict(u64::MAX - 2));
     assert_eq!(rt; certifier.admit(&item), Err(Refusal::Exhausted));
     assert_eq!(rt; certifier.delivered(), u64::MAX - 1);
     let held = certifier.window_at(alloc, certifier.delivered())?;

@@ -27,7 +27,8 @@ fn records_have_the_bytes_of_the_format(rt: HostRuntime) -> Result<(), Fail> {
         item: put(0, 1, 0x61)?,
         verdict: Verdict::Commit,
     };
-    assert_eq!(rt; put_record(&record).as_slice(), RECORD.as_slice());
+    let written = put_record(&record).ok_or("it has no spelling")?;
+    assert_eq!(rt; written.as_slice(), RECORD.as_slice());
     let mut bytes = Vec::from_slice(rt.alloc(), &RECORD)?;
     bytes.extend_from_slice(b"anything")?;
     assert!(rt; read_record(&RECORD[..52]) == Err(Refusal::Malformed { at: 0 }));
@@ -72,6 +73,42 @@ fn a_block_gathers_records(rt: HostRuntime) -> Result<(), Fail> {
     assert_eq!(rt; block.len(), 3);
     assert_eq!(rt; block.first(), 7);
     assert_eq!(rt; block.as_bytes().len(), 3 * 53);
+    let body = block.write_body(5).ok_or("there is no record")?;
+    assert_eq!(rt; body.as_slice(), body_of(rt.alloc(), 5, &block)?.as_slice());
+    assert!(rt; BlockBuilder::new().write_body(5).is_none());
+    Ok(())
+}
+
+// Neither seqno 0, nor one past 2^60, nor a conflict with itself or with item 0 can be written; nor
+// does a block take a record whose seqno does not follow.
+#[test]
+fn what_has_no_spelling_is_not_written(rt: HostRuntime) -> Result<(), Fail> {
+    let last = 1 << 60;
+    let cases = [
+        (0, Verdict::Commit, false),
+        (1, Verdict::Commit, true),
+        (last, Verdict::Commit, true),
+        (last + 1, Verdict::Commit, false),
+        (4, Verdict::Conflict(0), false),
+        (4, Verdict::Conflict(1), true),
+        (4, Verdict::Conflict(3), true),
+        (4, Verdict::Conflict(4), false),
+    ];
+    for (seqno, verdict, is_written) in cases {
+        let item = put(0, 1, 0x61)?;
+        let record = Judged {
+            seqno,
+            item,
+            verdict,
+        };
+        assert_eq!(rt; put_record(&record).is_some(), is_written, "{seqno} {verdict}");
+        assert_eq!(rt; BlockBuilder::new().push(&record), is_written, "{seqno} {verdict}");
+    }
+    let mut block = three_records()?;
+    assert!(rt; !block.push(&two_puts(9, 0)?));
+    assert!(rt; !block.push(&two_puts(11, 0)?));
+    assert!(rt; block.push(&two_puts(10, 0)?));
+    assert_eq!(rt; block.len(), 4);
     Ok(())
 }
 
@@ -173,7 +210,7 @@ fn largest(alloc: Global) -> Result<Judged, Fail> {
 #[test]
 fn the_largest_record_has_1229_bytes(rt: HostRuntime) -> Result<(), Fail> {
     let record = largest(rt.alloc())?;
-    let bytes = put_record(&record);
+    let bytes = put_record(&record).ok_or("it has no spelling")?;
     assert_eq!(rt; bytes.len(), 1_229);
     assert_eq!(rt; MAX_RECORD, 1_229);
     let (read, length) = read_record(&bytes)?;

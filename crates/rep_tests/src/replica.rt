@@ -62,7 +62,7 @@ fn a_run_answers_each_event(rt: HostRuntime) -> Result<(), Fail> {
     assert_eq!(rt; replica.delivered(), 1);
     assert_eq!(rt; replica.durable(), 1);
     assert_eq!(rt; replica.base(), 0);
-    assert_eq!(rt; replica.gtid().seqno, 1);
+    assert_eq!(rt; replica.gtid().seqno(), 1);
     assert_eq!(rt; replica.window(rt.alloc())?.len(), 1);
     Ok(())
 }

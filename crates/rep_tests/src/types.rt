@@ -85,7 +85,7 @@ fn gtids_of_the_form_are_read(rt: HostRuntime) {
     ];
     for (text, seqno) in cases {
         assert_eq!(rt;
-            Gtid::parse(text).map(|gtid| gtid.seqno),
+            Gtid::parse(text).map(|gtid| gtid.seqno()),
             Ok(seqno),
             "{text:?}"
         );
@@ -129,10 +129,10 @@ fn gtids_are_written_in_lower_case(rt: HostRuntime) -> Result<(), Fail> {
         text.as_str(),
         "5ee99582-bb8d-11e2-b8e3-23de375c1d30:8204503945773"
     );
-    let undefined = Gtid {
-        uuid: Uuid::nil(),
-        seqno: -1,
+    let Some(undefined) = Gtid::new(Uuid::nil(), -1) else {
+        return Err(Fail::new("no undefined GTID"));
     };
+    assert!(rt; Gtid::new(Uuid::nil(), -2).is_none());
     let text = format!(in rt.alloc(); "{undefined}")?;
     assert_eq!(rt; text.as_str(), "00000000-0000-0000-0000-000000000000:-1");
     Ok(())

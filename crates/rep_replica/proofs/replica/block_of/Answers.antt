@@ -1,14 +1,14 @@
-use Rattle.std.proofs.Common.{◌≡◌, cond, sym, ap, ◌∙◌, arith}
-use Rattle.rep_record.specs.Blocks.{Block, with_record}
+use Rattle.std.proofs.Common.{◌≡◌, List, [], ◌∷◌, ◌++◌, length, cond, sym, ap, ◌∙◌, arith}
+use Rattle.rep_types.specs.declared.judged.Judged.{Judged}
 use Rattle.rep_replica.proofs.Blocks.{gathers_no_more}
 use Rattle.rep_replica.proofs.replica.block_of.Goals as goal
 
 -- a block without room for the item stays as it is
-stays : (c : goal.After-len) → c.len.result ≡ c.loop-judged.block.count
+stays : (c : goal.After-len) → c.len.result ≡ length c.loop-judged.block
 stays c =
     c.len.ensures.count
-    ∙ ap (λ (b : Block). b.count)
-    (c.push.ensures.after ∙ ap (λ b. cond b (with_record c.loop-judged.block c.judged-item.result) c.loop-judged.block) (sym c.if-not-push.ensures.room))
+    ∙ ap (λ (b : List Judged). length b)
+    (c.push.ensures.after ∙ ap (λ b. cond b (c.loop-judged.block ++ c.judged-item.result ∷ []) c.loop-judged.block) (sym c.if-not-push.ensures.room))
 
 pub returns-then-not-push-clause-value : goal.returns-then-not-push-clause-value
 returns-then-not-push-clause-value c =
