@@ -21,7 +21,7 @@ labels_is_form : IsForm label_fields
 labels_is_form =
     via_is_form (number 8 ⊗ (number 8 ⊗ (number 8 ⊗ number 8))) label_parts labels_of
     (both_is_form (number 8) (λ _. number 8 ⊗ (number 8 ⊗ number 8)) (number_is_form 8) (λ _.
-        both_is_form (number 8) (λ _. number 8 ⊗ number 8) (number_is_form 8) (λ _. both_is_form (number 8) (λ _. number 8) (number_is_form 8) (λ _. number_is_form 8))
+    both_is_form (number 8) (λ _. number 8 ⊗ number 8) (number_is_form 8) (λ _. both_is_form (number 8) (λ _. number 8) (number_is_form 8) (λ _. number_is_form 8))
     ))
 
 verdict_is_form : IsForm verdict_fields
@@ -33,16 +33,16 @@ lists_is_form =
     via_is_form (both byte (λ reads. both byte (λ writes. many MAX_READS reads key_form ⊗ many MAX_WRITES writes write_form)))
     (λ (l : Lists). (length l.0, (length l.1, (l.0, l.1)))) (λ x. Some (x.1.1.0, x.1.1.1))
     (both_is_form byte (λ reads. both byte (λ writes. many MAX_READS reads key_form ⊗ many MAX_WRITES writes write_form)) byte_is_form (λ reads.
-        both_is_form byte (λ writes. many MAX_READS reads key_form ⊗ many MAX_WRITES writes write_form) byte_is_form (λ writes.
-            both_is_form (many MAX_READS reads key_form) (λ _. many MAX_WRITES writes write_form) (many_is_form MAX_READS reads key_form key_is_form) (λ _. many_is_form MAX_WRITES writes write_form write_is_form)
-        )
+    both_is_form byte (λ writes. many MAX_READS reads key_form ⊗ many MAX_WRITES writes write_form) byte_is_form (λ writes.
+    both_is_form (many MAX_READS reads key_form) (λ _. many MAX_WRITES writes write_form) (many_is_form MAX_READS reads key_form key_is_form) (λ _. many_is_form MAX_WRITES writes write_form write_is_form)
+    )
     ))
 
 fields_is_form : IsForm record_fields
 fields_is_form =
     via_is_form (number 2 ⊗ (label_fields ⊗ (verdict_fields ⊗ list_fields))) parts_of (λ (x : Parts). item_of x.1.0 x.1.1.0 x.1.1.1)
     (both_is_form (number 2) (λ _. label_fields ⊗ (verdict_fields ⊗ list_fields)) (number_is_form 2) (λ _.
-        both_is_form label_fields (λ _. verdict_fields ⊗ list_fields) labels_is_form (λ _. both_is_form verdict_fields (λ _. list_fields) verdict_is_form (λ _. lists_is_form))
+    both_is_form label_fields (λ _. verdict_fields ⊗ list_fields) labels_is_form (λ _. both_is_form verdict_fields (λ _. list_fields) verdict_is_form (λ _. lists_is_form))
     ))
 
 -- a verdict that fits its item

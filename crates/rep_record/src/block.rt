@@ -55,7 +55,8 @@ impl BlockBuilder {
     fn is_next(&self, record: &Judged) -> bool
         ensures { result ≡ is_next self.now record.now }
     {
-        self.count == 0 || (record.seqno >= self.first && record.seqno - self.first == u64::from(self.count))
+        self.count == 0
+            || (record.seqno >= self.first && record.seqno - self.first == u64::from(self.count))
     }
 
     /// Adds the record at the end, where the block takes it, and says whether it did: where the

@@ -172,7 +172,14 @@ fn read_verdict(bytes: &[u8]) -> Option<(Verdict, &[u8])>
 }
 
 /// The reads and the writes behind their numbers, and the bytes behind them.
-fn read_lists(bytes: &[u8]) -> Option<((ArrayVec<Key, MAX_READS>, ArrayVec<Write, MAX_WRITES>), &[u8])>
+fn read_lists(
+    bytes: &[u8],
+) -> Option<
+    (
+        (ArrayVec<Key, MAX_READS>, ArrayVec<Write, MAX_WRITES>),
+        &[u8],
+    ),
+>
     ensures { option_map (λ x. ((x.0.0.items, x.0.1.items), x.1.now)) result ≡ list_fields.read bytes.now }
 {
     let (read_count, rest) = read_u8(bytes)?;

@@ -101,8 +101,16 @@ fn what_has_no_spelling_is_not_written(rt: HostRuntime) -> Result<(), Fail> {
             item,
             verdict,
         };
-        assert_eq!(rt; put_record(&record).is_some(), is_written, "{seqno} {verdict}");
-        assert_eq!(rt; BlockBuilder::new().push(&record), is_written, "{seqno} {verdict}");
+        assert_eq!(rt;
+            put_record(&record).is_some(),
+            is_written,
+            "{seqno} {verdict}"
+        );
+        assert_eq!(rt;
+            BlockBuilder::new().push(&record),
+            is_written,
+            "{seqno} {verdict}"
+        );
     }
     let mut block = three_records()?;
     assert!(rt; !block.push(&two_puts(9, 0)?));

@@ -28,9 +28,7 @@ impl Ord for Key {
     ghost matches_eq = { Prim.search (comparing, rules) };
 
     fn cmp(&self, other: &Key) -> Ordering {
-        self.table
-            .cmp(&other.table)
-            .then(self.row.cmp(&other.row))
+        self.table.cmp(&other.table).then(self.row.cmp(&other.row))
     }
 }
 

@@ -31,8 +31,8 @@ returns-then-head-eq0-clause-only c = λ cell js h e.
     let same = same_head _ _ c.args.bytes.now cell js s (same_Some _ (s.head, s.body) (c.in-Some.ensures.only s.head s.body s.has_head.fits s.has_head.there)) in
     let count : c.in-Some.head.count ≡ s.head.count = ap (λ (head : Head). head.count) same.0 in
     absurd (elim c.then-head-eq0.branch [
-        then-head-eq0-via-then-head-eq0 w ↦ omega (arith, count, s.has_head.some, w.if-head-eq0.true)
-        | then-head-eq0-via-else-head-eq0+then-head-gt-MAX_RECORDS w ↦ omega (arith, count, s.has_head.few, w.if-head-gt-MAX_RECORDS.true)
+      | then-head-eq0-via-then-head-eq0 w ↦ omega (arith, count, s.has_head.some, w.if-head-eq0.true)
+      | then-head-eq0-via-else-head-eq0+then-head-gt-MAX_RECORDS w ↦ omega (arith, count, s.has_head.few, w.if-head-gt-MAX_RECORDS.true)
     ])
 
 pub returns-in-Err-clause-only : goal.returns-in-Err-clause-only
