@@ -20,8 +20,14 @@ pub length_zeros : (n : ℕ) → length (zeros n) ≡ n
 unfolding zeros
 length_zeros n = length-replicate {A = ℕ} n 0
 
+pub length_numbers : (n : ℕ) (xs : List ℕ) → length (flat_map (number_bytes n) xs) ≡ n * length xs
+length_numbers n [] = omega arith
+length_numbers n (x ∷ xs) =
+    let more : n * suc (length xs) ≡ n + n * length xs = grind arith in
+    omega (arith, length_number n x, length_numbers n xs, ap length (flat_map-cons (number_bytes n) x xs), length-append (number_bytes n x) (flat_map (number_bytes n) xs), more)
+
 -- the sizes of the parts
-pub ruleset sizes = (length_number, length_zeros, length-append)
+pub ruleset sizes = (length_number, length_numbers, length_zeros, length-append)
 
 -- ---- one piece behind another
 

@@ -1,6 +1,6 @@
 //! Numbers and bytes.
 
-ghost use Rattle.std.specs.Prelude.{◌≡◌, ◌+◌, ◌≤◌, ◌++◌, length, option_map};
+ghost use Rattle.std.specs.Prelude.{◌≡◌, ◌+◌, ◌≤◌, ◌++◌, length, option_map, IfSome};
 ghost use Rattle.rep_forms.specs.Forms.{Puts, Strips, number, byte, part, part_of, first_byte, zeros, are_blank};
 
 use crate::form::{Form, Put};
@@ -10,7 +10,8 @@ use byteorder::{BigEndian, ByteOrder};
 /// So many bytes, and those behind them; None where there are fewer.
 #[tactic(auto, unfolding(crate::specs::Forms::part))]
 pub fn read_part(bytes: &[u8], size: usize) -> Option<(&[u8], &[u8])>
-    ensures { option_map (λ x. (x.0.now, x.1.now)) result ≡ part size bytes.now }
+    ensures part { option_map (λ x. (x.0.now, x.1.now)) result ≡ part size bytes.now }
+    ensures size { IfSome result (λ x. length x.0.now ≡ size) }
 {
     if bytes.len() < size {
         return None;
