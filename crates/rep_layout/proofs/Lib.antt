@@ -1,4 +1,5 @@
 pub mod PlacesApart
 pub mod RowPlaces
 pub mod Fours
+pub mod Supers
 pub mod Windows

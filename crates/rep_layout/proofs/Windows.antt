@@ -1,16 +1,16 @@
 -- What is read as a window's body is spelled so, and what is spelled so is read.
-use Rattle.std.proofs.Common.{◌≡◌, ℕ, zero, suc, ◌+◌, ◌-◌, ◌^◌, ◌<◌, ◌≤◌, Bool, true, ltb, leb, List, [], ◌∷◌, ◌++◌, length, map, Option, Some, None, refl, sym, ap, subst, ◌∙◌, arith, length-append}
+use Rattle.std.proofs.Common.{◌≡◌, ℕ, zero, suc, ◌+◌, ◌-◌, ◌^◌, ◌<◌, ◌≤◌, Bool, true, ltb, leb, List, [], ◌∷◌, ◌++◌, length, map, Option, Some, None, refl, sym, ap, subst, ◌∙◌, append_assoc, arith, length-append}
 use Rattle.std.specs.Prelude.{is_none, ◌&&◌, slice_index, IsTrue}
 use Rattle.std.specs.List.{list_all, AllByRecursion}
 use Rattle.std.specs.List.Sorted.{IsStrictlyIncreasing}
 use Rattle.std.proofs.lemmas.Bool.{ltb-true, leb-true, lt-ltb, le-leb}
-use Rattle.std.proofs.lemmas.Option.{cond_some}
+use Rattle.std.proofs.lemmas.Option.{same_Some, cond_some}
 use Rattle.rep_types.specs.declared.limits.TheConstants.{MAX_WRITES}
 use Rattle.rep_types.specs.declared.key.Key.{Key}
 use Rattle.rep_types.specs.Keys.{disorder}
 use Rattle.rep_types.specs.Entries.{Entry}
 use Rattle.rep_types.specs.Settings.{Setting, is_setting, has_row}
-use Rattle.rep_forms.specs.Forms.{zeros, are_blank, AreMany}
+use Rattle.rep_forms.specs.Forms.{zeros, are_blank, AreMany, TakesFront}
 use Rattle.rep_forms.specs.FormLaws.{length_number, length_zeros, conjuncts, run_short, blank_is, zeros_blank}
 use Rattle.rep_forms.specs.Keys.{KeyFits}
 use Rattle.rep_forms.specs.Entries.{EntryFits, entry_bytes, entry_form}
@@ -153,6 +153,13 @@ head_of w = record { number = w.number; position = w.position; count = length w.
 abbrev pub filling : Window → List ℕ
 filling w = zeros (22784 - length (run_bytes w.entries))
 
+-- head, entries and zeros, one put behind another
+pub written : (w : Window) (a b c : List ℕ) (rest : ℕ) → a ≡ head_bytes (head_of w) → b ≡ a ++ run_bytes w.entries → rest ≡ 23040 - length b → c ≡ b ++ zeros rest → c ≡ window_bytes w
+written w a b c rest ea eb er ec =
+    let two : b ≡ head_bytes (head_of w) ++ run_bytes w.entries = eb ∙ ap (λ (front : List ℕ). front ++ run_bytes w.entries) ea in
+    let size : rest ≡ 22784 - length (run_bytes w.entries) = omega (arith, er, ap length two, length-append (head_bytes (head_of w)) (run_bytes w.entries), length-head (head_of w)) in
+    ec ∙ ap (λ (front : List ℕ). front ++ zeros rest) two ∙ append_assoc (head_bytes (head_of w)) (run_bytes w.entries) (zeros rest) ∙ ap (λ n. head_bytes (head_of w) ++ (run_bytes w.entries ++ zeros n)) size
+
 -- What a window's bytes say.
 pub record Says (p : Setting) (bytes : List ℕ) (w : Window) : Type 0 where
   pub fits : HeadFits (head_of w)
@@ -174,6 +181,19 @@ says p bytes w limits h e =
           ∙ omega (arith, length-head (head_of w), length-append (run_bytes w.entries) (filling w), length_zeros (22784 - length (run_bytes w.entries)), run);
       chain = record { size = refl; each = fit; follow = entries_follow p w h; there = refl };
       blank = zeros_blank (22784 - length (run_bytes w.entries));
+    }
+
+-- its head is in front, and its entries behind it
+pub record Begins (p : Setting) (head : Head) (body : List ℕ) (w : Window) : Type 0 where
+  pub head_is : head ≡ head_of w
+  pub chain : IsChain entry_form next_entry (standing p head.position 0) head.count body w.entries (filling w)
+
+pub begins : (p : Setting) (bytes : List ℕ) (head : Head) (body : List ℕ) (w : Window) → Says p bytes w → TakesFront head_form bytes (Some (head, body)) → Begins p head body w
+begins p bytes head body w s front =
+    let same : ◌≡◌ {A = Head × List ℕ} (head, body) (head_of w, run_bytes w.entries ++ filling w) = same_Some _ _ (front.only (head_of w) (run_bytes w.entries ++ filling w) s.fits s.there) in
+    record {
+      head_is = ap (λ (x : Head × List ℕ). x.0) same;
+      chain = subst (λ (x : Head × List ℕ). IsChain entry_form next_entry (standing p x.0.position 0) x.0.count x.1 w.entries (filling w)) (sym same) s.chain;
     }
 
 -- ---- what is read is spelled so

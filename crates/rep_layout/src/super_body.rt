@@ -1,10 +1,11 @@
 //! The superblock: what a disk is, and where its state stands.
 
-ghost use Rattle.std.specs.Prelude.{◌≡◌, ◌+◌, ◌-◌, ◌*◌, ◌≤◌, ◌++◌, ◌↔◌, length, true, IfOk, IfErr, IsSome, IfSome, Ok, option_map};
+ghost use Rattle.std.specs.Prelude.{◌≡◌, ◌+◌, ◌-◌, ◌*◌, ◌≤◌, ◌++◌, ◌↔◌, length, true, IfOk, IfErr, IsTrue, IsSome, IfSome, Ok, option_map};
 ghost use Rattle.std.specs.List.{flat_map};
 ghost use Rattle.rep_types.specs.declared.refusal.Part.TheVariants.{Superblock};
-ghost use Rattle.rep_forms.specs.Forms.{number_bytes, zeros, part_of};
-ghost use Rattle.rep_layout.specs.Supers.{IsSuper, is_super, setting_bytes, head_bytes, place_bytes, super_bytes, setting_form, head_fields, stand_fields, super_form, SuperblocksAreTold};
+ghost use Rattle.rep_types.specs.Settings.{is_setting};
+ghost use Rattle.rep_forms.specs.Forms.{IsPart, number_bytes, zeros};
+ghost use Rattle.rep_layout.specs.Supers.{IsSuper, is_super, setting_bytes, head_bytes, place_bytes, super_bytes, setting_form, stand_fields, super_form, SuperblocksAreTold};
 ghost use Rattle.rep_layout.specs.declared.super_body.SuperBody.{SuperBody};
 
 use crate::page_state::{PageState, put_states, read_states};
@@ -62,6 +63,7 @@ fn put_setting(out: &mut Bytes, params: &Params)
     requires { length out.old.items + 40 ≤ 3584 }
     ensures bytes { out.new.items ≡ out.old.items ++ setting_bytes params.now }
     ensures size { length out.new.items ≡ length out.old.items + 40 }
+    ensures setting { IsTrue (is_setting params.now) }
 {
     put_u16(out, params.window() as u16);
     put_u16(out, params.cells() as u16);
@@ -86,27 +88,6 @@ fn read_setting(bytes: &[u8]) -> Option<(Params, &[u8])>
     Some((params, rest))
 }
 
-/// A UUID, and the bytes behind it.
-#[tactic(auto, unfolding(rep_forms::specs::Forms::part))]
-fn read_uuid(bytes: &[u8]) -> Option<(Uuid, &[u8])>
-    ensures { option_map (λ x. (x.0, x.1.now)) result ≡ (part_of 16).read bytes.now }
-{
-    let (part, rest) = read_part(bytes, 16)?;
-    let uuid = Uuid::from_slice(part).ok()?;
-    Some((uuid, rest))
-}
-
-/// The number, the UUID and the parameters, and the bytes behind them.
-fn read_head(bytes: &[u8]) -> Option<((u64, Uuid, Params), &[u8])>
-    ensures { option_map (λ x. ((x.0.0, (x.0.1, x.0.2)), x.1.now)) result ≡ head_fields.read bytes.now }
-{
-    let (_, rest) = read_part(bytes, MARK.len())?;
-    let (number, rest) = read_u64(rest)?;
-    let (uuid, rest) = read_uuid(rest)?;
-    let (params, rest) = read_setting(rest)?;
-    Some(((number, uuid, params), rest))
-}
-
 /// The position, the start and the number of pages, and the bytes behind them.
 fn read_stand(bytes: &[u8]) -> Option<((u64, u64, u16), &[u8])>
     ensures { option_map (λ x. ((x.0.0, (x.0.1, x.0.2)), x.1.now)) result ≡ stand_fields.read bytes.now }
@@ -125,8 +106,13 @@ impl Form for SuperBody {
 
     ghost most = { 3584 };
 
+    #[tactic(auto, unfolding(crate::specs::Supers::super_mark))]
     fn read(bytes: &[u8]) -> Option<(SuperBody, &[u8])> {
-        let ((number, uuid, params), rest) = read_head(bytes)?;
+        let (_, rest) = read_part(bytes, MARK.len())?;
+        let (number, rest) = read_u64(rest)?;
+        let (uuid, rest) = read_part(rest, 16)?;
+        let uuid = Uuid::from_slice(uuid).ok()?;
+        let (params, rest) = read_setting(rest)?;
         let ((position, start, count), rest) = read_stand(rest)?;
         let (pages, rest) = read_states(rest, usize::from(count))?;
         let (_, rest) = read_part(rest, 2_432)?;
@@ -158,6 +144,8 @@ impl SuperBody {
         requires { length out.old.items + 72 ≤ 3584 }
         ensures bytes { out.new.items ≡ out.old.items ++ head_bytes self.now }
         ensures size { length out.new.items ≡ length out.old.items + 72 }
+        ensures uuid { IsPart 16 self.now.uuid }
+        ensures setting { IsTrue (is_setting self.now.params) }
     {
         put_bytes(out, MARK);
         put_u64(out, self.number);
@@ -180,7 +168,7 @@ impl SuperBody {
 
     /// Whether the fields can be those of a superblock.
     fn is_super(&self) -> bool
-        ensures is { result ≡ is_super self.now }
+        ensures { result ≡ is_super self.now }
     {
         self.position <= MAX_SEQNO
             && self.number <= self.position + 1

@@ -175,7 +175,9 @@ fn read_window<'a>(params: &Params, bytes: &'a [u8]) -> Option<WindowReader<'a>>
         position: head.position,
         before: 0,
     };
-    let (run, rest) = read_chain::<Entry, Standing>(standing, body, head.count).ok()?;
+    let Ok((run, rest)) = read_chain::<Entry, Standing>(standing, body, head.count) else {
+        return None;
+    };
     if !are_blank(rest) {
         return None;
     }
