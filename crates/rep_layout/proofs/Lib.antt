@@ -1,4 +1,5 @@
 pub mod PlacesApart
+pub mod Turns
 pub mod RowPlaces
 pub mod Fours
 pub mod Supers

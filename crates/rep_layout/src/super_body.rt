@@ -186,7 +186,7 @@ impl SuperBody {
         ensures some { IsSome result ↔ IsSuper self.now }
         // What is written is of the form, and that is its spelling: so it is read again.
         ensures bytes { IfSome result (λ b. IsSuper self.now × (b.items ≡ super_bytes self.now)) }
-        ensures size { IfSome result (λ b. length b.items ≡ 3584) }
+        ensures size { IfSome result (λ b. length b.items ≡ SUPER_BODY) }
     {
         if !self.is_super() {
             return None;

@@ -45,7 +45,7 @@ impl WindowBody<'_> {
         ensures some { IsSome result ↔ IsWindowBody params.now (window self.now.number self.now.position self.now.entries.now) }
         // What is written is a window, and that is its spelling: so it is read again.
         ensures bytes { IfSome result (λ b. IsWindowBody params.now (window self.now.number self.now.position self.now.entries.now) × (b.items ≡ window_bytes (window self.now.number self.now.position self.now.entries.now))) }
-        ensures size { IfSome result (λ b. length b.items ≡ 23040) }
+        ensures size { IfSome result (λ b. length b.items ≡ WINDOW_BODY) }
     {
         if !self.is_window(params) {
             return None;
