@@ -49,11 +49,11 @@ setting_fields_is_form =
     via_is_form (number 2 ⊗ (number 2 ⊗ both (padded byte 3) (λ n. padded (many MAX_TABLES n (number 4)) (32 - 4 * n))))
     (λ (p : Setting). (p.window, (p.cells, (length p.rows, p.rows)))) (λ x. result_ok (allowed (setting x.0 x.1.0 x.1.1.1)))
     (both_is_form (number 2) (λ _. number 2 ⊗ both (padded byte 3) (λ n. padded (many MAX_TABLES n (number 4)) (32 - 4 * n))) (number_is_form 2) (λ _.
-        both_is_form (number 2) (λ _. both (padded byte 3) (λ n. padded (many MAX_TABLES n (number 4)) (32 - 4 * n))) (number_is_form 2) (λ _.
-            both_is_form (padded byte 3) (λ n. padded (many MAX_TABLES n (number 4)) (32 - 4 * n)) (padded_is_form byte 3 byte_is_form) (λ n.
-                padded_is_form (many MAX_TABLES n (number 4)) (32 - 4 * n) (many_is_form MAX_TABLES n (number 4) (number_is_form 4))
-            )
-        )
+    both_is_form (number 2) (λ _. both (padded byte 3) (λ n. padded (many MAX_TABLES n (number 4)) (32 - 4 * n))) (number_is_form 2) (λ _.
+    both_is_form (padded byte 3) (λ n. padded (many MAX_TABLES n (number 4)) (32 - 4 * n)) (padded_is_form byte 3 byte_is_form) (λ n.
+    padded_is_form (many MAX_TABLES n (number 4)) (32 - 4 * n) (many_is_form MAX_TABLES n (number 4) (number_is_form 4))
+    )
+    )
     ))
 
 setting_fits : (p : Setting) → is_setting p ≡ true → setting_fields.Fits p
@@ -76,14 +76,14 @@ head_is_form =
 stand_is_form : IsForm stand_fields
 stand_is_form =
     both_is_form (number 8) (λ _. number 8 ⊗ padded (number 2) 38) (number_is_form 8) (λ _.
-        both_is_form (number 8) (λ _. padded (number 2) 38) (number_is_form 8) (λ _. padded_is_form (number 2) 38 (number_is_form 2))
+    both_is_form (number 8) (λ _. padded (number 2) 38) (number_is_form 8) (λ _. padded_is_form (number 2) 38 (number_is_form 2))
     )
 
 super_fields_is_form : IsForm super_fields
 super_fields_is_form =
     via_is_form (head_fields ⊗ both stand_fields (λ x. padded (states_form x.1.1) 2432)) super_parts super_of
     (both_is_form head_fields (λ _. both stand_fields (λ x. padded (states_form x.1.1) 2432)) head_is_form (λ _.
-        both_is_form stand_fields (λ x. padded (states_form x.1.1) 2432) stand_is_form (λ x. padded_is_form (states_form x.1.1) 2432 (states_is_form x.1.1))
+    both_is_form stand_fields (λ x. padded (states_form x.1.1) 2432) stand_is_form (λ x. padded_is_form (states_form x.1.1) 2432 (states_is_form x.1.1))
     ))
 
 super_fits : (s : SuperBody) → IsSuper s → super_fields.Fits s

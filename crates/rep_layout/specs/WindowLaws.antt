@@ -10,9 +10,9 @@ fields_is_form =
     via_is_form (marked window_mark (number 8 ⊗ (number 8 ⊗ padded (number 2) 230))) (λ (head : Head). (head.number, (head.position, head.count)))
     (λ x. Some (record { number = x.0; position = x.1.0; count = x.1.1 }))
     (marked_is_form window_mark (number 8 ⊗ (number 8 ⊗ padded (number 2) 230)) (
-        both_is_form (number 8) (λ _. number 8 ⊗ padded (number 2) 230) (number_is_form 8) (λ _.
-            both_is_form (number 8) (λ _. padded (number 2) 230) (number_is_form 8) (λ _. padded_is_form (number 2) 230 (number_is_form 2))
-        )
+    both_is_form (number 8) (λ _. number 8 ⊗ padded (number 2) 230) (number_is_form 8) (λ _.
+    both_is_form (number 8) (λ _. padded (number 2) 230) (number_is_form 8) (λ _. padded_is_form (number 2) 230 (number_is_form 2))
+    )
     ))
 
 pub head_is_form : IsForm head_form

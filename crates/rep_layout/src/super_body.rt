@@ -220,7 +220,7 @@ impl SuperBody {
         ensures refused { IfErr result (λ e. e ≡ Refusal.Corrupt Superblock) }
     {
         match read_front::<SuperBody>(bytes) {
-            Some((body, [])) => Ok(body),
+            Some((body, rest)) if rest.is_empty() => Ok(body),
             _ => Err(Refusal::Corrupt {
                 part: Part::Superblock,
             }),

@@ -19,8 +19,8 @@ returns-then-bytes-ne-WINDOW_BODY-clause-only c = λ w h e.
     let s = says c.args.params.now c.args.bytes.now w c.window-span.ensures.limits h e in
     let count : c.in_ok-head.head.count ≡ length w.entries = ap (λ (head : Head). head.count) (begins c.args.params.now c.args.bytes.now _ _ w s (c.in_ok-head.ensures)).head_is in
     absurd (elim c.then-bytes-ne-WINDOW_BODY.branch [
-        then-bytes-ne-WINDOW_BODY-via-then-bytes-ne-WINDOW_BODY b ↦ b.if-bytes-ne-WINDOW_BODY.true s.size
-        | then-bytes-ne-WINDOW_BODY-via-else-bytes-ne-WINDOW_BODY+then-from-span b ↦ omega (arith, count, h.few, b.from.ensures, b.if-from-span.true, c.window-span.ensures.window)
+      | then-bytes-ne-WINDOW_BODY-via-then-bytes-ne-WINDOW_BODY b ↦ b.if-bytes-ne-WINDOW_BODY.true s.size
+      | then-bytes-ne-WINDOW_BODY-via-else-bytes-ne-WINDOW_BODY+then-from-span b ↦ omega (arith, count, h.few, b.from.ensures, b.if-from-span.true, c.window-span.ensures.window)
     ])
 
 pub returns-in_default-clause-only : goal.returns-in_default-clause-only

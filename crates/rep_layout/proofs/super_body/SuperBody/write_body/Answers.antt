@@ -16,6 +16,6 @@ pub returns-clause-bytes : goal.returns-clause-bytes
 returns-clause-bytes c = (
   said c,
   gathered (head_bytes c.args.self.now) (place_bytes c.args.self.now) (state_bytes c.args.self.now.pages.items) (zeros 2432) c.put_head.new.out.items c.put_place.new.out.items c.put_states.new.out.items c.put_zeros.new.out.items
-  (c.put_head.ensures.bytes ∙ ap (λ (xs : List ℕ). xs ++ head_bytes c.args.self.now) c.new-out.ensures) c.put_place.ensures.bytes
-  (c.put_states.ensures.bytes ∙ ap (λ (states : List PageState). c.put_place.new.out.items ++ state_bytes states) c.as_slice.ensures.value) c.put_zeros.ensures,
+      (c.put_head.ensures.bytes ∙ ap (λ (xs : List ℕ). xs ++ head_bytes c.args.self.now) c.new-out.ensures) c.put_place.ensures.bytes
+      (c.put_states.ensures.bytes ∙ ap (λ (states : List PageState). c.put_place.new.out.items ++ state_bytes states) c.as_slice.ensures.value) c.put_zeros.ensures,
 )
