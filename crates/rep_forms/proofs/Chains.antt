@@ -17,6 +17,20 @@ pub leads_more : {S A : Type 0} (step : S → A → Option S) (s : S) (xs : List
 leads_more step s [] t x u h e = (u, subst (λ r. step r x ≡ Some u) (sym h) e, refl)
 leads_more step s (y ∷ xs) t x u h e = (h.0, h.1, leads_more step h.0 xs t x u h.2 e)
 
+-- where the first of them lead, the others follow from there
+pub follow_from : {S A : Type 0} (step : S → A → Option S) (s t : S) (xs ys : List A) → Leads step s xs t → Follow step s (xs ++ ys) → Follow step t ys
+follow_from {S} {A} step s t [] ys h f = subst (λ (r : S). Follow step r ys) h f
+follow_from {S} {A} step s t (x ∷ xs) ys h f =
+    let same : f.1.0 ≡ h.0 = same_Some f.1.0 h.0 (sym f.1.1 ∙ h.1) in
+    follow_from step h.0 t xs ys h.2 (f.0, subst (λ (r : S). Leads step r (xs ++ ys) f.0) same f.1.2)
+
+-- so a value that isn't allowed stops them
+pub never_follow : {S A : Type 0} (step : S → A → Option S) (s t : S) (xs ys : List A) (x : A) → Leads step s xs t → step t x ≡ None → Follow step s (xs ++ x ∷ ys) → ⊥
+never_follow step s t xs ys x h none f =
+    let g = follow_from step s t xs (x ∷ ys) h f in
+    let some = sym none ∙ g.1.1 in
+    absurd cc
+
 -- what is spelled lies within the bytes
 pub within : {A : Type 0} (F : Form A) (bytes : List ℕ) (at : ℕ) (xs : List A) → SpelledTo F bytes at xs → at ≤ length bytes
 within F bytes at xs h = omega (arith, h.place, ap length h.there, length-append (flat_map F.spell xs) (drop at bytes))

@@ -8,7 +8,7 @@ use Rattle.std.proofs.lemmas.List.Concat.{flat_map-cons}
 use Rattle.std.specs.Int.{bytes_high_first}
 use Rattle.byteorder.specs.Numbers.{big_number-reads_back, length-bytes_high_first}
 use Rattle.rep_forms.specs.Options.{◌>>=◌}
-use Rattle.rep_forms.specs.Forms.{Form, IsForm, part, IsPart, part_of, byte, first_byte, number, number_bytes, number_in, zeros, are_blank, both, via, each, AreMany, many, as_named}
+use Rattle.rep_forms.specs.Forms.{Form, IsForm, part, IsPart, part_of, byte, first_byte, number, number_bytes, number_in, zeros, are_blank, both, via, padded, marked, each, AreMany, many, as_named}
 
 -- ---- sizes
 
@@ -20,8 +20,14 @@ pub length_zeros : (n : ℕ) → length (zeros n) ≡ n
 unfolding zeros
 length_zeros n = length-replicate {A = ℕ} n 0
 
+pub length_numbers : (n : ℕ) (xs : List ℕ) → length (flat_map (number_bytes n) xs) ≡ n * length xs
+length_numbers n [] = omega arith
+length_numbers n (x ∷ xs) =
+    let more : n * suc (length xs) ≡ n + n * length xs = grind arith in
+    omega (arith, length_number n x, length_numbers n xs, ap length (flat_map-cons (number_bytes n) x xs), length-append (number_bytes n x) (flat_map (number_bytes n) xs), more)
+
 -- the sizes of the parts
-pub ruleset sizes = (length_number, length_zeros, length-append)
+pub ruleset sizes = (length_number, length_numbers, length_zeros, length-append)
 
 -- ---- one piece behind another
 
@@ -62,6 +68,17 @@ both_is_form F G f g x rest h =
 -- a form of other values
 pub via_is_form : {A B : Type 0} (F : Form A) (from : B → A) (to : A → Option B) → IsForm F → IsForm (via F from to)
 via_is_form F from to f x rest h = rw (f (from x) rest h.0, h.1) refl
+
+-- a form with zeros behind it
+pub padded_is_form : {A : Type 0} (F : Form A) (n : ℕ) → IsForm F → IsForm (padded F n)
+padded_is_form F n f x rest h =
+    let first : F.read (F.spell x ++ (zeros n ++ rest)) ≡ Some (x, zeros n ++ rest) = f x (zeros n ++ rest) h in
+    ap (padded F n).read (append_assoc (F.spell x) (zeros n) rest) ∙ rw (first, part_again n (zeros n) rest (length_zeros n)) refl
+
+-- a form behind a mark
+pub marked_is_form : {A : Type 0} (mark : List ℕ) (F : Form A) → IsForm F → IsForm (marked mark F)
+marked_is_form mark F f x rest h =
+    ap (marked mark F).read (append_assoc mark (F.spell x) rest) ∙ rw (part_again (length mark) mark (F.spell x ++ rest) refl) (f x rest h)
 
 -- values one after another
 pub each_again : {A : Type 0} (F : Form A) → IsForm F → (xs : List A) (rest : List ℕ) → AllByRecursion F.Fits xs → each F.read (length xs) (flat_map F.spell xs ++ rest) ≡ Some (xs, rest)
@@ -106,6 +123,13 @@ run_short spell P most short (x ∷ xs) h =
 pub all_of : {A : Type 0} (P : A → Type 0) → ((x : A) → P x) → (xs : List A) → AllByRecursion P xs
 all_of P h [] = tt
 all_of P h (x ∷ xs) = (h x, all_of P h xs)
+
+-- so many spellings of so many bytes
+pub run_size : {A : Type 0} (spell : A → List ℕ) (P : A → Type 0) (size : ℕ) → ((x : A) → P x → length (spell x) ≡ size) → (xs : List A) → AllByRecursion P xs → length (flat_map spell xs) ≡ size * length xs
+run_size spell P size is [] h = omega arith
+run_size spell P size is (x ∷ xs) h =
+    let more : size * suc (length xs) ≡ size + size * length xs = grind arith in
+    omega (arith, is x h.0, run_size spell P size is xs h.1, ap length (flat_map-cons spell x xs), length-append (spell x) (flat_map spell xs), more)
 
 -- ---- zeros
 

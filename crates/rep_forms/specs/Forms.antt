@@ -84,6 +84,14 @@ via F from to = record {
   read = λ bytes. F.read bytes >>= λ a. to a.0 >>= λ b. Some (b, a.1);
 }
 
+-- A value, and so many zeros behind it, which its reader doesn't look at.
+abbrev pub padded : {A : Type 0} → Form A → ℕ → Form A
+padded F n = record { Fits = F.Fits; spell = λ x. F.spell x ++ zeros n; read = λ bytes. F.read bytes >>= λ a. part n a.1 >>= λ z. Some (a.0, z.1) }
+
+-- A value behind the mark of its format, which its reader doesn't look at either.
+abbrev pub marked : {A : Type 0} → List ℕ → Form A → Form A
+marked mark F = record { Fits = F.Fits; spell = λ x. mark ++ F.spell x; read = λ bytes. part (length mark) bytes >>= λ m. F.read m.1 }
+
 -- so many values, one after another
 unfoldable pub each : {A : Type 0} → (List ℕ → Option (A × List ℕ)) → ℕ → List ℕ → Option (List A × List ℕ)
 each read zero bytes = Some ([], bytes)

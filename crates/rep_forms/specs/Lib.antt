@@ -5,6 +5,8 @@ pub mod Keys
 pub mod KeyLaws
 pub mod Writes
 pub mod WriteLaws
+pub mod Rows
+pub mod RowLaws
 pub mod Entries
 pub mod EntryLaws
 pub mod Runs

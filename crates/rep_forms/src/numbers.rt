@@ -1,15 +1,17 @@
 //! Numbers and bytes.
 
-ghost use Rattle.std.specs.Prelude.{◌≡◌, ◌+◌, ◌≤◌, ◌++◌, length, option_map};
+ghost use Rattle.std.specs.Prelude.{◌≡◌, ◌+◌, ◌≤◌, ◌++◌, length, option_map, IfSome};
 ghost use Rattle.rep_forms.specs.Forms.{Puts, Strips, number, byte, part, part_of, first_byte, zeros, are_blank};
 
+use crate::form::{Form, Put};
 use arrayvec::ArrayVec;
 use byteorder::{BigEndian, ByteOrder};
 
 /// So many bytes, and those behind them; None where there are fewer.
 #[tactic(auto, unfolding(crate::specs::Forms::part))]
 pub fn read_part(bytes: &[u8], size: usize) -> Option<(&[u8], &[u8])>
-    ensures { option_map (λ x. (x.0.now, x.1.now)) result ≡ part size bytes.now }
+    ensures part { option_map (λ x. (x.0.now, x.1.now)) result ≡ part size bytes.now }
+    ensures size { IfSome result (λ x. length x.0.now ≡ size) }
 {
     if bytes.len() < size {
         return None;
@@ -132,4 +134,26 @@ pub fn strip_front<'a>(bytes: &'a [u8], front: &[u8]) -> Option<&'a [u8]>
         return None;
     }
     Some(&bytes[front.len()..])
+}
+
+/// A number of 4 bytes, as the rows of a table.
+impl Form for u32 {
+    ghost use Rattle.rep_forms.specs.FormLaws.{number_is_form};
+
+    ghost form = { number 4 };
+
+    ghost most = { 4 };
+
+    fn read(bytes: &[u8]) -> Option<(u32, &[u8])> {
+        read_u32(bytes)
+    }
+
+    ghost is_form = { number_is_form 4 };
+}
+
+impl<const N: usize> Put<N> for u32 {
+    #[tactic(auto, using(crate::specs::FormLaws::sizes))]
+    fn put(&self, out: &mut ArrayVec<u8, N>) {
+        put_u32(out, *self);
+    }
 }

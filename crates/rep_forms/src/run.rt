@@ -1,9 +1,9 @@
 //! Values one after another.
 
-ghost use Rattle.std.specs.Prelude.{◌≡◌, ◌+◌, ◌*◌, ◌≤◌, ◌++◌, [], ◌∷◌, ℕ, List, length, MatchOption, IfOk, IfErr, IsOkAnd, option_map};
+ghost use Rattle.std.specs.Prelude.{◌≡◌, ◌+◌, ◌*◌, ◌≤◌, ◌++◌, [], ◌∷◌, ◌↔◌, ℕ, List, length, true, MatchOption, IfOk, IfErr, IsOkAnd, option_map};
 ghost use Rattle.std.specs.List.{flat_map, AllByRecursion};
 ghost use Rattle.rep_forms.specs.Forms.{many};
-ghost use Rattle.rep_forms.specs.Runs.{IsChain, EndsAt, StopsAt};
+ghost use Rattle.rep_forms.specs.Runs.{Follow, IsChain, EndsAt, StopsAt};
 
 use crate::form::{Chain, Exact, Form, Put, read_front};
 use arrayvec::ArrayVec;
@@ -86,6 +86,18 @@ pub fn read_run<T: Form + Default, const M: usize>(
         rest = after;
     }
     Some((values, rest))
+}
+
+/// Whether the values are allowed one after another.
+pub fn follows<T, C: Chain<T>>(mut chain: C, values: &[T]) -> bool
+    ensures { (result ≡ true) ↔ Follow C.step chain values.now }
+{
+    for value in values {
+        if !chain.admits(value) {
+            return false;
+        }
+    }
+    true
 }
 
 /// Where so many values end that are spelled one after another from the front of the bytes, each

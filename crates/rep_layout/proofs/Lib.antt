@@ -1,8 +1,6 @@
 pub mod PlacesApart
+pub mod Turns
 pub mod RowPlaces
-pub mod PageBits
-pub mod Found
-pub mod SuperFields
-pub mod SuperFronts
-pub mod WindowSteps
-pub mod WindowFronts
+pub mod Fours
+pub mod Supers
+pub mod Windows

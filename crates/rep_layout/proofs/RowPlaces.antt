@@ -1,5 +1,5 @@
 -- Rows lie in their pages, each at a place of its own.
-use Rattle.std.proofs.Common.{◌≡◌, ℕ, zero, suc, ◌+◌, ◌/◌, ◌%◌, ◌<◌, ◌≤◌, List, [], ◌∷◌, take, ap, ◌∙◌, arith, inl, inr}
+use Rattle.std.proofs.Common.{◌≡◌, ℕ, zero, suc, ◌+◌, ◌*◌, ◌/◌, ◌%◌, ◌<◌, ◌≤◌, List, [], ◌∷◌, take, refl, sym, ap, subst, ◌∙◌, arith, inl, inr}
 use Rattle.std.specs.Prelude.{slice_index}
 use Rattle.std.proofs.lemmas.Bool.{cases_lt}
 use Rattle.std.proofs.lemmas.List.Sums.{sum_by-cons}
@@ -42,25 +42,38 @@ row_before rows key u h lt = omega (arith, before_more key.table u rows lt, row_
 pub row_within : (rows : List ℕ) (key : Key) → IsRow rows key → (row_place rows key).page < pages_of rows
 row_within rows key h = omega (arith, row_before rows key (key.table + 1) h (omega arith), before_le (key.table + 1) rows)
 
--- a key is its table and its row
-key_of : ℕ → ℕ → Key
-key_of table row = record { table = table; row = row }
+-- a page is of one table
+same_table : (rows : List ℕ) (t u p q : ℕ) → p < page_count (slice_index rows t) → q < page_count (slice_index rows u) → pages_before t rows + p ≡ pages_before u rows + q → t ≡ u
+same_table rows t u p q h k e = elim (cases_lt t u) [
+  | inl lt ↦ absurd (omega (arith, e, h, before_more t u rows lt))
+  | inr le ↦ elim (cases_lt u t) [
+    | inl lt ↦ absurd (omega (arith, e, k, before_more u t rows lt))
+    | inr ge ↦ omega (arith, le, ge)
+  ]
+]
 
-same_key : (a b : Key) → a.table ≡ b.table → a.row ≡ b.row → a ≡ b
-unfolding key_of
-same_key a b e f = ap (λ table. key_of table a.row) e ∙ ap (key_of b.table) f
+-- a key is its table and its row
+pub same_key : (a b : Key) → a.table ≡ b.table → a.row ≡ b.row → a ≡ b
+same_key a b e f = ap (λ table. record { table = table; row = a.row }) e ∙ ap (λ row. record { table = b.table; row = row }) f
+
+-- the row that lies at a place in a page of a table
+pub row_there : (rows : List ℕ) (key : Key) (place : RowPlace) (t page : ℕ) → IsRow rows key → row_place rows key ≡ place → page < page_count (slice_index rows t) → pages_before t rows + page ≡ place.page
+    → (t ≡ key.table) × (63 * page + place.index ≡ key.row)
+row_there rows key place t page h e lt there =
+    let pages : pages_before key.table rows + key.row / 63 ≡ pages_before t rows + page = omega (arith, ap (λ (p : RowPlace). p.page) e, there) in
+    let index : key.row % 63 ≡ place.index = ap (λ (p : RowPlace). p.index) e in
+    let table : key.table ≡ t = same_table rows key.table t (key.row / 63) page (row_in key.row (slice_index rows key.table) h) lt pages in
+    (sym table, omega (arith, pages, index, ap (λ u. pages_before u rows) table))
 
 -- rows at one place
 pub row_told : (rows : List ℕ) (a b : Key) → IsRow rows a → IsRow rows b → row_place rows a ≡ row_place rows b → a ≡ b
 row_told rows a b h k e =
-    let page : (row_place rows a).page ≡ (row_place rows b).page = ap (λ (p : RowPlace). p.page) e in
-    let index : a.row % 63 ≡ b.row % 63 = ap (λ (p : RowPlace). p.index) e in
-    elim (cases_lt a.table b.table) [
-      | inl lt ↦ absurd (omega (arith, page, row_before rows a b.table h lt))
-      | inr le ↦ elim (cases_lt b.table a.table) [
-        | inl lt ↦ absurd (omega (arith, page, row_before rows b a.table k lt))
-        | inr ge ↦
-            let table : a.table ≡ b.table = omega arith in
-            same_key a b table (omega (arith, page, index, ap (λ t. pages_before t rows) table))
-      ]
-    ]
+    let there = row_there rows a (row_place rows b) b.table (b.row / 63) h e (row_in b.row (slice_index rows b.table) k) refl in
+    same_key a b (sym there.0) (omega (arith, there.1))
+
+-- the key that is made of a place is that of the row there
+pub row_again : (rows read : List ℕ) (place : RowPlace) (t page : ℕ) (key : Key) → read ≡ rows → page < page_count (slice_index read t) → pages_before t read + page ≡ place.page → IsRow rows key → row_place rows key ≡ place
+    → ◌≡◌ {A = Key} (record { table = t; row = 63 * page + place.index }) key
+row_again rows read place t page key same lt there h e =
+    let found = row_there rows key place t page h e (subst (λ (xs : List ℕ). page < page_count (slice_index xs t)) same lt) (subst (λ (xs : List ℕ). pages_before t xs + page ≡ place.page) same there) in
+    same_key (record { table = t; row = 63 * page + place.index }) key found.0 found.1

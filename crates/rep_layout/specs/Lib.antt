@@ -1,8 +1,8 @@
-pub mod Options
 pub mod PageStates
+pub mod PageStateLaws
 pub mod Supers
-pub mod SuperReading
+pub mod SuperLaws
 pub mod Windows
-pub mod WindowReading
+pub mod WindowLaws
 pub mod Places
 pub mod Rows

@@ -1,9 +1,14 @@
 -- The states of pages as two bits each: 0 in no slot, 1 in the first, 2 in the second.
-use Rattle.std.specs.Prelude.{ℕ, zero, suc, ◌+◌, ◌*◌, ◌/◌, ◌%◌, ◌==◌, if◌then◌else◌, List, [], ◌∷◌, ◌++◌, slice_index, slice_index_or, Option, None, Some}
-use Rattle.rep_layout.specs.Options.{◌>>=◌}
+use Rattle.std.specs.Prelude.{◌≡◌, ℕ, zero, suc, ◌+◌, ◌*◌, ◌/◌, ◌%◌, ◌≤◌, ◌==◌, if◌then◌else◌, List, [], ◌∷◌, length, take, drop, slice_index_or, Option, None, Some}
+use Rattle.std.specs.List.{flat_map}
+use Rattle.rep_types.specs.declared.limits.TheConstants.{MAX_PAGES}
+use Rattle.rep_forms.specs.Options.{◌>>=◌}
+use Rattle.rep_forms.specs.Forms.{Form, byte, many, via, as_named}
 use Rattle.rep_layout.specs.declared.place.Slot.TheVariants.{First, Second}
 use Rattle.rep_layout.specs.declared.page_state.PageState.{PageState}
 use Rattle.rep_layout.specs.declared.page_state.PageState.TheVariants.{Nowhere, In}
+use Rattle.rep_layout.specs.declared.page_state.Four.{Four}
+use Rattle.rep_layout.specs.declared.page_state.TheConstants.{STATES}
 
 -- the bits of a state
 abbrev pub state_code : PageState → ℕ
@@ -15,28 +20,50 @@ state_code (In Second) = 2
 abbrev pub state_of : ℕ → Option PageState
 state_of code = if code == 0 then Some Nowhere else if code == 1 then Some (In First) else if code == 2 then Some (In Second) else None
 
--- the bits of a page; past the last page they are zero
-unfoldable pub code_at : List PageState → ℕ → ℕ
-code_at states page = state_code (slice_index_or states page Nowhere)
+-- ---- four pages
 
--- the byte of the four pages from this one on
-abbrev pub state_byte : List PageState → ℕ → ℕ
-state_byte states page = code_at states page + 4 * code_at states (page + 1) + 16 * code_at states (page + 2) + 64 * code_at states (page + 3)
+-- the byte of four pages, the first in its lowest bits
+abbrev pub four_byte : Four → ℕ
+four_byte f = state_code f.first + 4 * state_code f.second + 16 * (state_code f.third + 4 * state_code f.fourth)
 
--- The first so many bytes of the states: page p stands in byte p / 4, in the bits 2 (p mod 4) and the next, counted from the lowest.
-unfoldable pub state_bytes : ℕ → List PageState → List ℕ
-state_bytes zero states = []
-state_bytes (suc n) states = state_bytes n states ++ state_byte states (4 * n) ∷ []
+-- the four pages that a byte says
+abbrev pub four_of : ℕ → Option Four
+four_of b =
+    state_of (b % 4) >>= λ first. state_of (b / 4 % 4) >>= λ second. state_of (b / 16 % 4) >>= λ third. state_of (b / 64) >>= λ fourth.
+    Some (record { first = first; second = second; third = third; fourth = fourth })
 
--- the two bits at this place in a byte
-abbrev pub quarter : ℕ → ℕ → ℕ
-quarter byte place = if place == 0 then byte % 4 else if place == 1 then byte / 4 % 4 else if place == 2 then byte / 16 % 4 else byte / 64 % 4
+abbrev pub four_fields : Form Four
+four_fields = via byte four_byte four_of
 
--- the bits of a page in bytes
-abbrev pub code_in : List ℕ → ℕ → ℕ
-code_in bytes page = quarter (slice_index bytes (page / 4)) (page % 4)
+abbrev pub four_form : Form Four
+four_form = as_named four_fields (λ _. Unit {0}) (λ f. four_byte f ∷ [])
 
--- the states of the first so many pages, where the bits of each are of one
-unfoldable pub states_in : ℕ → List ℕ → Option (List PageState)
-states_in zero bytes = Some []
-states_in (suc n) bytes = states_in n bytes >>= λ states. state_of (code_in bytes n) >>= λ state. Some (states ++ state ∷ [])
+-- one after another
+abbrev pub list_of : Four → List PageState
+list_of f = f.first ∷ f.second ∷ f.third ∷ f.fourth ∷ []
+
+-- ---- all pages
+
+-- the first four; past the last page in no slot
+abbrev pub four_at : List PageState → Four
+four_at states = record { first = slice_index_or states 0 Nowhere; second = slice_index_or states 1 Nowhere; third = slice_index_or states 2 Nowhere; fourth = slice_index_or states 3 Nowhere }
+
+-- so many fours, one after another
+unfoldable pub fours : ℕ → List PageState → List Four
+fours zero states = []
+fours (suc n) states = four_at states ∷ fours n (drop 4 states)
+
+-- The states of pages, of 1,024 bytes: page p stands in byte p / 4, in the bits 2 (p mod 4) and the next, counted from the lowest.
+abbrev pub state_bytes : List PageState → List ℕ
+state_bytes states = flat_map four_form.spell (fours STATES states)
+
+-- so many pages, as many as there can be
+pub record AreStates (n : ℕ) (states : List PageState) : Type 0 where
+  pub size : length states ≡ n
+  pub few : n ≤ MAX_PAGES
+
+abbrev pub states_fields : ℕ → Form (List PageState)
+states_fields n = via (many STATES STATES four_form) (fours STATES) (λ fs. Some (take n (flat_map list_of fs)))
+
+abbrev pub states_form : ℕ → Form (List PageState)
+states_form n = as_named (states_fields n) (AreStates n) state_bytes

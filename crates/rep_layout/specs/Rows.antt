@@ -1,5 +1,6 @@
 -- Where a row lies: pages are numbered table by table, and a page holds 63 rows.
 use Rattle.std.specs.Prelude.{◌≡◌, ℕ, ◌+◌, ◌/◌, ◌%◌, ◌<◌, List, take}
+use Rattle.rep_types.specs.declared.limits.TheConstants.{ROWS_PER_PAGE}
 use Rattle.rep_types.specs.declared.key.Key.{Key}
 use Rattle.rep_types.specs.Settings.{pages_of, IsRow}
 use Rattle.rep_layout.specs.declared.rows.RowPlace.{RowPlace}
@@ -10,7 +11,7 @@ pages_before tables rows = pages_of (take tables rows)
 
 -- the place of a row
 abbrev pub row_place : List ℕ → Key → RowPlace
-row_place rows key = record { page = pages_before key.table rows + key.row / 63; index = key.row % 63 }
+row_place rows key = record { page = pages_before key.table rows + key.row / ROWS_PER_PAGE; index = key.row % ROWS_PER_PAGE }
 
 -- Rows of a schema lie in its pages, and two rows don't lie at one place.
 pub record RowPlacesAreTold : Type 0 where

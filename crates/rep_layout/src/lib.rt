@@ -8,12 +8,12 @@ mod super_body;
 mod window_body;
 mod window_reader;
 
-pub use page_state::{MAX_PAGES, PageState};
+pub use page_state::PageState;
 pub use place::{
-    GATE, LOG_BODY, Layout, PAGE_BODY, Place, SUPER_BODY, Side, Slot, WINDOW_BODY, need,
-    places_fill_the_device,
+    GATE, LOG, LOG_BODY, Layout, PAGE_BODY, Place, SUPER_BODY, Side, Slot, WINDOW_BODY, WINDOWS,
+    need, places_fill_the_device, sizes_are_these, turns_are_taken,
 };
-pub use rows::{PAGE_ROWS, RowPlace, page_of, row_places_are_told};
+pub use rows::{RowPlace, page_of, row_at, row_places_are_told};
 pub use super_body::{SuperBody, superblocks_are_told};
-pub use window_body::{MAX_ENTRIES, WindowBody};
+pub use window_body::WindowBody;
 pub use window_reader::{WindowReader, windows_are_told};

@@ -1,7 +1,7 @@
 //! The places of a device.
 
 ghost use Rattle.std.specs.Prelude.{◌≡◌, ◌+◌, ◌*◌};
-ghost use Rattle.rep_layout.specs.Places.{number_of_side, number_of_slot, body_len, gate_len, need_of, layout_of, PlacesFillTheDevice};
+ghost use Rattle.rep_layout.specs.Places.{side_of, number_of_side, number_of_slot, body_len, gate_len, need_of, layout_of, PlacesFillTheDevice, NeedIsThis, TurnsAreTaken};
 
 use rep_types::Params;
 
@@ -21,10 +21,10 @@ pub const PAGE_BODY: usize = 4_096;
 pub const GATE: usize = 512;
 
 /// The first byte of the windows, behind both superblocks.
-const WINDOWS: usize = 8_192;
+pub const WINDOWS: usize = 2 * (SUPER_BODY + GATE);
 
 /// The first byte of the log, behind both windows.
-const LOG: usize = 54_272;
+pub const LOG: usize = WINDOWS + 2 * WINDOW_BODY;
 
 /// A superblock and its window stand twice, so that the old ones stay while the new are written.
 #[derive(Clone, Copy, Debug, PartialEq, Eq)]
@@ -36,6 +36,14 @@ pub enum Side {
 }
 
 impl Side {
+    /// The side of the superblock of this number, and of its window: A where it is even, B where it is
+    /// odd. So a superblock never lies where the one before it does.
+    pub fn of(number: u64) -> Side
+        ensures { result ≡ side_of number }
+    {
+        if number % 2 == 0 { Side::A } else { Side::B }
+    }
+
     /// 0 for A, 1 for B.
     fn number(self) -> usize
         ensures { result ≡ number_of_side self }
@@ -113,7 +121,7 @@ pub struct Layout {
 }
 
 impl Layout {
-    ghost use Rattle.rep_layout.specs.Places.{layout_of, offset_of, gate_of, is_place};
+    ghost use Rattle.rep_layout.specs.Places.{layout_of, offset_of, gate_of, is_place, log_of};
 
     /// The layout of a device with these parameters.
     pub fn new(params: &Params) -> Layout
@@ -133,6 +141,17 @@ impl Layout {
             Place::Super(_) | Place::Window(_) => true,
             Place::Log(cell) => cell < self.cells,
             Place::Page(page, _) => page < self.pages,
+        }
+    }
+
+    /// The log's cell of the block of this number, which is the number modulo the number of cells. In a
+    /// layout without cells it is cell 0, which there is not.
+    pub fn log_of(self, number: u64) -> Place
+        ensures { result ≡ log_of self number }
+    {
+        match number.checked_rem(u64::from(self.cells)) {
+            Some(cell) => Place::Log(cell as u32),
+            None => Place::Log(0),
         }
     }
 
@@ -166,7 +185,7 @@ impl Layout {
 
     /// The first byte of the pages, behind the log.
     fn pages_at(self) -> usize
-        ensures { result ≡ 54272 + 8192 * self.cells }
+        ensures { result ≡ LOG + (LOG_BODY + GATE) * self.cells }
     {
         LOG + (LOG_BODY + GATE) * self.cells as usize
     }
@@ -184,4 +203,22 @@ pub fn need(params: &Params) -> u64
 /// them.
 pub fn places_fill_the_device()
     ensures { PlacesFillTheDevice }
+{}
+
+/// The number that each size is, in bytes, and how many bytes the places take together.
+pub fn sizes_are_these()
+    ensures super_body { SUPER_BODY ≡ 3584 }
+    ensures window_body { WINDOW_BODY ≡ 23040 }
+    ensures log_body { LOG_BODY ≡ 7680 }
+    ensures page_body { PAGE_BODY ≡ 4096 }
+    ensures gate { GATE ≡ 512 }
+    ensures windows { WINDOWS ≡ 8192 }
+    ensures log { LOG ≡ 54272 }
+    ensures need { NeedIsThis }
+{}
+
+/// A superblock lies on the other side than the one before it; each block of the log has a cell, and
+/// blocks whose numbers are less than a lap apart have different ones.
+pub fn turns_are_taken()
+    ensures { TurnsAreTaken }
 {}

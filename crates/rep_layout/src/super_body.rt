@@ -1,45 +1,30 @@
 //! The superblock: what a disk is, and where its state stands.
 
-ghost use Rattle.std.specs.Prelude.{◌≡◌, ◌+◌, ◌-◌, ◌*◌, ◌≤◌, ◌++◌, length, IfOk, IfErr, Ok};
+ghost use Rattle.std.specs.Prelude.{◌≡◌, ◌+◌, ◌-◌, ◌*◌, ◌≤◌, ◌++◌, ◌↔◌, length, true, IfOk, IfErr, IsTrue, IsSome, IfSome, Ok, option_map};
 ghost use Rattle.std.specs.List.{flat_map};
 ghost use Rattle.rep_types.specs.declared.refusal.Part.TheVariants.{Superblock};
-ghost use Rattle.rep_types.specs.Bytes.{four_bytes, zeros, begins_with};
-ghost use Rattle.rep_layout.specs.Supers.{super_mark, setting_bytes, IsSuper, head_bytes, place_bytes, super_bytes, SuperblocksAreTold};
-ghost use Rattle.rep_layout.specs.SuperReading.{rows_in, setting_in, super_in, is_bounded, spelled_super, super_of};
+ghost use Rattle.rep_types.specs.Settings.{is_setting};
+ghost use Rattle.rep_forms.specs.Forms.{IsPart, number_bytes, zeros};
+ghost use Rattle.rep_layout.specs.Supers.{IsSuper, is_super, setting_bytes, head_bytes, place_bytes, super_bytes, setting_form, stand_fields, super_form, SuperblocksAreTold};
 ghost use Rattle.rep_layout.specs.declared.super_body.SuperBody.{SuperBody};
 
 use crate::page_state::{PageState, put_states, read_states};
 use crate::place::SUPER_BODY;
 use arrayvec::ArrayVec;
-use rep_types::bytes::{put_bytes, put_u16, put_u32, put_u64, put_zeros, u16_at, u32_at, u64_at};
-use rep_types::{MAX_SEQNO, Params, Part, Refusal};
+use rep_forms::{
+    Exact, Form, put_bytes, put_run, put_u8, put_u16, put_u64, put_zeros, read_front, read_part,
+    read_run, read_u8, read_u16, read_u64, spellings_are_told, strip_front,
+};
+use rep_types::{MAX_SEQNO, MAX_TABLES, Params, Part, Refusal};
 use uuid::Uuid;
 
 /// The first eight bytes of the format.
 const MARK: &[u8; 8] = b"REPSUPR1";
 
-/// The offset of the number.
-const NUMBER: usize = 8;
+/// The number of bytes of the rows of all tables.
+const ROWS: usize = 4 * MAX_TABLES;
 
-/// The offset of the UUID.
-const UUID: usize = 16;
-
-/// The offset of the parameters.
-const SETTING: usize = 32;
-
-/// The offset of the position.
-const POSITION: usize = 72;
-
-/// The offset of the start.
-const START: usize = 80;
-
-/// The offset of the states.
-const STATES: usize = 128;
-
-/// The first byte behind them.
-const STATES_END: usize = 1_152;
-
-type Bytes = ArrayVec<u8, 3584>;
+type Bytes = ArrayVec<u8, SUPER_BODY>;
 
 /// What a superblock's body says.
 #[derive(Debug, Drop, PartialEq, Eq)]
@@ -60,137 +45,116 @@ pub struct SuperBody {
     pub pages: ArrayVec<PageState, 4096>,
 }
 
-/// Puts the first eight bytes.
-#[tactic(auto, unfolding(crate::specs::Supers::super_mark))]
-fn put_mark(out: &mut Bytes)
-    requires { length out.old.items + 8 ≤ 3584 }
-    ensures bytes { out.new.items ≡ out.old.items ++ super_mark }
-    ensures size { length out.new.items ≡ length out.old.items + 8 }
-{
-    put_bytes(out, MARK);
-}
-
 /// Puts the rows of each table, and zeros for the tables that are not there: 32 bytes.
-#[tactic(auto, using(rep_types::proofs::Spellings::sizes, rep_types::proofs::Spellings::joined))]
+#[tactic(auto, using(rep_forms::specs::FormLaws::sizes, rep_forms::specs::FormLaws::joined))]
 fn put_rows(out: &mut Bytes, rows: &[u32])
     requires room { length out.old.items + 32 ≤ 3584 }
     requires few { length rows.now ≤ 8 }
-    ensures bytes { out.new.items ≡ out.old.items ++ (flat_map four_bytes rows.now ++ zeros (32 - 4 * length rows.now)) }
+    ensures bytes { out.new.items ≡ out.old.items ++ (flat_map (number_bytes 4) rows.now ++ zeros (32 - 4 * length rows.now)) }
     ensures size { length out.new.items ≡ length out.old.items + 32 }
 {
-    for count in rows {
-        put_u32(out, *count);
-    }
-    put_zeros(out, 32 - 4 * rows.len());
+    put_run(out, rows);
+    put_zeros(out, ROWS - 4 * rows.len());
 }
 
 /// Puts the parameters: 40 bytes.
-#[tactic(auto, using(rep_types::proofs::Spellings::sizes, rep_types::proofs::Spellings::joined))]
+#[tactic(auto, using(rep_forms::specs::FormLaws::sizes, rep_forms::specs::FormLaws::joined))]
 fn put_setting(out: &mut Bytes, params: &Params)
     requires { length out.old.items + 40 ≤ 3584 }
     ensures bytes { out.new.items ≡ out.old.items ++ setting_bytes params.now }
     ensures size { length out.new.items ≡ length out.old.items + 40 }
+    ensures setting { IsTrue (is_setting params.now) }
 {
     put_u16(out, params.window() as u16);
     put_u16(out, params.cells() as u16);
     let rows = params.schema().rows();
-    put_bytes(out, &[rows.len() as u8]);
+    put_u8(out, rows.len() as u8);
     put_zeros(out, 3);
     put_rows(out, rows);
 }
 
-/// The rows of the first tables, so many of them.
-fn read_rows(bytes: &[u8], count: usize) -> ArrayVec<u32, 8>
-    requires size { length bytes.now ≡ 32 }
-    requires few { count ≤ 8 }
-    ensures { result.items ≡ rows_in count bytes.now }
+/// The parameters, where they are within their limits, and the bytes behind them.
+fn read_setting(bytes: &[u8]) -> Option<(Params, &[u8])>
+    ensures { option_map (λ x. (x.0, x.1.now)) result ≡ setting_form.read bytes.now }
 {
-    let mut rows = ArrayVec::new();
-    for table in 0..count {
-        rows.push(u32_at(bytes, 4 * table));
-    }
-    rows
+    let (window, rest) = read_u16(bytes)?;
+    let (cells, rest) = read_u16(rest)?;
+    let (tables, rest) = read_u8(rest)?;
+    let tables = usize::from(tables);
+    let (_, rest) = read_part(rest, 3)?;
+    let (rows, rest) = read_run::<u32, MAX_TABLES>(rest, tables)?;
+    let (_, rest) = read_part(rest, ROWS.saturating_sub(4 * tables))?;
+    let params = Params::new(u32::from(window), u32::from(cells), rows.as_slice()).ok()?;
+    Some((params, rest))
 }
 
-/// The parameters, where they are within their limits.
-#[tactic(auto, unfolding(crate::specs::SuperReading::setting_in))]
-fn read_setting(bytes: &[u8]) -> Option<Params>
-    requires { length bytes.now ≡ 40 }
-    ensures { result ≡ setting_in bytes.now }
+/// The position, the start and the number of pages, and the bytes behind them.
+fn read_stand(bytes: &[u8]) -> Option<((u64, u64, u16), &[u8])>
+    ensures { option_map (λ x. ((x.0.0, (x.0.1, x.0.2)), x.1.now)) result ≡ stand_fields.read bytes.now }
 {
-    if bytes[4] > 8 {
-        return None;
-    }
-    let rows = read_rows(&bytes[8..], usize::from(bytes[4]));
-    let window = u32::from(u16_at(bytes, 0));
-    let cells = u32::from(u16_at(bytes, 2));
-    Params::new(window, cells, rows.as_slice()).ok()
+    let (position, rest) = read_u64(bytes)?;
+    let (start, rest) = read_u64(rest)?;
+    let (pages, rest) = read_u16(rest)?;
+    let (_, rest) = read_part(rest, 38)?;
+    Some(((position, start, pages), rest))
 }
 
-/// What the fields say. It reads what is spelled, and more: that what it read is spelled so remains
-/// to be seen.
-#[tactic(auto, unfolding(crate::specs::SuperReading::super_in))]
-fn read_fields(bytes: &[u8]) -> Option<SuperBody>
-    requires { length bytes.now ≡ 3584 }
-    ensures { result ≡ super_in bytes.now }
-{
-    let params = read_setting(&bytes[SETTING..POSITION])?;
-    let pages = read_states(&bytes[STATES..STATES_END], params.schema().pages() as usize)?;
-    Some(SuperBody {
-        number: u64_at(bytes, NUMBER),
-        uuid: Uuid::from_slice(&bytes[UUID..SETTING]).ok()?,
-        params,
-        position: u64_at(bytes, POSITION),
-        start: u64_at(bytes, START),
-        pages,
-    })
+impl Form for SuperBody {
+    ghost use Rattle.rep_layout.specs.SuperLaws.{super_is_form};
+
+    ghost form = { super_form };
+
+    ghost most = { 3584 };
+
+    #[tactic(auto, unfolding(crate::specs::Supers::super_mark))]
+    fn read(bytes: &[u8]) -> Option<(SuperBody, &[u8])> {
+        let (_, rest) = read_part(bytes, MARK.len())?;
+        let (number, rest) = read_u64(rest)?;
+        let (uuid, rest) = read_part(rest, 16)?;
+        let uuid = Uuid::from_slice(uuid).ok()?;
+        let (params, rest) = read_setting(rest)?;
+        let ((position, start, count), rest) = read_stand(rest)?;
+        let (pages, rest) = read_states(rest, usize::from(count))?;
+        let (_, rest) = read_part(rest, 2_432)?;
+        let body = SuperBody {
+            number,
+            uuid,
+            params,
+            position,
+            start,
+            pages,
+        };
+        Some((body, rest))
+    }
+
+    ghost is_form = { super_is_form };
 }
 
-/// The body of this format.
-#[tactic(auto, unfolding(crate::specs::SuperReading::spelled_super))]
-fn read_format_1(bytes: &[u8]) -> Option<SuperBody>
-    requires { length bytes.now ≡ 3584 }
-    ensures { result ≡ spelled_super bytes.now }
-{
-    let body = read_fields(bytes)?;
-    if body.is_bounded() && body.begins(bytes) {
-        Some(body)
-    } else {
-        None
-    }
-}
-
-/// The body of the format that the first eight bytes name.
-#[tactic(auto, unfolding(crate::specs::SuperReading::super_of, rep_types::specs::Bytes::begins_with, crate::specs::Supers::super_mark))]
-fn read_super(bytes: &[u8]) -> Option<SuperBody>
-    ensures { result ≡ super_of bytes.now }
-{
-    if bytes.len() != SUPER_BODY {
-        return None;
-    }
-    if bytes.starts_with(MARK) {
-        read_format_1(bytes)
-    } else {
-        None
+impl Exact for SuperBody {
+    fn strip<'a>(&self, bytes: &'a [u8]) -> Option<&'a [u8]> {
+        let spelling = self.write_body()?;
+        strip_front(bytes, spelling.as_slice())
     }
 }
 
 impl SuperBody {
     /// Puts the mark, the number, the UUID and the parameters: 72 bytes.
-    #[tactic(auto, using(rep_types::proofs::Spellings::sizes, rep_types::proofs::Spellings::joined))]
+    #[tactic(auto, using(rep_forms::specs::FormLaws::sizes, rep_forms::specs::FormLaws::joined), unfolding(crate::specs::Supers::super_mark))]
     fn put_head(&self, out: &mut Bytes)
         requires { length out.old.items + 72 ≤ 3584 }
         ensures bytes { out.new.items ≡ out.old.items ++ head_bytes self.now }
         ensures size { length out.new.items ≡ length out.old.items + 72 }
+        ensures uuid { IsPart 16 self.now.uuid }
+        ensures setting { IsTrue (is_setting self.now.params) }
     {
-        put_mark(out);
+        put_bytes(out, MARK);
         put_u64(out, self.number);
         put_bytes(out, self.uuid.as_bytes());
         put_setting(out, &self.params);
     }
 
     /// Puts the position, the start and the number of pages: 56 bytes.
-    #[tactic(auto, using(rep_types::proofs::Spellings::sizes, rep_types::proofs::Spellings::joined))]
+    #[tactic(auto, using(rep_forms::specs::FormLaws::sizes, rep_forms::specs::FormLaws::joined))]
     fn put_place(&self, out: &mut Bytes)
         requires { length out.old.items + 56 ≤ 3584 }
         ensures bytes { out.new.items ≡ out.old.items ++ place_bytes self.now }
@@ -202,36 +166,37 @@ impl SuperBody {
         put_zeros(out, 38);
     }
 
-    /// Whether the numbers keep their bounds.
-    fn is_bounded(&self) -> bool
-        ensures { result ≡ is_bounded self.now }
+    /// Whether the fields can be those of a superblock.
+    fn is_super(&self) -> bool
+        ensures { result ≡ is_super self.now }
     {
         self.position <= MAX_SEQNO
             && self.number <= self.position + 1
             && self.start <= self.position
             && (!self.uuid.is_nil() || (self.number == 0 && self.position == 0))
+            && self.pages.len() as u64 == self.params.schema().pages()
     }
 
-    /// Whether the bytes begin with the body's spelling.
-    #[tactic(auto, unfolding(rep_types::specs::Bytes::begins_with))]
-    fn begins(&self, bytes: &[u8]) -> bool
-        ensures { result ≡ begins_with (super_bytes self.now) bytes.now }
+    /// The bytes of the superblock's body, 3,584; None where a superblock cannot say this: where the
+    /// number is above the position and 1, the position above `MAX_SEQNO`, or the start above the
+    /// position; where the UUID is nil, and the number or the position is not 0; or where there are
+    /// not as many states as the schema has pages.
+    #[tactic(auto, using(rep_forms::specs::FormLaws::sizes, rep_forms::specs::FormLaws::joined))]
+    pub fn write_body(&self) -> Option<ArrayVec<u8, SUPER_BODY>>
+        ensures some { IsSome result ↔ IsSuper self.now }
+        // What is written is of the form, and that is its spelling: so it is read again.
+        ensures bytes { IfSome result (λ b. IsSuper self.now × (b.items ≡ super_bytes self.now)) }
+        ensures size { IfSome result (λ b. length b.items ≡ SUPER_BODY) }
     {
-        bytes.starts_with(self.write_body().as_slice())
-    }
-
-    /// The bytes of the superblock's body, 3,584.
-    #[tactic(auto, using(rep_types::proofs::Spellings::sizes, rep_types::proofs::Spellings::joined))]
-    pub fn write_body(&self) -> ArrayVec<u8, 3584>
-        ensures bytes { result.items ≡ super_bytes self.now }
-        ensures size { length result.items ≡ 3584 }
-    {
+        if !self.is_super() {
+            return None;
+        }
         let mut out = ArrayVec::new();
         self.put_head(&mut out);
         self.put_place(&mut out);
         put_states(&mut out, self.pages.as_slice());
         put_zeros(&mut out, 2_432);
-        out
+        Some(out)
     }
 
     /// Reads the body of a superblock, which all of the bytes are.
@@ -254,13 +219,18 @@ impl SuperBody {
         // Anything else is refused.
         ensures refused { IfErr result (λ e. e ≡ Refusal.Corrupt Superblock) }
     {
-        read_super(bytes).ok_or(Refusal::Corrupt {
-            part: Part::Superblock,
-        })
+        match read_front::<SuperBody>(bytes) {
+            Some((body, rest)) if rest.is_empty() => Ok(body),
+            _ => Err(Refusal::Corrupt {
+                part: Part::Superblock,
+            }),
+        }
     }
 }
 
 /// The bytes of a superblock's body tell what it says: no two bodies have one spelling.
 pub fn superblocks_are_told()
     ensures { SuperblocksAreTold }
-{}
+{
+    spellings_are_told::<SuperBody>();
+}

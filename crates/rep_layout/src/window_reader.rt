@@ -1,101 +1,98 @@
 //! The window that a disk keeps beside a superblock, out of its bytes.
 
-ghost use Rattle.std.specs.Prelude.{◌≡◌, ◌+◌, ◌*◌, ◌<◌, ◌≤◌, ◌==◌, [], length, drop, is_none, IfOk, IfErr, Ok, MatchOption};
+ghost use Rattle.std.specs.Prelude.{◌≡◌, ◌+◌, ◌≤◌, ◌==◌, [], length, is_none, IfSome, IfOk, IfErr, Some, Ok, MatchOption, option_map};
 ghost use Rattle.std.specs.List.{list_all};
-ghost use Rattle.std.specs.Option.{option_map};
 ghost use Rattle.rep_types.specs.declared.refusal.Part.TheVariants.{Window as WindowPart};
 ghost use Rattle.rep_types.specs.Keys.{disorder};
 ghost use Rattle.rep_types.specs.Settings.{has_row};
-ghost use Rattle.rep_layout.specs.Windows.{Window, with_first, IsWindowBody, window_bytes, WindowsAreTold};
-ghost use Rattle.rep_layout.specs.WindowReading.{keys_in, entry_in, front_entry, is_entry, entries_stand, is_spelled, spelled_window, window_of};
+ghost use Rattle.rep_layout.specs.Windows.{Window, with_first, IsWindowBody, window_bytes, head_form, is_entry, next_entry, WindowsAreTold};
 
 use crate::place::WINDOW_BODY;
-use crate::window_body::{MARK, spell_entry};
 use arrayvec::ArrayVec;
-use rep_types::bytes::{are_blank, u16_at, u32_at, u64_at};
-use rep_types::{Entry, Key, MAX_WRITES, Params, Part, Refusal};
+use rep_forms::{
+    Chain, Exact, Form, Put, Run, are_blank, put_bytes, put_u16, put_u64, put_zeros, read_chain,
+    read_front, read_part, read_u16, read_u64, runs_are_told, spellings_are_told, strip_front,
+};
+use rep_types::{Entry, Key, Params, Part, Refusal};
 use std::marker::Model;
 
-/// The offset of the number.
-const NUMBER: usize = 8;
+/// The first eight bytes of the format.
+const MARK: &[u8; 8] = b"REPWIND1";
 
-/// The offset of the position.
-const POSITION: usize = 16;
+/// The number of bytes before the entries.
+const HEAD: usize = 256;
 
-/// The offset of the number of entries.
-const COUNT: usize = 24;
+/// The number of zeros in front of the entries.
+const HEAD_ZEROS: usize = 230;
 
-/// The first byte behind it.
-const HEAD_END: usize = 26;
-
-/// The offset of the entries.
-const ENTRIES: usize = 256;
-
-/// A window as it is read: it hands out its entries one by one, out of bytes that were looked at
-/// whole before.
-#[derive(Debug, Drop)]
-pub struct WindowReader<'a> {
-    number: u64,
-    position: u64,
-    left: u16,
-    rest: &'a [u8],
+/// What a window's body begins with: the number and the position of its superblock, and how many
+/// entries there are.
+#[derive(Drop)]
+pub(crate) struct Head {
+    pub(crate) number: u64,
+    pub(crate) position: u64,
+    pub(crate) count: u16,
 }
 
-impl<'a> Model for WindowReader<'a> {
-    ghost use Rattle.std.specs.Prelude.{IsTrue, is_some};
-    ghost use Rattle.rep_layout.specs.Windows.{Window, window};
-    ghost use Rattle.rep_layout.specs.WindowReading.{entries_at, entries_in};
+impl Form for Head {
+    ghost use Rattle.rep_layout.specs.WindowLaws.{head_is_form};
 
-    ghost Value = { Window };
+    ghost form = { head_form };
 
-    ghost view = { λ w. window w.number w.position (entries_in w.left w.rest.now) };
+    ghost most = { 256 };
 
-    ghost invariant = { λ w. IsTrue (is_some (entries_at w.left w.rest.now)) };
+    #[tactic(auto, unfolding(crate::specs::Windows::window_mark))]
+    fn read(bytes: &[u8]) -> Option<(Head, &[u8])> {
+        let (_, rest) = read_part(bytes, MARK.len())?;
+        let (number, rest) = read_u64(rest)?;
+        let (position, rest) = read_u64(rest)?;
+        let (count, rest) = read_u16(rest)?;
+        let (_, rest) = read_part(rest, HEAD_ZEROS)?;
+        let head = Head {
+            number,
+            position,
+            count,
+        };
+        Some((head, rest))
+    }
+
+    ghost is_form = { head_is_form };
 }
 
-/// The first keys, so many of them.
-fn read_keys(bytes: &[u8], count: usize) -> ArrayVec<Key, 16>
-    requires size { 5 * count ≤ length bytes.now }
-    requires few { count ≤ 16 }
-    ensures { result.items ≡ keys_in count bytes.now }
-{
-    let mut keys = ArrayVec::new();
-    for i in 0..count {
-        keys.push(Key {
-            table: bytes[5 * i],
-            row: u32_at(bytes, 5 * i + 1),
-        });
+impl<const N: usize> Put<N> for Head {
+    #[tactic(auto, using(rep_forms::specs::FormLaws::sizes, rep_forms::specs::FormLaws::joined), unfolding(crate::specs::Windows::window_mark))]
+    fn put(&self, out: &mut ArrayVec<u8, N>) {
+        put_bytes(out, MARK);
+        put_u64(out, self.number);
+        put_u64(out, self.position);
+        put_u16(out, self.count);
+        put_zeros(out, HEAD_ZEROS);
     }
-    keys
 }
 
-/// What reads as an entry in front. It reads what is spelled, and more: that what it read is spelled
-/// so remains to be seen.
-fn read_entry(bytes: &[u8]) -> Option<Entry>
-    ensures { result ≡ entry_in bytes.now }
-{
-    if bytes.len() < 9 {
-        return None;
+impl Exact for Head {
+    fn strip<'a>(&self, bytes: &'a [u8]) -> Option<&'a [u8]> {
+        let mut spelling: ArrayVec<u8, HEAD> = ArrayVec::new();
+        self.put(&mut spelling);
+        strip_front(bytes, spelling.as_slice())
     }
-    let count = usize::from(bytes[8]);
-    if count > MAX_WRITES || bytes.len() < 9 + 5 * count {
-        return None;
-    }
-    let keys = read_keys(&bytes[9..], count);
-    Some(Entry::new(u64_at(bytes, 0), keys))
 }
 
-/// The entry that is spelled in front, and the bytes behind it.
-#[tactic(auto, unfolding(crate::specs::WindowReading::front_entry, rep_types::specs::Bytes::begins_with))]
-fn read_front(bytes: &[u8]) -> Option<(Entry, &[u8])>
-    ensures { option_map (λ x. (x.0, x.1.now)) result ≡ front_entry bytes.now }
-{
-    let entry = read_entry(bytes)?;
-    let spelling = spell_entry(&entry);
-    if !bytes.starts_with(spelling.as_slice()) {
-        return None;
-    }
-    Some((entry, &bytes[spelling.len()..]))
+/// Where the next entry stands: under these parameters, in the window of the position, behind an entry
+/// of the seqno `before`.
+#[derive(Drop)]
+pub(crate) struct Standing<'a> {
+    pub(crate) params: &'a Params,
+    pub(crate) position: u64,
+    pub(crate) before: u64,
+}
+
+impl<'a> Model for Standing<'a> {
+    ghost use Rattle.rep_layout.specs.Windows.{Standing as View, standing};
+
+    ghost Value = { View };
+
+    ghost view = { λ s. standing s.params.now s.position s.before };
 }
 
 /// Whether each key is above the one before it.
@@ -118,82 +115,77 @@ fn are_rows(params: &Params, keys: &[Key]) -> bool
     keys.iter().all(|key| schema.contains(*key))
 }
 
-/// Whether the entry can stand in the window of the position, behind one of the seqno `before`.
-fn is_entry(params: &Params, position: u64, before: u64, entry: &Entry) -> bool
-    ensures { result ≡ is_entry params.now position before entry.now }
-{
-    let seqno = entry.seqno();
-    let keys = entry.keys();
-    before < seqno
-        && seqno <= position
-        && position - seqno < u64::from(params.window())
-        && !keys.is_empty()
-        && is_ascending(keys)
-        && are_rows(params, keys)
+impl Standing<'_> {
+    /// Whether the entry can stand there.
+    fn takes(&self, entry: &Entry) -> bool
+        ensures { result ≡ is_entry self.now entry.now }
+    {
+        let seqno = entry.seqno();
+        let keys = entry.keys();
+        self.before < seqno
+            && seqno <= self.position
+            && self.position - seqno < u64::from(self.params.window())
+            && !keys.is_empty()
+            && is_ascending(keys)
+            && are_rows(self.params, keys)
+    }
 }
 
-/// Whether the bytes are so many entries of the window of the position, and zeros.
-fn entries_stand(params: &Params, position: u64, count: u16, bytes: &[u8]) -> bool
-    ensures { result ≡ entries_stand params.now position 0 count bytes.now }
-{
-    let mut before = 0;
-    let mut rest = bytes;
-    for _ in 0..count {
-        let Some((entry, after)) = read_front(rest) else {
-            return false;
-        };
-        if !is_entry(params, position, before, &entry) {
+impl<'a> Chain<Entry> for Standing<'a> {
+    ghost step = { next_entry };
+
+    fn admits(&mut self, entry: &Entry) -> bool {
+        if !self.takes(entry) {
             return false;
         }
-        before = entry.seqno();
-        rest = after;
+        self.before = entry.seqno();
+        true
     }
-    are_blank(rest)
 }
 
-/// Whether bytes of this format are a window's body.
-#[tactic(auto, unfolding(crate::specs::WindowReading::is_spelled))]
-fn is_spelled(params: &Params, bytes: &[u8]) -> bool
-    requires { length bytes.now ≡ 23040 }
-    ensures { result ≡ is_spelled params.now bytes.now }
-{
-    let count = u16_at(bytes, COUNT);
-    if u32::from(count) > params.window() || !are_blank(&bytes[HEAD_END..ENTRIES]) {
-        return false;
-    }
-    entries_stand(params, u64_at(bytes, POSITION), count, &bytes[ENTRIES..])
+/// A window as it is read: it hands out its entries one by one, out of bytes that were looked at
+/// whole before.
+#[derive(Drop)]
+pub struct WindowReader<'a> {
+    number: u64,
+    position: u64,
+    run: Run<'a, Entry>,
 }
 
-/// The body of this format.
-#[tactic(auto, unfolding(crate::specs::WindowReading::spelled_window))]
-fn read_format_1<'a>(params: &Params, bytes: &'a [u8]) -> Option<WindowReader<'a>>
-    requires { length bytes.now ≡ 23040 }
-    ensures { result ≡ spelled_window params.now bytes.now }
+impl<'a> Model for WindowReader<'a> {
+    ghost use Rattle.rep_layout.specs.Windows.{Window, window};
+
+    ghost Value = { Window };
+
+    ghost view = { λ w. window w.number w.position w.run };
+}
+
+/// The window that all of the bytes are.
+fn read_window<'a>(params: &Params, bytes: &'a [u8]) -> Option<WindowReader<'a>>
+    ensures found { IfSome result (λ w. IsWindowBody params.now w × (bytes.now ≡ window_bytes w)) }
+    ensures only { (w : Window) → IsWindowBody params.now w → bytes.now ≡ window_bytes w → result ≡ Some w }
 {
-    if !is_spelled(params, bytes) {
+    let span = params.window();
+    let (head, body) = read_front::<Head>(bytes)?;
+    if bytes.len() != WINDOW_BODY || u32::from(head.count) > span {
+        return None;
+    }
+    let standing = Standing {
+        params,
+        position: head.position,
+        before: 0,
+    };
+    let Ok((run, rest)) = read_chain::<Entry, Standing>(standing, body, head.count) else {
+        return None;
+    };
+    if !are_blank(rest) {
         return None;
     }
     Some(WindowReader {
-        number: u64_at(bytes, NUMBER),
-        position: u64_at(bytes, POSITION),
-        left: u16_at(bytes, COUNT),
-        rest: &bytes[ENTRIES..],
+        number: head.number,
+        position: head.position,
+        run,
     })
-}
-
-/// The body of the format that the first eight bytes name.
-#[tactic(auto, unfolding(crate::specs::WindowReading::window_of, rep_types::specs::Bytes::begins_with, crate::specs::Windows::window_mark))]
-fn read_window<'a>(params: &Params, bytes: &'a [u8]) -> Option<WindowReader<'a>>
-    ensures { result ≡ window_of params.now bytes.now }
-{
-    if bytes.len() != WINDOW_BODY {
-        return None;
-    }
-    if bytes.starts_with(MARK) {
-        read_format_1(params, bytes)
-    } else {
-        None
-    }
 }
 
 impl<'a> WindowReader<'a> {
@@ -214,8 +206,6 @@ impl<'a> WindowReader<'a> {
         // Anything else is refused.
         ensures refused { IfErr result (λ e. e ≡ Refusal.Corrupt WindowPart) }
     {
-        // Tells the proof that the parameters keep their limits.
-        let _span = params.window();
         read_window(params, bytes).ok_or(Refusal::Corrupt { part: Part::Window })
     }
 
@@ -237,33 +227,28 @@ impl<'a> WindowReader<'a> {
     pub fn len(&self) -> usize
         ensures { result ≡ length self.now.entries }
     {
-        usize::from(self.left)
+        usize::from(self.run.len())
     }
 
     /// Whether none is.
     pub fn is_empty(&self) -> bool
         ensures { result ≡ (length self.now.entries == 0) }
     {
-        self.left == 0
+        self.run.len() == 0
     }
 
     /// Hands out the next entry, in the order of the seqnos; None behind the last.
     pub fn next_entry(&mut self) -> Option<Entry>
         ensures { MatchOption result ((self.old.entries ≡ []) × (self.new ≡ self.old)) (λ e. self.old ≡ with_first e self.new) }
     {
-        if self.left == 0 {
-            return None;
-        }
-        let Some((entry, rest)) = read_front(self.rest) else {
-            unreachable!()
-        };
-        self.left -= 1;
-        self.rest = rest;
-        Some(entry)
+        self.run.next_value()
     }
 }
 
 /// The bytes of a window's body tell what it says: no two windows have one spelling.
 pub fn windows_are_told()
     ensures { WindowsAreTold }
-{}
+{
+    spellings_are_told::<Head>();
+    runs_are_told::<Entry>();
+}

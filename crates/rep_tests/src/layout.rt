@@ -97,7 +97,7 @@ fn changed(alloc: Global, bytes: &[u8], place: usize, byte: u8) -> Result<Vec<u8
 
 #[test]
 fn superblocks_have_the_bytes_of_the_format(rt: HostRuntime) -> Result<(), Fail> {
-    let body = superblock()?.write_body();
+    let body = superblock()?.write_body().ok_or("no superblock")?;
     assert_eq!(rt; body.len(), 3_584);
     let parts: [(usize, &[u8]); 9] = [
         (0, b"REPSUPR1"),
@@ -121,7 +121,7 @@ fn superblocks_have_the_bytes_of_the_format(rt: HostRuntime) -> Result<(), Fail>
 
 #[test]
 fn superblocks_keep_their_zeros(rt: HostRuntime) -> Result<(), Fail> {
-    let body = superblock()?.write_body();
+    let body = superblock()?.write_body().ok_or("no superblock")?;
     for place in (37..40).chain(48..72).chain(90..128).chain(130..3_584) {
         let bytes = changed(rt.alloc(), &body, place, 1)?;
         assert!(rt; SuperBody::read_body(&bytes) == Err(SUPERBLOCK), "{place}");
@@ -131,7 +131,7 @@ fn superblocks_keep_their_zeros(rt: HostRuntime) -> Result<(), Fail> {
 
 #[test]
 fn superblocks_keep_their_bounds(rt: HostRuntime) -> Result<(), Fail> {
-    let body = superblock()?.write_body();
+    let body = superblock()?.write_body().ok_or("no superblock")?;
     let faults: [(usize, u8); 10] = [
         // the mark
         (7, b'2'),
@@ -165,12 +165,18 @@ fn superblocks_keep_their_bounds(rt: HostRuntime) -> Result<(), Fail> {
 #[test]
 fn a_node_without_a_cluster_has_nothing(rt: HostRuntime) -> Result<(), Fail> {
     let mut first = superblock()?;
+    let mut bytes = first.write_body().ok_or("no superblock")?;
+    for place in 16..32 {
+        bytes[place] = 0;
+    }
+    assert!(rt; SuperBody::read_body(&bytes) == Err(SUPERBLOCK));
     first.uuid = Uuid::nil();
-    assert!(rt; SuperBody::read_body(&first.write_body()) == Err(SUPERBLOCK));
+    assert!(rt; first.write_body().is_none());
     first.number = 0;
     first.position = 0;
     first.start = 0;
-    let read = SuperBody::read_body(&first.write_body());
+    let body = first.write_body().ok_or("no superblock")?;
+    let read = SuperBody::read_body(&body);
     assert!(rt; read == Ok(first));
     Ok(())
 }
@@ -187,13 +193,14 @@ fn entry(seqno: u64, count: u32) -> Entry {
 
 #[test]
 fn windows_have_the_bytes_of_the_format(rt: HostRuntime) -> Result<(), Fail> {
+    let params = small()?;
     let entries = [entry(6, 1), entry(9, 2)];
     let window = WindowBody {
         number: 3,
         position: 9,
         entries: &entries,
     };
-    let body = window.write_body().ok_or("too many entries")?;
+    let body = window.write_body(&params).ok_or("no window")?;
     assert_eq!(rt; body.len(), 23_040);
     let parts: [(usize, &[u8]); 6] = [
         (0, b"REPWIND1"),
@@ -210,7 +217,6 @@ fn windows_have_the_bytes_of_the_format(rt: HostRuntime) -> Result<(), Fail> {
         assert!(rt; place <= body.len());
         assert!(rt; body.as_slice()[place..].starts_with(bytes), "{place}");
     }
-    let params = small()?;
     let mut read = WindowReader::read_body(&params, &body)?;
     assert_eq!(rt; (read.number(), read.position(), read.len()), (3, 9, 2));
     assert!(rt; read.next_entry() == Some(entry(6, 1)));
@@ -220,20 +226,20 @@ fn windows_have_the_bytes_of_the_format(rt: HostRuntime) -> Result<(), Fail> {
 }
 
 /// The body of the window at 9 with the entries of 6 and 9.
-fn two_entries() -> Option<ArrayVec<u8, 23040>> {
+fn two_entries(params: &Params) -> Option<ArrayVec<u8, WINDOW_BODY>> {
     let entries = [entry(6, 1), entry(9, 2)];
     let window = WindowBody {
         number: 3,
         position: 9,
         entries: &entries,
     };
-    window.write_body()
+    window.write_body(params)
 }
 
 #[test]
 fn windows_keep_their_zeros(rt: HostRuntime) -> Result<(), Fail> {
     let params = small()?;
-    let body = two_entries().ok_or("too many entries")?;
+    let body = two_entries(&params).ok_or("no window")?;
     for place in (26..256).chain(289..23_040) {
         let bytes = changed(rt.alloc(), &body, place, 1)?;
         assert!(rt; is_corrupt(&params, &bytes), "{place}");
@@ -252,7 +258,7 @@ fn is_corrupt(params: &Params, bytes: &[u8]) -> bool {
 #[test]
 fn windows_keep_their_bounds(rt: HostRuntime) -> Result<(), Fail> {
     let params = small()?;
-    let body = two_entries().ok_or("too many entries")?;
+    let body = two_entries(&params).ok_or("no window")?;
     let faults: [(usize, u8); 11] = [
         // the mark
         (7, b'2'),
@@ -288,6 +294,7 @@ fn windows_keep_their_bounds(rt: HostRuntime) -> Result<(), Fail> {
 
 #[test]
 fn the_largest_window_fills_its_area(rt: HostRuntime) -> Result<(), Fail> {
+    let params = largest()?;
     let mut entries = Vec::new(rt.alloc());
     for seqno in 1..=256 {
         entries.push(entry(seqno, 16))?;
@@ -297,8 +304,7 @@ fn the_largest_window_fills_its_area(rt: HostRuntime) -> Result<(), Fail> {
         position: 256,
         entries: &entries,
     };
-    let body = window.write_body().ok_or("too many entries")?;
-    let params = largest()?;
+    let body = window.write_body(&params).ok_or("no window")?;
     let mut read = WindowReader::read_body(&params, &body)?;
     for seqno in 1..=256 {
         assert!(rt; read.next_entry() == Some(entry(seqno, 16)), "{seqno}");
@@ -310,6 +316,6 @@ fn the_largest_window_fills_its_area(rt: HostRuntime) -> Result<(), Fail> {
         position: 257,
         entries: &entries,
     };
-    assert!(rt; window.write_body().is_none());
+    assert!(rt; window.write_body(&params).is_none());
     Ok(())
 }

@@ -13,4 +13,3 @@ pub mod RowsByItems
 pub mod Tests
 pub mod Digits
 pub mod Gtids
-pub mod Spellings

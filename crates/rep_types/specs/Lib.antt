@@ -10,4 +10,3 @@ pub mod Texts
 pub mod Numbers
 pub mod Gtids
 pub mod Replies
-pub mod Bytes

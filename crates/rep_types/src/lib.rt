@@ -1,9 +1,7 @@
 //! The values of a replicated database: keys, write sets, a node's parameters, verdicts and
-//! refusals, with the definitions of an order and of the verdicts in it; and how numbers and keys are
-//! spelled as bytes, in records and on a disk alike.
+//! refusals, with the definitions of an order and of the verdicts in it.
 #![tactic(auto)]
 
-pub mod bytes;
 mod entry;
 mod gtid;
 mod judged;

@@ -1,13 +1,11 @@
-use Rattle.std.proofs.Common.{◌∙◌, arith}
-use Rattle.rep_types.specs.declared.refusal.Refusal.TheVariants.{Corrupt}
-use Rattle.rep_types.specs.declared.refusal.Part.TheVariants.{Superblock}
-use Rattle.rep_layout.proofs.SuperFronts.{answer_found, answer_again}
+use Rattle.std.proofs.Common.{◌≡◌, List, ℕ, Ok, [], ap, sym, ◌∙◌}
+use Rattle.std.proofs.lemmas.List.{append-nil}
+use Rattle.std.proofs.lemmas.Option.{same_Some}
+use Rattle.rep_layout.specs.Supers.{super_bytes}
+use Rattle.rep_layout.specs.declared.super_body.SuperBody.{SuperBody}
 use Rattle.rep_layout.proofs.super_body.SuperBody.read_body.Goals as goal
 
-pub returns-clause-found : goal.returns-clause-found
-returns-clause-found c =
-    rw c.ok_or.ensures.value (answer_found c.args.bytes.now c.read_super.result (Corrupt Superblock) (λ i. omega (arith, c.type_inv.bytes i)) c.read_super.ensures)
-
-pub returns-clause-only : goal.returns-clause-only
-returns-clause-only c = λ s h there.
-    c.ok_or.ensures.value ∙ answer_again c.args.bytes.now c.read_super.result (Corrupt Superblock) s c.read_super.ensures h there
+pub returns-in-Some-clause-only : goal.returns-in-Some-clause-only
+returns-in-Some-clause-only c = λ s h e.
+    let same = same_Some _ (s, []) (c.in-Some.ensures.only s [] h (e ∙ sym (append-nil (super_bytes s)))) in
+    ap (λ (x : SuperBody × List ℕ). Ok x.0) same
