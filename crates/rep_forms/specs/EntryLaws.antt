@@ -23,5 +23,5 @@ entry_is_form =
 -- an entry takes at most 89 bytes
 pub entry_short : (e : Entry) → EntryFits e → length (entry_bytes e) ≤ 89
 entry_short e h =
-    let keys : length (flat_map key_bytes e.keys) ≤ 5 * length e.keys = run_short key_bytes KeyFits 5 key_short e.keys h.keys in
+    let keys : length (flat_map key_bytes e.keys) ≤ 5 * length e.keys = run_short key_bytes KeyFits 5 (λ key h. key_short key) e.keys h.keys in
     omega (arith, length_number 8 e.seqno, keys, h.few, length-append (number_bytes 8 e.seqno) (length e.keys ∷ flat_map key_bytes e.keys))

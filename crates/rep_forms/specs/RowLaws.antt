@@ -12,7 +12,7 @@ fields_is_form : IsForm row_fields
 fields_is_form =
     via_is_form (both byte (λ present. both byte (λ n. padded (part_of n) (MAX_VALUE - n)))) value_parts (λ x. value_of x.0 x.1.1)
     (both_is_form byte (λ _. both byte (λ n. padded (part_of n) (MAX_VALUE - n))) byte_is_form (λ _.
-        both_is_form byte (λ n. padded (part_of n) (MAX_VALUE - n)) byte_is_form (λ n. padded_is_form (part_of n) (MAX_VALUE - n) (part_is_form n))
+    both_is_form byte (λ n. padded (part_of n) (MAX_VALUE - n)) byte_is_form (λ n. padded_is_form (part_of n) (MAX_VALUE - n) (part_is_form n))
     ))
 
 row_fits : (row : Option (List ℕ)) → RowFits row → row_fields.Fits row
