@@ -48,6 +48,8 @@ fn devices_have_the_sizes_of_the_format(rt: HostRuntime) -> Result<(), Fail> {
     assert_eq!(rt; layout.gate(Place::Super(Side::A)), 3_584);
     assert_eq!(rt; layout.gate(Place::Log(0)), 61_952);
     assert!(rt; !layout.has(Place::Log(4)) && !layout.has(Place::Page(2, Slot::First)));
+    assert_eq!(rt; (Side::of(4), Side::of(7)), (Side::A, Side::B));
+    assert_eq!(rt; layout.log_of(10), Place::Log(2));
     Ok(())
 }
 
@@ -63,7 +65,11 @@ fn rows_lie_in_pages_table_by_table(rt: HostRuntime) -> Result<(), Fail> {
         (3, 0, None),
     ];
     for (table, row, place) in places {
-        assert_eq!(rt; page_of(params.schema(), Key { table, row }), place);
+        let key = Key { table, row };
+        assert_eq!(rt; page_of(params.schema(), key), place);
+        if let Some(place) = place {
+            assert_eq!(rt; row_at(params.schema(), place), Some(key));
+        }
     }
     Ok(())
 }
@@ -165,9 +171,10 @@ fn superblocks_keep_their_bounds(rt: HostRuntime) -> Result<(), Fail> {
 #[test]
 fn a_node_without_a_cluster_has_nothing(rt: HostRuntime) -> Result<(), Fail> {
     let mut first = superblock()?;
-    let mut bytes = first.write_body().ok_or("no superblock")?;
-    for place in 16..32 {
-        bytes[place] = 0;
+    let body = first.write_body().ok_or("no superblock")?;
+    let mut bytes = changed(rt.alloc(), &body, 16, 0)?;
+    for place in 17..32 {
+        bytes = changed(rt.alloc(), &bytes, place, 0)?;
     }
     assert!(rt; SuperBody::read_body(&bytes) == Err(SUPERBLOCK));
     first.uuid = Uuid::nil();
