@@ -1,7 +1,6 @@
 -- Reading one thing after another, as a loop does.
 use Rattle.std.proofs.Common.{◌≡◌, ℕ, suc, ◌-◌, ◌+◌, ◌≤◌, ◌<◌, List, [], ◌∷◌, ◌++◌, Option, None, Some, refl, sym, ap, ◌∙◌, append_assoc, arith}
 use Rattle.std.proofs.lemmas.List.{append-nil}
-use Rattle.std.proofs.lemmas.Bool.{le-ltb}
 use Rattle.rep_forms.specs.Options.{◌>>=◌}
 use Rattle.rep_forms.specs.Forms.{each}
 

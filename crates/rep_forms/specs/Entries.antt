@@ -1,7 +1,6 @@
 -- Entries of a window as bytes: the seqno, how many keys there are, and the keys.
-use Rattle.std.specs.Prelude.{ℕ, ◌^◌, ◌<◌, ◌≤◌, List, ◌∷◌, ◌++◌, length, Option, Some}
+use Rattle.std.specs.Prelude.{ℕ, ◌^◌, ◌<◌, ◌≤◌, List, ◌∷◌, ◌++◌, length, Some}
 use Rattle.std.specs.List.{flat_map, AllByRecursion}
-use Rattle.rep_types.specs.declared.key.Key.{Key}
 use Rattle.rep_types.specs.declared.limits.TheConstants.{MAX_WRITES}
 use Rattle.rep_types.specs.Entries.{Entry}
 use Rattle.rep_forms.specs.Forms.{Form, byte, number, number_bytes, both, ◌⊗◌, many, via, as_named}

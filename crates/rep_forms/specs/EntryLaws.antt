@@ -1,9 +1,9 @@
 -- The law of entries as bytes.
-use Rattle.std.proofs.Common.{◌≡◌, ℕ, Some, List, ◌∷◌, ◌++◌, length, ◌≤◌, ◌*◌, refl, arith, length-append}
+use Rattle.std.proofs.Common.{Some, ◌∷◌, length, ◌≤◌, ◌*◌, refl, arith, length-append}
 use Rattle.std.specs.List.{flat_map}
 use Rattle.rep_types.specs.declared.limits.TheConstants.{MAX_WRITES}
 use Rattle.rep_types.specs.Entries.{Entry}
-use Rattle.rep_forms.specs.Forms.{Form, IsForm, byte, number, number_bytes, both, ◌⊗◌, many, via}
+use Rattle.rep_forms.specs.Forms.{IsForm, byte, number, number_bytes, both, ◌⊗◌, many}
 use Rattle.rep_forms.specs.FormLaws.{length_number, run_short, byte_is_form, number_is_form, both_is_form, many_is_form, via_is_form, named_is_form}
 use Rattle.rep_forms.specs.Keys.{KeyFits, key_bytes, key_form}
 use Rattle.rep_forms.specs.KeyLaws.{key_is_form, key_short}

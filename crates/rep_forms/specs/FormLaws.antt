@@ -5,10 +5,8 @@ use Rattle.std.specs.List.{flat_map, AllByRecursion}
 use Rattle.std.proofs.lemmas.Bool.{le-ltb, eqb-true}
 use Rattle.std.proofs.lemmas.List.{take_at, drop_at, length-append, append-nil, length-replicate}
 use Rattle.std.proofs.lemmas.List.Concat.{flat_map-cons}
-use Rattle.std.specs.Int.{bytes_high_first}
 use Rattle.byteorder.specs.Numbers.{big_number-reads_back, length-bytes_high_first}
-use Rattle.rep_forms.specs.Options.{◌>>=◌}
-use Rattle.rep_forms.specs.Forms.{Form, IsForm, part, IsPart, part_of, byte, first_byte, number, number_bytes, number_in, zeros, are_blank, both, via, padded, marked, each, AreMany, many, as_named}
+use Rattle.rep_forms.specs.Forms.{Form, IsForm, part, part_of, byte, first_byte, number, number_bytes, number_in, zeros, are_blank, both, via, padded, marked, each, many, as_named}
 
 -- ---- sizes
 

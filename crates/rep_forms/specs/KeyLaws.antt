@@ -1,7 +1,7 @@
 -- The law of keys as bytes.
-use Rattle.std.proofs.Common.{◌≡◌, ℕ, ◌≤◌, Some, List, ◌∷◌, ◌++◌, length, refl, arith}
+use Rattle.std.proofs.Common.{◌≤◌, Some, length, refl, arith}
 use Rattle.rep_types.specs.declared.key.Key.{Key}
-use Rattle.rep_forms.specs.Forms.{Form, IsForm, byte, number, ◌⊗◌, via}
+use Rattle.rep_forms.specs.Forms.{IsForm, byte, number, ◌⊗◌}
 use Rattle.rep_forms.specs.FormLaws.{length_number, byte_is_form, number_is_form, both_is_form, via_is_form, named_is_form}
 use Rattle.rep_forms.specs.Keys.{KeyFits, key_bytes, key_fields, key_form}
 

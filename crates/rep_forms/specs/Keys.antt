@@ -1,5 +1,5 @@
 -- Keys as bytes: the table, and the row.
-use Rattle.std.specs.Prelude.{ℕ, ◌^◌, ◌<◌, List, ◌∷◌, Option, Some}
+use Rattle.std.specs.Prelude.{ℕ, ◌^◌, ◌<◌, List, ◌∷◌, Some}
 use Rattle.rep_types.specs.declared.key.Key.{Key}
 use Rattle.rep_forms.specs.Forms.{Form, byte, number, number_bytes, ◌⊗◌, via, as_named}
 

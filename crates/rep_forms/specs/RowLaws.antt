@@ -1,9 +1,8 @@
 -- The law of rows as bytes.
-use Rattle.std.proofs.Common.{◌≡◌, ℕ, ◌+◌, ◌≤◌, ◌-◌, Option, Some, None, List, [], ◌∷◌, ◌++◌, length, refl, sym, ap, ◌∙◌, arith, lit<, length-append}
-use Rattle.std.specs.Prelude.{IfSome, replicate}
+use Rattle.std.proofs.Common.{◌≡◌, ℕ, ◌-◌, Option, Some, None, List, length, refl, arith, lit<, length-append}
 use Rattle.std.proofs.lemmas.Bool.{le-leb}
 use Rattle.rep_types.specs.declared.limits.TheConstants.{MAX_VALUE}
-use Rattle.rep_forms.specs.Forms.{Form, IsForm, AreBytes, part_of, byte, zeros, both, padded, via}
+use Rattle.rep_forms.specs.Forms.{IsForm, part_of, byte, zeros, both, padded}
 use Rattle.rep_forms.specs.FormLaws.{length_zeros, byte_is_form, part_is_form, both_is_form, padded_is_form, via_is_form, named_is_form}
 use Rattle.rep_forms.specs.Writes.{value_parts, value_of}
 use Rattle.rep_forms.specs.Rows.{RowFits, row_bytes, row_fields, row_form}

@@ -1,5 +1,5 @@
 -- The rows of a page as bytes: whether the row is there, how long its value is, the value, and zeros.
-use Rattle.std.specs.Prelude.{◌≡◌, ℕ, ◌-◌, ◌*◌, ◌≤◌, List, [], ◌∷◌, ◌++◌, length, Option, None, Some, IfSome}
+use Rattle.std.specs.Prelude.{◌≡◌, ℕ, ◌-◌, ◌*◌, ◌≤◌, List, ◌∷◌, ◌++◌, length, Option, None, Some, IfSome}
 use Rattle.std.specs.List.{flat_map, AllByRecursion}
 use Rattle.rep_types.specs.declared.limits.TheConstants.{MAX_VALUE}
 use Rattle.rep_forms.specs.Forms.{Form, AreBytes, part_of, byte, zeros, both, padded, via, as_named}

@@ -1,11 +1,11 @@
 -- The law of writes as bytes.
-use Rattle.std.proofs.Common.{◌≡◌, ℕ, ◌<◌, ◌≤◌, ◌^◌, Option, Some, None, List, [], ◌∷◌, ◌++◌, length, refl, arith, lit<, length-append}
+use Rattle.std.proofs.Common.{◌≡◌, ℕ, ◌≤◌, Option, Some, None, List, length, refl, arith, lit<, length-append}
 use Rattle.std.specs.Prelude.{IfSome}
 use Rattle.std.proofs.lemmas.Bool.{le-leb}
 use Rattle.rep_types.specs.declared.limits.TheConstants.{MAX_VALUE}
 use Rattle.rep_types.specs.declared.value.Write.{Write}
 use Rattle.rep_types.specs.Transactions.{HasShortValue}
-use Rattle.rep_forms.specs.Forms.{Form, IsForm, AreBytes, part_of, byte, both, ◌⊗◌, via}
+use Rattle.rep_forms.specs.Forms.{IsForm, AreBytes, part_of, byte, both, ◌⊗◌}
 use Rattle.rep_forms.specs.FormLaws.{byte_is_form, part_is_form, both_is_form, via_is_form, named_is_form}
 use Rattle.rep_forms.specs.Keys.{key_bytes, key_form}
 use Rattle.rep_forms.specs.KeyLaws.{key_is_form, key_short}

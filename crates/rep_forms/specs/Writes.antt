@@ -1,5 +1,5 @@
 -- Writes as bytes: the key, and what is put.
-use Rattle.std.specs.Prelude.{ℕ, ◌^◌, ◌<◌, ◌==◌, nat_le, if◌then◌else◌, List, [], ◌∷◌, ◌++◌, length, Option, None, Some, IfSome}
+use Rattle.std.specs.Prelude.{ℕ, ◌==◌, nat_le, if◌then◌else◌, List, [], ◌∷◌, ◌++◌, length, Option, None, Some, IfSome}
 use Rattle.rep_types.specs.declared.value.Write.{Write}
 use Rattle.rep_types.specs.declared.limits.TheConstants.{MAX_VALUE}
 use Rattle.rep_types.specs.Transactions.{HasShortValue}

@@ -1,4 +1,4 @@
-use Rattle.std.proofs.Common.{◌≡◌, ◌∙◌, List, ℕ, ◌++◌, ◌∷◌, [], length, drop, sym, arith, length-append}
+use Rattle.std.proofs.Common.{◌≡◌, ◌∙◌, ◌++◌, ◌∷◌, [], drop, sym, arith, length-append}
 use Rattle.std.proofs.lemmas.List.{take_rest}
 use Rattle.rep_forms.proofs.Chains.{spelled_more, leads_more}
 use Rattle.rep_forms.proofs.run.chain_end.Goals as goal

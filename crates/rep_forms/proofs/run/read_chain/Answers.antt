@@ -1,4 +1,4 @@
-use Rattle.std.proofs.Common.{◌≡◌, List, ℕ, drop, length, sym, subst, ◌∙◌}
+use Rattle.std.proofs.Common.{List, ℕ, drop, sym, subst, ◌∙◌}
 use Rattle.std.proofs.lemmas.List.{take_rest}
 use Rattle.rep_forms.specs.Runs.{IsChain, values_in}
 use Rattle.rep_forms.proofs.Chains.{chain_is_some, is_chain, chain_only, never_stops}

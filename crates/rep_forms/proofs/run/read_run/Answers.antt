@@ -1,4 +1,4 @@
-use Rattle.std.proofs.Common.{◌≡◌, ◌≤◌, length, sym, ◌∙◌, ap, arith, false, ltb}
+use Rattle.std.proofs.Common.{◌≡◌, length, ap, arith, false, ltb}
 use Rattle.std.proofs.lemmas.Bool.{le-ltb}
 use Rattle.rep_forms.specs.Forms.{each}
 use Rattle.rep_forms.proofs.Repeats.{begins, goes_on, ends, is_done}
