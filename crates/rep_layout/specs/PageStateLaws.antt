@@ -1,8 +1,8 @@
 -- The law of the states of pages as bytes.
-use Rattle.std.proofs.Common.{◌≡◌, ℕ, zero, suc, ◌+◌, ◌*◌, ◌/◌, ◌%◌, ◌<◌, ◌≤◌, List, [], ◌∷◌, ◌++◌, length, take, drop, Some, refl, sym, ap, ◌∙◌, arith}
+use Rattle.std.proofs.Common.{◌≡◌, ℕ, zero, suc, ◌*◌, ◌/◌, ◌%◌, ◌≤◌, List, [], ◌∷◌, length, take, drop, Some, refl, sym, ap, ◌∙◌, arith}
 use Rattle.std.specs.List.{flat_map, AllByRecursion}
 use Rattle.std.proofs.lemmas.List.Concat.{flat_map-cons}
-use Rattle.rep_forms.specs.Forms.{IsForm, byte, many, via}
+use Rattle.rep_forms.specs.Forms.{IsForm, byte, many}
 use Rattle.rep_forms.specs.FormLaws.{byte_is_form, many_is_form, via_is_form, named_is_form}
 use Rattle.rep_layout.specs.declared.place.Slot.TheVariants.{First, Second}
 use Rattle.rep_layout.specs.declared.page_state.PageState.{PageState}

@@ -1,13 +1,13 @@
 -- The law of superblocks as bytes.
-use Rattle.std.proofs.Common.{◌≡◌, ℕ, ◌+◌, ◌*◌, ◌-◌, ◌<◌, ◌≤◌, ◌^◌, Bool, true, ltb, leb, List, [], ◌∷◌, ◌++◌, length, Some, refl, sym, ap, ◌∙◌, append_assoc, arith}
+use Rattle.std.proofs.Common.{◌≡◌, ℕ, ◌*◌, ◌-◌, ◌<◌, ◌≤◌, ◌^◌, true, ltb, leb, List, [], ◌∷◌, length, refl, append_assoc, arith}
 use Rattle.std.specs.Prelude.{◌&&◌}
 use Rattle.std.specs.List.{list_all, AllByRecursion}
 use Rattle.std.specs.Result.{result_ok}
-use Rattle.std.proofs.lemmas.Bool.{leb-true, ltb-true}
+use Rattle.std.proofs.lemmas.Bool.{leb-true}
 use Rattle.std.proofs.lemmas.List.Sums.{sum_by-cons}
 use Rattle.rep_types.specs.declared.limits.TheConstants.{MAX_PAGES, MAX_TABLES, MAX_WINDOW, MIN_CELLS, MAX_CELLS}
 use Rattle.rep_types.specs.Settings.{Setting, setting, allowed, page_count, pages_of, is_schema, is_setting}
-use Rattle.rep_forms.specs.Forms.{IsForm, byte, number, part_of, both, ◌⊗◌, padded, marked, many, via}
+use Rattle.rep_forms.specs.Forms.{IsForm, byte, number, part_of, both, ◌⊗◌, padded, many}
 use Rattle.rep_forms.specs.FormLaws.{conjuncts, byte_is_form, number_is_form, part_is_form, both_is_form, padded_is_form, marked_is_form, many_is_form, via_is_form, named_is_form}
 use Rattle.rep_layout.specs.declared.super_body.SuperBody.{SuperBody}
 use Rattle.rep_layout.specs.PageStates.{states_form}

@@ -1,5 +1,5 @@
 -- Superblocks as bytes: what a superblock's body says, and the one spelling that it has.
-use Rattle.std.specs.Prelude.{◌≡◌, ℕ, ◌+◌, ◌*◌, ◌-◌, ◌<◌, ◌≤◌, ◌^◌, ◌==◌, ◌&&◌, ◌||◌, not, Bool, nat_le, List, ◌∷◌, ◌++◌, length, codes, replicate, IsTrue, Option, Some}
+use Rattle.std.specs.Prelude.{◌≡◌, ℕ, ◌+◌, ◌*◌, ◌-◌, ◌≤◌, ◌==◌, ◌&&◌, ◌||◌, not, Bool, nat_le, List, ◌∷◌, ◌++◌, length, codes, replicate, IsTrue, Option, Some}
 use Rattle.std.specs.List.{flat_map}
 use Rattle.std.specs.Result.{result_ok}
 use Rattle.uuid.specs.Parts.{is_nil_bytes}

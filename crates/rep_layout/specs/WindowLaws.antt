@@ -1,6 +1,6 @@
 -- The law of a window's head as bytes.
-use Rattle.std.proofs.Common.{◌≡◌, ℕ, List, ◌++◌, Some, refl}
-use Rattle.rep_forms.specs.Forms.{IsForm, number, ◌⊗◌, padded, marked, via}
+use Rattle.std.proofs.Common.{Some, refl}
+use Rattle.rep_forms.specs.Forms.{IsForm, number, ◌⊗◌, padded, marked}
 use Rattle.rep_forms.specs.FormLaws.{number_is_form, both_is_form, padded_is_form, marked_is_form, via_is_form, named_is_form}
 use Rattle.rep_layout.specs.declared.window_reader.Head.{Head}
 use Rattle.rep_layout.specs.Windows.{window_mark, head_fields, HeadFits, head_bytes, head_form}

@@ -1,6 +1,6 @@
 -- The law of a block's head as bytes.
-use Rattle.std.proofs.Common.{◌≡◌, ℕ, List, ◌++◌, refl}
-use Rattle.rep_forms.specs.Forms.{Form, IsForm, number, ◌⊗◌, via}
+use Rattle.std.proofs.Common.{refl}
+use Rattle.rep_forms.specs.Forms.{IsForm, number, ◌⊗◌}
 use Rattle.rep_forms.specs.FormLaws.{number_is_form, both_is_form, via_is_form, named_is_form}
 use Rattle.rep_record.specs.Blocks.{head_parts, head_of, head_fields, HeadFits, head_bytes, head_form}
 

@@ -1,5 +1,5 @@
 -- Blocks of records as a log keeps them: what a block takes, its one spelling, and where bytes stop to be one.
-use Rattle.std.specs.Prelude.{◌≡◌, ℕ, ◌+◌, ◌-◌, ◌≤◌, ◌<◌, ◌^◌, ◌==◌, ◌&&◌, ◌⊎◌, Bool, true, nat_lt, nat_le, if◌then◌else◌, List, [], ◌∷◌, ◌++◌, length, Option, None, Some}
+use Rattle.std.specs.Prelude.{◌≡◌, ℕ, ◌+◌, ◌-◌, ◌≤◌, ◌<◌, ◌^◌, ◌==◌, ◌&&◌, ◌⊎◌, Bool, true, nat_lt, nat_le, List, [], ◌∷◌, ◌++◌, length, Option, Some}
 use Rattle.std.specs.List.{flat_map, AllByRecursion}
 use Rattle.rep_types.specs.declared.limits.TheConstants.{MAX_SEQNO}
 use Rattle.rep_types.specs.declared.judged.Judged.{Judged}

@@ -1,19 +1,17 @@
 -- The law of records as bytes.
-use Rattle.std.proofs.Common.{◌≡◌, ℕ, ◌+◌, ◌≤◌, ◌<◌, ◌^◌, Bool, true, false, ltb, leb, List, [], ◌∷◌, ◌++◌, length, Option, Some, None, Ok, refl, arith, lit<, ◌*◌, length-append}
-use Rattle.std.specs.Prelude.{◌&&◌}
-use Rattle.std.specs.List.{flat_map, AllByRecursion}
-use Rattle.std.proofs.lemmas.Bool.{le-ltb, lt-ltb, le-leb, leb-true, ltb-true}
+use Rattle.std.proofs.Common.{◌≡◌, ℕ, ◌≤◌, length, Some, Ok, refl, arith, lit<, ◌*◌, length-append}
+use Rattle.std.proofs.lemmas.Bool.{le-ltb, lt-ltb}
 use Rattle.rep_types.specs.declared.judged.Judged.{Judged}
 use Rattle.rep_types.specs.declared.verdict.Verdict.{Verdict}
 use Rattle.rep_types.specs.declared.verdict.Verdict.TheVariants.{Commit, Conflict, Stale, Future, BadKey}
 use Rattle.rep_types.specs.declared.limits.TheConstants.{MAX_SEQNO, MAX_READS, MAX_WRITES}
 use Rattle.rep_types.specs.declared.key.Key.{Key}
 use Rattle.rep_types.specs.Transactions.{Transaction, HasShortValue, IsWithinLimits, checked}
-use Rattle.rep_forms.specs.Forms.{Form, IsForm, byte, number, both, ◌⊗◌, many, via}
+use Rattle.rep_forms.specs.Forms.{IsForm, byte, number, both, ◌⊗◌, many}
 use Rattle.rep_forms.specs.FormLaws.{length_number, run_short, all_of, byte_is_form, number_is_form, both_is_form, many_is_form, via_is_form, named_is_form}
-use Rattle.rep_forms.specs.Keys.{KeyFits, key_bytes, key_form}
+use Rattle.rep_forms.specs.Keys.{key_bytes, key_form}
 use Rattle.rep_forms.specs.KeyLaws.{key_is_form, key_short}
-use Rattle.rep_forms.specs.Writes.{WriteFits, write_bytes, write_form}
+use Rattle.rep_forms.specs.Writes.{write_bytes, write_form}
 use Rattle.rep_forms.specs.WriteLaws.{write_is_form, write_short}
 use Rattle.rep_record.specs.Records.{IsVerdictAt, IsRecord, verdict_code, conflict_seqno, body_bytes, record_bytes, label_parts, labels_of, label_fields, verdict_of, verdict_fields, Lists, list_fields, Parts, parts_of, item_of, record_fields, record_form}
 

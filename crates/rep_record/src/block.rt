@@ -52,31 +52,31 @@ impl BlockBuilder {
     }
 
     /// Whether the seqno is the next one; the first may be any.
-    fn is_next(&self, record: &Judged) -> bool
-        ensures { result ≡ is_next self.now record.now }
+    fn is_next(&self, judged: &Judged) -> bool
+        ensures { result ≡ is_next self.now judged.now }
     {
         self.count == 0
-            || (record.seqno >= self.first && record.seqno - self.first == u64::from(self.count))
+            || (judged.seqno >= self.first && judged.seqno - self.first == u64::from(self.count))
     }
 
     /// Adds the record at the end, where the block takes it, and says whether it did: where the
     /// record has a spelling, its seqno is the one after the last, and there is room for it. A block
     /// that does not take it stays as it is.
-    pub fn push(&mut self, record: &Judged) -> bool
-        ensures room { result ≡ has_room self.old record.now }
-        ensures after { self.new ≡ (if has_room self.old record.now then self.old ++ record.now ∷ [] else self.old) }
+    pub fn push(&mut self, judged: &Judged) -> bool
+        ensures room { result ≡ has_room self.old judged.now }
+        ensures after { self.new ≡ (if has_room self.old judged.now then self.old ++ judged.now ∷ [] else self.old) }
     {
-        let Some(bytes) = put_record(record) else {
+        let Some(bytes) = put_record(judged) else {
             return false;
         };
-        if !self.is_next(record) || self.count >= MAX_RECORDS {
+        if !self.is_next(judged) || self.count >= MAX_RECORDS {
             return false;
         }
         if self.bytes.len() + bytes.len() > MAX_BLOCK {
             return false;
         }
         put_bytes(&mut self.bytes, bytes.as_slice());
-        self.first = first_of(self.count, self.first, record.seqno);
+        self.first = first_of(self.count, self.first, judged.seqno);
         self.count += 1;
         true
     }

@@ -65,17 +65,17 @@ fn put_verdict(out: &mut Bytes, verdict: Verdict)
 
 /// Puts the numbers of a record: 32 bytes.
 #[tactic(auto, using(rep_forms::specs::FormLaws::sizes, rep_forms::specs::FormLaws::joined))]
-fn put_labels(out: &mut Bytes, record: &Judged)
+fn put_labels(out: &mut Bytes, judged: &Judged)
     requires { length out.old.items + 32 ≤ MAX_RECORD }
-    ensures bytes { out.new.items ≡ out.old.items ++ label_bytes record.now }
-    ensures last_seen { record.now.item.last_seen < 2 ^ 64 }
-    ensures source { record.now.item.source < 2 ^ 64 }
-    ensures trx { record.now.item.trx < 2 ^ 64 }
+    ensures bytes { out.new.items ≡ out.old.items ++ label_bytes judged.now }
+    ensures last_seen { judged.now.item.last_seen < 2 ^ 64 }
+    ensures source { judged.now.item.source < 2 ^ 64 }
+    ensures trx { judged.now.item.trx < 2 ^ 64 }
 {
-    put_u64(out, record.seqno);
-    put_u64(out, record.item.last_seen());
-    put_u64(out, record.item.source());
-    put_u64(out, record.item.trx());
+    put_u64(out, judged.seqno);
+    put_u64(out, judged.item.last_seen());
+    put_u64(out, judged.item.source());
+    put_u64(out, judged.item.trx());
 }
 
 /// Puts the reads and the writes, behind how many there are: at most 1,186 bytes.
@@ -98,15 +98,15 @@ fn put_lists(out: &mut Bytes, item: &WriteSet)
 
 /// The record behind its length.
 #[tactic(auto, using(rep_forms::specs::FormLaws::sizes, rep_forms::specs::FormLaws::joined))]
-fn body_of(record: &Judged) -> Bytes
-    ensures bytes { result.items ≡ body_bytes record.now }
+fn body_of(judged: &Judged) -> Bytes
+    ensures bytes { result.items ≡ body_bytes judged.now }
     ensures size { length result.items ≤ 1227 }
-    ensures fits { is_placed record.now ≡ true → IsRecord record.now }
+    ensures fits { is_placed judged.now ≡ true → IsRecord judged.now }
 {
     let mut body = ArrayVec::new();
-    put_labels(&mut body, record);
-    put_verdict(&mut body, record.verdict);
-    put_lists(&mut body, &record.item);
+    put_labels(&mut body, judged);
+    put_verdict(&mut body, judged.verdict);
+    put_lists(&mut body, &judged.item);
     body
 }
 
@@ -114,14 +114,14 @@ fn body_of(record: &Judged) -> Bytes
 /// it has no spelling: where its seqno is not from 1 to 2^60, or a conflict is not with an item
 /// before it.
 #[tactic(auto, using(rep_forms::specs::FormLaws::sizes, rep_forms::specs::FormLaws::joined))]
-pub fn put_record(record: &Judged) -> Option<ArrayVec<u8, MAX_RECORD>>
-    ensures placed { IsSome result ↔ (is_placed record.now ≡ true) }
+pub fn put_record(judged: &Judged) -> Option<ArrayVec<u8, MAX_RECORD>>
+    ensures placed { IsSome result ↔ (is_placed judged.now ≡ true) }
     // What is put has a spelling, and that is it: so it is read again.
-    ensures bytes { IfSome result (λ b. IsRecord record.now × (b.items ≡ record_bytes record.now)) }
-    ensures size { length (record_bytes record.now) ≤ MAX_RECORD }
+    ensures bytes { IfSome result (λ b. IsRecord judged.now × (b.items ≡ record_bytes judged.now)) }
+    ensures size { length (record_bytes judged.now) ≤ MAX_RECORD }
 {
-    let body = body_of(record);
-    if !is_placed(record) {
+    let body = body_of(judged);
+    if !is_placed(judged) {
         return None;
     }
     let mut out = ArrayVec::new();

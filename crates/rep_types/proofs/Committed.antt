@@ -8,7 +8,7 @@ use Rattle.rep_types.specs.Transactions.{written}
 use Rattle.rep_types.specs.Settings.{Setting}
 use Rattle.rep_types.specs.Entries.{Entry}
 use Rattle.rep_types.specs.Order.{Order, item, is_commit, counts, entry_of, entries, history, verdict}
-use Rattle.rep_types.specs.ByItems.{IsCommitted, IsEntry, AscendBySeqno}
+use Rattle.rep_types.specs.ByItems.{IsEntry, AscendBySeqno}
 use Rattle.rep_types.proofs.Members.{Contains-map, Contains-from_map, Contains-filter, Contains-from_filter}
 use Rattle.rep_types.proofs.Histories.{judged, length_history, history_at, history_at_index}
 

@@ -1,14 +1,13 @@
 -- The rows by the items of the order, and what takes effect.
-use Rattle.std.proofs.Common.{◌≡◌, ◌≢◌, ℕ, zero, suc, ◌+◌, ◌-◌, ◌<◌, ◌≤◌, Bool, true, false, if◌then◌else◌, List, [], ◌∷◌, ◌++◌, length, filter, take, drop, get_or, All, Contains, Option, None, Some, refl, sym, ap, subst, ◌∙◌, ⊎_elim, arith}
+use Rattle.std.proofs.Common.{◌≡◌, ◌≢◌, ℕ, zero, suc, ◌+◌, ◌-◌, ◌<◌, Bool, true, false, if◌then◌else◌, List, [], ◌∷◌, ◌++◌, length, filter, take, drop, get_or, Contains, Option, None, Some, refl, sym, ap, subst, ◌∙◌, ⊎_elim, arith}
 use Rattle.std.specs.List.{flat_map}
 use Rattle.std.specs.Option.{option_and_then, option_or}
 use Rattle.std.proofs.lemmas.Bool.{false_from_ne_true}
-use Rattle.std.proofs.lemmas.List.{get_or-drop, length-drop, length-take-le, take-append-drop}
+use Rattle.std.proofs.lemmas.List.{get_or-drop, length-drop, take-append-drop}
 use Rattle.std.proofs.lemmas.List.Elements.{All-contains, Contains-append_left, Contains-append_right, Contains-append_cases}
 use Rattle.rep_types.specs.declared.key.Key.{Key}
 use Rattle.rep_types.specs.declared.value.Write.{Write}
 use Rattle.rep_types.specs.declared.judged.Judged.{Judged}
-use Rattle.rep_types.specs.declared.verdict.Verdict.TheVariants.{Commit}
 use Rattle.rep_types.specs.Keys.{key_eq}
 use Rattle.rep_types.specs.Transactions.{key_of, written}
 use Rattle.rep_types.specs.Settings.{Setting}
@@ -16,7 +15,7 @@ use Rattle.rep_types.specs.Order.{Order, item, latest, is_commit, counts, histor
 use Rattle.rep_types.specs.ByItems.{IsCommitted, IsLastWrite}
 use Rattle.rep_types.proofs.Members.{Contains-first, Contains-behind, Contains-cons_cases, Contains-nothing, Contains-map, Contains-filter, Contains-from_filter}
 use Rattle.rep_types.proofs.Touches.{key_eq-true, key_eq_refl}
-use Rattle.rep_types.proofs.Histories.{judged, length_history, take_history, history_next, later_history}
+use Rattle.rep_types.proofs.Histories.{judged, take_history, history_next, later_history}
 use Rattle.rep_types.proofs.Committed.{is_commit-true, Contains-history, judged-from_history}
 use Rattle.rep_types.proofs.Rows.{effects-append, effects_push, row_in-append, content_after_none}
 

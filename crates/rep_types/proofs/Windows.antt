@@ -1,5 +1,5 @@
 -- Lemmas on the committed items and the window: what certification needs of them.
-use Rattle.std.proofs.Common.{◌≡◌, ℕ, ◌+◌, ◌<◌, ◌≤◌, Bool, true, false, nat_le, if◌then◌else◌, List, [], ◌∷◌, ◌++◌, length, filter, All, refl, sym, ap, ◌∙◌, le_refl, arith}
+use Rattle.std.proofs.Common.{◌≡◌, ℕ, ◌+◌, ◌<◌, ◌≤◌, Bool, true, nat_le, if◌then◌else◌, List, [], ◌∷◌, ◌++◌, length, filter, All, refl, sym, ap, ◌∙◌, le_refl, arith}
 use Rattle.std.proofs.lemmas.List.{map-append, length_push}
 use Rattle.std.proofs.lemmas.List.Elements.{filter-append, filter_passes, All-head, All-tail, All-weaker, All-map, All-filter}
 use Rattle.std.proofs.lemmas.Bool.{leb-true, le-leb}

@@ -1,4 +1,4 @@
-use Rattle.std.proofs.Common.{◌≡◌, ◌+◌, length, ap, arith, length-append, [], ◌∷◌}
+use Rattle.std.proofs.Common.{length, ap, arith, length-append, [], ◌∷◌}
 use Rattle.rep_layout.specs.PageStates.{four_byte}
 use Rattle.rep_layout.proofs.Fours.{put_none, put_more}
 use Rattle.rep_layout.proofs.page_state.put_states.Goals as goal

@@ -1,9 +1,8 @@
-use Rattle.std.proofs.Common.{◌≡◌, ◌≤◌, ℕ, List, Some, length, true, ap, sym, subst, ◌∙◌, arith}
+use Rattle.std.proofs.Common.{◌≡◌, List, Some, length, true, ap, sym, ◌∙◌, arith}
 use Rattle.rep_types.specs.Entries.{Entry}
 use Rattle.rep_forms.specs.Forms.{are_blank}
 use Rattle.rep_layout.specs.declared.window_reader.Head.{Head}
-use Rattle.rep_layout.specs.SuperLaws.{limits_of}
-use Rattle.rep_layout.specs.Windows.{Window, window, IsWindowBody, window_bytes}
+use Rattle.rep_layout.specs.Windows.{window}
 use Rattle.rep_layout.proofs.Windows.{says, begins, read_is}
 use Rattle.rep_layout.proofs.window_reader.read_window.Goals as goal
 use Rattle.rep_layout.proofs.window_reader.read_window.Goals.{then-bytes-ne-WINDOW_BODY-via-then-bytes-ne-WINDOW_BODY, then-bytes-ne-WINDOW_BODY-via-else-bytes-ne-WINDOW_BODY+then-from-span}

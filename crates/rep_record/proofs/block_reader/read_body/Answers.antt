@@ -1,9 +1,9 @@
-use Rattle.std.proofs.Common.{◌≡◌, ℕ, List, length, true, sym, ap, subst, ◌∙◌, arith}
+use Rattle.std.proofs.Common.{◌≡◌, ℕ, List, true, sym, ap, subst, ◌∙◌, arith}
 use Rattle.std.proofs.lemmas.Option.{same_Some}
 use Rattle.rep_types.specs.declared.judged.Judged.{Judged}
 use Rattle.rep_forms.specs.Forms.{are_blank}
 use Rattle.rep_record.specs.declared.block_reader.Head.{Head}
-use Rattle.rep_record.specs.Blocks.{IsBlock, block_bytes, AreRecords}
+use Rattle.rep_record.specs.Blocks.{AreRecords}
 use Rattle.rep_record.proofs.Blocks.{Says, says}
 use Rattle.rep_record.proofs.block_reader.read_body.Goals as goal
 use Rattle.rep_record.proofs.block_reader.read_body.Goals.{then-head-eq0-via-then-head-eq0, then-head-eq0-via-else-head-eq0+then-head-gt-MAX_RECORDS}

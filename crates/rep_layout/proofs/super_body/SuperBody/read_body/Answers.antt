@@ -1,4 +1,4 @@
-use Rattle.std.proofs.Common.{◌≡◌, List, ℕ, Ok, [], ap, sym, ◌∙◌}
+use Rattle.std.proofs.Common.{List, ℕ, Ok, [], ap, sym, ◌∙◌}
 use Rattle.std.proofs.lemmas.List.{append-nil}
 use Rattle.std.proofs.lemmas.Option.{same_Some}
 use Rattle.rep_layout.specs.Supers.{super_bytes}

@@ -1,4 +1,4 @@
-use Rattle.std.proofs.Common.{◌≡◌, sym, ap, ◌∙◌, arith}
+use Rattle.std.proofs.Common.{arith}
 use Rattle.rep_layout.specs.Windows.{window}
 use Rattle.rep_layout.proofs.Windows.{is_window, entries_follow}
 use Rattle.rep_layout.proofs.window_body.WindowBody.is_window.Goals as goal

@@ -1,4 +1,4 @@
-use Rattle.std.proofs.Common.{◌≡◌, List, ℕ, ◌++◌, ap, ◌∙◌, arith}
+use Rattle.std.proofs.Common.{List, ℕ, ◌++◌, ap, ◌∙◌, arith}
 use Rattle.rep_layout.specs.Windows.{window, head_bytes}
 use Rattle.rep_layout.proofs.Windows.{head_of, written}
 use Rattle.rep_layout.proofs.window_body.WindowBody.write_body.Goals as goal

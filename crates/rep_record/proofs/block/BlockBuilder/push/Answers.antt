@@ -10,30 +10,30 @@ use Rattle.rep_record.proofs.block.BlockBuilder.push.Goals as goal
 
 -- the record is gathered behind the others
 gathered : (c : goal.After-self-2-1)
-    → IsGathered (cond (eqb c.self.inside.count 0) c.args.record.now.seqno c.self.inside.first) (c.self.inside.count + 1) c.put_bytes.new.out.items
-    × (gathered_in (c.self.inside.count + 1) c.put_bytes.new.out.items ≡ gathered_in c.self.inside.count c.self.inside.bytes.items ++ c.args.record.now ∷ [])
+    → IsGathered (cond (eqb c.self.inside.count 0) c.args.judged.now.seqno c.self.inside.first) (c.self.inside.count + 1) c.put_bytes.new.out.items
+    × (gathered_in (c.self.inside.count + 1) c.put_bytes.new.out.items ≡ gathered_in c.self.inside.count c.self.inside.bytes.items ++ c.args.judged.now ∷ [])
 gathered c =
-    let next : is_next (gathered_in c.self.inside.count c.self.inside.bytes.items) c.args.record.now ≡ true =
-    ap (λ (js : List Judged). is_next js c.args.record.now) c.self.view_is ∙ sym c.is_next.ensures ∙ c.if-not-is_next.false in
+    let next : is_next (gathered_in c.self.inside.count c.self.inside.bytes.items) c.args.judged.now ≡ true =
+    ap (λ (js : List Judged). is_next js c.args.judged.now) c.self.view_is ∙ sym c.is_next.ensures ∙ c.if-not-is_next.false in
     let there = c.put_bytes.ensures.bytes ∙ ap (λ (xs : List ℕ). c.self.inside.bytes.items ++ xs) (c.as_slice.ensures.value ∙ c.in-Some.ensures.bytes.1) in
     let fits : length c.put_bytes.new.out.items ≤ MAX_BLOCK =
     omega (arith, ap length c.put_bytes.ensures.bytes, length-append c.self.inside.bytes.items c.as_slice.result.now, ap length c.as_slice.ensures.value) in
-    gathered_more c.self.inside.first c.self.inside.count c.self.inside.bytes.items c.put_bytes.new.out.items c.args.record.now c.self.invariant c.in-Some.ensures.bytes.0 next (omega arith) there fits
+    gathered_more c.self.inside.first c.self.inside.count c.self.inside.bytes.items c.put_bytes.new.out.items c.args.judged.now c.self.invariant c.in-Some.ensures.bytes.0 next (omega arith) there fits
 
 pub invariant_of-self : goal.invariant_of-self
 invariant_of-self c = subst (λ n. IsGathered n (c.self.inside.count + 1) c.put_bytes.new.out.items) (sym c.first_of-self-inside.ensures) (gathered c).0
 
 -- there is room
-room : (c : goal.After-self-2-1) → has_room c.args.self.now c.args.record.now ≡ true
+room : (c : goal.After-self-2-1) → has_room c.args.self.now c.args.judged.now ≡ true
 room c =
-    let placed : is_placed c.args.record.now ≡ true = c.in-Some.ensures.placed.0 refl in
-    let next : is_next c.args.self.now c.args.record.now ≡ true = sym c.is_next.ensures ∙ c.if-not-is_next.false in
+    let placed : is_placed c.args.judged.now ≡ true = c.in-Some.ensures.placed.0 refl in
+    let next : is_next c.args.self.now c.args.judged.now ≡ true = sym c.is_next.ensures ∙ c.if-not-is_next.false in
     let size : length c.args.self.now ≡ c.self.inside.count = ap (λ (js : List Judged). length js) (sym c.self.view_is) ∙ c.self.invariant.size in
     let run : length (run_bytes c.args.self.now) ≡ length c.self.inside.bytes.items = ap (λ (js : List Judged). length (run_bytes js)) (sym c.self.view_is) ∙ ap length (sym c.self.invariant.spelled) in
     let few : length c.args.self.now < MAX_RECORDS = omega arith in
-    let fits : length (run_bytes c.args.self.now) + length (record_bytes c.args.record.now) ≤ MAX_BLOCK = omega (arith, run, ap length c.in-Some.ensures.bytes.1) in
-    rw (placed, next, lt-ltb (length c.args.self.now) MAX_RECORDS few, le-leb (length (run_bytes c.args.self.now) + length (record_bytes c.args.record.now)) MAX_BLOCK fits) refl
+    let fits : length (run_bytes c.args.self.now) + length (record_bytes c.args.judged.now) ≤ MAX_BLOCK = omega (arith, run, ap length c.in-Some.ensures.bytes.1) in
+    rw (placed, next, lt-ltb (length c.args.self.now) MAX_RECORDS few, le-leb (length (run_bytes c.args.self.now) + length (record_bytes c.args.judged.now)) MAX_BLOCK fits) refl
 
 pub returns-clause-after : goal.returns-clause-after
 returns-clause-after c =
-    rw (room c) ((gathered c).1 ∙ ap (λ (js : List Judged). js ++ c.args.record.now ∷ []) c.self.view_is)
+    rw (room c) ((gathered c).1 ∙ ap (λ (js : List Judged). js ++ c.args.judged.now ∷ []) c.self.view_is)
