@@ -1,5 +1,4 @@
-use Rattle.std.proofs.Common.{◌≡◌, Some, sym, ap, ◌∙◌}
-use Rattle.rep_types.specs.Order.{seqnos_against, entries, greatest}
+use Rattle.std.proofs.Common.{Some, sym, ap, ◌∙◌}
 use Rattle.rep_types.proofs.Greatest.{greater, max_is_greater}
 use Rattle.rep_plain.proofs.Scans.{take_read, greatest_seqno_push}
 use Rattle.rep_plain.proofs.scan.greatest_conflict.Goals as goal
