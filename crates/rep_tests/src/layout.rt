@@ -2,8 +2,8 @@
 
 use arrayvec::ArrayVec;
 use rep_layout::{
-    Layout, PageState, Place, RowPlace, Side, Slot, SuperBody, WINDOW_BODY, WindowBody, WindowReader,
-    need, page_of, row_at,
+    Layout, PageState, Place, RowPlace, Side, Slot, SuperBody, WINDOW_BODY, WindowBody,
+    WindowReader, need, page_of, row_at,
 };
 use rep_types::{Entry, Key, Params, Part, Refusal};
 use std::alloc::{AllocError, Global};
