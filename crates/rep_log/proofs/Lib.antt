@@ -1,0 +1,9 @@
+pub mod Blocks
+pub mod Cells
+pub mod Told
+pub mod Images
+pub mod Steps
+pub mod Synced
+pub mod Taking
+pub mod Scanned
+pub mod ReadOn

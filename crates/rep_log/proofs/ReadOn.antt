@@ -1,0 +1,73 @@
+-- A scan of a device: what was read of it is what its bytes show.
+use Rattle.std.proofs.Common.{◌≡◌, ℕ, ◌+◌, ◌<◌, ◌≤◌, List, length, Option, Ok, refl, sym, ap, subst, ◌∙◌, arith}
+use Rattle.std.proofs.lemmas.Bool.{false≢true}
+use Rattle.rep_types.specs.declared.judged.Judged.{Judged}
+use Rattle.rep_types.specs.declared.limits.TheConstants.{MAX_SEQNO}
+use Rattle.rep_record.specs.Blocks.{BlocksAreTold}
+use Rattle.rep_disk.specs.Calls.{IsCall}
+use Rattle.rep_disk.specs.History.{History, seen}
+use Rattle.rep_layout.specs.declared.place.Layout.{Layout}
+use Rattle.rep_layout.specs.Places.{log_of, TurnsAreTaken}
+use Rattle.rep_cells.specs.Readings.{reading_of}
+use Rattle.rep_log.specs.Tail.{IsOfForm}
+use Rattle.rep_log.specs.Standing.{Standing}
+use Rattle.rep_log.specs.Scanning.{Found, HasCells, Visits, IsNoCell, Finds, rests_as}
+use Rattle.rep_log.proofs.Scanned.{Progress, goes_on, no_log, finds}
+
+-- ---- calls that succeeded
+
+-- no call
+pub no_call : {D : Type 0} (size failures : D → ℕ) (honest : D → Type 0) (disk : D) → IsCall {T = Unit {0}} size failures honest disk disk (Ok tt)
+no_call size failures honest disk = record { same_size = refl; stays_honest = λ h. h; was_honest = λ h. h; cause = λ e. absurd (false≢true e); no_cause = λ e. refl }
+
+-- one behind another
+pub calls : {D : Type 0} (size failures : D → ℕ) (honest : D → Type 0) (a b d : D) → IsCall {T = Unit {0}} size failures honest a b (Ok tt) → IsCall {T = Unit {0}} size failures honest b d (Ok tt) → IsCall {T = Unit {0}} size failures honest a d (Ok tt)
+calls size failures honest a b d first second = record {
+  same_size = second.same_size ∙ first.same_size;
+  stays_honest = λ h. second.stays_honest (first.stays_honest h);
+  was_honest = λ h. first.was_honest (second.was_honest h);
+  cause = λ e. absurd (false≢true e);
+  no_cause = λ e. second.no_cause e ∙ first.no_cause e;
+}
+
+-- ---- what was read
+
+-- the cell that was read, of the layout and the bytes that the scan began with
+pub record IsSame (layout l : Layout) (now h : History) (start number k : ℕ) (scan : Found) : Type 0 where
+  pub layout_is : layout ≡ l
+  pub now_is : now ≡ h
+  pub number_is : number ≡ start + k
+  pub from_is : scan.from ≡ start
+
+-- so what holds of that cell holds of the other
+of_cell : {layout l : Layout} {now h : History} {start number k : ℕ} {scan : Found} (P : Layout → ℕ → Option (List ℕ) → Type 0) → IsSame layout l now h start number k scan
+    → P layout number (reading_of layout (seen now) (log_of layout number)) → P l (scan.from + k) (reading_of l (seen h) (log_of l (scan.from + k)))
+of_cell {layout} {l} {now} {h} {start} {number} {k} {scan} P same holds =
+    let number_is : number ≡ scan.from + k = omega (arith, same.number_is, same.from_is) in
+    subst (λ (n : ℕ). P l n (reading_of l (seen h) (log_of l n))) number_is
+    (subst (λ (g : History). P l number (reading_of l (seen g) (log_of l number))) same.now_is (subst (λ (m : Layout). P m number (reading_of m (seen now) (log_of m number))) same.layout_is holds))
+
+-- a scan that read a cell goes on
+pub read_goes_on :
+    TurnsAreTaken → (layout l : Layout) (now h : History) (first start number k : ℕ) (old new : Found) → k < l.cells → l.cells ≤ length old.stands → IsSame layout l now h start number k old
+    → Progress (reading_of l (seen h)) l first k old → Visits layout number (reading_of layout (seen now) (log_of layout number)) old new → Progress (reading_of l (seen h)) l first (k + 1) new
+read_goes_on turns layout l now h first start number k old new lt long same at visits =
+    goes_on turns (reading_of l (seen h)) l first k (reading_of l (seen h) (log_of l (old.from + k))) old new lt long refl at (of_cell (λ m n cell. Visits m n cell old new) same visits)
+
+-- a cell that is of no log leaves none
+pub read_no_log :
+    TurnsAreTaken → BlocksAreTold → (layout l : Layout) (now h : History) (first start number k : ℕ) (scan : Found) → k < l.cells → IsSame layout l now h start number k scan
+    → Progress (reading_of l (seen h)) l first k scan → IsNoCell layout number (reading_of layout (seen now) (log_of layout number)) scan → IsOfForm (reading_of l (seen h)) l start first → ⊥
+read_no_log turns told layout l now h first start number k scan lt same at bad form =
+    no_log turns told (reading_of l (seen h)) l first k (reading_of l (seen h) (log_of l (scan.from + k))) scan lt refl at (of_cell (λ m n cell. IsNoCell m n cell scan) same bad)
+    (subst (λ n. IsOfForm (reading_of l (seen h)) l n first) (sym same.from_is) form)
+
+-- what a scan found of all cells
+pub read_all :
+    TurnsAreTaken → BlocksAreTold → (layout l : Layout) (h : History) (first start k : ℕ) (scan : Found) (log : Standing) (items : List Judged) → HasCells l → layout ≡ l → k ≡ l.cells → l.cells ≤ length scan.stands
+    → start < first → first ≤ MAX_SEQNO + 1 → scan.from ≡ start → log ≡ rests_as l scan → items ≡ scan.items → Progress (reading_of l (seen h)) l first k scan → Finds layout (seen h) start first log items
+read_all turns told layout l h first start k scan log items cells layout_is lap long starts limit from log_is items_are at =
+    subst (λ (m : Layout). Finds m (seen h) start first log items) (sym layout_is)
+    (subst (λ xs. Finds l (seen h) start first log xs) (sym items_are)
+    (subst (λ n. Finds l (seen h) n first log scan.items) from
+    (finds turns told l (seen h) first scan log cells.some long (omega (arith, from, starts)) limit (subst (λ n. Progress (reading_of l (seen h)) l first n scan) lap at) log_is)))

@@ -1,0 +1,93 @@
+use Rattle.std.proofs.Common.{◌≡◌, ℕ, ◌+◌, ◌<◌, ◌≤◌, ◌⊎◌, Result, IfErr, List, [], length, Option, option_map, Bor, refl, sym, ap, subst, ◌∙◌, arith, inl, inr}
+use Rattle.std.proofs.lemmas.Result.{err_from_is_err_and}
+use Rattle.rep_types.specs.declared.refusal.Refusal.{Refusal}
+use Rattle.rep_types.specs.declared.refusal.Refusal.TheVariants.{DiskFault, BadParams}
+use Rattle.rep_types.specs.declared.limits.TheConstants.{MAX_CELLS, MAX_SEQNO}
+use Rattle.rep_disk.specs.History.{History, seen, failed}
+use Rattle.rep_layout.specs.declared.place.Layout.{Layout}
+use Rattle.rep_cells.specs.Device.{disk_of, layout_of}
+use Rattle.rep_cells.specs.Readings.{reading_of}
+use Rattle.rep_log.specs.Tail.{IsOfForm}
+use Rattle.rep_log.specs.Scanning.{Found, HasCells, RefusesLog}
+use Rattle.rep_log.proofs.Scanned.{nothing_yet}
+use Rattle.rep_log.proofs.ReadOn.{IsSame, no_call, calls, read_goes_on, read_no_log, read_all}
+use Rattle.rep_log.proofs.ring.Log.scan.Goals as goal
+
+pub loop-k-init : goal.loop-k-init
+loop-k-init g c =
+    let l : Layout = c.layout-layout.result in
+    let begun = c.new-scan.ensures.begun in
+    record {
+      layout = sym c.layout-layout.ensures;
+      was_layout = sym c.layout-layout.ensures;
+      limits = record { some = omega (arith, c.if-layout-eq0.false); few = omega (arith, c.if-layout-gt-MAX_CELLS.false) };
+      lap = refl;
+      started = omega (arith, c.if-start-position.false);
+      placed = omega (arith, c.if-position-gt-MAX_SEQNO.false);
+      from = begun.from_is;
+      stands = c.new-scan.ensures.stands;
+      call = no_call g.D.Disk.size g.D.Disk.failures g.D.Disk.honest (disk_of c.args.cells.now);
+      same = λ honest. refl;
+      progress = λ honest none. nothing_yet (reading_of l (seen (g.D.Disk.history (disk_of c.args.cells.now)))) l (c.args.position + 1) c.new-scan.result begun.items_are (begun.next_is ∙ sym begun.from_is) begun.seqno_is;
+    }
+
+-- the cell that was read, of what the scan began with
+same_cells : (layout l : Layout) (now h : History) (start number x k : ℕ) (scan : Found) → layout ≡ l → now ≡ h → number ≡ start + x → x ≡ k → scan.from ≡ start → IsSame layout l now h start number k scan
+same_cells layout l now h start number x k scan layout_is now_is number_is same from_is = record { layout_is = layout_is; now_is = now_is; number_is = omega (arith, number_is, same); from_is = from_is }
+
+pub loop-k-preserved : goal.loop-k-preserved
+loop-k-preserved g c =
+    let inv = c.loop-k.invariant in
+    let l : Layout = c.layout-layout.result in
+    let first_disk = disk_of c.args.cells.now in
+    let disk = disk_of c.loop-k.cells in
+    let h : History = g.D.Disk.history first_disk in
+    record {
+      layout = c.read_on.ensures.layout ∙ inv.layout;
+      was_layout = inv.was_layout;
+      limits = inv.limits;
+      lap = refl;
+      started = inv.started;
+      placed = inv.placed;
+      from = c.in_ok-read_on.ensures.from ∙ inv.from;
+      stands = c.in_ok-read_on.ensures.stands;
+      call = calls g.D.Disk.size g.D.Disk.failures g.D.Disk.honest first_disk disk (disk_of c.read_on.new.cells) inv.call c.in_ok-read_on.ensures.call;
+      same = λ honest. c.read_on.ensures.same (inv.call.stays_honest honest) ∙ inv.same honest;
+      progress = λ honest none. read_goes_on c.turns_are_taken.ensures (layout_of c.loop-k.cells) l (g.D.Disk.history disk) h (c.args.position + 1) c.args.start (c.args.start + c.from.result) c.loop-k.k c.loop-k.scan c.read_on.new.self
+          (omega (arith, c.loop-k-test.true)) (omega (arith, inv.limits.few, inv.stands)) (same_cells (layout_of c.loop-k.cells) l (g.D.Disk.history disk) h c.args.start (c.args.start + c.from.result) c.from.result c.loop-k.k c.loop-k.scan inv.layout (inv.same honest) refl c.from.ensures inv.from)
+          (inv.progress honest none) (c.in_ok-read_on.ensures.visited (inv.call.stays_honest honest) (ap failed (inv.same honest) ∙ none));
+    }
+
+pub returns-in_err-read_on-clause-refused : goal.returns-in_err-read_on-clause-refused
+returns-in_err-read_on-clause-refused g c =
+    let inv = c.loop-k.invariant in
+    let l : Layout = c.layout-layout.result in
+    let layout : Layout = layout_of c.args.cells.now in
+    let first_disk = disk_of c.args.cells.now in
+    let disk = disk_of c.loop-k.cells in
+    let h : History = g.D.Disk.history first_disk in
+    let err = err_from_is_err_and c.from_residual.result c.from_residual.ensures.1 in
+    let same : err.0 ≡ c.in_err-read_on.field-0.0 = err.2 in
+    let P : Refusal → Type 0 =
+    λ e. (e ≡ DiskFault) ⊎ (((e ≡ BadParams) × (HasCells layout → ⊥)) ⊎ RefusesLog (g.D.Disk.honest first_disk → failed h ≡ [] → IsOfForm (reading_of layout (seen h)) layout c.args.start (c.args.position + 1) → ⊥) e) in
+    let refuses : P c.in_err-read_on.field-0.0 = elim c.in_err-read_on.ensures.refused [
+      | inl fault ↦ inl fault
+      | inr why ↦ elim why [
+        | inl memory ↦ inr (inr (inl memory))
+        | inr corrupt ↦ inr (inr (inr (
+          corrupt.0,
+          λ honest none form. read_no_log c.turns_are_taken.ensures c.blocks_are_told.ensures (layout_of c.loop-k.cells) l (g.D.Disk.history disk) h (c.args.position + 1) c.args.start
+              (c.args.start + c.from.result) c.loop-k.k c.loop-k.scan (omega (arith, c.loop-k-test.true))
+              (same_cells (layout_of c.loop-k.cells) l (g.D.Disk.history disk) h c.args.start (c.args.start + c.from.result) c.from.result c.loop-k.k c.loop-k.scan inv.layout (inv.same honest) refl c.from.ensures inv.from)
+              (inv.progress honest none) (corrupt.1 (inv.call.stays_honest honest) (ap failed (inv.same honest) ∙ none)) (subst (λ (k : Layout). IsOfForm (reading_of k (seen h)) k c.args.start (c.args.position + 1)) inv.was_layout form),
+        )))
+      ]
+    ] in
+    subst (λ (r : Result _ Refusal). IfErr r P) (sym err.1) (subst P (sym same) refuses)
+
+pub returns-clause-finds : goal.returns-clause-finds
+returns-clause-finds g c = λ honest none.
+    let inv = c.loop-k.invariant in
+    let l : Layout = c.layout-layout.result in
+    read_all c.turns_are_taken.ensures c.blocks_are_told.ensures (layout_of c.args.cells.now) l (g.D.Disk.history (disk_of c.args.cells.now)) (c.args.position + 1) c.args.start c.loop-k.k c.loop-k.scan c.at_rest.result.0 c.at_rest.result.1.items
+    inv.limits inv.was_layout (omega (arith, c.loop-k-test.false, c.loop-k.auto.k-end)) (omega (arith, inv.limits.few, inv.stands)) (omega (arith, inv.started)) (omega (arith, inv.placed)) inv.from c.at_rest.ensures.log c.at_rest.ensures.items (inv.progress honest none)

@@ -1,0 +1,5 @@
+pub mod Tail
+pub mod Standing
+pub mod Moves
+pub mod Scanning
+pub mod Laws

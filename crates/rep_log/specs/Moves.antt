@@ -1,0 +1,150 @@
+-- What the log's calls do: what is refused, how the log stands after each, and what they make of the states of its cells.
+use Rattle.std.specs.Prelude.{◌≡◌, ◌≢◌, ℕ, ◌+◌, ◌-◌, ◌==◌, ◌&&◌, true, false, if◌then◌else◌, min, max, List, [], ◌∷◌, ◌++◌, length, take, drop, Option, None, Some, Result, Ok, Err, IfErr, slice_set}
+use Rattle.rep_types.specs.declared.judged.Judged.{Judged}
+use Rattle.rep_types.specs.declared.refusal.Refusal.{Refusal}
+use Rattle.rep_types.specs.declared.refusal.Refusal.TheVariants.{NotDue, LogFull, DiskFault}
+use Rattle.rep_record.specs.Blocks.{first_seqno}
+use Rattle.rep_disk.specs.History.{History}
+use Rattle.rep_disk.specs.declared.disk.DiskFault.{DiskFault as Fault}
+use Rattle.rep_layout.specs.declared.place.Layout.{Layout}
+use Rattle.rep_layout.specs.declared.place.Place.{Place}
+use Rattle.rep_layout.specs.declared.place.Place.TheVariants.{Log}
+use Rattle.rep_cells.specs.States.{States, Syncs}
+use Rattle.rep_cells.specs.Known.{Assigns}
+use Rattle.rep_cells.specs.Calls.{Reaches, WritesOnly}
+use Rattle.rep_log.specs.declared.phase.Phase.{Phase}
+use Rattle.rep_log.specs.declared.phase.Phase.TheVariants.{Resting, Closing, Filling, Filled, Opening}
+use Rattle.rep_log.specs.declared.phase.Step.{Step}
+use Rattle.rep_log.specs.declared.phase.Step.TheVariants.{Recycle, Seal, Gate, Sync, Full}
+use Rattle.rep_log.specs.Tail.{seqno_after}
+use Rattle.rep_log.specs.Standing.{Standing, index_of, due_of, LogIs}
+
+-- ---- what is refused
+
+-- where this isn't due
+abbrev pub unless_recycle : Step → Option Refusal
+unless_recycle Recycle = None
+unless_recycle Seal = Some NotDue
+unless_recycle Gate = Some NotDue
+unless_recycle Sync = Some NotDue
+unless_recycle Full = Some NotDue
+
+abbrev pub unless_seal : Step → Option Refusal
+unless_seal Recycle = Some NotDue
+unless_seal Seal = None
+unless_seal Gate = Some NotDue
+unless_seal Sync = Some NotDue
+unless_seal Full = Some LogFull
+
+abbrev pub unless_gate : Step → Option Refusal
+unless_gate Recycle = Some NotDue
+unless_gate Seal = Some NotDue
+unless_gate Gate = None
+unless_gate Sync = Some NotDue
+unless_gate Full = Some NotDue
+
+-- What a call refuses before it touches the device: nothing is due on cells that aren't the log's, and no block but that of the
+-- next seqno.
+abbrev pub recycle_refusal : Layout → Standing → Option Refusal
+recycle_refusal l log = if l.cells == log.cells then unless_recycle (due_of log) else Some NotDue
+
+abbrev pub seal_refusal : Layout → Standing → List Judged → Option Refusal
+seal_refusal l log records = if (l.cells == log.cells) && (first_seqno records == log.seqno) then unless_seal (due_of log) else Some NotDue
+
+abbrev pub gate_refusal : Layout → Standing → Option Refusal
+gate_refusal l log = if l.cells == log.cells then unless_gate (due_of log) else Some NotDue
+
+-- a refusal as what the device answered
+abbrev pub fault_of : {T : Type 0} → Result T Refusal → Result (Unit {0}) Fault
+fault_of (Ok x) = Ok tt
+fault_of (Err DiskFault) = Err (record {})
+fault_of (Err _) = Ok tt
+
+-- A call that was refused: log and device are as before.
+pub record IsRefused {D T : Type 0} (e : Refusal) (before after : Standing) (old new : D) (result : Result T Refusal) : Type 0 where
+  pub refused : result ≡ Err e
+  pub log : after ≡ before
+  pub disk : new ≡ old
+
+-- ---- how the log stands after a call
+
+-- once the gate of a stale cell, the block, and its open gate are written
+abbrev pub recycled : Standing → Standing
+recycled log = record log { phase = Closing }
+
+abbrev pub sealed_as : ℕ → Standing → Standing
+sealed_as n log = record log { phase = Filling n }
+
+abbrev pub gated_in : Standing → Phase → Standing
+gated_in log Resting = log
+gated_in log Closing = log
+gated_in log (Filling n) = log
+gated_in log (Filled n) = record log { phase = Opening n }
+gated_in log (Opening n) = log
+
+abbrev pub gated : Standing → Standing
+gated log = gated_in log log.phase
+
+-- after a sync that succeeds
+abbrev pub synced_in : Standing → Phase → Standing
+synced_in log Resting = log
+synced_in log Closing = record log { phase = Resting; stands = slice_set log.stands (index_of log) false }
+synced_in log (Filling n) = record log { phase = Filled n }
+synced_in log (Filled n) = log
+synced_in log (Opening n) = record log { next = log.next + 1; seqno = log.seqno + n; phase = Resting; stands = slice_set log.stands (index_of log) true }
+
+abbrev pub after_sync : Standing → Standing
+after_sync log = synced_in log log.phase
+
+-- and which blocks it then holds: that sync makes the block whose gate opened durable
+abbrev pub blocks_synced : Phase → List (List Judged) → List Judged → List (List Judged)
+blocks_synced Resting blocks sealed = blocks
+blocks_synced Closing blocks sealed = blocks
+blocks_synced (Filling n) blocks sealed = blocks
+blocks_synced (Filled n) blocks sealed = blocks
+blocks_synced (Opening n) blocks sealed = blocks ++ sealed ∷ []
+
+-- how many records it makes durable
+abbrev pub durable_by : Phase → ℕ
+durable_by Resting = 0
+durable_by Closing = 0
+durable_by (Filling n) = 0
+durable_by (Filled n) = 0
+durable_by (Opening n) = n
+
+-- from this block on, where that is neither before the start nor behind the next block
+abbrev pub started : ℕ → Standing → Standing
+started start log = record log { start = max log.start (min start log.next) }
+
+-- ---- what becomes of the states
+
+-- A call on the log: there are states that differ from those before it in the log's cells alone, in which the log stands as it
+-- does after the call; they are the states during the call and after it.
+pub record Steps {T E : Type 0} (l : Layout) (old new : History) (s : States) (log : Standing) (first : ℕ) (blocks : List (List Judged)) (sealed : List Judged) (result : Result T E) : Type 0 where
+  pub states : States
+  pub elsewhere : (place : Place) → ((i : ℕ) → place ≢ Log i) → states place ≡ s place
+  pub log_is : LogIs l log first blocks sealed states
+  pub reaches : Reaches l old new states states result
+
+-- A step that is due: the log stands so after it, also where it failed; it writes these bytes at this offset and no others; it
+-- refuses the device's fault alone; and on an honest device, whatever the log held before, it holds it during the call and
+-- after it, with this block in writing.
+pub record IsStep {D T : Type 0} (honest : D → Type 0) (history : D → History) (l : Layout) (before after to : Standing) (coming : List Judged → List Judged) (at : ℕ) (bytes : List ℕ) (old new : D) (result : Result T Refusal) : Type 0 where
+  pub stands : after ≡ to
+  pub fault : IfErr result (λ e. e ≡ DiskFault)
+  pub written : WritesOnly honest history at bytes old new result
+  pub steps :
+      honest old → (s : States) (first : ℕ) (blocks : List (List Judged)) (sealed : List Judged) → Assigns l (history old) s → LogIs l before first blocks sealed s
+      → Steps l (history old) (history new) s after first blocks (coming sealed) result
+
+-- Whatever the log held, a sync leaves that, with the block whose gate opened.
+abbrev pub SyncsLog : Standing → Standing → Type 0
+SyncsLog before after =
+    (l : Layout) (s t : States) (first : ℕ) (blocks : List (List Judged)) (sealed : List Judged) → Syncs s t → LogIs l before first blocks sealed s
+    → LogIs l after first (blocks_synced before.phase blocks sealed) sealed t
+
+-- Whatever the log held, from a later start on it holds what is left of it.
+abbrev pub StartsLater : Standing → Standing → Type 0
+StartsLater before after =
+    (l : Layout) (s : States) (first : ℕ) (blocks : List (List Judged)) (sealed : List Judged) → LogIs l before first blocks sealed s
+    → LogIs l after (seqno_after first (take (after.start - before.start) blocks)) (drop (after.start - before.start) blocks) sealed s

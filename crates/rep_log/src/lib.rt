@@ -1,0 +1,17 @@
+//! The log on the disk: a ring of gated cells, each with a block of records.
+//!
+//! Blocks are numbered from 0 on and lie in the cells in turn. A block is written in four steps, each
+//! of one call of the device: the gate of an earlier block is closed where one stands open, the body
+//! is written, it is made stable, and its gate is opened; with the sync behind that the block is
+//! durable. So a stop at any moment leaves the durable blocks, or those with the one whose gate was
+//! opening.
+#![tactic(auto)]
+
+mod laws;
+mod phase;
+mod ring;
+mod scan;
+
+pub use laws::{the_log_in_every_image, the_log_is_told};
+pub use phase::{Phase, Step};
+pub use ring::Log;

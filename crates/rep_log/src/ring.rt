@@ -1,0 +1,340 @@
+//! Where the log stands, and the steps of its next block.
+
+ghost use Rattle.std.specs.Prelude.{◌≡◌, ◌+◌, ◌-◌, ◌<◌, ◌≤◌, ◌%◌, ◌⊎◌, [], None, Some, length, IfOk, IfErr, IfSome};
+ghost use Rattle.rep_types.specs.declared.judged.Judged.{Judged};
+ghost use Rattle.rep_disk.specs.History.{seen, failed};
+ghost use Rattle.rep_disk.specs.Calls.{IsCall};
+ghost use Rattle.rep_record.specs.Blocks.{IsBlock, block_bytes};
+ghost use Rattle.rep_layout.specs.Places.{offset_of, gate_of, log_of};
+ghost use Rattle.rep_cells.specs.Device.{disk_of, layout_of};
+ghost use Rattle.rep_cells.specs.Readings.{IsCell, reading_of};
+ghost use Rattle.rep_cells.specs.Calls.{gate, WritesOnly};
+ghost use Rattle.rep_log.specs.Tail.{IsBlockFrom, IsOfForm};
+ghost use Rattle.rep_log.specs.Standing.{index_of, due_of};
+ghost use Rattle.rep_log.specs.Moves.{unless_recycle, unless_seal, unless_gate, recycle_refusal, seal_refusal, gate_refusal, fault_of, recycled, sealed_as, gated, after_sync, durable_by, started, IsRefused, IsStep, SyncsLog, StartsLater};
+ghost use Rattle.rep_log.specs.Scanning.{HasCells, Finds, RefusesLog, rests_as};
+
+use crate::phase::{Phase, Step};
+use crate::scan::{CORRUPT, Scan};
+use rep_cells::Cells;
+use rep_disk::{Disk, DiskFault};
+use rep_layout::{LOG_BODY, Layout, turns_are_taken};
+use rep_record::{BlockBuilder, blocks_are_told};
+use rep_types::{Judged, MAX_CELLS, MAX_SEQNO, Refusal};
+use std::alloc::Global;
+use std::marker::Model;
+
+/// How many cells a log may have.
+pub(crate) const CELLS: usize = MAX_CELLS as usize;
+
+/// Where the log of a disk stands: blocks from `start` on up to `next` stand open in its cells and are
+/// durable, and the next block is as far as the phase says.
+#[derive(Drop)]
+pub struct Log {
+    start: u64,
+    next: u64,
+    seqno: u64,
+    cells: u32,
+    phase: Phase,
+    stands: [bool; CELLS],
+}
+
+impl Model for Log {
+    ghost use Rattle.std.specs.Prelude.{◌≡◌, ◌<◌, ◌≤◌, ◌+◌, length};
+    ghost use Rattle.rep_types.specs.declared.limits.TheConstants.{MAX_CELLS, MAX_SEQNO};
+    ghost use Rattle.rep_log.specs.Standing.{Standing, IsInLimits};
+
+    ghost Value = { Standing };
+
+    ghost view = { λ log. record { start = log.start; next = log.next; seqno = log.seqno; cells = log.cells; phase = log.phase; stands = log.stands } };
+
+    ghost invariant = { λ log. IsInLimits log.start log.next log.seqno log.cells log.phase × (length log.stands ≡ MAX_CELLS) };
+}
+
+/// What the device answered, as a refusal.
+fn refusal_of(answer: Result<(), DiskFault>) -> Result<(), Refusal>
+    ensures fault { fault_of result ≡ answer }
+    ensures only { IfErr result (λ e. e ≡ Refusal.DiskFault) }
+{
+    match answer {
+        Ok(()) => Ok(()),
+        Err(DiskFault) => Err(Refusal::DiskFault),
+    }
+}
+
+impl Log {
+    /// Reads all cells in turn: the log of a disk whose superblock has this start and this position,
+    /// and the records of its blocks. On an honest device a sync has to stand before it, so that what
+    /// is read is stable.
+    ///
+    /// From the start on, blocks are taken as long as the next cell stands open over the next number,
+    /// at most one lap. Refuses with `Corrupt` of the log where such a body is no block, or its seqnos
+    /// do not follow; where an open cell holds a number that does not belong there, or one from the
+    /// start on that was not taken; and where the start is behind the position, or that is over 2^60.
+    /// Refuses with `BadParams` a layout without cells or of more than 1,024, with `DiskFault` where
+    /// the device failed, and with `OutOfMemory`.
+    pub fn scan<D: Disk>(
+        alloc: Global,
+        cells: &mut Cells<D>,
+        start: u64,
+        position: u64,
+    ) -> Result<(Log, Vec<Judged>), Refusal>
+        ensures call { IsCall D.size D.failures D.honest (disk_of cells.old) (disk_of cells.new) (fault_of result) }
+        ensures layout { layout_of cells.new ≡ layout_of cells.old }
+        ensures same { D.honest (disk_of cells.old) → D.history (disk_of cells.new) ≡ D.history (disk_of cells.old) }
+        ensures cells { IfOk result (λ x. HasCells (layout_of cells.old)) }
+        ensures finds { D.honest (disk_of cells.old) → failed (D.history (disk_of cells.old)) ≡ [] → IfOk result (λ x. Finds (layout_of cells.old) (seen (D.history (disk_of cells.old))) start (position + 1) x.0 x.1.items) }
+        ensures refused { IfErr result (λ e. (e ≡ Refusal.DiskFault) ⊎ (((e ≡ Refusal.BadParams) × (HasCells (layout_of cells.old) → ⊥)) ⊎ RefusesLog (D.honest (disk_of cells.old) → failed (D.history (disk_of cells.old)) ≡ [] → IsOfForm (reading_of (layout_of cells.old) (seen (D.history (disk_of cells.old)))) (layout_of cells.old) start (position + 1) → ⊥) e)) }
+    {
+        turns_are_taken();
+        blocks_are_told();
+        let layout = cells.layout();
+        if layout.cells == 0 || layout.cells > MAX_CELLS {
+            return Err(Refusal::BadParams);
+        }
+        if start > position || position > MAX_SEQNO {
+            return Err(CORRUPT);
+        }
+        let mut room = [0; LOG_BODY];
+        let mut scan = Scan::new(alloc, start, position);
+        for k in 0..layout.cells {
+            scan.read_on(cells, start + u64::from(k), &mut room)?;
+        }
+        Ok(Log::at_rest(scan, layout))
+    }
+
+    /// The log that a scan found, and the records of its blocks.
+    fn at_rest(scan: Scan, layout: Layout) -> (Log, Vec<Judged>)
+        requires { HasCells layout }
+        ensures log { result.0 ≡ rests_as layout scan }
+        ensures items { result.1.items ≡ scan.items }
+    {
+        let stands = scan.stands;
+        let log = Log {
+            start: scan.from,
+            next: scan.next,
+            seqno: scan.seqno,
+            cells: layout.cells,
+            phase: Phase::Resting,
+            stands,
+        };
+        (log, scan.items)
+    }
+
+    /// The number of the first block that is still needed.
+    pub fn start(&self) -> u64
+        ensures { result ≡ self.now.start }
+    {
+        self.start
+    }
+
+    /// The number of the next block: one more than that of the last durable one.
+    pub fn next(&self) -> u64
+        ensures { result ≡ self.now.next }
+    {
+        self.next
+    }
+
+    /// The seqno of the last durable record, or of the one before the log's first.
+    pub fn durable(&self) -> u64
+        ensures { result + 1 ≡ self.now.seqno }
+    {
+        self.seqno - 1
+    }
+
+    /// How far the next block is.
+    pub fn phase(&self) -> Phase
+        ensures { result ≡ self.now.phase }
+    {
+        self.phase
+    }
+
+    /// The index of the next block's cell.
+    fn index(&self) -> usize
+        ensures index { result ≡ index_of self.now }
+        ensures there { result < self.now.cells }
+    {
+        (self.next % u64::from(self.cells)) as usize
+    }
+
+    /// What the next block needs.
+    pub fn step_due(&self) -> Step
+        ensures { result ≡ due_of self.now }
+    {
+        match self.phase {
+            Phase::Resting => {
+                if self.start + u64::from(self.cells) <= self.next {
+                    Step::Full
+                } else if self.stands[self.index()] {
+                    Step::Recycle
+                } else {
+                    Step::Seal
+                }
+            }
+            Phase::Closing | Phase::Filling(_) | Phase::Opening(_) => Step::Sync,
+            Phase::Filled(_) => Step::Gate,
+        }
+    }
+
+    /// What `recycle` refuses on a device with these places.
+    fn recycle_refusal(&self, layout: Layout) -> Option<Refusal>
+        ensures { result ≡ recycle_refusal layout self.now }
+    {
+        if layout.cells != self.cells {
+            return Some(Refusal::NotDue);
+        }
+        match self.step_due() {
+            Step::Recycle => None,
+            Step::Seal | Step::Gate | Step::Sync | Step::Full => Some(Refusal::NotDue),
+        }
+    }
+
+    /// What `seal` refuses on a device with these places.
+    fn seal_refusal(&self, layout: Layout, block: &BlockBuilder) -> Option<Refusal>
+        ensures { result ≡ seal_refusal layout self.now block.now }
+    {
+        if layout.cells != self.cells || block.first() != self.seqno {
+            return Some(Refusal::NotDue);
+        }
+        match self.step_due() {
+            Step::Seal => None,
+            Step::Full => Some(Refusal::LogFull),
+            Step::Recycle | Step::Gate | Step::Sync => Some(Refusal::NotDue),
+        }
+    }
+
+    /// What `gate` refuses on a device with these places.
+    fn gate_refusal(&self, layout: Layout) -> Option<Refusal>
+        ensures { result ≡ gate_refusal layout self.now }
+    {
+        if layout.cells != self.cells {
+            return Some(Refusal::NotDue);
+        }
+        match self.step_due() {
+            Step::Gate => None,
+            Step::Recycle | Step::Seal | Step::Sync | Step::Full => Some(Refusal::NotDue),
+        }
+    }
+
+    /// Closes the gate of the next block's cell, in which an earlier block stands open: one write.
+    ///
+    /// Refuses with `NotDue` where that is not due, and on cells of another log; with `DiskFault` where
+    /// the device failed, and then the log stands as if it had not: whoever calls stops.
+    pub fn recycle<D: Disk>(&mut self, cells: &mut Cells<D>) -> Result<(), Refusal>
+        ensures call { IsCall D.size D.failures D.honest (disk_of cells.old) (disk_of cells.new) (fault_of result) }
+        ensures layout { layout_of cells.new ≡ layout_of cells.old }
+        ensures refused { IfSome (recycle_refusal (layout_of cells.old) self.old) (λ e. IsRefused e self.old self.new (disk_of cells.old) (disk_of cells.new) result) }
+        ensures step { recycle_refusal (layout_of cells.old) self.old ≡ None → IsStep D.honest D.history (layout_of cells.old) self.old self.new (recycled self.old) (λ sealed. sealed) (gate_of (layout_of cells.old) (log_of (layout_of cells.old) self.old.next)) (gate 0) (disk_of cells.old) (disk_of cells.new) result }
+    {
+        turns_are_taken();
+        let layout = cells.layout();
+        if let Some(refusal) = self.recycle_refusal(layout) {
+            return Err(refusal);
+        }
+        self.phase = Phase::Closing;
+        refusal_of(cells.close_gate(layout.log_of(self.next)))
+    }
+
+    /// Writes the body of the next block, with the records that were gathered, into its cell: one write.
+    ///
+    /// Refuses with `NotDue` where that is not due, on cells of another log, and for a block that is
+    /// empty or of other seqnos than those that come next; with `LogFull` where the cell is live, its
+    /// block still needed; with `DiskFault` where the device failed, and then the log stands as if it
+    /// had not: whoever calls stops.
+    pub fn seal<D: Disk>(
+        &mut self,
+        cells: &mut Cells<D>,
+        block: &BlockBuilder,
+    ) -> Result<(), Refusal>
+        ensures call { IsCall D.size D.failures D.honest (disk_of cells.old) (disk_of cells.new) (fault_of result) }
+        ensures layout { layout_of cells.new ≡ layout_of cells.old }
+        ensures refused { IfSome (seal_refusal (layout_of cells.old) self.old block.now) (λ e. IsRefused e self.old self.new (disk_of cells.old) (disk_of cells.new) result) }
+        ensures step { seal_refusal (layout_of cells.old) self.old block.now ≡ None → IsStep D.honest D.history (layout_of cells.old) self.old self.new (sealed_as (length block.now) self.old) (λ sealed. block.now) (offset_of (layout_of cells.old) (log_of (layout_of cells.old) self.old.next)) (block_bytes self.old.next block.now) (disk_of cells.old) (disk_of cells.new) result }
+    {
+        turns_are_taken();
+        let layout = cells.layout();
+        if let Some(refusal) = self.seal_refusal(layout, block) {
+            return Err(refusal);
+        }
+        let Some(body) = block.write_body(self.next) else {
+            return Err(Refusal::NotDue);
+        };
+        self.phase = Phase::Filling(block.len());
+        refusal_of(cells.fill(layout.log_of(self.next), body.as_slice()))
+    }
+
+    /// Opens the gate of the next block, whose body is stable: one write.
+    ///
+    /// Refuses with `NotDue` where that is not due, and on cells of another log; with `DiskFault` where
+    /// the device failed, and then the log stands as if it had not: whoever calls stops.
+    pub fn gate<D: Disk>(&mut self, cells: &mut Cells<D>) -> Result<(), Refusal>
+        ensures call { IsCall D.size D.failures D.honest (disk_of cells.old) (disk_of cells.new) (fault_of result) }
+        ensures layout { layout_of cells.new ≡ layout_of cells.old }
+        ensures refused { IfSome (gate_refusal (layout_of cells.old) self.old) (λ e. IsRefused e self.old self.new (disk_of cells.old) (disk_of cells.new) result) }
+        ensures step { gate_refusal (layout_of cells.old) self.old ≡ None → IsStep D.honest D.history (layout_of cells.old) self.old self.new (gated self.old) (λ sealed. sealed) (gate_of (layout_of cells.old) (log_of (layout_of cells.old) self.old.next)) (gate 0xA5) (disk_of cells.old) (disk_of cells.new) result }
+    {
+        turns_are_taken();
+        let layout = cells.layout();
+        if let Some(refusal) = self.gate_refusal(layout) {
+            return Err(refusal);
+        }
+        let Phase::Filled(count) = self.phase else {
+            return Err(Refusal::NotDue);
+        };
+        self.phase = Phase::Opening(count);
+        refusal_of(cells.open_gate(layout.log_of(self.next)))
+    }
+
+    /// Moves on by a sync that succeeded.
+    fn settle(&mut self) -> u16
+        ensures durable { result ≡ durable_by self.old.phase }
+        ensures after { self.new ≡ after_sync self.old }
+    {
+        let index = self.index();
+        match self.phase {
+            Phase::Resting | Phase::Filled(_) => 0,
+            Phase::Closing => {
+                self.stands[index] = false;
+                self.phase = Phase::Resting;
+                0
+            }
+            Phase::Filling(count) => {
+                self.phase = Phase::Filled(count);
+                0
+            }
+            Phase::Opening(count) => {
+                self.stands[index] = true;
+                self.next += 1;
+                self.seqno += u64::from(count);
+                self.phase = Phase::Resting;
+                count
+            }
+        }
+    }
+
+    /// Takes note of a sync that succeeded, and says how many records it made durable: those of the
+    /// next block where its gate was opened, and none else.
+    pub fn synced(&mut self) -> u16
+        ensures durable { result ≡ durable_by self.old.phase }
+        ensures after { self.new ≡ after_sync self.old }
+        ensures log { SyncsLog self.old self.new }
+    {
+        self.settle()
+    }
+
+    /// Moves the start within the blocks that stand.
+    fn raise(&mut self, start: u64)
+        ensures after { self.new ≡ started start self.old }
+    {
+        self.start = self.start.max(start.min(self.next));
+    }
+
+    /// Lets the blocks before this number go: their cells may be used again. A number behind the next
+    /// block's lets all go, and one before the start none.
+    pub fn start_at(&mut self, start: u64)
+        ensures after { self.new ≡ started start self.old }
+        ensures log { StartsLater self.old self.new }
+    {
+        self.raise(start)
+    }
+}
