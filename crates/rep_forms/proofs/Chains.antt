@@ -95,7 +95,7 @@ values_left read n bytes h = length-values_in read n bytes (each read n bytes) r
 -- spellings are told apart
 pub told : {A : Type 0} (F : Form A) → IsForm F → AreTold F
 told {A = A} F f x y rest tail fits also e =
-    let same : (x, rest) ≡ (y, tail) = same_Some (x, rest) (y, tail) (sym (f x rest fits) ∙ ap F.read e ∙ f y tail also) in
+    let same : (x, rest) ≡ (y, tail) = same_Some (x, rest) (y, tail) (sym (f.again x rest fits) ∙ ap F.read e ∙ f.again y tail also) in
     (ap (λ (p : A × List ℕ). p.0) same, ap (λ (p : A × List ℕ). p.1) same)
 
 -- ---- what is spelled so is read

@@ -42,11 +42,11 @@ part_again n bytes rest e =
     rw (long, take_at bytes rest n e, drop_at bytes rest n e) refl
 
 pub part_is_form : (n : ℕ) → IsForm (part_of n)
-part_is_form n bytes rest h = part_again n bytes rest h.size
+part_is_form n = record { again = λ bytes rest h. part_again n bytes rest h.size }
 
 pub byte_is_form : IsForm byte
 unfolding first_byte
-byte_is_form b rest h = refl
+byte_is_form = record { again = λ b rest h. refl }
 
 -- a number that fits
 number_again : (n x : ℕ) → x < 256 ^ n → number_in n (number_bytes n x) ≡ x
@@ -54,29 +54,29 @@ unfolding number_in number_bytes
 number_again n x h = ap (number_in n) (sym (append-nil (number_bytes n x))) ∙ big_number-reads_back n x [] h
 
 pub number_is_form : (n : ℕ) → IsForm (number n)
-number_is_form n x rest h = rw (part_again n (number_bytes n x) rest (length_number n x), number_again n x h) refl
+number_is_form n = record { again = λ x rest h. rw (part_again n (number_bytes n x) rest (length_number n x), number_again n x h) refl }
 
 -- one form behind another
 pub both_is_form : {A B : Type 0} (F : Form A) (G : A → Form B) → IsForm F → ((a : A) → IsForm (G a)) → IsForm (both F G)
-both_is_form F G f g x rest h =
-    let first : F.read (F.spell x.0 ++ ((G x.0).spell x.1 ++ rest)) ≡ Some (x.0, (G x.0).spell x.1 ++ rest) = f x.0 ((G x.0).spell x.1 ++ rest) h.0 in
-    let second : (G x.0).read ((G x.0).spell x.1 ++ rest) ≡ Some (x.1, rest) = g x.0 x.1 rest h.1 in
-    ap (both F G).read (append_assoc (F.spell x.0) ((G x.0).spell x.1) rest) ∙ rw (first, second) refl
+both_is_form F G f g = record {
+  again = λ x rest h. ap (both F G).read (append_assoc (F.spell x.0) ((G x.0).spell x.1) rest) ∙ rw (f.again x.0 ((G x.0).spell x.1 ++ rest) h.0, (g x.0).again x.1 rest h.1) refl;
+}
 
 -- a form of other values
 pub via_is_form : {A B : Type 0} (F : Form A) (from : B → A) (to : A → Option B) → IsForm F → IsForm (via F from to)
-via_is_form F from to f x rest h = rw (f (from x) rest h.0, h.1) refl
+via_is_form F from to f = record { again = λ x rest h. rw (f.again (from x) rest h.0, h.1) refl }
 
 -- a form with zeros behind it
 pub padded_is_form : {A : Type 0} (F : Form A) (n : ℕ) → IsForm F → IsForm (padded F n)
-padded_is_form F n f x rest h =
-    let first : F.read (F.spell x ++ (zeros n ++ rest)) ≡ Some (x, zeros n ++ rest) = f x (zeros n ++ rest) h in
-    ap (padded F n).read (append_assoc (F.spell x) (zeros n) rest) ∙ rw (first, part_again n (zeros n) rest (length_zeros n)) refl
+padded_is_form F n f = record {
+  again = λ x rest h. ap (padded F n).read (append_assoc (F.spell x) (zeros n) rest) ∙ rw (f.again x (zeros n ++ rest) h, part_again n (zeros n) rest (length_zeros n)) refl;
+}
 
 -- a form behind a mark
 pub marked_is_form : {A : Type 0} (mark : List ℕ) (F : Form A) → IsForm F → IsForm (marked mark F)
-marked_is_form mark F f x rest h =
-    ap (marked mark F).read (append_assoc mark (F.spell x) rest) ∙ rw (part_again (length mark) mark (F.spell x ++ rest) refl) (f x rest h)
+marked_is_form mark F f = record {
+  again = λ x rest h. ap (marked mark F).read (append_assoc mark (F.spell x) rest) ∙ rw (part_again (length mark) mark (F.spell x ++ rest) refl) (f.again x rest h);
+}
 
 -- values one after another
 pub each_again : {A : Type 0} (F : Form A) → IsForm F → (xs : List A) (rest : List ℕ) → AllByRecursion F.Fits xs → each F.read (length xs) (flat_map F.spell xs ++ rest) ≡ Some (xs, rest)
@@ -84,17 +84,21 @@ unfolding each
 each_again F f [] rest h = refl
 each_again F f (x ∷ xs) rest h =
     let regrouped : flat_map F.spell (x ∷ xs) ++ rest ≡ F.spell x ++ (flat_map F.spell xs ++ rest) = ap (λ bytes. bytes ++ rest) (flat_map-cons F.spell x xs) ∙ append_assoc (F.spell x) (flat_map F.spell xs) rest in
-    ap (each F.read (suc (length xs))) regrouped ∙ rw (f x (flat_map F.spell xs ++ rest) h.0, each_again F f xs rest h.1) refl
+    ap (each F.read (suc (length xs))) regrouped ∙ rw (f.again x (flat_map F.spell xs ++ rest) h.0, each_again F f xs rest h.1) refl
 
 pub many_is_form : {A : Type 0} (limit n : ℕ) (F : Form A) → IsForm F → IsForm (many limit n F)
-many_is_form limit n F f xs rest h =
-    let few : ltb limit n ≡ false = le-ltb limit n h.few in
-    let read : each F.read n (flat_map F.spell xs ++ rest) ≡ Some (xs, rest) = ap (λ k. each F.read k (flat_map F.spell xs ++ rest)) (sym h.size) ∙ each_again F f xs rest h.each in
-    rw (few, read) refl
+many_is_form limit n F f = record {
+  again = λ xs rest h.
+      let read : each F.read n (flat_map F.spell xs ++ rest) ≡ Some (xs, rest) = ap (λ k. each F.read k (flat_map F.spell xs ++ rest)) (sym h.size) ∙ each_again F f xs rest h.each in
+      rw (le-ltb limit n h.few, read) refl;
+}
+
+-- the laws of forms that are made of others
+pub ruleset forms = (part_is_form, byte_is_form, number_is_form, both_is_form, via_is_form, padded_is_form, marked_is_form, many_is_form)
 
 -- the same in other words
 pub named_is_form : {A : Type 0} (F : Form A) (Fits : A → Type 0) (spell : A → List ℕ) → IsForm F → ((x : A) → Fits x → F.Fits x) → ((x : A) → Fits x → spell x ≡ F.spell x) → IsForm (as_named F Fits spell)
-named_is_form F Fits spell f fits same x rest h = ap (λ (bytes : List ℕ). F.read (bytes ++ rest)) (same x h) ∙ f x rest (fits x h)
+named_is_form F Fits spell f fits same = record { again = λ x rest h. ap (λ (bytes : List ℕ). F.read (bytes ++ rest)) (same x h) ∙ f.again x rest (fits x h) }
 
 -- ---- runs
 
