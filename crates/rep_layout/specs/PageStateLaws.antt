@@ -2,14 +2,14 @@
 use Rattle.std.proofs.Common.{◌≡◌, ℕ, zero, suc, ◌*◌, ◌/◌, ◌%◌, ◌≤◌, List, [], ◌∷◌, length, take, drop, Some, refl, sym, ap, ◌∙◌, arith}
 use Rattle.std.specs.List.{flat_map, AllByRecursion}
 use Rattle.std.proofs.lemmas.List.Concat.{flat_map-cons}
-use Rattle.rep_forms.specs.Forms.{IsForm, byte, many}
-use Rattle.rep_forms.specs.FormLaws.{byte_is_form, many_is_form, via_is_form, named_is_form}
+use Rattle.rep_forms.specs.Forms.{IsForm}
+use Rattle.rep_forms.specs.FormLaws.{forms, named_is_form}
 use Rattle.rep_layout.specs.declared.place.Slot.TheVariants.{First, Second}
 use Rattle.rep_layout.specs.declared.page_state.PageState.{PageState}
 use Rattle.rep_layout.specs.declared.page_state.PageState.TheVariants.{Nowhere, In}
 use Rattle.rep_layout.specs.declared.page_state.Four.{Four}
 use Rattle.rep_layout.specs.declared.page_state.TheConstants.{STATES}
-use Rattle.rep_layout.specs.PageStates.{state_code, state_of, four_byte, four_of, four_fields, four_form, list_of, fours, state_bytes, AreStates, states_fields, states_form}
+use Rattle.rep_layout.specs.PageStates.{state_code, state_of, four_byte, four_of, four_fields, four_form, list_of, fours, AreStates, states_fields, states_form}
 
 -- codes are at most 2, and tell the state
 code_small : (state : PageState) → state_code state ≤ 2
@@ -37,7 +37,7 @@ byte_tells f =
 
 pub four_is_form : IsForm four_form
 four_is_form =
-    named_is_form four_fields (λ _. Unit {0}) (λ f. four_byte f ∷ []) (via_is_form byte four_byte four_of byte_is_form)
+    named_is_form four_fields _ _ (search forms)
     (λ f h. (omega (arith, code_small f.first, code_small f.second, code_small f.third, code_small f.fourth), byte_tells f)) (λ f h. refl)
 
 -- so many fours
@@ -69,5 +69,5 @@ states_fit n states h = (
 
 pub states_is_form : (n : ℕ) → IsForm (states_form n)
 states_is_form n =
-    named_is_form (states_fields n) (AreStates n) state_bytes (via_is_form (many STATES STATES four_form) (fours STATES) (λ fs. Some (take n (flat_map list_of fs))) (many_is_form STATES STATES four_form four_is_form))
+    named_is_form (states_fields n) _ _ (search (forms, four_is_form))
     (states_fit n) (λ states h. refl)
