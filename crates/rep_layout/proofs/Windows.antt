@@ -1,11 +1,11 @@
 -- What is read as a window's body is spelled so, and what is spelled so is read.
-use Rattle.std.proofs.Common.{◌≡◌, ℕ, zero, suc, ◌+◌, ◌-◌, ◌^◌, ◌<◌, ◌≤◌, true, ltb, leb, List, [], ◌∷◌, ◌++◌, length, map, Option, Some, None, refl, sym, ap, subst, ◌∙◌, append_assoc, arith, length-append}
+use Rattle.std.proofs.Common.{◌≡◌, ℕ, zero, suc, ◌+◌, ◌-◌, ◌^◌, ◌<◌, ◌≤◌, true, List, [], ◌∷◌, ◌++◌, length, map, Option, Some, None, refl, sym, ap, subst, ◌∙◌, append_assoc, arith, length-append}
 use Rattle.std.specs.Prelude.{is_none, slice_index}
 use Rattle.std.specs.List.{list_all, AllByRecursion}
 use Rattle.std.specs.List.Sorted.{IsStrictlyIncreasing}
-use Rattle.std.proofs.lemmas.Bool.{ltb-true, leb-true, lt-ltb, le-leb}
+use Rattle.std.proofs.lemmas.Bool.{ltb-true}
+use Rattle.std.proofs.lemmas.Bool.Decides.{nat_tests}
 use Rattle.std.proofs.lemmas.Option.{same_Some, cond_some}
-use Rattle.rep_types.specs.declared.limits.TheConstants.{MAX_WRITES}
 use Rattle.rep_types.specs.declared.key.Key.{Key}
 use Rattle.rep_types.specs.Keys.{disorder}
 use Rattle.rep_types.specs.Entries.{Entry}
@@ -32,32 +32,23 @@ none_is (Some x) h = absurd cc
 step_says : (s : Standing) (e : Entry) (t : Standing) → next_entry s e ≡ Some t → IsEntry s.params s.position e × (s.before < e.seqno) × (standing s.params s.position e.seqno ≡ t)
 step_says s e t h =
     let step = cond_some (is_entry s e) (standing s.params s.position e.seqno) t h in
-    let a = conjuncts _ (list_all (has_row s.params.rows) e.keys) step.0 in
-    let b = conjuncts _ (is_none (disorder e.keys)) a.0 in
-    let c = conjuncts _ (ltb 0 (length e.keys)) b.0 in
-    let d = conjuncts _ (ltb (s.position - e.seqno) s.params.window) c.0 in
-    let f = conjuncts _ (leb e.seqno s.position) d.0 in
-    let g = conjuncts (leb (length e.keys) MAX_WRITES) (ltb s.before e.seqno) f.0 in
-    let above : s.before < e.seqno = ltb-true s.before e.seqno g.1 in
-    let past : e.seqno ≤ s.position = leb-true e.seqno s.position f.1 in (
+    let passes = step.0 in (
       record {
-        first = omega (arith, above);
-        past = past;
-        near = omega (arith, past, ltb-true (s.position - e.seqno) s.params.window d.1);
-        some = omega (arith, ltb-true 0 (length e.keys) c.1);
-        few = leb-true (length e.keys) MAX_WRITES g.0;
-        ascend = none_is (disorder e.keys) b.1;
-        rows = a.1;
+        first = grind (arith, nat_tests);
+        past = grind (arith, nat_tests);
+        near = grind (arith, nat_tests);
+        some = grind (arith, nat_tests);
+        few = grind (arith, nat_tests);
+        ascend = none_is (disorder e.keys) (grind (arith, nat_tests));
+        rows = grind (arith, nat_tests);
       },
-      above,
+      grind (arith, nat_tests),
       step.1,
     )
 
 -- an entry of the window is allowed behind a smaller seqno
 entry_passes : (s : Standing) (e : Entry) → IsEntry s.params s.position e → s.before < e.seqno → is_entry s e ≡ true
-entry_passes s e h above =
-    let near : s.position - e.seqno < s.params.window = omega (arith, h.past, h.near) in
-    rw (le-leb (length e.keys) MAX_WRITES h.few, lt-ltb s.before e.seqno above, le-leb e.seqno s.position h.past, lt-ltb (s.position - e.seqno) s.params.window near, lt-ltb 0 (length e.keys) (omega (arith, h.some)), h.ascend, h.rows) refl
+entry_passes s e h above = grind (arith, nat_tests)
 
 -- each seqno is above the one before
 abbrev Above : ℕ → List Entry → Type 0

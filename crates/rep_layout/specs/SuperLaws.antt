@@ -1,13 +1,12 @@
 -- The law of superblocks as bytes.
-use Rattle.std.proofs.Common.{◌≡◌, ℕ, ◌<◌, ◌≤◌, ◌^◌, true, ltb, leb, List, [], ◌∷◌, length, refl, append_assoc, arith}
-use Rattle.std.specs.Prelude.{◌&&◌}
-use Rattle.std.specs.List.{list_all, AllByRecursion}
-use Rattle.std.proofs.lemmas.Bool.{leb-true}
+use Rattle.std.proofs.Common.{◌≡◌, ℕ, ◌<◌, ◌≤◌, ◌^◌, true, List, [], ◌∷◌, length, refl, append_assoc, arith}
+use Rattle.std.specs.List.{AllByRecursion}
+use Rattle.std.proofs.lemmas.Bool.Decides.{nat_tests}
 use Rattle.std.proofs.lemmas.List.Sums.{sum_by-cons}
-use Rattle.rep_types.specs.declared.limits.TheConstants.{MAX_PAGES, MAX_TABLES, MAX_WINDOW, MIN_CELLS, MAX_CELLS}
-use Rattle.rep_types.specs.Settings.{Setting, page_count, pages_of, is_schema, is_setting}
+use Rattle.rep_types.specs.declared.limits.TheConstants.{MAX_PAGES, MAX_TABLES, MAX_WINDOW, MAX_CELLS}
+use Rattle.rep_types.specs.Settings.{Setting, page_count, pages_of, is_setting}
 use Rattle.rep_forms.specs.Forms.{IsForm}
-use Rattle.rep_forms.specs.FormLaws.{conjuncts, forms, named_is_form}
+use Rattle.rep_forms.specs.FormLaws.{forms, named_is_form}
 use Rattle.rep_layout.specs.declared.super_body.SuperBody.{SuperBody}
 use Rattle.rep_layout.specs.PageStateLaws.{states_is_form}
 use Rattle.rep_layout.specs.Supers.{IsSuper, setting_fields, setting_form, super_fields, super_form}
@@ -22,20 +21,7 @@ pub record Limits (p : Setting) : Type 0 where
   pub pages : pages_of p.rows ≤ MAX_PAGES
 
 pub limits_of : (p : Setting) → is_setting p ≡ true → Limits p
-limits_of p h =
-    let a = conjuncts (leb 1 p.window && leb p.window MAX_WINDOW && leb MIN_CELLS p.cells && leb p.cells MAX_CELLS) (is_schema p.rows) h in
-    let b = conjuncts (leb 1 p.window && leb p.window MAX_WINDOW && leb MIN_CELLS p.cells) (leb p.cells MAX_CELLS) a.0 in
-    let c = conjuncts (leb 1 p.window && leb p.window MAX_WINDOW) (leb MIN_CELLS p.cells) b.0 in
-    let d = conjuncts (leb 1 p.window) (leb p.window MAX_WINDOW) c.0 in
-    let e = conjuncts (ltb 0 (length p.rows) && leb (length p.rows) MAX_TABLES && list_all (ltb 0) p.rows) (leb (pages_of p.rows) MAX_PAGES) a.1 in
-    let f = conjuncts (ltb 0 (length p.rows) && leb (length p.rows) MAX_TABLES) (list_all (ltb 0) p.rows) e.0 in
-    let g = conjuncts (ltb 0 (length p.rows)) (leb (length p.rows) MAX_TABLES) f.0 in
-    record {
-      window = leb-true p.window MAX_WINDOW d.1;
-      cells = leb-true p.cells MAX_CELLS b.1;
-      tables = leb-true (length p.rows) MAX_TABLES g.1;
-      pages = leb-true (pages_of p.rows) MAX_PAGES e.1;
-    }
+limits_of p h = record { window = grind (arith, nat_tests); cells = grind (arith, nat_tests); tables = grind (arith, nat_tests); pages = grind (arith, nat_tests) }
 
 -- tables of no more pages have few rows
 pub rows_fit : (rows : List ℕ) → pages_of rows ≤ MAX_PAGES → AllByRecursion (λ (n : ℕ). n < 2 ^ 32) rows
