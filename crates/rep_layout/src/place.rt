@@ -220,7 +220,7 @@ pub fn sizes_are_these()
 
 /// A superblock lies on the other side than the one before it; each block of the log has a cell, and
 /// blocks whose numbers are less than a lap apart have different ones.
-#[tactic(auto, using(crate::proofs::Turns::sides_alternate, crate::proofs::Turns::cells_are_places, crate::proofs::Turns::cells_apart, crate::proofs::Turns::a_lap_on))]
+#[tactic(auto, using(crate::proofs::Turns::turns))]
 pub fn turns_are_taken()
     ensures { TurnsAreTaken }
 {}
