@@ -1,5 +1,5 @@
 -- What is read as a window's body is spelled so, and what is spelled so is read.
-use Rattle.std.proofs.Common.{◌≡◌, ℕ, zero, suc, ◌+◌, ◌-◌, ◌^◌, ◌<◌, ◌≤◌, true, List, [], ◌∷◌, ◌++◌, length, map, Option, Some, None, refl, sym, ap, subst, ◌∙◌, append_assoc, arith, length-append}
+use Rattle.std.proofs.Common.{◌≡◌, ℕ, zero, suc, ◌-◌, ◌^◌, ◌<◌, ◌≤◌, true, List, [], ◌∷◌, ◌++◌, length, map, Option, Some, None, refl, sym, ap, subst, ◌∙◌, append_assoc, arith, length-append}
 use Rattle.std.specs.Prelude.{is_none, slice_index}
 use Rattle.std.specs.List.{list_all, AllByRecursion}
 use Rattle.std.specs.List.Sorted.{IsStrictlyIncreasing}
@@ -90,9 +90,9 @@ entries_fit p position (e ∷ es) setting q h =
     )
 
 -- a head takes 256 bytes
-length-head : (head : Head) → length (head_bytes head) ≡ 256
+pub head_size : (head : Head) → length (head_bytes head) ≡ 256
 unfolding window_mark
-length-head head = simp (length-append, length_number, length_zeros) refl
+head_size head = simp (length-append, length_number, length_zeros) refl
 
 -- the head of a window, and the zeros behind its entries
 abbrev pub head_of : Window → Head
@@ -104,9 +104,8 @@ filling w = zeros (22784 - length (run_bytes w.entries))
 -- head, entries and zeros, one put behind another
 pub written : (w : Window) (a b c : List ℕ) (rest : ℕ) → a ≡ head_bytes (head_of w) → b ≡ a ++ run_bytes w.entries → rest ≡ 23040 - length b → c ≡ b ++ zeros rest → c ≡ window_bytes w
 written w a b c rest ea eb er ec =
-    let two : b ≡ head_bytes (head_of w) ++ run_bytes w.entries = eb ∙ ap (λ (front : List ℕ). front ++ run_bytes w.entries) ea in
-    let size : rest ≡ 22784 - length (run_bytes w.entries) = omega (arith, er, ap length two, length-append (head_bytes (head_of w)) (run_bytes w.entries), length-head (head_of w)) in
-    ec ∙ ap (λ (front : List ℕ). front ++ zeros rest) two ∙ append_assoc (head_bytes (head_of w)) (run_bytes w.entries) (zeros rest) ∙ ap (λ n. head_bytes (head_of w) ++ (run_bytes w.entries ++ zeros n)) size
+    let size : rest ≡ 22784 - length (run_bytes w.entries) = omega (arith, er, ap length eb, ap length ea, length-append a (run_bytes w.entries), head_size (head_of w)) in
+    rw (ec, eb, ea, append_assoc (head_bytes (head_of w)) (run_bytes w.entries) (zeros rest), size) refl
 
 -- What a window's bytes say.
 pub record Says (p : Setting) (bytes : List ℕ) (w : Window) : Type 0 where
@@ -116,17 +115,15 @@ pub record Says (p : Setting) (bytes : List ℕ) (w : Window) : Type 0 where
   pub chain : IsChain entry_form next_entry (standing p w.position 0) (length w.entries) (run_bytes w.entries ++ filling w) w.entries (filling w)
   pub blank : are_blank (filling w) ≡ true
 
-pub says : (p : Setting) (bytes : List ℕ) (w : Window) → is_setting p ≡ true → IsWindowBody p w → bytes ≡ window_bytes w → Says p bytes w
-says p bytes w limits h e =
+pub says : {p : Setting} {bytes : List ℕ} {w : Window} → is_setting p ≡ true → IsWindowBody p w → bytes ≡ window_bytes w → Says p bytes w
+says {p} {bytes} {w} limits h e =
     let few : length w.entries ≤ 256 = omega (arith, h.few, (limits_of p limits).window) in
     let fit = entries_fit p w.position w.entries limits h.position h.entries in
     let run : length (run_bytes w.entries) ≤ 22784 = omega (arith, run_short entry_bytes EntryFits 89 entry_short w.entries fit, few) in
     record {
       fits = record { number = h.number; position = h.position; count = omega (arith, few) };
       there = e;
-      size =
-          ap length e ∙ length-append (head_bytes (head_of w)) (run_bytes w.entries ++ filling w)
-          ∙ omega (arith, length-head (head_of w), length-append (run_bytes w.entries) (filling w), length_zeros (22784 - length (run_bytes w.entries)), run);
+      size = omega (arith, ap length e, length-append (head_bytes (head_of w)) (run_bytes w.entries ++ filling w), head_size (head_of w), length-append (run_bytes w.entries) (filling w), length_zeros (22784 - length (run_bytes w.entries)), run);
       chain = record { size = refl; each = fit; follow = entries_follow p w h; there = refl };
       blank = zeros_blank (22784 - length (run_bytes w.entries));
     }
@@ -136,9 +133,9 @@ pub record Begins (p : Setting) (head : Head) (body : List ℕ) (w : Window) : T
   pub head_is : head ≡ head_of w
   pub chain : IsChain entry_form next_entry (standing p head.position 0) head.count body w.entries (filling w)
 
-pub begins : (p : Setting) (bytes : List ℕ) (head : Head) (body : List ℕ) (w : Window) → Says p bytes w → TakesFront head_form bytes (Some (head, body)) → Begins p head body w
-begins p bytes head body w s front =
-    let same : ◌≡◌ {A = Head × List ℕ} (head, body) (head_of w, run_bytes w.entries ++ filling w) = same_Some _ _ (front.only (head_of w) (run_bytes w.entries ++ filling w) s.fits s.there) in
+pub begins : {p : Setting} {bytes : List ℕ} {head : Head} {body : List ℕ} {w : Window} → Says p bytes w → TakesFront head_form bytes (Some (head, body)) → Begins p head body w
+begins {p} {bytes} {head} {body} {w} s front =
+    let same = same_Some _ _ (front.only (head_of w) (run_bytes w.entries ++ filling w) s.fits s.there) in
     record {
       head_is = ap (λ (x : Head × List ℕ). x.0) same;
       chain = subst (λ (x : Head × List ℕ). IsChain entry_form next_entry (standing p x.0.position 0) x.0.count x.1 w.entries (filling w)) (sym same) s.chain;
@@ -146,15 +143,12 @@ begins p bytes head body w s front =
 
 -- ---- what is read is spelled so
 
-pub read_is : (p : Setting) (bytes : List ℕ) (head : Head) (body : List ℕ) (es : List Entry) (rest : List ℕ) → length bytes ≡ 23040 → HeadFits head → bytes ≡ head_bytes head ++ body → head.count ≤ p.window
+pub read_is : {p : Setting} {bytes : List ℕ} {head : Head} {body : List ℕ} {es : List Entry} {rest : List ℕ} → length bytes ≡ 23040 → HeadFits head → bytes ≡ head_bytes head ++ body → head.count ≤ p.window
     → IsChain entry_form next_entry (standing p head.position 0) head.count body es rest → are_blank rest ≡ true → IsWindowBody p (window head.number head.position es) × (bytes ≡ window_bytes (window head.number head.position es))
-read_is p bytes head body es rest size fits there few chain blank =
-    let sizes : 23040 ≡ 256 + (length (run_bytes es) + length rest) =
-    sym size ∙ ap length there ∙ length-append (head_bytes head) body ∙ ap (λ n. n + length body) (length-head head) ∙ ap (λ n. 256 + n) (ap length chain.there ∙ length-append (run_bytes es) rest) in
-    let zeros_are : rest ≡ zeros (22784 - length (run_bytes es)) = blank_is rest blank ∙ ap zeros (omega (arith, sizes)) in
-    let count : head ≡ head_of (window head.number head.position es) = ap (λ n. record { number = head.number; position = head.position; count = n }) (sym chain.size) in (
+read_is {p} {bytes} {head} {body} {es} {rest} size fits there few chain blank =
+    let sizes : length rest ≡ 22784 - length (run_bytes es) = omega (arith, size, ap length there, length-append (head_bytes head) body, head_size head, ap length chain.there, length-append (run_bytes es) rest) in (
       is_window p head.number head.position es fits.number fits.position (omega (arith, chain.size, few)) chain.follow,
-      there ∙ ap (λ (h : Head). head_bytes h ++ body) count ∙ ap (λ (tail : List ℕ). head_bytes (head_of (window head.number head.position es)) ++ tail) (chain.there ∙ ap (λ (tail : List ℕ). run_bytes es ++ tail) zeros_are),
+      rw (there, chain.there, blank_is rest blank, sizes, ← chain.size) refl,
     )
 
 -- ---- windows are told apart
@@ -162,8 +156,8 @@ read_is p bytes head body es rest size fits there few chain blank =
 -- by their heads and the runs behind these
 pub told_by : AreTold head_form → RunsAreTold entry_form → (p : Setting) (v w : Window) → is_setting p ≡ true → IsWindowBody p v → IsWindowBody p w → window_bytes v ≡ window_bytes w → v ≡ w
 told_by heads runs p v w limits h k e =
-    let one = says p (window_bytes v) v limits h refl in
-    let two = says p (window_bytes v) w limits k e in
+    let one = says {bytes = window_bytes v} limits h refl in
+    let two = says limits k e in
     let apart = heads (head_of v) (head_of w) (run_bytes v.entries ++ filling v) (run_bytes w.entries ++ filling w) one.fits two.fits (sym one.there ∙ two.there) in
     let count : length w.entries ≡ length v.entries = cc in
     let fits : AreMany entry_form (length v.entries) (length v.entries) v.entries = record { size = refl; few = omega arith; each = one.chain.each } in
