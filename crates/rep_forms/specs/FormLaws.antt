@@ -1,8 +1,10 @@
 -- The laws of forms, and of how forms are made of others.
 use Rattle.std.proofs.Common.{◌≡◌, ℕ, zero, suc, ◌+◌, ◌*◌, ◌<◌, ◌≤◌, ◌^◌, Bool, true, false, eqb, ltb, List, [], ◌∷◌, ◌++◌, length, take, drop, Option, Some, None, refl, sym, ap, subst, ◌∙◌, append_assoc, arith}
-use Rattle.std.specs.Prelude.{replicate, ◌&&◌}
+use Rattle.std.specs.Prelude.{◌&&◌}
 use Rattle.std.specs.List.{flat_map, AllByRecursion}
-use Rattle.std.proofs.lemmas.Bool.{le-ltb, eqb-true}
+use Rattle.std.proofs.lemmas.Bool.{le-ltb}
+use Rattle.std.proofs.lemmas.Bool.Decides.{nat_tests}
+use Rattle.std.proofs.lemmas.Grind.{flat_map-append}
 use Rattle.std.proofs.lemmas.List.{take_at, drop_at, length-append, append-nil, length-replicate}
 use Rattle.std.proofs.lemmas.List.Concat.{flat_map-cons}
 use Rattle.byteorder.specs.Numbers.{big_number-reads_back, length-bytes_high_first}
@@ -20,9 +22,7 @@ length_zeros n = length-replicate {A = ℕ} n 0
 
 pub length_numbers : (n : ℕ) (xs : List ℕ) → length (flat_map (number_bytes n) xs) ≡ n * length xs
 length_numbers n [] = omega arith
-length_numbers n (x ∷ xs) =
-    let more : n * suc (length xs) ≡ n + n * length xs = grind arith in
-    omega (arith, length_number n x, length_numbers n xs, ap length (flat_map-cons (number_bytes n) x xs), length-append (number_bytes n x) (flat_map (number_bytes n) xs), more)
+length_numbers n (x ∷ xs) = grind (arith, length_number, length_numbers n xs, flat_map-cons (number_bytes n) x xs, length-append)
 
 -- the sizes of the parts
 pub ruleset sizes = (length_number, length_numbers, length_zeros, length-append)
@@ -104,10 +104,7 @@ named_is_form F Fits spell f fits same = record { again = λ x rest h. ap (λ (b
 
 -- one more at the end
 pub run_more : {A : Type 0} (spell : A → List ℕ) (xs : List A) (x : A) → flat_map spell (xs ++ x ∷ []) ≡ flat_map spell xs ++ spell x
-run_more spell [] x = flat_map-cons spell x [] ∙ append-nil (spell x)
-run_more spell (y ∷ xs) x =
-    flat_map-cons spell y (xs ++ x ∷ []) ∙ ap (λ bytes. spell y ++ bytes) (run_more spell xs x)
-    ∙ sym (append_assoc (spell y) (flat_map spell xs) (spell x)) ∙ ap (λ bytes. bytes ++ spell x) (sym (flat_map-cons spell y xs))
+run_more spell xs x = rw (flat_map-append, flat_map-cons, append-nil) refl
 
 -- what holds of each holds with one more
 pub all_more : {A : Type 0} (P : A → Type 0) (xs : List A) (x : A) → AllByRecursion P xs → P x → AllByRecursion P (xs ++ x ∷ [])
@@ -117,9 +114,7 @@ all_more P (y ∷ xs) x h p = (h.0, all_more P xs x h.1 p)
 -- so many spellings of at most so many bytes
 pub run_short : {A : Type 0} (spell : A → List ℕ) (P : A → Type 0) (most : ℕ) → ((x : A) → P x → length (spell x) ≤ most) → (xs : List A) → AllByRecursion P xs → length (flat_map spell xs) ≤ most * length xs
 run_short spell P most short [] h = omega arith
-run_short spell P most short (x ∷ xs) h =
-    let more : most * suc (length xs) ≡ most + most * length xs = grind arith in
-    omega (arith, short x h.0, run_short spell P most short xs h.1, ap length (flat_map-cons spell x xs), length-append (spell x) (flat_map spell xs), more)
+run_short spell P most short (x ∷ xs) h = grind (arith, short x h.0, run_short spell P most short xs h.1, flat_map-cons spell x xs, length-append)
 
 -- what holds of all holds of each
 pub all_of : {A : Type 0} (P : A → Type 0) → ((x : A) → P x) → (xs : List A) → AllByRecursion P xs
@@ -129,9 +124,7 @@ all_of P h (x ∷ xs) = (h x, all_of P h xs)
 -- so many spellings of so many bytes
 pub run_size : {A : Type 0} (spell : A → List ℕ) (P : A → Type 0) (size : ℕ) → ((x : A) → P x → length (spell x) ≡ size) → (xs : List A) → AllByRecursion P xs → length (flat_map spell xs) ≡ size * length xs
 run_size spell P size is [] h = omega arith
-run_size spell P size is (x ∷ xs) h =
-    let more : size * suc (length xs) ≡ size + size * length xs = grind arith in
-    omega (arith, is x h.0, run_size spell P size is xs h.1, ap length (flat_map-cons spell x xs), length-append (spell x) (flat_map spell xs), more)
+run_size spell P size is (x ∷ xs) h = grind (arith, is x h.0, run_size spell P size is xs h.1, flat_map-cons spell x xs, length-append)
 
 -- ---- zeros
 
@@ -144,10 +137,7 @@ conjuncts false b e = absurd cc
 pub blank_is : (bytes : List ℕ) → are_blank bytes ≡ true → bytes ≡ zeros (length bytes)
 unfolding zeros
 blank_is [] e = refl
-blank_is (b ∷ bytes) e =
-    let p = conjuncts (eqb b 0) (are_blank bytes) e in
-    let zero_is : b ≡ 0 = eqb-true b 0 p.0 in
-    subst (λ (c : ℕ). (c ∷ bytes) ≡ 0 ∷ replicate (length bytes) 0) (sym zero_is) (ap (λ (rest : List ℕ). 0 ∷ rest) (blank_is bytes p.1))
+blank_is (b ∷ bytes) e = grind (arith, nat_tests, blank_is bytes)
 
 -- and zeros are
 pub zeros_blank : (n : ℕ) → are_blank (zeros n) ≡ true
