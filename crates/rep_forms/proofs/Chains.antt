@@ -31,11 +31,9 @@ never_follow step s t xs ys x h none f =
 pub spelled_more : {A : Type 0} (F : Form A) (bytes : List ℕ) (at : ℕ) (xs : List A) (x : A) (rest : List ℕ) → SpelledTo F bytes at xs → F.Fits x → drop at bytes ≡ F.spell x ++ rest
     → SpelledTo F bytes (length bytes - length rest) (xs ++ x ∷ [])
 spelled_more F bytes at xs x rest h fits e =
-    let whole : bytes ≡ flat_map F.spell (xs ++ x ∷ []) ++ rest =
-    h.there ∙ ap (λ (tail : List ℕ). flat_map F.spell xs ++ tail) e ∙ sym (append_assoc (flat_map F.spell xs) (F.spell x) rest) ∙ ap (λ (front : List ℕ). front ++ rest) (sym (run_more F.spell xs x)) in
+    let whole : bytes ≡ flat_map F.spell (xs ++ x ∷ []) ++ rest = h.there ∙ rw (e, run_more F.spell xs x, append_assoc) refl in
     let size : length bytes - length rest ≡ length (flat_map F.spell (xs ++ x ∷ [])) = omega (arith, ap length whole, length-append (flat_map F.spell (xs ++ x ∷ [])) rest) in
-    let behind : drop (length bytes - length rest) bytes ≡ rest =
-    ap (λ k. drop k bytes) size ∙ ap (drop (length (flat_map F.spell (xs ++ x ∷ [])))) whole ∙ drop_at (flat_map F.spell (xs ++ x ∷ [])) rest (length (flat_map F.spell (xs ++ x ∷ []))) refl in
+    let behind : drop (length bytes - length rest) bytes ≡ rest = ap (drop (length bytes - length rest)) whole ∙ drop_at (flat_map F.spell (xs ++ x ∷ [])) rest (length bytes - length rest) (sym size) in
     record {
       each = all_more F.Fits xs x h.each fits;
       place = size;
@@ -102,10 +100,7 @@ next_of {S = S} F step f [] (x ∷ xs) s t bytes rest fits leads also follow lt 
 }
 next_of F step f (b ∷ before) [] s t bytes rest fits leads also follow lt e = absurd (omega (arith, lt))
 next_of {S = S} {A = A} F step f (b ∷ before) (x ∷ xs) s t bytes rest fits leads also follow lt e =
-    let regrouped : F.spell b ++ (flat_map F.spell before ++ bytes) ≡ F.spell x ++ (flat_map F.spell xs ++ rest) =
-    sym (append_assoc (F.spell b) (flat_map F.spell before) bytes) ∙ ap (λ (front : List ℕ). front ++ bytes) (sym (flat_map-cons F.spell b before)) ∙ e
-    ∙ ap (λ (front : List ℕ). front ++ rest) (flat_map-cons F.spell x xs) ∙ append_assoc (F.spell x) (flat_map F.spell xs) rest in
-    let apart = told F f b x (flat_map F.spell before ++ bytes) (flat_map F.spell xs ++ rest) fits.0 also.0 regrouped in
+    let apart = told F f b x (flat_map F.spell before ++ bytes) (flat_map F.spell xs ++ rest) fits.0 also.0 (grind (arith, e, flat_map-cons, append_assoc)) in
     let same : leads.0 ≡ follow.1.0 = same_Some leads.0 follow.1.0 (sym leads.1 ∙ ap (step s) apart.0 ∙ follow.1.1) in
     let behind : Leads step follow.1.0 before t = subst (λ (r : S). Leads step r before t) same leads.2 in
     next_of F step f before xs follow.1.0 t bytes rest fits.1 behind also.1 (follow.0, follow.1.2) (omega (arith, lt)) apart.1
