@@ -1,8 +1,6 @@
 -- Values that are spelled one after another.
-use Rattle.std.proofs.Common.{◌≡◌, ℕ, zero, suc, ◌-◌, ◌<◌, ◌≤◌, List, [], ◌∷◌, ◌++◌, length, drop, Option, Some, None, refl, sym, ap, subst, ◌∙◌, append_assoc, arith}
+use Rattle.std.proofs.Common.{◌≡◌, ℕ, zero, suc, ◌-◌, ◌<◌, List, [], ◌∷◌, ◌++◌, length, drop, Option, Some, None, refl, sym, ap, subst, ◌∙◌, append_assoc, arith}
 use Rattle.std.specs.Prelude.{IsTrue, is_some}
-use Rattle.std.specs.Option.{option_map_or}
-use Rattle.rep_forms.specs.Options.{◌>>=◌}
 use Rattle.std.specs.List.{flat_map, AllByRecursion}
 use Rattle.std.proofs.lemmas.List.{drop_at, length-append}
 use Rattle.std.proofs.lemmas.List.Concat.{flat_map-cons}
@@ -20,9 +18,7 @@ leads_more step s (y ∷ xs) t x u h e = (h.0, h.1, leads_more step h.0 xs t x u
 -- where the first of them lead, the others follow from there
 pub follow_from : {S A : Type 0} (step : S → A → Option S) (s t : S) (xs ys : List A) → Leads step s xs t → Follow step s (xs ++ ys) → Follow step t ys
 follow_from {S} {A} step s t [] ys h f = subst (λ (r : S). Follow step r ys) h f
-follow_from {S} {A} step s t (x ∷ xs) ys h f =
-    let same : f.1.0 ≡ h.0 = same_Some f.1.0 h.0 (sym f.1.1 ∙ h.1) in
-    follow_from step h.0 t xs ys h.2 (f.0, subst (λ (r : S). Leads step r (xs ++ ys) f.0) same f.1.2)
+follow_from {S} {A} step s t (x ∷ xs) ys h f = follow_from step h.0 t xs ys h.2 (f.0, rw (same_Some f.1.0 h.0 (sym f.1.1 ∙ h.1)) at f.1.2)
 
 -- so a value that isn't allowed stops them
 pub never_follow : {S A : Type 0} (step : S → A → Option S) (s t : S) (xs ys : List A) (x : A) → Leads step s xs t → step t x ≡ None → Follow step s (xs ++ x ∷ ys) → ⊥
@@ -31,86 +27,55 @@ never_follow step s t xs ys x h none f =
     let some = sym none ∙ g.1.1 in
     absurd cc
 
--- what is spelled lies within the bytes
-pub within : {A : Type 0} (F : Form A) (bytes : List ℕ) (at : ℕ) (xs : List A) → SpelledTo F bytes at xs → at ≤ length bytes
-within F bytes at xs h = omega (arith, h.place, ap length h.there, length-append (flat_map F.spell xs) (drop at bytes))
-
 -- the bytes up to one more value
 pub spelled_more : {A : Type 0} (F : Form A) (bytes : List ℕ) (at : ℕ) (xs : List A) (x : A) (rest : List ℕ) → SpelledTo F bytes at xs → F.Fits x → drop at bytes ≡ F.spell x ++ rest
     → SpelledTo F bytes (length bytes - length rest) (xs ++ x ∷ [])
 spelled_more F bytes at xs x rest h fits e =
-    let whole : bytes ≡ flat_map F.spell (xs ++ x ∷ []) ++ rest =
-    h.there ∙ ap (λ (tail : List ℕ). flat_map F.spell xs ++ tail) e ∙ sym (append_assoc (flat_map F.spell xs) (F.spell x) rest) ∙ ap (λ (front : List ℕ). front ++ rest) (sym (run_more F.spell xs x)) in
+    let whole : bytes ≡ flat_map F.spell (xs ++ x ∷ []) ++ rest = h.there ∙ rw (e, run_more F.spell xs x, append_assoc) refl in
     let size : length bytes - length rest ≡ length (flat_map F.spell (xs ++ x ∷ [])) = omega (arith, ap length whole, length-append (flat_map F.spell (xs ++ x ∷ [])) rest) in
-    let behind : drop (length bytes - length rest) bytes ≡ rest =
-    ap (λ k. drop k bytes) size ∙ ap (drop (length (flat_map F.spell (xs ++ x ∷ [])))) whole ∙ drop_at (flat_map F.spell (xs ++ x ∷ [])) rest (length (flat_map F.spell (xs ++ x ∷ []))) refl in
+    let behind : drop (length bytes - length rest) bytes ≡ rest = ap (drop (length bytes - length rest)) whole ∙ drop_at (flat_map F.spell (xs ++ x ∷ [])) rest (length bytes - length rest) (sym size) in
     record {
       each = all_more F.Fits xs x h.each fits;
       place = size;
       there = whole ∙ ap (λ (tail : List ℕ). flat_map F.spell (xs ++ x ∷ []) ++ tail) (sym behind);
     }
 
--- nothing is spelled in front
-pub spelled_none : {A : Type 0} (F : Form A) (bytes : List ℕ) → SpelledTo F bytes 0 []
-spelled_none F bytes = record { each = tt; place = refl; there = refl }
-
--- what is spelled there is read there
-pub chain_read : {S A : Type 0} (F : Form A) (step : S → A → Option S) (s : S) (count : ℕ) (bytes : List ℕ) (at : ℕ) → IsForm F → (h : EndsAt F step s count bytes at) → each F.read count bytes ≡ Some (h.values, drop at bytes)
-chain_read F step s count bytes at f h =
-    ap (each F.read count) h.spelled.there ∙ ap (λ k. each F.read k (flat_map F.spell h.values ++ drop at bytes)) (sym h.size) ∙ each_again F f h.values (drop at bytes) h.spelled.each
-
-pub chain_is_some : {S A : Type 0} (F : Form A) (step : S → A → Option S) (s : S) (count : ℕ) (bytes : List ℕ) (at : ℕ) → IsForm F → EndsAt F step s count bytes at → IsTrue (is_some (each F.read count bytes))
-chain_is_some {A = A} F step s count bytes at f h = subst (λ (o : Option (List A × List ℕ)). IsTrue (is_some o)) (sym (chain_read F step s count bytes at f h)) refl
-
--- so the values that are handed out are a chain
-pub is_chain : {S A : Type 0} (F : Form A) (step : S → A → Option S) (s : S) (count : ℕ) (bytes : List ℕ) (at : ℕ) → IsForm F → EndsAt F step s count bytes at → IsChain F step s count bytes (values_in F.read count bytes) (drop at bytes)
-is_chain {A = A} F step s count bytes at f h =
-    let same : h.values ≡ values_in F.read count bytes = sym (ap (λ (o : Option (List A × List ℕ)). option_map_or (λ (x : List A × List ℕ). x.0) o []) (chain_read F step s count bytes at f h)) in
-    subst (λ (xs : List A). IsChain F step s count bytes xs (drop at bytes)) same (record { size = h.size; each = h.spelled.each; follow = h.follow; there = h.spelled.there })
-
--- as many values as were asked for are read
-bind_length : {A : Type 0} (n : ℕ) (x : A) (o : Option (List A × List ℕ)) (y : List A × List ℕ) → ((z : List A × List ℕ) → o ≡ Some z → length z.0 ≡ n)
-    → (o >>= λ xs. Some (x ∷ xs.0, xs.1)) ≡ Some y → length y.0 ≡ suc n
-bind_length n x None y h e = absurd cc
-bind_length {A = A} n x (Some z) y h e = sym (ap (λ (w : List A × List ℕ). length w.0) (same_Some (x ∷ z.0, z.1) y e)) ∙ ap suc (h z refl)
-
-first_length : {A : Type 0} (read : List ℕ → Option (A × List ℕ)) (n : ℕ) (o : Option (A × List ℕ)) (y : List A × List ℕ) → ((bytes : List ℕ) (z : List A × List ℕ) → each read n bytes ≡ Some z → length z.0 ≡ n)
-    → (o >>= λ x. each read n x.1 >>= λ xs. Some (x.0 ∷ xs.0, xs.1)) ≡ Some y → length y.0 ≡ suc n
-first_length read n None y h e = absurd cc
-first_length read n (Some x) y h e = bind_length n x.0 (each read n x.1) y (h x.1) e
-
-pub length-each : {A : Type 0} (read : List ℕ → Option (A × List ℕ)) (n : ℕ) (bytes : List ℕ) (y : List A × List ℕ) → each read n bytes ≡ Some y → length y.0 ≡ n
-unfolding each
-length-each {A = A} read zero bytes y e = sym (ap (λ (w : List A × List ℕ). length w.0) (same_Some ([], bytes) y e))
-length-each read (suc n) bytes y e = first_length read n (read bytes) y (length-each read n) e
-
--- the values that are handed out are as many as are left
-length-values_in : {A : Type 0} (read : List ℕ → Option (A × List ℕ)) (n : ℕ) (bytes : List ℕ) (o : Option (List A × List ℕ)) → each read n bytes ≡ o → IsTrue (is_some o) → length (option_map_or (λ (x : List A × List ℕ). x.0) o []) ≡ n
-length-values_in read n bytes None e h = absurd cc
-length-values_in read n bytes (Some y) e h = length-each read n bytes y e
-
-pub values_left : {A : Type 0} (read : List ℕ → Option (A × List ℕ)) (n : ℕ) (bytes : List ℕ) → IsTrue (is_some (each read n bytes)) → length (values_in read n bytes) ≡ n
-values_left read n bytes h = length-values_in read n bytes (each read n bytes) refl h
+-- ---- what is spelled so is read
 
 -- spellings are told apart
 pub told : {A : Type 0} (F : Form A) → IsForm F → AreTold F
-told {A = A} F f x y rest tail fits also e =
-    let same : (x, rest) ≡ (y, tail) = same_Some (x, rest) (y, tail) (sym (f x rest fits) ∙ ap F.read e ∙ f y tail also) in
-    (ap (λ (p : A × List ℕ). p.0) same, ap (λ (p : A × List ℕ). p.1) same)
-
--- ---- what is spelled so is read
+told F f x y rest tail fits also e =
+    let same = sym (f.again x rest fits) ∙ ap F.read e ∙ f.again y tail also in
+    (grind (arith, same), grind (arith, same))
 
 -- a chain is read as it is
-chain_again : {S A : Type 0} (F : Form A) (step : S → A → Option S) (s : S) (count : ℕ) (bytes : List ℕ) (xs : List A) (rest : List ℕ) → IsForm F → IsChain F step s count bytes xs rest → each F.read count bytes ≡ Some (xs, rest)
-chain_again F step s count bytes xs rest f h =
-    ap (each F.read count) h.there ∙ ap (λ k. each F.read k (flat_map F.spell xs ++ rest)) (sym h.size) ∙ each_again F f xs rest h.each
+pub chain_again : {S A : Type 0} {F : Form A} {step : S → A → Option S} {s : S} {count : ℕ} {bytes : List ℕ} {xs : List A} {rest : List ℕ} → IsForm F → IsChain F step s count bytes xs rest → each F.read count bytes ≡ Some (xs, rest)
+chain_again {F = F} {xs = xs} {rest = rest} f h = rw (h.there, ← h.size) (each_again F f xs rest h.each)
 
 -- so there is one
-pub chain_only : {S A : Type 0} (F : Form A) (step : S → A → Option S) (s : S) (count : ℕ) (bytes : List ℕ) (xs ys : List A) (rest tail : List ℕ) → IsForm F
+pub chain_only : {S A : Type 0} {F : Form A} {step : S → A → Option S} {s : S} {count : ℕ} {bytes : List ℕ} {xs ys : List A} {rest tail : List ℕ} → IsForm F
     → IsChain F step s count bytes xs rest → IsChain F step s count bytes ys tail → (xs ≡ ys) × (rest ≡ tail)
-chain_only {A = A} F step s count bytes xs ys rest tail f h k =
-    let same : (xs, rest) ≡ (ys, tail) = same_Some (xs, rest) (ys, tail) (sym (chain_again F step s count bytes xs rest f h) ∙ chain_again F step s count bytes ys tail f k) in
-    (ap (λ (p : List A × List ℕ). p.0) same, ap (λ (p : List A × List ℕ). p.1) same)
+chain_only f h k =
+    let same = sym (chain_again f h) ∙ chain_again f k in
+    (grind (arith, same), grind (arith, same))
+
+-- and it ends where the values end
+pub chain_to : {S A : Type 0} {F : Form A} {step : S → A → Option S} {s : S} {count : ℕ} {bytes : List ℕ} {at : ℕ} → (h : EndsAt F step s count bytes at) → IsChain F step s count bytes h.values (drop at bytes)
+chain_to h = record { size = h.size; each = h.spelled.each; follow = h.follow; there = h.spelled.there }
+
+-- so the values that are handed out are a chain
+pub is_chain : {S A : Type 0} {F : Form A} {step : S → A → Option S} {s : S} {count : ℕ} {bytes : List ℕ} {at : ℕ} → IsForm F → EndsAt F step s count bytes at → IsChain F step s count bytes (values_in F.read count bytes) (drop at bytes)
+is_chain f h = rw (chain_again f (chain_to h)) (chain_to h)
+
+-- as many values as were asked for are read
+length-each : {A : Type 0} (read : List ℕ → Option (A × List ℕ)) (n : ℕ) (bytes : List ℕ) (y : List A × List ℕ) → each read n bytes ≡ Some y → length y.0 ≡ n
+unfolding each
+length-each read zero bytes y e = grind (arith, e)
+length-each read (suc n) bytes y e = grind (arith, e, length-each read n)
+
+-- the values that are handed out are as many as are left
+pub values_left : {A : Type 0} (read : List ℕ → Option (A × List ℕ)) (n : ℕ) (bytes : List ℕ) → IsTrue (is_some (each read n bytes)) → length (values_in read n bytes) ≡ n
+values_left read n bytes h = grind (arith, length-each read n bytes)
 
 -- a value that is spelled there and allowed
 record Next {S A : Type 0} (F : Form A) (step : S → A → Option S) (t : S) (bytes : List ℕ) : Type 0 where
@@ -135,17 +100,14 @@ next_of {S = S} F step f [] (x ∷ xs) s t bytes rest fits leads also follow lt 
 }
 next_of F step f (b ∷ before) [] s t bytes rest fits leads also follow lt e = absurd (omega (arith, lt))
 next_of {S = S} {A = A} F step f (b ∷ before) (x ∷ xs) s t bytes rest fits leads also follow lt e =
-    let regrouped : F.spell b ++ (flat_map F.spell before ++ bytes) ≡ F.spell x ++ (flat_map F.spell xs ++ rest) =
-    sym (append_assoc (F.spell b) (flat_map F.spell before) bytes) ∙ ap (λ (front : List ℕ). front ++ bytes) (sym (flat_map-cons F.spell b before)) ∙ e
-    ∙ ap (λ (front : List ℕ). front ++ rest) (flat_map-cons F.spell x xs) ∙ append_assoc (F.spell x) (flat_map F.spell xs) rest in
-    let apart = told F f b x (flat_map F.spell before ++ bytes) (flat_map F.spell xs ++ rest) fits.0 also.0 regrouped in
+    let apart = told F f b x (flat_map F.spell before ++ bytes) (flat_map F.spell xs ++ rest) fits.0 also.0 (grind (arith, e, flat_map-cons, append_assoc)) in
     let same : leads.0 ≡ follow.1.0 = same_Some leads.0 follow.1.0 (sym leads.1 ∙ ap (step s) apart.0 ∙ follow.1.1) in
     let behind : Leads step follow.1.0 before t = subst (λ (r : S). Leads step r before t) same leads.2 in
     next_of F step f before xs follow.1.0 t bytes rest fits.1 behind also.1 (follow.0, follow.1.2) (omega (arith, lt)) apart.1
 
 -- so a chain stops nowhere
-pub never_stops : {S A : Type 0} (F : Form A) (step : S → A → Option S) (s : S) (count : ℕ) (bytes : List ℕ) (at : ℕ) (xs : List A) (rest : List ℕ) → IsForm F
+pub never_stops : {S A : Type 0} {F : Form A} {step : S → A → Option S} {s : S} {count : ℕ} {bytes : List ℕ} {at : ℕ} {xs : List A} {rest : List ℕ} → IsForm F
     → IsChain F step s count bytes xs rest → StopsAt F step s count bytes at → ⊥
-never_stops F step s count bytes at xs rest f h stop =
+never_stops {F = F} {step = step} {s = s} {bytes = bytes} {at = at} {xs = xs} {rest = rest} f h stop =
     let next = next_of F step f stop.before xs s stop.state (drop at bytes) rest stop.spelled.each stop.leads h.each h.follow (omega (arith, stop.fewer, h.size)) (sym stop.spelled.there ∙ h.there) in
     stop.none next.value next.rest next.to next.fits next.allowed next.there

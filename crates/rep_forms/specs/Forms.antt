@@ -12,8 +12,8 @@ pub record Form (A : Type 0) : Type 1 where
   pub read : List ℕ → Option (A × List ℕ)
 
 -- What is spelled is read, whatever follows.
-abbrev pub IsForm : {A : Type 0} → Form A → Type 0
-IsForm {A} F = (x : A) (rest : List ℕ) → F.Fits x → F.read (F.spell x ++ rest) ≡ Some (x, rest)
+pub record IsForm {A : Type 0} (F : Form A) : Type 0 where
+  pub again : (x : A) (rest : List ℕ) → F.Fits x → F.read (F.spell x ++ rest) ≡ Some (x, rest)
 
 -- each of them is a byte
 abbrev pub AreBytes : List ℕ → Type 0

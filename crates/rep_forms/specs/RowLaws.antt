@@ -2,17 +2,9 @@
 use Rattle.std.proofs.Common.{◌≡◌, ℕ, ◌-◌, Option, Some, None, List, length, refl, arith, lit<, length-append}
 use Rattle.std.proofs.lemmas.Bool.{le-leb}
 use Rattle.rep_types.specs.declared.limits.TheConstants.{MAX_VALUE}
-use Rattle.rep_forms.specs.Forms.{IsForm, part_of, byte, zeros, both, padded}
-use Rattle.rep_forms.specs.FormLaws.{length_zeros, byte_is_form, part_is_form, both_is_form, padded_is_form, via_is_form, named_is_form}
-use Rattle.rep_forms.specs.Writes.{value_parts, value_of}
+use Rattle.rep_forms.specs.Forms.{IsForm, zeros}
+use Rattle.rep_forms.specs.FormLaws.{length_zeros, forms, named_is_form}
 use Rattle.rep_forms.specs.Rows.{RowFits, row_bytes, row_fields, row_form}
-
-fields_is_form : IsForm row_fields
-fields_is_form =
-    via_is_form (both byte (λ present. both byte (λ n. padded (part_of n) (MAX_VALUE - n)))) value_parts (λ x. value_of x.0 x.1.1)
-    (both_is_form byte (λ _. both byte (λ n. padded (part_of n) (MAX_VALUE - n))) byte_is_form (λ _.
-    both_is_form byte (λ n. padded (part_of n) (MAX_VALUE - n)) byte_is_form (λ n. padded_is_form (part_of n) (MAX_VALUE - n) (part_is_form n))
-    ))
 
 row_fits : (row : Option (List ℕ)) → RowFits row → row_fields.Fits row
 row_fits None h = ((lit< tt, (lit< tt, record { size = refl; each = tt })), refl)
@@ -24,7 +16,7 @@ row_same None = refl
 row_same (Some bytes) = refl
 
 pub row_is_form : IsForm row_form
-row_is_form = named_is_form row_fields RowFits row_bytes fields_is_form row_fits (λ row h. row_same row)
+row_is_form = named_is_form row_fields _ _ (search forms) row_fits (λ row h. row_same row)
 
 -- a row takes 64 bytes
 pub row_size : (row : Option (List ℕ)) → RowFits row → length (row_bytes row) ≡ 64

@@ -5,16 +5,11 @@ use Rattle.std.proofs.lemmas.Bool.{le-leb}
 use Rattle.rep_types.specs.declared.limits.TheConstants.{MAX_VALUE}
 use Rattle.rep_types.specs.declared.value.Write.{Write}
 use Rattle.rep_types.specs.Transactions.{HasShortValue}
-use Rattle.rep_forms.specs.Forms.{IsForm, AreBytes, part_of, byte, both, ◌⊗◌}
-use Rattle.rep_forms.specs.FormLaws.{byte_is_form, part_is_form, both_is_form, via_is_form, named_is_form}
-use Rattle.rep_forms.specs.Keys.{key_bytes, key_form}
+use Rattle.rep_forms.specs.Forms.{IsForm, AreBytes}
+use Rattle.rep_forms.specs.FormLaws.{forms, named_is_form}
+use Rattle.rep_forms.specs.Keys.{key_bytes}
 use Rattle.rep_forms.specs.KeyLaws.{key_is_form, key_short}
-use Rattle.rep_forms.specs.Writes.{value_bytes, value_parts, value_of, value_fields, WriteFits, write_bytes, write_fields, write_form}
-
-value_is_form : IsForm value_fields
-value_is_form =
-    via_is_form (byte ⊗ both byte part_of) value_parts (λ x. value_of x.0 x.1.1)
-    (both_is_form byte (λ _. both byte part_of) byte_is_form (λ _. both_is_form byte part_of byte_is_form part_is_form))
+use Rattle.rep_forms.specs.Writes.{value_bytes, value_fields, write_bytes, write_fields, write_form}
 
 value_fits : (value : Option (List ℕ)) → IfSome value (λ bytes. length bytes ≤ MAX_VALUE) → IfSome value AreBytes → value_fields.Fits value
 value_fits None short bytes = ((lit< tt, (lit< tt, record { size = refl; each = tt })), refl)
@@ -24,14 +19,9 @@ value_same : (value : Option (List ℕ)) → value_bytes value ≡ value_fields.
 value_same None = refl
 value_same (Some bytes) = refl
 
-write_fields_is_form : IsForm write_fields
-write_fields_is_form =
-    via_is_form (key_form ⊗ value_fields) (λ (write : Write). (write.key, write.value)) (λ x. Some (record { key = x.0; value = x.1 }))
-    (both_is_form key_form (λ _. value_fields) key_is_form (λ _. value_is_form))
-
 pub write_is_form : IsForm write_form
 write_is_form =
-    named_is_form write_fields WriteFits write_bytes write_fields_is_form
+    named_is_form write_fields _ _ (search (forms, key_is_form) depth 9)
     (λ write h. ((h.key, value_fits write.value h.short h.bytes), refl))
     (λ write h. rw (value_same write.value) refl)
 

@@ -39,6 +39,7 @@ impl<const N: usize> Put<N> for Entry {
 }
 
 impl Exact for Entry {
+    #[tactic(auto, using(crate::proofs::Putting::stripped))]
     fn strip<'a>(&self, bytes: &'a [u8]) -> Option<&'a [u8]> {
         let mut spelling: ArrayVec<u8, MAX_ENTRY> = ArrayVec::new();
         self.put(&mut spelling);

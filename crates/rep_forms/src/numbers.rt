@@ -117,6 +117,7 @@ pub fn put_u64<const N: usize>(out: &mut ArrayVec<u8, N>, value: u64)
 }
 
 /// Puts so many zeros at the end. `out` has room for them.
+#[tactic(auto, using(crate::proofs::Putting::zeros_so_far))]
 pub fn put_zeros<const N: usize>(out: &mut ArrayVec<u8, N>, count: usize)
     requires { length out.old.items + count ≤ N }
     ensures { out.new.items ≡ out.old.items ++ zeros count }

@@ -1,17 +1,15 @@
 -- What is read as a window's body is spelled so, and what is spelled so is read.
-use Rattle.std.proofs.Common.{◌≡◌, ℕ, zero, suc, ◌+◌, ◌-◌, ◌^◌, ◌<◌, ◌≤◌, true, ltb, leb, List, [], ◌∷◌, ◌++◌, length, map, Option, Some, None, refl, sym, ap, subst, ◌∙◌, append_assoc, arith, length-append}
+use Rattle.std.proofs.Common.{◌≡◌, ℕ, zero, suc, ◌-◌, ◌^◌, ◌<◌, ◌≤◌, true, List, [], ◌∷◌, ◌++◌, length, map, Option, Some, None, refl, sym, ap, subst, ◌∙◌, append_assoc, arith, length-append}
 use Rattle.std.specs.Prelude.{is_none, slice_index}
 use Rattle.std.specs.List.{list_all, AllByRecursion}
 use Rattle.std.specs.List.Sorted.{IsStrictlyIncreasing}
-use Rattle.std.proofs.lemmas.Bool.{ltb-true, leb-true, lt-ltb, le-leb}
+use Rattle.std.proofs.lemmas.Bool.Decides.{nat_tests}
 use Rattle.std.proofs.lemmas.Option.{same_Some, cond_some}
-use Rattle.rep_types.specs.declared.limits.TheConstants.{MAX_WRITES}
 use Rattle.rep_types.specs.declared.key.Key.{Key}
-use Rattle.rep_types.specs.Keys.{disorder}
 use Rattle.rep_types.specs.Entries.{Entry}
 use Rattle.rep_types.specs.Settings.{Setting, is_setting, has_row}
 use Rattle.rep_forms.specs.Forms.{zeros, are_blank, AreMany, TakesFront}
-use Rattle.rep_forms.specs.FormLaws.{length_number, length_zeros, conjuncts, run_short, blank_is, zeros_blank}
+use Rattle.rep_forms.specs.FormLaws.{length_number, length_zeros, run_short, blank_is, zeros_blank}
 use Rattle.rep_forms.specs.Keys.{KeyFits}
 use Rattle.rep_forms.specs.Entries.{EntryFits, entry_bytes, entry_form}
 use Rattle.rep_forms.specs.EntryLaws.{entry_short}
@@ -19,7 +17,7 @@ use Rattle.rep_forms.specs.Runs.{Leads, Follow, IsChain}
 use Rattle.rep_forms.specs.Told.{AreTold, RunsAreTold}
 use Rattle.rep_layout.specs.declared.window_reader.Head.{Head}
 use Rattle.rep_layout.specs.SuperLaws.{limits_of, rows_fit}
-use Rattle.rep_layout.specs.Windows.{Window, window, IsEntry, seqno_of, IsWindowBody, window_mark, run_bytes, window_bytes, HeadFits, head_bytes, head_form, Standing, standing, is_entry, next_entry}
+use Rattle.rep_layout.specs.Windows.{Window, window, IsEntry, seqno_of, IsWindowBody, window_mark, run_bytes, window_bytes, HeadFits, head_bytes, head_form, Standing, standing, next_entry}
 
 -- ---- entries one after another
 
@@ -30,121 +28,71 @@ none_is (Some x) h = absurd cc
 
 -- what a step says
 step_says : (s : Standing) (e : Entry) (t : Standing) → next_entry s e ≡ Some t → IsEntry s.params s.position e × (s.before < e.seqno) × (standing s.params s.position e.seqno ≡ t)
-step_says s e t h =
-    let step = cond_some (is_entry s e) (standing s.params s.position e.seqno) t h in
-    let a = conjuncts _ (list_all (has_row s.params.rows) e.keys) step.0 in
-    let b = conjuncts _ (is_none (disorder e.keys)) a.0 in
-    let c = conjuncts _ (ltb 0 (length e.keys)) b.0 in
-    let d = conjuncts _ (ltb (s.position - e.seqno) s.params.window) c.0 in
-    let f = conjuncts _ (leb e.seqno s.position) d.0 in
-    let g = conjuncts (leb (length e.keys) MAX_WRITES) (ltb s.before e.seqno) f.0 in
-    let above : s.before < e.seqno = ltb-true s.before e.seqno g.1 in
-    let past : e.seqno ≤ s.position = leb-true e.seqno s.position f.1 in (
-      record {
-        first = omega (arith, above);
-        past = past;
-        near = omega (arith, past, ltb-true (s.position - e.seqno) s.params.window d.1);
-        some = omega (arith, ltb-true 0 (length e.keys) c.1);
-        few = leb-true (length e.keys) MAX_WRITES g.0;
-        ascend = none_is (disorder e.keys) b.1;
-        rows = a.1;
-      },
-      above,
-      step.1,
-    )
+step_says s e t h = grind (arith, nat_tests, none_is, cond_some)
 
--- an entry of the window is allowed behind a smaller seqno
-entry_passes : (s : Standing) (e : Entry) → IsEntry s.params s.position e → s.before < e.seqno → is_entry s e ≡ true
-entry_passes s e h above =
-    let near : s.position - e.seqno < s.params.window = omega (arith, h.past, h.near) in
-    rw (le-leb (length e.keys) MAX_WRITES h.few, lt-ltb s.before e.seqno above, le-leb e.seqno s.position h.past, lt-ltb (s.position - e.seqno) s.params.window near, lt-ltb 0 (length e.keys) (omega (arith, h.some)), h.ascend, h.rows) refl
+-- one more in front of numbers that ascend, and one less
+ascends_cons : (a b : ℕ) (xs : List ℕ) → a < b → IsStrictlyIncreasing (b ∷ xs) → IsStrictlyIncreasing (a ∷ b ∷ xs)
+ascends_cons a b xs lt h zero l = lt
+ascends_cons a b xs lt h (suc k) l = grind (arith, h k)
 
--- each seqno is above the one before
-abbrev Above : ℕ → List Entry → Type 0
-Above before [] = Unit {0}
-Above before (e ∷ es) = (before < e.seqno) × Above e.seqno es
+ascends_rest : (a : ℕ) (xs : List ℕ) → IsStrictlyIncreasing (a ∷ xs) → IsStrictlyIncreasing xs
+ascends_rest a xs h k lt = grind (arith, h (suc k))
 
 -- entries that follow are of the window, and their seqnos ascend
-entries_of : (s : Standing) (es : List Entry) (t : Standing) → Leads next_entry s es t → AllByRecursion (IsEntry s.params s.position) es × Above s.before es
-entries_of s [] t h = (tt, tt)
+entries_of : (s : Standing) (es : List Entry) (t : Standing) → Leads next_entry s es t → AllByRecursion (IsEntry s.params s.position) es × IsStrictlyIncreasing (s.before ∷ map seqno_of es)
+entries_of s [] t h = (tt, λ k lt. absurd (omega (arith, lt)))
 entries_of s (e ∷ es) t h =
     let one = step_says s e h.0 h.1 in
     let rest = entries_of (standing s.params s.position e.seqno) es t (subst (λ (r : Standing). Leads next_entry r es t) (sym one.2) h.2) in
-    ((one.0, rest.0), (one.1, rest.1))
+    ((one.0, rest.0), ascends_cons s.before e.seqno (map seqno_of es) one.1 rest.1)
 
 -- and the other way
-follow_of : (s : Standing) (es : List Entry) → AllByRecursion (IsEntry s.params s.position) es → Above s.before es → Follow next_entry s es
-follow_of s [] all above = (s, refl)
-follow_of s (e ∷ es) all above =
-    let rest = follow_of (standing s.params s.position e.seqno) es all.1 above.1 in
-    (rest.0, (standing s.params s.position e.seqno, rw (entry_passes s e all.0 above.0) refl, rest.1))
-
--- what is above what stands before ascends
-above_ascends : (before : ℕ) (es : List Entry) → Above before es → IsStrictlyIncreasing (map seqno_of es)
-above_ascends before [] h k lt = absurd (omega (arith, lt))
-above_ascends before (e ∷ []) h k lt = absurd (omega (arith, lt))
-above_ascends before (e ∷ f ∷ es) h zero lt = h.1.0
-above_ascends before (e ∷ f ∷ es) h (suc k) lt =
-    let next : suc (k + 1) ≡ suc k + 1 = omega arith in
-    subst (λ (n : ℕ). slice_index (map seqno_of (e ∷ f ∷ es)) (suc k) < slice_index (map seqno_of (e ∷ f ∷ es)) n) next (above_ascends e.seqno (f ∷ es) h.1 k (omega (arith, lt)))
-
--- and the other way
-ascends_above : (before : ℕ) (es : List Entry) → (0 < length es → before < slice_index (map seqno_of es) 0) → IsStrictlyIncreasing (map seqno_of es) → Above before es
-ascends_above before [] first h = tt
-ascends_above before (e ∷ []) first h = (first (omega arith), tt)
-ascends_above before (e ∷ f ∷ es) first h = (
-  first (omega arith),
-  ascends_above e.seqno (f ∷ es) (λ some. h 0 (omega arith)) (λ k lt.
-      let next : suc (k + 1) ≡ suc k + 1 = omega arith in
-      subst (λ (n : ℕ). slice_index (map seqno_of (e ∷ f ∷ es)) (suc k) < slice_index (map seqno_of (e ∷ f ∷ es)) n) (sym next) (h (suc k) (omega (arith, lt)))),
-)
+follow_of : (s : Standing) (es : List Entry) → AllByRecursion (IsEntry s.params s.position) es → IsStrictlyIncreasing (s.before ∷ map seqno_of es) → Follow next_entry s es
+follow_of s [] all ascend = (s, refl)
+follow_of s (e ∷ es) all ascend =
+    let rest = follow_of (standing s.params s.position e.seqno) es all.1 (ascends_rest s.before (e.seqno ∷ map seqno_of es) ascend) in
+    (rest.0, (standing s.params s.position e.seqno, grind (arith, nat_tests, ascend 0), rest.1))
 
 -- the first seqno is above 0
-first_above : (p : Setting) (position : ℕ) (es : List Entry) → AllByRecursion (IsEntry p position) es → 0 < length es → 0 < slice_index (map seqno_of es) 0
-first_above p position [] all some = absurd (omega (arith, some))
-first_above p position (e ∷ es) all some = omega (arith, all.0.first)
+above_none : (p : Setting) (position : ℕ) (es : List Entry) → AllByRecursion (IsEntry p position) es → IsStrictlyIncreasing (map seqno_of es) → IsStrictlyIncreasing (0 ∷ map seqno_of es)
+above_none p position [] all h = λ k lt. absurd (omega (arith, lt))
+above_none p position (e ∷ es) all h = ascends_cons 0 e.seqno (map seqno_of es) (omega (arith, all.0.first)) h
 
 -- ---- a window is what entries that follow make
 
 pub is_window : (p : Setting) (number position : ℕ) (es : List Entry) → number < 2 ^ 64 → position < 2 ^ 64 → length es ≤ p.window → Follow next_entry (standing p position 0) es → IsWindowBody p (window number position es)
 is_window p number position es n q few follow =
     let entries = entries_of (standing p position 0) es follow.0 follow.1 in
-    record { number = n; position = q; few = few; ascend = above_ascends 0 es entries.1; entries = entries.0 }
+    record { number = n; position = q; few = few; ascend = ascends_rest 0 (map seqno_of es) entries.1; entries = entries.0 }
 
 pub entries_follow : (p : Setting) (w : Window) → IsWindowBody p w → Follow next_entry (standing p w.position 0) w.entries
-entries_follow p w h = follow_of (standing p w.position 0) w.entries h.entries (ascends_above 0 w.entries (first_above p w.position w.entries h.entries) h.ascend)
+entries_follow p w h = follow_of (standing p w.position 0) w.entries h.entries (above_none p w.position w.entries h.entries h.ascend)
 
 -- ---- what is spelled
 
 -- a row of a schema fits
 row_fits : (rows : List ℕ) (table row : ℕ) → AllByRecursion (λ (n : ℕ). n < 2 ^ 32) rows → row < slice_index rows table → (table < length rows) × (row < 2 ^ 32)
-row_fits [] zero row h lt = absurd (omega (arith, lt))
-row_fits [] (suc table) row h lt = absurd (omega (arith, lt))
-row_fits (n ∷ rows) zero row h lt = (omega arith, omega (arith, h.0, lt))
-row_fits (n ∷ rows) (suc table) row h lt =
-    let rest = row_fits rows table row h.1 lt in
-    (omega (arith, rest.0), rest.1)
+row_fits [] table row h lt = grind arith
+row_fits (n ∷ rows) zero row h lt = grind arith
+row_fits (n ∷ rows) (suc table) row h lt = grind (arith, row_fits rows table row h.1)
 
 keys_fit : (rows : List ℕ) (keys : List Key) → AllByRecursion (λ (n : ℕ). n < 2 ^ 32) rows → length rows ≤ 8 → list_all (has_row rows) keys ≡ true → AllByRecursion KeyFits keys
 keys_fit rows [] fit few h = tt
-keys_fit rows (key ∷ keys) fit few h =
-    let a = conjuncts (has_row rows key) (list_all (has_row rows) keys) h in
-    let one = row_fits rows key.table key.row fit (ltb-true key.row (slice_index rows key.table) a.0) in
-    ((omega (arith, one.0, few), one.1), keys_fit rows keys fit few a.1)
+keys_fit rows (key ∷ keys) fit few h = (grind (arith, nat_tests, row_fits rows key.table key.row fit), keys_fit rows keys fit few (grind (arith, nat_tests)))
 
 -- so do entries of a window
 entries_fit : (p : Setting) (position : ℕ) (es : List Entry) → is_setting p ≡ true → position < 2 ^ 64 → AllByRecursion (IsEntry p position) es → AllByRecursion EntryFits es
-entries_fit p position [] limits q h = tt
-entries_fit p position (e ∷ es) limits q h =
-    let limits_are = limits_of p limits in (
-      record { seqno = omega (arith, h.0.past, q); few = h.0.few; keys = keys_fit p.rows e.keys (rows_fit p.rows limits_are.pages) limits_are.tables h.0.rows },
-      entries_fit p position es limits q h.1,
+entries_fit p position [] setting q h = tt
+entries_fit p position (e ∷ es) setting q h =
+    let limits = limits_of p setting in (
+      record { seqno = omega (arith, h.0.past, q); few = h.0.few; keys = keys_fit p.rows e.keys (rows_fit p.rows limits.pages) limits.tables h.0.rows },
+      entries_fit p position es setting q h.1,
     )
 
 -- a head takes 256 bytes
-length-head : (head : Head) → length (head_bytes head) ≡ 256
+pub head_size : (head : Head) → length (head_bytes head) ≡ 256
 unfolding window_mark
-length-head head = simp (length-append, length_number, length_zeros) refl
+head_size head = simp (length-append, length_number, length_zeros) refl
 
 -- the head of a window, and the zeros behind its entries
 abbrev pub head_of : Window → Head
@@ -156,9 +104,8 @@ filling w = zeros (22784 - length (run_bytes w.entries))
 -- head, entries and zeros, one put behind another
 pub written : (w : Window) (a b c : List ℕ) (rest : ℕ) → a ≡ head_bytes (head_of w) → b ≡ a ++ run_bytes w.entries → rest ≡ 23040 - length b → c ≡ b ++ zeros rest → c ≡ window_bytes w
 written w a b c rest ea eb er ec =
-    let two : b ≡ head_bytes (head_of w) ++ run_bytes w.entries = eb ∙ ap (λ (front : List ℕ). front ++ run_bytes w.entries) ea in
-    let size : rest ≡ 22784 - length (run_bytes w.entries) = omega (arith, er, ap length two, length-append (head_bytes (head_of w)) (run_bytes w.entries), length-head (head_of w)) in
-    ec ∙ ap (λ (front : List ℕ). front ++ zeros rest) two ∙ append_assoc (head_bytes (head_of w)) (run_bytes w.entries) (zeros rest) ∙ ap (λ n. head_bytes (head_of w) ++ (run_bytes w.entries ++ zeros n)) size
+    let size : rest ≡ 22784 - length (run_bytes w.entries) = omega (arith, er, ap length eb, ap length ea, length-append a (run_bytes w.entries), head_size (head_of w)) in
+    rw (ec, eb, ea, append_assoc (head_bytes (head_of w)) (run_bytes w.entries) (zeros rest), size) refl
 
 -- What a window's bytes say.
 pub record Says (p : Setting) (bytes : List ℕ) (w : Window) : Type 0 where
@@ -168,17 +115,15 @@ pub record Says (p : Setting) (bytes : List ℕ) (w : Window) : Type 0 where
   pub chain : IsChain entry_form next_entry (standing p w.position 0) (length w.entries) (run_bytes w.entries ++ filling w) w.entries (filling w)
   pub blank : are_blank (filling w) ≡ true
 
-pub says : (p : Setting) (bytes : List ℕ) (w : Window) → is_setting p ≡ true → IsWindowBody p w → bytes ≡ window_bytes w → Says p bytes w
-says p bytes w limits h e =
+pub says : {p : Setting} {bytes : List ℕ} {w : Window} → is_setting p ≡ true → IsWindowBody p w → bytes ≡ window_bytes w → Says p bytes w
+says {p} {bytes} {w} limits h e =
     let few : length w.entries ≤ 256 = omega (arith, h.few, (limits_of p limits).window) in
     let fit = entries_fit p w.position w.entries limits h.position h.entries in
     let run : length (run_bytes w.entries) ≤ 22784 = omega (arith, run_short entry_bytes EntryFits 89 entry_short w.entries fit, few) in
     record {
       fits = record { number = h.number; position = h.position; count = omega (arith, few) };
       there = e;
-      size =
-          ap length e ∙ length-append (head_bytes (head_of w)) (run_bytes w.entries ++ filling w)
-          ∙ omega (arith, length-head (head_of w), length-append (run_bytes w.entries) (filling w), length_zeros (22784 - length (run_bytes w.entries)), run);
+      size = omega (arith, ap length e, length-append (head_bytes (head_of w)) (run_bytes w.entries ++ filling w), head_size (head_of w), length-append (run_bytes w.entries) (filling w), length_zeros (22784 - length (run_bytes w.entries)), run);
       chain = record { size = refl; each = fit; follow = entries_follow p w h; there = refl };
       blank = zeros_blank (22784 - length (run_bytes w.entries));
     }
@@ -188,9 +133,9 @@ pub record Begins (p : Setting) (head : Head) (body : List ℕ) (w : Window) : T
   pub head_is : head ≡ head_of w
   pub chain : IsChain entry_form next_entry (standing p head.position 0) head.count body w.entries (filling w)
 
-pub begins : (p : Setting) (bytes : List ℕ) (head : Head) (body : List ℕ) (w : Window) → Says p bytes w → TakesFront head_form bytes (Some (head, body)) → Begins p head body w
-begins p bytes head body w s front =
-    let same : ◌≡◌ {A = Head × List ℕ} (head, body) (head_of w, run_bytes w.entries ++ filling w) = same_Some _ _ (front.only (head_of w) (run_bytes w.entries ++ filling w) s.fits s.there) in
+pub begins : {p : Setting} {bytes : List ℕ} {head : Head} {body : List ℕ} {w : Window} → Says p bytes w → TakesFront head_form bytes (Some (head, body)) → Begins p head body w
+begins {p} {bytes} {head} {body} {w} s front =
+    let same = same_Some _ _ (front.only (head_of w) (run_bytes w.entries ++ filling w) s.fits s.there) in
     record {
       head_is = ap (λ (x : Head × List ℕ). x.0) same;
       chain = subst (λ (x : Head × List ℕ). IsChain entry_form next_entry (standing p x.0.position 0) x.0.count x.1 w.entries (filling w)) (sym same) s.chain;
@@ -198,15 +143,12 @@ begins p bytes head body w s front =
 
 -- ---- what is read is spelled so
 
-pub read_is : (p : Setting) (bytes : List ℕ) (head : Head) (body : List ℕ) (es : List Entry) (rest : List ℕ) → length bytes ≡ 23040 → HeadFits head → bytes ≡ head_bytes head ++ body → head.count ≤ p.window
+pub read_is : {p : Setting} {bytes : List ℕ} {head : Head} {body : List ℕ} {es : List Entry} {rest : List ℕ} → length bytes ≡ 23040 → HeadFits head → bytes ≡ head_bytes head ++ body → head.count ≤ p.window
     → IsChain entry_form next_entry (standing p head.position 0) head.count body es rest → are_blank rest ≡ true → IsWindowBody p (window head.number head.position es) × (bytes ≡ window_bytes (window head.number head.position es))
-read_is p bytes head body es rest size fits there few chain blank =
-    let sizes : 23040 ≡ 256 + (length (run_bytes es) + length rest) =
-    sym size ∙ ap length there ∙ length-append (head_bytes head) body ∙ ap (λ n. n + length body) (length-head head) ∙ ap (λ n. 256 + n) (ap length chain.there ∙ length-append (run_bytes es) rest) in
-    let zeros_are : rest ≡ zeros (22784 - length (run_bytes es)) = blank_is rest blank ∙ ap zeros (omega (arith, sizes)) in
-    let count : head ≡ head_of (window head.number head.position es) = ap (λ n. record { number = head.number; position = head.position; count = n }) (sym chain.size) in (
+read_is {p} {bytes} {head} {body} {es} {rest} size fits there few chain blank =
+    let sizes : length rest ≡ 22784 - length (run_bytes es) = omega (arith, size, ap length there, length-append (head_bytes head) body, head_size head, ap length chain.there, length-append (run_bytes es) rest) in (
       is_window p head.number head.position es fits.number fits.position (omega (arith, chain.size, few)) chain.follow,
-      there ∙ ap (λ (h : Head). head_bytes h ++ body) count ∙ ap (λ (tail : List ℕ). head_bytes (head_of (window head.number head.position es)) ++ tail) (chain.there ∙ ap (λ (tail : List ℕ). run_bytes es ++ tail) zeros_are),
+      rw (there, chain.there, blank_is rest blank, sizes, ← chain.size) refl,
     )
 
 -- ---- windows are told apart
@@ -214,11 +156,11 @@ read_is p bytes head body es rest size fits there few chain blank =
 -- by their heads and the runs behind these
 pub told_by : AreTold head_form → RunsAreTold entry_form → (p : Setting) (v w : Window) → is_setting p ≡ true → IsWindowBody p v → IsWindowBody p w → window_bytes v ≡ window_bytes w → v ≡ w
 told_by heads runs p v w limits h k e =
-    let one = says p (window_bytes v) v limits h refl in
-    let two = says p (window_bytes v) w limits k e in
+    let one = says {bytes = window_bytes v} limits h refl in
+    let two = says limits k e in
     let apart = heads (head_of v) (head_of w) (run_bytes v.entries ++ filling v) (run_bytes w.entries ++ filling w) one.fits two.fits (sym one.there ∙ two.there) in
-    let count : length w.entries ≡ length v.entries = sym (ap (λ (head : Head). head.count) apart.0) in
+    let count : length w.entries ≡ length v.entries = cc in
     let fits : AreMany entry_form (length v.entries) (length v.entries) v.entries = record { size = refl; few = omega arith; each = one.chain.each } in
     let also : AreMany entry_form (length v.entries) (length v.entries) w.entries = record { size = count; few = omega arith; each = two.chain.each } in
-    let entries : v.entries ≡ w.entries = (runs (length v.entries) v.entries w.entries (filling v) (filling w) fits also apart.1).0 in
-    ap (λ n. window n v.position v.entries) (ap (λ (head : Head). head.number) apart.0) ∙ ap (λ n. window w.number n v.entries) (ap (λ (head : Head). head.position) apart.0) ∙ ap (window w.number w.position) entries
+    let entries = (runs (length v.entries) v.entries w.entries (filling v) (filling w) fits also apart.1).0 in
+    grind (arith, apart.0, entries)

@@ -1,18 +1,15 @@
 -- The law of superblocks as bytes.
-use Rattle.std.proofs.Common.{◌≡◌, ℕ, ◌*◌, ◌-◌, ◌<◌, ◌≤◌, ◌^◌, true, ltb, leb, List, [], ◌∷◌, length, refl, append_assoc, arith}
-use Rattle.std.specs.Prelude.{◌&&◌}
-use Rattle.std.specs.List.{list_all, AllByRecursion}
-use Rattle.std.specs.Result.{result_ok}
-use Rattle.std.proofs.lemmas.Bool.{leb-true}
+use Rattle.std.proofs.Common.{◌≡◌, ℕ, ◌<◌, ◌≤◌, ◌^◌, true, List, [], ◌∷◌, length, refl, append_assoc, arith}
+use Rattle.std.specs.List.{AllByRecursion}
+use Rattle.std.proofs.lemmas.Bool.Decides.{nat_tests}
 use Rattle.std.proofs.lemmas.List.Sums.{sum_by-cons}
-use Rattle.rep_types.specs.declared.limits.TheConstants.{MAX_PAGES, MAX_TABLES, MAX_WINDOW, MIN_CELLS, MAX_CELLS}
-use Rattle.rep_types.specs.Settings.{Setting, setting, allowed, page_count, pages_of, is_schema, is_setting}
-use Rattle.rep_forms.specs.Forms.{IsForm, byte, number, part_of, both, ◌⊗◌, padded, many}
-use Rattle.rep_forms.specs.FormLaws.{conjuncts, byte_is_form, number_is_form, part_is_form, both_is_form, padded_is_form, marked_is_form, many_is_form, via_is_form, named_is_form}
+use Rattle.rep_types.specs.declared.limits.TheConstants.{MAX_PAGES, MAX_TABLES, MAX_WINDOW, MAX_CELLS}
+use Rattle.rep_types.specs.Settings.{Setting, page_count, pages_of, is_setting}
+use Rattle.rep_forms.specs.Forms.{IsForm}
+use Rattle.rep_forms.specs.FormLaws.{forms, named_is_form}
 use Rattle.rep_layout.specs.declared.super_body.SuperBody.{SuperBody}
-use Rattle.rep_layout.specs.PageStates.{states_form}
 use Rattle.rep_layout.specs.PageStateLaws.{states_is_form}
-use Rattle.rep_layout.specs.Supers.{IsSuper, super_mark, setting_bytes, super_bytes, setting_fields, setting_form, head_fields, stand_fields, super_parts, super_of, super_fields, super_form}
+use Rattle.rep_layout.specs.Supers.{IsSuper, setting_fields, setting_form, super_fields, super_form}
 
 -- ---- parameters
 
@@ -24,37 +21,12 @@ pub record Limits (p : Setting) : Type 0 where
   pub pages : pages_of p.rows ≤ MAX_PAGES
 
 pub limits_of : (p : Setting) → is_setting p ≡ true → Limits p
-limits_of p h =
-    let a = conjuncts (leb 1 p.window && leb p.window MAX_WINDOW && leb MIN_CELLS p.cells && leb p.cells MAX_CELLS) (is_schema p.rows) h in
-    let b = conjuncts (leb 1 p.window && leb p.window MAX_WINDOW && leb MIN_CELLS p.cells) (leb p.cells MAX_CELLS) a.0 in
-    let c = conjuncts (leb 1 p.window && leb p.window MAX_WINDOW) (leb MIN_CELLS p.cells) b.0 in
-    let d = conjuncts (leb 1 p.window) (leb p.window MAX_WINDOW) c.0 in
-    let e = conjuncts (ltb 0 (length p.rows) && leb (length p.rows) MAX_TABLES && list_all (ltb 0) p.rows) (leb (pages_of p.rows) MAX_PAGES) a.1 in
-    let f = conjuncts (ltb 0 (length p.rows) && leb (length p.rows) MAX_TABLES) (list_all (ltb 0) p.rows) e.0 in
-    let g = conjuncts (ltb 0 (length p.rows)) (leb (length p.rows) MAX_TABLES) f.0 in
-    record {
-      window = leb-true p.window MAX_WINDOW d.1;
-      cells = leb-true p.cells MAX_CELLS b.1;
-      tables = leb-true (length p.rows) MAX_TABLES g.1;
-      pages = leb-true (pages_of p.rows) MAX_PAGES e.1;
-    }
+limits_of p h = record { window = grind (arith, nat_tests); cells = grind (arith, nat_tests); tables = grind (arith, nat_tests); pages = grind (arith, nat_tests) }
 
 -- tables of no more pages have few rows
 pub rows_fit : (rows : List ℕ) → pages_of rows ≤ MAX_PAGES → AllByRecursion (λ (n : ℕ). n < 2 ^ 32) rows
 rows_fit [] h = tt
 rows_fit (n ∷ rows) h = (omega (arith, h, sum_by-cons page_count n rows), rows_fit rows (omega (arith, h, sum_by-cons page_count n rows)))
-
-setting_fields_is_form : IsForm setting_fields
-setting_fields_is_form =
-    via_is_form (number 2 ⊗ (number 2 ⊗ both (padded byte 3) (λ n. padded (many MAX_TABLES n (number 4)) (32 - 4 * n))))
-    (λ (p : Setting). (p.window, (p.cells, (length p.rows, p.rows)))) (λ x. result_ok (allowed (setting x.0 x.1.0 x.1.1.1)))
-    (both_is_form (number 2) (λ _. number 2 ⊗ both (padded byte 3) (λ n. padded (many MAX_TABLES n (number 4)) (32 - 4 * n))) (number_is_form 2) (λ _.
-    both_is_form (number 2) (λ _. both (padded byte 3) (λ n. padded (many MAX_TABLES n (number 4)) (32 - 4 * n))) (number_is_form 2) (λ _.
-    both_is_form (padded byte 3) (λ n. padded (many MAX_TABLES n (number 4)) (32 - 4 * n)) (padded_is_form byte 3 byte_is_form) (λ n.
-    padded_is_form (many MAX_TABLES n (number 4)) (32 - 4 * n) (many_is_form MAX_TABLES n (number 4) (number_is_form 4))
-    )
-    )
-    ))
 
 setting_fits : (p : Setting) → is_setting p ≡ true → setting_fields.Fits p
 setting_fits p h =
@@ -64,27 +36,9 @@ setting_fits p h =
     )
 
 pub setting_is_form : IsForm setting_form
-setting_is_form = named_is_form setting_fields _ setting_bytes setting_fields_is_form setting_fits (λ p h. refl)
+setting_is_form = named_is_form setting_fields _ _ (search forms depth 12) setting_fits (λ p h. refl)
 
 -- ---- superblocks
-
-head_is_form : IsForm head_fields
-head_is_form =
-    marked_is_form super_mark (number 8 ⊗ (part_of 16 ⊗ setting_form))
-    (both_is_form (number 8) (λ _. part_of 16 ⊗ setting_form) (number_is_form 8) (λ _. both_is_form (part_of 16) (λ _. setting_form) (part_is_form 16) (λ _. setting_is_form)))
-
-stand_is_form : IsForm stand_fields
-stand_is_form =
-    both_is_form (number 8) (λ _. number 8 ⊗ padded (number 2) 38) (number_is_form 8) (λ _.
-    both_is_form (number 8) (λ _. padded (number 2) 38) (number_is_form 8) (λ _. padded_is_form (number 2) 38 (number_is_form 2))
-    )
-
-super_fields_is_form : IsForm super_fields
-super_fields_is_form =
-    via_is_form (head_fields ⊗ both stand_fields (λ x. padded (states_form x.1.1) 2432)) super_parts super_of
-    (both_is_form head_fields (λ _. both stand_fields (λ x. padded (states_form x.1.1) 2432)) head_is_form (λ _.
-    both_is_form stand_fields (λ x. padded (states_form x.1.1) 2432) stand_is_form (λ x. padded_is_form (states_form x.1.1) 2432 (states_is_form x.1.1))
-    ))
 
 super_fits : (s : SuperBody) → IsSuper s → super_fields.Fits s
 super_fits s h =
@@ -97,8 +51,5 @@ super_fits s h =
       refl,
     )
 
-super_same : (s : SuperBody) → super_bytes s ≡ super_fields.spell s
-super_same s = simp append_assoc
-
 pub super_is_form : IsForm super_form
-super_is_form = named_is_form super_fields IsSuper super_bytes super_fields_is_form super_fits (λ s h. super_same s)
+super_is_form = named_is_form super_fields _ _ (search (forms, setting_is_form, states_is_form) depth 15) super_fits (λ s h. simp append_assoc)

@@ -201,6 +201,7 @@ pub fn need(params: &Params) -> u64
 
 /// The places lie inside the bytes that are needed, no two of them overlap, and together they fill
 /// them.
+#[tactic(auto, using(crate::proofs::PlacesApart::lies_inside, crate::proofs::PlacesApart::lie_apart, crate::proofs::PlacesApart::lies_somewhere))]
 pub fn places_fill_the_device()
     ensures { PlacesFillTheDevice }
 {}
@@ -219,6 +220,7 @@ pub fn sizes_are_these()
 
 /// A superblock lies on the other side than the one before it; each block of the log has a cell, and
 /// blocks whose numbers are less than a lap apart have different ones.
+#[tactic(auto, using(crate::proofs::Turns::turns))]
 pub fn turns_are_taken()
     ensures { TurnsAreTaken }
 {}

@@ -81,6 +81,7 @@ pub fn row_at(schema: &Schema, place: RowPlace) -> Option<Key>
 }
 
 /// Rows of the schema lie in its pages, and two rows do not lie at one place.
+#[tactic(auto, using(crate::proofs::RowPlaces::row_within, crate::proofs::RowPlaces::row_told))]
 pub fn row_places_are_told()
     ensures { RowPlacesAreTold }
 {}

@@ -181,7 +181,7 @@ impl SuperBody {
     /// number is above the position and 1, the position above `MAX_SEQNO`, or the start above the
     /// position; where the UUID is nil, and the number or the position is not 0; or where there are
     /// not as many states as the schema has pages.
-    #[tactic(auto, using(rep_forms::specs::FormLaws::sizes, rep_forms::specs::FormLaws::joined))]
+    #[tactic(auto, using(rep_forms::specs::FormLaws::sizes, std::proofs::Common::append_assoc, crate::proofs::Supers::super_said))]
     pub fn write_body(&self) -> Option<ArrayVec<u8, SUPER_BODY>>
         ensures some { IsSome result ↔ IsSuper self.now }
         // What is written is of the form, and that is its spelling: so it is read again.

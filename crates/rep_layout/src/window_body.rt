@@ -40,7 +40,7 @@ impl WindowBody<'_> {
     /// one is 0 or above the position, or one does not come to more than the position with the window's
     /// seqnos; or where an entry has no key, or keys that do not ascend strictly or are not of the
     /// schema.
-    #[tactic(auto, using(rep_forms::specs::FormLaws::sizes, rep_forms::specs::FormLaws::joined))]
+    #[tactic(auto, using(rep_forms::specs::FormLaws::sizes, std::proofs::Common::append_assoc, crate::proofs::Windows::head_size))]
     pub fn write_body(&self, params: &Params) -> Option<ArrayVec<u8, WINDOW_BODY>>
         ensures some { IsSome result ↔ IsWindowBody params.now (window self.now.number self.now.position self.now.entries.now) }
         // What is written is a window, and that is its spelling: so it is read again.
