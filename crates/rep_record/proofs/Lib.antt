@@ -2,7 +2,6 @@ pub mod Lines
 pub mod Numbers
 pub mod Kept
 pub mod Values
-pub mod Forms
 pub mod Parts
 pub mod Outcomes
 pub mod TextLines

@@ -2,7 +2,8 @@
 use Rattle.std.proofs.Common.{◌≡◌, ℕ, ◌^◌, ltb, List, Option, None, Some, refl, ◌∙◌, arith}
 use Rattle.std.specs.Option.{option_and_then}
 use Rattle.rep_types.proofs.Digits.{number_below}
-use Rattle.rep_record.specs.Reading.{given, number_in, ◌>>=◌}
+use Rattle.rep_forms.specs.Options.{◌>>=◌}
+use Rattle.rep_record.specs.Reading.{given, number_in}
 
 -- the piece and the rest, in the other order
 and_then_is : {A B : Type 0} (o : Option A) (f : A → Option B) → option_and_then f o ≡ (o >>= f)

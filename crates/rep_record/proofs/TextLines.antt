@@ -3,7 +3,7 @@ use Rattle.std.proofs.Common.{◌≡◌, ℕ, suc, ◌+◌, ◌-◌, ◌<◌, �
 use Rattle.std.proofs.Math.Seq.{drop-cons}
 use Rattle.std.specs.Io.KnownBytes.{Keeps, Consumes, prepend_known}
 use Rattle.std.proofs.lemmas.Bool.{eqb-true}
-use Rattle.rep_record.specs.Words.{onto_first}
+use Rattle.std.specs.List.{onto_first}
 use Rattle.rep_record.specs.Lines.{raw_lines, without_feed, EndsAtFeed, AreFed, AreLines}
 
 -- a part of a buffer begins with its first byte

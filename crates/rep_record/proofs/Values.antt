@@ -10,7 +10,7 @@ use Rattle.rep_types.specs.declared.key.Key.{Key}
 use Rattle.rep_types.specs.declared.value.Write.{Write}
 use Rattle.rep_types.specs.declared.refusal.Refusal.{Refusal}
 use Rattle.rep_types.specs.declared.refusal.Refusal.TheVariants.{ValueTooLong}
-use Rattle.rep_record.specs.Reading.{◌>>=◌}
+use Rattle.rep_forms.specs.Options.{◌>>=◌}
 use Rattle.rep_record.specs.Drafts.{drafted_write}
 
 -- a value of these bytes, as the code makes it
