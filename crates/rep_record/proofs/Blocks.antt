@@ -1,20 +1,20 @@
 -- What is read as a block is spelled so, and what is spelled so is read.
-use Rattle.std.proofs.Common.{◌≡◌, ℕ, ◌+◌, ◌-◌, ◌≤◌, ◌<◌, ◌^◌, true, eqb, leb, List, [], ◌∷◌, ◌++◌, length, Some, refl, sym, ap, subst, ◌∙◌, append_assoc, arith, length-append}
+use Rattle.std.proofs.Common.{◌≡◌, ℕ, ◌+◌, ◌-◌, ◌≤◌, ◌<◌, ◌^◌, eqb, leb, List, [], ◌∷◌, ◌++◌, length, Option, Some, refl, sym, ap, subst, ◌∙◌, append_assoc, arith, length-append}
 use Rattle.std.specs.Prelude.{◌&&◌, Result, Ok, Err, IfOk, IsOkAnd}
 use Rattle.std.specs.List.{AllByRecursion}
 use Rattle.std.proofs.lemmas.Bool.{eqb-true, eq-eqb, le-leb}
-use Rattle.std.proofs.lemmas.Option.{cond_some}
+use Rattle.std.proofs.lemmas.Option.{same_Some, cond_some}
 use Rattle.rep_types.specs.declared.limits.TheConstants.{MAX_SEQNO}
 use Rattle.rep_types.specs.declared.judged.Judged.{Judged}
 use Rattle.rep_types.specs.declared.refusal.Refusal.{Refusal}
-use Rattle.rep_forms.specs.Forms.{number_bytes, zeros, are_blank, AreMany}
+use Rattle.rep_forms.specs.Forms.{number_bytes, zeros, AreMany}
 use Rattle.rep_forms.specs.Told.{AreTold, RunsAreTold}
 use Rattle.rep_forms.specs.FormLaws.{length_number, length_zeros, conjuncts, blank_is, zeros_blank}
 use Rattle.rep_forms.specs.Runs.{Leads, Follow}
 use Rattle.rep_record.specs.declared.block_reader.Head.{Head}
 use Rattle.rep_record.specs.declared.limits.TheConstants.{MAX_BLOCK, BLOCK}
 use Rattle.rep_record.specs.Records.{IsRecord, record_form}
-use Rattle.rep_record.specs.Blocks.{first_seqno, SeqnosFrom, run_bytes, IsBlock, block_bytes, Contents, contents, head_bytes, head_form, HasHead, next_seqno, AreRecords, IsRead}
+use Rattle.rep_record.specs.Blocks.{first_seqno, SeqnosFrom, run_bytes, IsBlock, block_bytes, Contents, contents, head_bytes, head_form, next_seqno, AreRecords, IsRead}
 
 -- ---- seqnos that follow one another
 
@@ -86,18 +86,7 @@ block_read bytes cell js h =
 
 -- ---- what is spelled so is read
 
--- What a block's bytes say.
-pub record Says (bytes : List ℕ) (cell : ℕ) (js : List Judged) : Type 0 where
-  pub head : Head
-  pub is_cell : head.cell ≡ cell
-  pub is_count : head.count ≡ length js
-  pub body : List ℕ
-  pub has_head : HasHead bytes head body
-  pub rest : List ℕ
-  pub are_records : AreRecords head body js rest
-  pub blank : are_blank rest ≡ true
-
-pub says : (bytes : List ℕ) (cell : ℕ) (js : List Judged) → IsBlock cell js → bytes ≡ block_bytes cell js → Says bytes cell js
+pub says : (bytes : List ℕ) (cell : ℕ) (js : List Judged) → IsBlock cell js → bytes ≡ block_bytes cell js → IsRead bytes cell js
 says bytes cell js h e =
     let filling : List ℕ = zeros (MAX_BLOCK - length (run_bytes js)) in
     let head : Head = record { cell = cell; first = first_seqno js; count = length js } in
@@ -107,7 +96,6 @@ says bytes cell js h e =
     record {
       head = head;
       is_cell = refl;
-      is_count = refl;
       body = run_bytes js ++ filling;
       has_head = record {
         size = size;
@@ -122,6 +110,12 @@ says bytes cell js h e =
     }
 
 -- ---- the answer
+
+-- what was taken from the front is the block's head, and its records are behind it
+pub matched : {bytes : List ℕ} {cell : ℕ} {js : List Judged} → (s : IsRead bytes cell js) → (head : Head) (body : List ℕ) → ◌≡◌ {A = Option (Head × List ℕ)} (Some (head, body)) (Some (s.head, s.body))
+    → (head ≡ s.head) × AreRecords head body js s.rest
+matched {js = js} s head body e =
+    subst (λ (x : Head × List ℕ). (x.0 ≡ s.head) × AreRecords x.0 x.1 js s.rest) (sym (same_Some (head, body) (s.head, s.body) e)) (refl, s.are_records)
 
 pub answer_found : (bytes : List ℕ) (r : Result Contents Refusal) → IfOk r (λ b. IsRead bytes b.cell b.records) → IfOk r (λ b. IsBlock b.cell b.records × (bytes ≡ block_bytes b.cell b.records))
 answer_found bytes (Ok b) h = block_read bytes b.cell b.records h
@@ -139,10 +133,10 @@ told_by heads runs c d is js h k e =
     let one = says (block_bytes c is) c is h refl in
     let two = says (block_bytes c is) d js k e in
     let apart = heads one.head two.head one.body two.body one.has_head.fits two.has_head.fits (sym one.has_head.there ∙ two.has_head.there) in
-    let count : length js ≡ length is = sym two.is_count ∙ ap (λ (head : Head). head.count) (sym apart.0) ∙ one.is_count in
+    let count : length js ≡ length is = two.are_records.size ∙ ap (λ (head : Head). head.count) (sym apart.0) ∙ sym one.are_records.size in
     let fits : AreMany record_form (length is) (length is) is = record { size = refl; few = omega arith; each = h.are_records } in
     let also : AreMany record_form (length is) (length is) js = record { size = count; few = omega arith; each = k.are_records } in
     let there : run_bytes is ++ one.rest ≡ run_bytes js ++ two.rest = sym one.are_records.there ∙ apart.1 ∙ two.are_records.there in (
-      sym one.is_cell ∙ ap (λ (head : Head). head.cell) apart.0 ∙ two.is_cell,
+      one.is_cell ∙ ap (λ (head : Head). head.cell) apart.0 ∙ sym two.is_cell,
       (runs (length is) is js one.rest two.rest fits also there).0,
     )

@@ -1,5 +1,5 @@
 -- Records that are gathered one by one.
-use Rattle.std.proofs.Common.{◌≡◌, ℕ, ◌+◌, ◌≤◌, ◌<◌, true, false, eqb, List, [], ◌∷◌, ◌++◌, length, Option, Some, refl, sym, ap, subst, ◌∙◌, arith, length-append, add-zero, cond}
+use Rattle.std.proofs.Common.{◌≡◌, ℕ, ◌+◌, ◌≤◌, ◌<◌, true, false, eqb, List, [], ◌∷◌, ◌++◌, length, Option, Some, refl, sym, ap, subst, ◌∙◌, arith, length-append, cond}
 use Rattle.std.specs.List.{AllByRecursion}
 use Rattle.std.specs.Option.{option_map_or}
 use Rattle.std.proofs.lemmas.Bool.{eqb-true, ne_eqb}
@@ -12,6 +12,7 @@ use Rattle.rep_record.specs.Records.{IsRecord, record_bytes, record_form}
 use Rattle.rep_record.specs.RecordLaws.{record_is_form}
 use Rattle.rep_record.specs.Blocks.{first_seqno, SeqnosFrom, run_bytes, is_next}
 use Rattle.rep_record.specs.Gathered.{gathered_in, IsGathered}
+use Rattle.rep_record.proofs.InOrder.{SeqnosFrom_push}
 
 -- nothing is gathered of no bytes
 pub gathered_none : (bytes : List ℕ) → bytes ≡ [] → IsGathered 0 0 bytes × (gathered_in 0 bytes ≡ [])
@@ -20,11 +21,6 @@ gathered_none bytes e = (
   record { read = ap (λ (xs : List ℕ). Some ([], xs)) e; spelled = e; records = tt; is_first = refl; follow = tt; size = refl; few = omega arith; fits = omega (arith, ap length e) },
   refl,
 )
-
--- one more that follows
-follow_more : (n : ℕ) (js : List Judged) (j : Judged) → SeqnosFrom n js → j.seqno ≡ n + length js → SeqnosFrom n (js ++ j ∷ [])
-follow_more n [] j h e = (e ∙ add-zero n, tt)
-follow_more n (i ∷ js) j h e = (h.0, follow_more (n + 1) js j h.1 (omega (arith, e)))
 
 -- the first seqno with one more
 first_more : (js : List Judged) (j : Judged) (n first : ℕ) → length js ≡ n → first ≡ first_seqno js → cond (eqb n 0) j.seqno first ≡ first_seqno (js ++ j ∷ [])
@@ -36,7 +32,7 @@ first_more (i ∷ js) j n first size e =
 -- the next seqno is the one behind them
 next_is : (js : List Judged) (j : Judged) → is_next js j ≡ true → SeqnosFrom (first_seqno js) js → SeqnosFrom (first_seqno (js ++ j ∷ [])) (js ++ j ∷ [])
 next_is [] j e h = (refl, tt)
-next_is (i ∷ js) j e h = follow_more i.seqno (i ∷ js) j h (omega (arith, eqb-true j.seqno (i.seqno + (length js + 1)) e))
+next_is (i ∷ js) j e h = SeqnosFrom_push i.seqno (i ∷ js) j h (omega (arith, eqb-true j.seqno (i.seqno + (length js + 1)) e))
 
 -- the records that are read
 pub gathered_is : (count : ℕ) (bytes : List ℕ) (js : List Judged) → each record_form.read count bytes ≡ Some (js, []) → gathered_in count bytes ≡ js

@@ -3,6 +3,7 @@ use Rattle.std.proofs.Common.{◌≡◌, ℕ, zero, suc, ◌^◌, ◌≤◌, Boo
 use Rattle.std.specs.Prelude.{◌||◌, codes}
 use Rattle.std.specs.List.{fold, list_any}
 use Rattle.std.specs.Option.{option_map}
+use Rattle.std.proofs.Math.Bool.{or_assoc}
 use Rattle.std.proofs.lemmas.List.{append-nil}
 use Rattle.rep_types.specs.declared.key.Key.{Key}
 use Rattle.rep_types.specs.declared.value.Write.{Write}
@@ -97,11 +98,7 @@ rows_kept words = each_from_is (keep 9) (number_in (2 ^ 32)) [] words ∙ same_m
 abbrev pub keep_write : List Write × Bool → Write → List Write × Bool
 keep_write kept write = (keep 17 kept.0 (short_write write), kept.1 || is_long write)
 
--- how three tests are grouped makes no difference
-or_assoc : (a b c : Bool) → ((a || b) || c) ≡ (a || (b || c))
-or_assoc true b c = refl
-or_assoc false b c = refl
-
+-- the list and the test apart
 fold_writes : (front : List Write) (long : Bool) (writes : List Write) → fold keep_write (front, long) writes ≡ (fold (keep 17) front (map short_write writes), fold (λ so_far w. so_far || is_long w) long writes)
 fold_writes front long [] = refl
 fold_writes front long (write ∷ writes) = fold_writes (keep 17 front (short_write write)) (long || is_long write) writes

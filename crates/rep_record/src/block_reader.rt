@@ -101,7 +101,7 @@ impl<'a> Model for BlockReader<'a> {
 /// Reads a block, and says how it was read.
 fn read_body(bytes: &[u8]) -> Result<BlockReader<'_>, Refusal>
     ensures read { IfOk result (λ b. IsRead bytes.now b.cell b.records) }
-    ensures only { (cell : ℕ) (js : List Judged) → IsBlock cell js → bytes.now ≡ block_bytes cell js → IsOkAnd result (λ b. (b.cell ≡ cell) × (b.records ≡ js)) }
+    ensures only { (cell : ℕ) (js : List Judged) → IsRead bytes.now cell js → IsOkAnd result (λ b. (b.cell ≡ cell) × (b.records ≡ js)) }
     ensures refused { IfErr result (λ e. Refuses bytes.now e) }
 {
     let malformed = Refusal::Malformed { at: 0 };
