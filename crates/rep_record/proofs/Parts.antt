@@ -50,9 +50,9 @@ tested true e = (refl, e)
 tested false e = absurd cc
 
 -- what other values stand for
-via_means : {W A B : Type 0} (f : W → Option A) (Says : W → A → Type 0) (to : A → B) (from : B → A) → ((x : A) → from (to x) ≡ x) → ((y : B) → to (from y) ≡ y) → Means f Says
+via_means : {W A B : Type 0} {f : W → Option A} {Says : W → A → Type 0} (to : A → B) (from : B → A) → ((x : A) → from (to x) ≡ x) → ((y : B) → to (from y) ≡ y) → Means f Says
     → Means (λ w. f w >>= λ x. Some (to x)) (λ w y. Says w (from y))
-via_means f Says to from there back m = record {
+via_means {Says = Says} to from there back m = record {
   found = λ w y e. let a = bound e in subst (λ z. Says w (from z)) (same_Some _ _ a.2) (subst (Says w) (sym (there a.0)) (m.found w a.0 a.1));
   again = λ w y h. rw (m.again w (from y) h, back y) refl;
 }
@@ -136,9 +136,9 @@ cut_pair : {A B : Type 0} {mark : ℕ} {First : List ℕ → A → Type 0} {Seco
     → cut mark word ≡ Some (h.front, h.second.0)
 cut_pair {mark = mark} h free = ap (cut mark) (h.joined ∙ ap (λ back. h.front ++ back) h.second.1) ∙ cut_again mark h.front h.second.0 free
 
-pair_means : {A B : Type 0} (mark : ℕ) (f : List ℕ → Option A) (g : List ℕ → Option B) (First : List ℕ → A → Type 0) (Second : List ℕ → B → Type 0)
+pair_means : {A B : Type 0} {f : List ℕ → Option A} {g : List ℕ → Option B} {First : List ℕ → A → Type 0} {Second : List ℕ → B → Type 0} (mark : ℕ)
     → ((word : List ℕ) (x : A) → First word x → IsFree mark word) → Means f First → Means g Second → Means (pair_at mark f g) (First ⊗ After mark Second)
-pair_means mark f g First Second free p q = record {
+pair_means {First = First} {Second = Second} mark free p q = record {
   found = λ word x e.
       let a = bound e in
       let b = bound a.2 in
@@ -158,13 +158,12 @@ pair_means mark f g First Second free p q = record {
 -- a pair of numbers
 numbers_mean : (mark n m : ℕ) → 10 ≤ digit_value mark → Means (pair_at mark (number_in n) (number_in m)) (IsNumber n ⊗ After mark (IsNumber m))
 numbers_mean mark n m large =
-    pair_means mark (number_in n) (number_in m) (IsNumber n) (IsNumber m) (λ word x h. free_digits mark word large h.digits.1) (number_means n) (number_means m)
+    pair_means mark (λ word x h. free_digits mark word large h.digits.1) (number_means n) (number_means m)
 
 key_means : Means key_in IsKey
 unfolding key_in
 key_means =
-    via_means (pair_at 47 (number_in (2 ^ 8)) (number_in (2 ^ 32))) (IsNumber (2 ^ 8) ⊗ After 47 (IsNumber (2 ^ 32))) (λ x. record { table = x.0; row = x.1 }) (λ (key : Key). (key.table, key.row))
-    (λ x. refl) (λ key. refl) (numbers_mean 47 (2 ^ 8) (2 ^ 32) (omega arith))
+    via_means (λ x. record { table = x.0; row = x.1 }) (λ (key : Key). (key.table, key.row)) (λ x. refl) (λ key. refl) (numbers_mean 47 (2 ^ 8) (2 ^ 32) (omega arith))
 
 label_means : Means label_in IsLabel
 unfolding label_in
@@ -265,8 +264,8 @@ next_is text [] e = absurd cc
 next_is text (word ∷ rest) e = ap (λ w. w ∷ rest) ((bytes_eq-Decides word text).0 e)
 
 -- what stands behind a word
-after_means : {A : Type 0} (text : List ℕ) (f : Lines → Option A) (Says : Lines → A → Type 0) → Means f Says → Means (after text f) (After text Says)
-after_means text f Says m = record {
+after_means : {A : Type 0} {f : Lines → Option A} {Says : Lines → A → Type 0} (text : List ℕ) → Means f Says → Means (after text f) (After text Says)
+after_means text m = record {
   found = λ whole x e.
       let a = tested (is_next text whole) e in
       (drop 1 whole, next_is text whole a.0, m.found (drop 1 whole) x a.1);
@@ -274,67 +273,67 @@ after_means text f Says m = record {
 }
 
 -- one word
-one_found : {A : Type 0} (f : List ℕ → Option A) (Says : List ℕ → A → Type 0) → Means f Says → (whole : Lines) (x : A × Lines) → next f whole ≡ Some x
+one_found : {A : Type 0} {f : List ℕ → Option A} {Says : List ℕ → A → Type 0} → Means f Says → (whole : Lines) (x : A × Lines) → next f whole ≡ Some x
     → (part : Lines) × (whole ≡ part ++ x.1) × One Says part x.0
-one_found f Says m [] x e = absurd cc
-one_found {A} f Says m (word ∷ rest) x e =
+one_found m [] x e = absurd cc
+one_found {A} {Says = Says} m (word ∷ rest) x e =
     let a = bound e in
     subst (λ (z : A × Lines). (part : Lines) × ((word ∷ rest) ≡ part ++ z.1) × One Says part z.0) (same_Some _ _ a.2) (word ∷ [], refl, (word, refl, m.found word a.0 a.1))
 
-one_fronts : {A : Type 0} (f : List ℕ → Option A) (Says : List ℕ → A → Type 0) → Means f Says → Fronts (next f) (One Says) (λ rest. Unit {0})
-one_fronts f Says m = record { found = one_found f Says m; again = λ part rest x any h. rw (h.1, m.again h.0 x h.2) refl }
+one_fronts : {A : Type 0} {f : List ℕ → Option A} {Says : List ℕ → A → Type 0} → Means f Says → Fronts (next f) (One Says) (λ rest. Unit {0})
+one_fronts m = record { found = one_found m; again = λ part rest x any h. rw (h.1, m.again h.0 x h.2) refl }
 
 -- each word
-each_found : {A : Type 0} (f : List ℕ → Option A) (Says : List ℕ → A → Type 0) → Means f Says → (whole : Lines) (xs : List A) → each f whole ≡ Some xs → AllZip Says whole xs
+each_found : {A : Type 0} {f : List ℕ → Option A} {Says : List ℕ → A → Type 0} → Means f Says → (whole : Lines) (xs : List A) → each f whole ≡ Some xs → AllZip Says whole xs
 unfolding each
-each_found f Says m [] xs e = subst (AllZip Says []) (same_Some [] xs e) tt
-each_found f Says m (word ∷ rest) xs e =
+each_found {Says = Says} m [] xs e = subst (AllZip Says []) (same_Some [] xs e) tt
+each_found {Says = Says} m (word ∷ rest) xs e =
     let a = bound e in
     let b = bound a.2 in
-    subst (AllZip Says (word ∷ rest)) (same_Some (a.0 ∷ b.0) xs b.2) (m.found word a.0 a.1, each_found f Says m rest b.0 b.1)
+    subst (AllZip Says (word ∷ rest)) (same_Some (a.0 ∷ b.0) xs b.2) (m.found word a.0 a.1, each_found m rest b.0 b.1)
 
-each_again : {A : Type 0} (f : List ℕ → Option A) (Says : List ℕ → A → Type 0) → Means f Says → (whole : Lines) (xs : List A) → AllZip Says whole xs → each f whole ≡ Some xs
+each_again : {A : Type 0} {f : List ℕ → Option A} {Says : List ℕ → A → Type 0} → Means f Says → (whole : Lines) (xs : List A) → AllZip Says whole xs → each f whole ≡ Some xs
 unfolding each
-each_again f Says m [] [] z = refl
-each_again f Says m [] (x ∷ xs) z = absurd z
-each_again f Says m (word ∷ rest) [] z = absurd z
-each_again f Says m (word ∷ rest) (x ∷ xs) z = rw (m.again word x z.0, each_again f Says m rest xs z.1) refl
+each_again m [] [] z = refl
+each_again m [] (x ∷ xs) z = absurd z
+each_again m (word ∷ rest) [] z = absurd z
+each_again m (word ∷ rest) (x ∷ xs) z = rw (m.again word x z.0, each_again m rest xs z.1) refl
 
 -- one word or more
-more_means : {A : Type 0} (f : List ℕ → Option A) (Says : List ℕ → A → Type 0) → Means f Says → Means (some_each f) (More Says)
-more_means f Says m = record {
-  found = λ whole xs e. let a = tested (ltb 0 (length whole)) e in (ltb-true 0 (length whole) a.0, each_found f Says m whole xs a.1);
-  again = λ whole xs h. rw (lt-ltb 0 (length whole) h.0) (each_again f Says m whole xs h.1);
+more_means : {A : Type 0} {f : List ℕ → Option A} {Says : List ℕ → A → Type 0} → Means f Says → Means (some_each f) (More Says)
+more_means m = record {
+  found = λ whole xs e. let a = tested (ltb 0 (length whole)) e in (ltb-true 0 (length whole) a.0, each_found m whole xs a.1);
+  again = λ whole xs h. rw (lt-ltb 0 (length whole) h.0) (each_again m whole xs h.1);
 }
 
 -- ---- parts
 
 -- a part that may be missing, whether its mark stands there or not
-optional_found : {A : Type 0} (text : List ℕ) (value : A) (f : Lines → Option (A × Lines)) (Says : Lines → A → Type 0) (Rest : Lines → Type 0) → Fronts f Says Rest
+optional_found : {A : Type 0} {f : Lines → Option (A × Lines)} {Says : Lines → A → Type 0} {Rest : Lines → Type 0} (text : List ℕ) (value : A) → Fronts f Says Rest
     → (whole : Lines) (x : A × Lines) (marked : Bool) → is_next text whole ≡ marked → cond marked (f (drop 1 whole)) (Some (value, whole)) ≡ Some x
     → (part : Lines) × (whole ≡ part ++ x.1) × Optional text value Says part x.0
-optional_found text value f Says Rest m whole x true is e =
+optional_found text value m whole x true is e =
     let a = m.found (drop 1 whole) x e in
     (text ∷ a.0, next_is text whole is ∙ ap (λ ws. text ∷ ws) a.1, inr (a.0, refl, a.2))
-optional_found {A} text value f Says Rest m whole x false is e =
+optional_found {A} {Says = Says} text value m whole x false is e =
     subst (λ (z : A × Lines). (part : Lines) × (whole ≡ part ++ z.1) × Optional text value Says part z.0) (same_Some _ _ e) ([], refl, inl (refl, refl))
 
-optional_again : {A : Type 0} (text : List ℕ) (value : A) (f : Lines → Option (A × Lines)) (Says : Lines → A → Type 0) (Rest : Lines → Type 0) → Fronts f Says Rest
+optional_again : {A : Type 0} {f : Lines → Option (A × Lines)} {Says : Lines → A → Type 0} {Rest : Lines → Type 0} (text : List ℕ) (value : A) → Fronts f Says Rest
     → (part rest : Lines) (x : A) → Rest rest × (is_next text rest ≡ false) → Optional text value Says part x → optional text value f (part ++ rest) ≡ Some (x, rest)
-optional_again text value f Says Rest m part rest x other (inl h) = rw (h.0, other.1, h.1) refl
-optional_again text value f Says Rest m part rest x other (inr h) = rw (h.1, (bytes_eq-Decides text text).1 refl) (m.again h.0 rest x other.0 h.2)
+optional_again text value m part rest x other (inl h) = rw (h.0, other.1, h.1) refl
+optional_again text value m part rest x other (inr h) = rw (h.1, (bytes_eq-Decides text text).1 refl) (m.again h.0 rest x other.0 h.2)
 
-optional_fronts : {A : Type 0} (text : List ℕ) (value : A) (f : Lines → Option (A × Lines)) (Says : Lines → A → Type 0) (Rest : Lines → Type 0) → Fronts f Says Rest
+optional_fronts : {A : Type 0} {f : Lines → Option (A × Lines)} {Says : Lines → A → Type 0} {Rest : Lines → Type 0} (text : List ℕ) (value : A) → Fronts f Says Rest
     → Fronts (optional text value f) (Optional text value Says) (λ rest. Rest rest × (is_next text rest ≡ false))
-optional_fronts text value f Says Rest m = record {
-  found = λ whole x e. optional_found text value f Says Rest m whole x (is_next text whole) refl e;
-  again = optional_again text value f Says Rest m;
+optional_fronts text value m = record {
+  found = λ whole x e. optional_found text value m whole x (is_next text whole) refl e;
+  again = optional_again text value m;
 }
 
 -- a part, and what stands behind it
-behind_means : {A B : Type 0} (f : Lines → Option (A × Lines)) (g : Lines → Option B) (First : Lines → A → Type 0) (Second : Lines → B → Type 0) (Rest : Lines → Type 0)
+behind_means : {A B : Type 0} {f : Lines → Option (A × Lines)} {g : Lines → Option B} {First : Lines → A → Type 0} {Second : Lines → B → Type 0} {Rest : Lines → Type 0}
     → Fronts f First Rest → Means g Second → ((rest : Lines) (y : B) → Second rest y → Rest rest) → Means (behind f g) (First ⊗ Second)
-behind_means f g First Second Rest p q kind = record {
+behind_means {First = First} {Second = Second} p q kind = record {
   found = λ whole x e.
       let a = bound e in
       let b = bound a.2 in
@@ -379,11 +378,14 @@ keys_again (word ∷ second ∷ part) rest (key ∷ other ∷ keys) mark h =
     let more : keys_in ((second ∷ part) ++ rest) ≡ Some (other ∷ keys, rest) = keys_again (second ∷ part) rest (other ∷ keys) mark (omega arith, h.1.1) in
     rw (key_means.again word key h.1.0, key_not_mark second other (bytes_eq second (codes "w")) h.1.1.0 refl, more) refl
 
+keys_fronts : Fronts keys_in (More IsKey) (λ rest. is_next (codes "w") rest ≡ true)
+keys_fronts = record { found = keys_found; again = keys_again }
+
 -- ---- a tail
 
 writes_mean : Means writes_in AreWrites
 unfolding writes_in
-writes_mean = after_means (codes "w") (some_each write_in) (More IsWrite) (more_means write_in IsWrite write_means)
+writes_mean = after_means (codes "w") (more_means write_means)
 
 -- what the words behind the reads begin with
 abbrev BeforeWrites : Lines → Type 0
@@ -391,11 +393,11 @@ BeforeWrites rest = (is_next (codes "w") rest ≡ true) × (is_next (codes "r") 
 
 reads_fronts : Fronts reads_in AreReads BeforeWrites
 unfolding reads_in
-reads_fronts = optional_fronts (codes "r") [] keys_in (More IsKey) (λ rest. is_next (codes "w") rest ≡ true) (record { found = keys_found; again = keys_again })
+reads_fronts = optional_fronts (codes "r") [] keys_fronts
 
 labels_fronts : Fronts labels_in AreLabels (λ rest. Unit {0} × (is_next (codes "id") rest ≡ false))
 unfolding labels_in
-labels_fronts = optional_fronts (codes "id") (0, 0) (next label_in) (One IsLabel) (λ rest. Unit {0}) (one_fronts label_in IsLabel label_means)
+labels_fronts = optional_fronts (codes "id") (0, 0) (one_fronts label_means)
 
 -- what begins with `r` or `w` doesn't begin with `id`
 no_label : (reads writes : Lines) (keys : List Key) (ws : List Write) → AreReads reads keys → AreWrites writes ws → is_next (codes "id") (reads ++ writes) ≡ false
@@ -405,18 +407,16 @@ no_label reads writes keys ws (inr h) w = rw h.1 refl
 tail_means : Means tail_in IsTail
 unfolding tail_in
 tail_means =
-    let lists = behind_means reads_in writes_in AreReads AreWrites BeforeWrites reads_fronts writes_mean (λ rest ws h. (rw h.1 refl, rw h.1 refl)) in
-    let labelled = behind_means labels_in (behind reads_in writes_in) AreLabels (AreReads ⊗ AreWrites) _ labels_fronts lists (λ rest x h. (tt, rw h.joined (no_label h.front h.back x.0 x.1 h.first h.second))) in
-    let whole = behind_means (next (number_in (2 ^ 64))) (behind labels_in (behind reads_in writes_in)) (One (IsNumber (2 ^ 64))) (AreLabels ⊗ (AreReads ⊗ AreWrites)) _
-    (one_fronts (number_in (2 ^ 64)) (IsNumber (2 ^ 64)) (number_means (2 ^ 64))) labelled (λ rest x h. tt) in
-    via_means (behind (next (number_in (2 ^ 64))) (behind labels_in (behind reads_in writes_in))) (One (IsNumber (2 ^ 64)) ⊗ (AreLabels ⊗ (AreReads ⊗ AreWrites)))
-    (λ x. transaction x.1.0.0 x.1.0.1 x.0 x.1.1.0 x.1.1.1) (λ (w : Transaction). (w.last_seen, ((w.source, w.trx), (w.reads, w.writes)))) (λ x. refl) (λ w. refl) whole
+    let lists = behind_means reads_fronts writes_mean (λ rest ws h. (rw h.1 refl, rw h.1 refl)) in
+    let labelled = behind_means labels_fronts lists (λ rest x h. (tt, rw h.joined (no_label h.front h.back x.0 x.1 h.first h.second))) in
+    via_means (λ x. transaction x.1.0.0 x.1.0.1 x.0 x.1.1.0 x.1.1.1) (λ (w : Transaction). (w.last_seen, ((w.source, w.trx), (w.reads, w.writes)))) (λ x. refl) (λ w. refl)
+    (behind_means (one_fronts (number_means (2 ^ 64))) labelled (λ rest x h. tt))
 
 -- ---- lines
 
 items_mean : Means item_in (After (codes "item") IsTail)
 unfolding item_in
-items_mean = after_means (codes "item") tail_in IsTail tail_means
+items_mean = after_means (codes "item") tail_means
 
 -- what is read of an item's line is what it says
 pub item_found : (line : List ℕ) (w : Transaction) → item_in (words line) ≡ Some w → IsItemLine line w
@@ -429,16 +429,13 @@ item_again line w h = items_mean.again (words line) w h
 setting_means : Means setting_in IsSetting
 unfolding setting_in
 setting_means =
-    let n = number_in (2 ^ 32) in
-    let N = IsNumber (2 ^ 32) in
-    let one = one_fronts n N (number_means (2 ^ 32)) in
-    let rest = behind_means (next n) (some_each n) (One N) (More N) (λ _. Unit {0}) one (more_means n N (number_means (2 ^ 32))) (λ rest x h. tt) in
-    via_means (behind (next n) (behind (next n) (some_each n))) (One N ⊗ (One N ⊗ More N)) (λ x. setting x.0 x.1.0 x.1.1) (λ (p : Setting). (p.window, (p.cells, p.rows))) (λ x. refl) (λ p. refl)
-    (behind_means (next n) (behind (next n) (some_each n)) (One N) (One N ⊗ More N) (λ _. Unit {0}) one rest (λ rest x h. tt))
+    let n = number_means (2 ^ 32) in
+    via_means (λ x. setting x.0 x.1.0 x.1.1) (λ (p : Setting). (p.window, (p.cells, p.rows))) (λ x. refl) (λ p. refl)
+    (behind_means (one_fronts n) (behind_means (one_fronts n) (more_means n) (λ rest x h. tt)) (λ rest x h. tt))
 
 params_mean : Means params_in (After (codes "params") IsSetting)
 unfolding params_in
-params_mean = after_means (codes "params") setting_in IsSetting setting_means
+params_mean = after_means (codes "params") setting_means
 
 -- what is read of a params line is what it says
 pub params_found : (line : List ℕ) (p : Setting) → params_in (words line) ≡ Some p → IsParamsLine line p
