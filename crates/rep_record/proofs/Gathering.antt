@@ -1,6 +1,5 @@
 -- Records that are gathered one by one.
 use Rattle.std.proofs.Common.{◌≡◌, ℕ, ◌+◌, ◌≤◌, ◌<◌, true, false, eqb, List, [], ◌∷◌, ◌++◌, length, Option, Some, refl, sym, ap, subst, ◌∙◌, arith, length-append, cond}
-use Rattle.std.specs.List.{AllByRecursion}
 use Rattle.std.specs.Option.{option_map_or}
 use Rattle.std.proofs.lemmas.Bool.{eqb-true, ne_eqb}
 use Rattle.std.proofs.lemmas.List.{append-nil}
@@ -11,16 +10,28 @@ use Rattle.rep_record.specs.declared.limits.TheConstants.{MAX_RECORDS, MAX_BLOCK
 use Rattle.rep_record.specs.Records.{IsRecord, record_bytes, record_form}
 use Rattle.rep_record.specs.RecordLaws.{record_is_form}
 use Rattle.rep_record.specs.Blocks.{first_seqno, SeqnosFrom, run_bytes, is_next}
-use Rattle.rep_record.specs.Gathered.{gathered_in, IsGathered}
+use Rattle.rep_record.specs.Gathered.{gathered_in, AreGathered, IsGathered}
 use Rattle.rep_record.proofs.InOrder.{SeqnosFrom_push}
 
+-- the records that were gathered are read again
+gathered_is : {first count : ℕ} {bytes : List ℕ} {js : List Judged} → AreGathered first count bytes js → gathered_in count bytes ≡ js
+gathered_is {count = count} {bytes = bytes} {js = js} h =
+    let read : each record_form.read count bytes ≡ Some (js, []) =
+    rw (← h.size, h.spelled, ← append-nil (run_bytes js)) (each_again record_form record_is_form js [] h.are_records) in
+    ap (λ (o : Option (List Judged × List ℕ)). option_map_or (λ (x : List Judged × List ℕ). x.0) o []) read
+
+are_gathered : {first count : ℕ} {bytes : List ℕ} {js : List Judged} → AreGathered first count bytes js → IsGathered first count bytes × (gathered_in count bytes ≡ js)
+are_gathered {first} {count} {bytes} h = (subst (AreGathered first count bytes) (sym (gathered_is h)) h, gathered_is h)
+
 -- nothing is gathered of no bytes
-pub gathered_none : (bytes : List ℕ) → bytes ≡ [] → IsGathered 0 0 bytes × (gathered_in 0 bytes ≡ [])
-unfolding each
-gathered_none bytes e = (
-  record { read = ap (λ (xs : List ℕ). Some ([], xs)) e; spelled = e; records = tt; is_first = refl; follow = tt; size = refl; few = omega arith; fits = omega (arith, ap length e) },
-  refl,
-)
+none_gathered : (bytes : List ℕ) → bytes ≡ [] → IsGathered 0 0 bytes × (gathered_in 0 bytes ≡ [])
+none_gathered bytes e = are_gathered (record { spelled = e; are_records = tt; is_first = refl; follow = tt; size = refl; few = omega arith; fits = omega (arith, ap length e) })
+
+pub gathered_none : (bytes : List ℕ) → bytes ≡ [] → AreGathered 0 0 bytes (gathered_in 0 bytes)
+gathered_none bytes e = (none_gathered bytes e).0
+
+pub none_read : (bytes : List ℕ) → bytes ≡ [] → gathered_in 0 bytes ≡ []
+none_read bytes e = (none_gathered bytes e).1
 
 -- the first seqno with one more
 first_more : (js : List Judged) (j : Judged) (n first : ℕ) → length js ≡ n → first ≡ first_seqno js → cond (eqb n 0) j.seqno first ≡ first_seqno (js ++ j ∷ [])
@@ -34,33 +45,17 @@ next_is : (js : List Judged) (j : Judged) → is_next js j ≡ true → SeqnosFr
 next_is [] j e h = (refl, tt)
 next_is (i ∷ js) j e h = SeqnosFrom_push i.seqno (i ∷ js) j h (omega (arith, eqb-true j.seqno (i.seqno + (length js + 1)) e))
 
--- the records that are read
-pub gathered_is : (count : ℕ) (bytes : List ℕ) (js : List Judged) → each record_form.read count bytes ≡ Some (js, []) → gathered_in count bytes ≡ js
-gathered_is count bytes js e = ap (λ (o : Option (List Judged × List ℕ)). option_map_or (λ (x : List Judged × List ℕ). x.0) o []) e
-
 -- one more
 pub gathered_more : (first count : ℕ) (bytes more : List ℕ) (j : Judged) → IsGathered first count bytes → IsRecord j → is_next (gathered_in count bytes) j ≡ true → count < MAX_RECORDS
     → more ≡ bytes ++ record_bytes j → length more ≤ MAX_BLOCK → IsGathered (cond (eqb count 0) j.seqno first) (count + 1) more × (gathered_in (count + 1) more ≡ gathered_in count bytes ++ j ∷ [])
 gathered_more first count bytes more j h r next room there fits =
     let js : List Judged = gathered_in count bytes in
-    let run : more ≡ run_bytes (js ++ j ∷ []) = there ∙ ap (λ (xs : List ℕ). xs ++ record_bytes j) h.spelled ∙ sym (run_more record_bytes js j) in
-    let all = all_more IsRecord js j h.records r in
-    let size : length (js ++ j ∷ []) ≡ count + 1 = length-append js (j ∷ []) ∙ omega (arith, h.size) in
-    let read : each record_form.read (count + 1) more ≡ Some (js ++ j ∷ [], []) =
-    ap (λ n. each record_form.read n more) (sym size) ∙ ap (each record_form.read (length (js ++ j ∷ []))) (run ∙ sym (append-nil (run_bytes (js ++ j ∷ [])))) ∙ each_again record_form record_is_form (js ++ j ∷ []) [] all in
-    let same = gathered_is (count + 1) more (js ++ j ∷ []) read in
-    let first_is : cond (eqb count 0) j.seqno first ≡ first_seqno (js ++ j ∷ []) = first_more js j count first h.size h.is_first in
-    let follow : SeqnosFrom (cond (eqb count 0) j.seqno first) (js ++ j ∷ []) =
-    subst (λ n. SeqnosFrom n (js ++ j ∷ [])) (sym first_is) (next_is js j next (subst (λ n. SeqnosFrom n js) h.is_first h.follow)) in (
-      record {
-        read = read ∙ ap (λ (rs : List Judged). Some (rs, [])) (sym same);
-        spelled = run ∙ ap run_bytes (sym same);
-        records = subst (λ (rs : List Judged). AllByRecursion IsRecord rs) (sym same) all;
-        is_first = first_is ∙ ap first_seqno (sym same);
-        follow = subst (λ (rs : List Judged). SeqnosFrom (cond (eqb count 0) j.seqno first) rs) (sym same) follow;
-        size = ap length same ∙ size;
-        few = omega (arith, room);
-        fits = fits;
-      },
-      same,
-    )
+    are_gathered (record {
+      spelled = there ∙ ap (λ (xs : List ℕ). xs ++ record_bytes j) h.spelled ∙ sym (run_more record_bytes js j);
+      are_records = all_more IsRecord js j h.are_records r;
+      is_first = first_more js j count first h.size h.is_first;
+      follow = next_is js j next h.follow;
+      size = length-append js (j ∷ []) ∙ omega (arith, h.size);
+      few = omega (arith, room);
+      fits = fits;
+    })

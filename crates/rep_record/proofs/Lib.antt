@@ -1,7 +1,6 @@
 pub mod Lines
-pub mod Numbers
-pub mod Kept
 pub mod Values
+pub mod Kept
 pub mod Parts
 pub mod Outcomes
 pub mod TextLines

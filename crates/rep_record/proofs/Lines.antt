@@ -1,5 +1,5 @@
 -- How a line comes apart into words.
-use Rattle.std.proofs.Common.{◌≡◌, ◌≢◌, ℕ, suc, ◌+◌, ◌<◌, ◌≤◌, Bool, true, false, cond, eqb, not, List, [], ◌∷◌, length, get_or, take, drop, refl, sym, ap, ◌∙◌, add-one, arith, inl, inr}
+use Rattle.std.proofs.Common.{◌≡◌, ◌≢◌, ℕ, suc, ◌+◌, ◌<◌, ◌≤◌, Bool, true, false, cond, eqb, not, List, [], ◌∷◌, ◌++◌, length, get_or, take, drop, refl, sym, ap, ◌∙◌, add-one, arith, inl, inr}
 use Rattle.std.specs.Prelude.{filter, ◌&&◌, ◌↔◌}
 use Rattle.std.specs.Option.{unwrap_or}
 use Rattle.std.specs.List.{position, position_or_len, slice_split, onto_first, after_first}
@@ -57,3 +57,15 @@ position_or_end line =
       | inl lt ↦ (rw (lt-ltb n (length line) lt) refl, le)
       | inr ge ↦ (rw (le-ltb n (length line) ge) (omega arith), le)
     ]
+
+-- ---- a text without a mark
+
+-- the mark doesn't stand there
+abbrev pub IsFree : ℕ → List ℕ → Type 0
+IsFree mark [] = Unit {0}
+IsFree mark (b ∷ bs) = (eqb b mark ≡ false) × IsFree mark bs
+
+-- the mark stands in neither of two texts, so not in both together
+pub free_append : (mark : ℕ) (a b : List ℕ) → IsFree mark a → IsFree mark b → IsFree mark (a ++ b)
+free_append mark [] b p q = q
+free_append mark (x ∷ xs) b p q = (p.0, free_append mark xs b p.1 q)

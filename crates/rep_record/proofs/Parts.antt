@@ -21,6 +21,7 @@ use Rattle.rep_forms.specs.Options.{◌>>=◌}
 use Rattle.rep_forms.specs.FormLaws.{conjuncts}
 use Rattle.rep_record.specs.Words.{words, cut}
 use Rattle.rep_record.specs.Grammar.{IsNumber, ◌⊗◌, After, Optional, One, More, IsKey, IsHex, IsWrite, IsLabel, AreLabels, AreReads, AreWrites, IsTail, IsItemLine, IsSetting, IsParamsLine}
+use Rattle.rep_record.proofs.Lines.{IsFree, free_append}
 use Rattle.rep_record.specs.Reading.{is_number, number_in, pair_at, is_next, after, optional, behind, next, each, some_each, key_in, label_in, byte_in, hex_in, put_in, deleted_in, delete, write_by, write_in, labels_in, keys_in, reads_in, writes_in, tail_in, item_in, setting_in, params_in}
 
 -- ---- what it means to read as the grammar says
@@ -78,16 +79,6 @@ number_means limit = record {
 }
 
 -- ---- a word cut at a mark
-
--- the mark doesn't stand there
-abbrev IsFree : ℕ → List ℕ → Type 0
-IsFree mark [] = Unit {0}
-IsFree mark (b ∷ bs) = (eqb b mark ≡ false) × IsFree mark bs
-
--- the mark stands in neither of two texts, so not in both together
-free_append : (mark : ℕ) (a b : List ℕ) → IsFree mark a → IsFree mark b → IsFree mark (a ++ b)
-free_append mark [] b p q = q
-free_append mark (x ∷ xs) b p q = (p.0, free_append mark xs b p.1 q)
 
 -- digits are no mark
 free_digits : (mark : ℕ) (word : List ℕ) → 10 ≤ digit_value mark → AllDigits 10 word → IsFree mark word
@@ -409,7 +400,7 @@ unfolding tail_in
 tail_means =
     let lists = behind_means reads_fronts writes_mean (λ rest ws h. (rw h.1 refl, rw h.1 refl)) in
     let labelled = behind_means labels_fronts lists (λ rest x h. (tt, rw h.joined (no_label h.front h.back x.0 x.1 h.first h.second))) in
-    via_means (λ x. transaction x.1.0.0 x.1.0.1 x.0 x.1.1.0 x.1.1.1) (λ (w : Transaction). (w.last_seen, ((w.source, w.trx), (w.reads, w.writes)))) (λ x. refl) (λ w. refl)
+    via_means (λ x. transaction x.1.0.0 x.1.0.1 x.0 x.1.1.0 x.1.1.1) (λ (w : Transaction). (w.last_seen, ((w.source, w.trx), (w.reads, w.writes)))) (λ x. refl {a = x}) (λ w. refl {a = w})
     (behind_means (one_fronts (number_means (2 ^ 64))) labelled (λ rest x h. tt))
 
 -- ---- lines
@@ -430,7 +421,7 @@ setting_means : Means setting_in IsSetting
 unfolding setting_in
 setting_means =
     let n = number_means (2 ^ 32) in
-    via_means (λ x. setting x.0 x.1.0 x.1.1) (λ (p : Setting). (p.window, (p.cells, p.rows))) (λ x. refl) (λ p. refl)
+    via_means (λ x. setting x.0 x.1.0 x.1.1) (λ (p : Setting). (p.window, (p.cells, p.rows))) (λ x. refl {a = x}) (λ p. refl {a = p})
     (behind_means (one_fronts n) (behind_means (one_fronts n) (more_means n) (λ rest x h. tt)) (λ rest x h. tt))
 
 params_mean : Means params_in (After (codes "params") IsSetting)

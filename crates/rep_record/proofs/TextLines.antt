@@ -4,6 +4,7 @@ use Rattle.std.proofs.Math.Seq.{drop-cons}
 use Rattle.std.specs.Io.KnownBytes.{Keeps, Consumes, prepend_known}
 use Rattle.std.proofs.lemmas.Bool.{eqb-true}
 use Rattle.std.specs.List.{onto_first}
+use Rattle.rep_record.proofs.Lines.{IsFree, free_append}
 use Rattle.rep_record.specs.Lines.{raw_lines, without_feed, EndsAtFeed, AreFed, AreLines}
 
 -- a part of a buffer begins with its first byte
@@ -24,13 +25,11 @@ byte_taken buffer start end (Some x) (Some y) some within kept = sym kept ∙ ap
 
 -- no byte of the list is a line feed
 abbrev pub HasNoFeed : List ℕ → Type 0
-HasNoFeed [] = Unit {0}
-HasNoFeed (b ∷ bs) = (eqb b 10 ≡ false) × HasNoFeed bs
+HasNoFeed xs = IsFree 10 xs
 
 -- one more byte that is no line feed
 pub no_feed_more : (xs : List ℕ) (b : ℕ) → HasNoFeed xs → eqb b 10 ≡ false → HasNoFeed (xs ++ b ∷ [])
-no_feed_more [] b none other = (other, tt)
-no_feed_more (x ∷ xs) b none other = (none.0, no_feed_more xs b none.1 other)
+no_feed_more xs b none other = free_append 10 xs (b ∷ []) none (other, tt)
 
 -- a line is what stands before its line feed
 pub fed_without : (xs : List ℕ) → HasNoFeed xs → without_feed (xs ++ 10 ∷ []) ≡ xs

@@ -41,7 +41,7 @@ fn first_of(count: u16, first: u64, seqno: u64) -> u64
 
 impl BlockBuilder {
     /// A block without records.
-    #[tactic(auto, using(crate::proofs::Gathering::gathered_none))]
+    #[tactic(auto, using(crate::proofs::Gathering::gathered_none, crate::proofs::Gathering::none_read))]
     pub fn new() -> BlockBuilder
         ensures { result ≡ [] }
     {
