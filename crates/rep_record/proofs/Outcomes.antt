@@ -13,7 +13,7 @@ use Rattle.rep_types.specs.Settings.{Setting, setting, is_setting, allowed}
 use Rattle.rep_record.specs.Grammar.{IsItemLine, IsParamsLine}
 use Rattle.rep_record.specs.Reading.{is_long, well_placed, limited, outcome, item_form, item_outcome, item_line, params_form, params_outcome, params_line}
 use Rattle.rep_record.specs.Drafts.{short_write, drafted, limited_draft, drafted_setting}
-use Rattle.rep_record.proofs.Parts.{Means, item_found, item_again, params_found, params_again}
+use Rattle.rep_record.proofs.Parts.{item_found, item_again, params_found, params_again}
 
 -- ---- what is kept of a line passes the same limits
 
@@ -89,13 +89,13 @@ if_same : {A : Type 0} (P : A → Type 0) (x : A) (r : Result A Refusal) → IfO
 if_same P x (Ok v) e h = subst P e h
 if_same P x (Err refusal) e h = tt
 
-comes : {A : Type 0} {read : List ℕ → Option A} {Says : List ℕ → A → Type 0} (limit : A → Result A Refusal) → Means read Says → ((x : A) → IfOk (limit x) (λ v. x ≡ v))
+comes : {A : Type 0} {read : List ℕ → Option A} {Says : List ℕ → A → Type 0} (limit : A → Result A Refusal) → ((line : List ℕ) (x : A) → read line ≡ Some x → Says line x) → ((line : List ℕ) (x : A) → Says line x → read line ≡ Some x) → ((x : A) → IfOk (limit x) (λ v. x ≡ v))
     → (number : ℕ) (line : List ℕ) (form : Option A) → read line ≡ form → Comes (Says line) limit number (outcome limit number form)
-comes limit m same number line None e = record { found = tt; formed = λ x h. absurd (let some = m.again line x h in cc); unformed = λ none. refl }
-comes {Says = Says} limit m same number line (Some w) e = record {
-  found = if_same (Says line) w (limit w) (same w) (m.found line w e);
-  formed = λ x h. let some = m.again line x h in let is : w ≡ x = cc in ap limit is;
-  unformed = λ none. absurd (none w (m.found line w e));
+comes limit found again same number line None e = record { found = tt; formed = λ x h. absurd (let some = again line x h in cc); unformed = λ none. refl }
+comes {Says = Says} limit found again same number line (Some w) e = record {
+  found = if_same (Says line) w (limit w) (same w) (found line w e);
+  formed = λ x h. let some = again line x h in let is : w ≡ x = cc in ap limit is;
+  unformed = λ none. absurd (none w (found line w e));
 }
 
 -- a test that refuses changes nothing else
@@ -119,10 +119,8 @@ allowed_same p false = tt
 
 pub item_comes : (number : ℕ) (line : List ℕ) (r : Result Transaction Refusal) → r ≡ item_line number line → Comes (IsItemLine line) (limited number) number r
 item_comes number line r e =
-    let m : Means item_form IsItemLine = record { found = item_found; again = item_again } in
-    subst (Comes (IsItemLine line) (limited number) number) (sym e) (comes (limited number) m (limited_same number) number line (item_form line) refl)
+    subst (Comes (IsItemLine line) (limited number) number) (sym e) (comes (limited number) item_found item_again (limited_same number) number line (item_form line) refl)
 
 pub params_come : (number : ℕ) (line : List ℕ) (r : Result Setting Refusal) → r ≡ params_line number line → Comes (IsParamsLine line) allowed number r
 params_come number line r e =
-    let m : Means params_form IsParamsLine = record { found = params_found; again = params_again } in
-    subst (Comes (IsParamsLine line) allowed number) (sym e) (comes allowed m (λ p. allowed_same p (is_setting p)) number line (params_form line) refl)
+    subst (Comes (IsParamsLine line) allowed number) (sym e) (comes allowed params_found params_again (λ p. allowed_same p (is_setting p)) number line (params_form line) refl)

@@ -10,7 +10,7 @@ use Rattle.std.proofs.Math.Seq.{split_at}
 use Rattle.std.proofs.lemmas.Bool.{ltb-true, lt-ltb, le-ltb, ne_eqb, eqb-true, eq-eqb}
 use Rattle.std.proofs.lemmas.List.{length-append, nil_from_length, take_at, drop_at}
 use Rattle.std.proofs.lemmas.List.Quantifiers.{position-Some}
-use Rattle.std.proofs.lemmas.Option.{same_Some, cond_some}
+use Rattle.std.proofs.lemmas.Option.{same_Some}
 use Rattle.std.proofs.lemmas.Slice.Eq.{bytes_eq-Decides}
 use Rattle.rep_types.specs.declared.key.Key.{Key}
 use Rattle.rep_types.specs.declared.value.Write.{Write}
@@ -26,35 +26,53 @@ use Rattle.rep_record.specs.Reading.{is_number, number_in, pair_at, is_next, aft
 
 -- ---- what it means to read as the grammar says
 
+-- What is read, if anything is, has this property.
+pub record Holds {A : Type 0} (P : A → Type 0) (o : Option A) : Type 0 where
+  pub of : (x : A) → o ≡ Some x → P x
+
+just : {A : Type 0} {P : A → Type 0} {x : A} → P x → Holds P (Some x)
+just {P = P} {x} h = record { of = λ y e. subst P (same_Some x y e) h }
+
+nothing : {A : Type 0} {P : A → Type 0} → Holds P None
+nothing = record { of = λ x e. absurd cc }
+
+-- what is made of it
+onward : {A B : Type 0} {P : A → Type 0} {Q : B → Type 0} {o : Option A} {f : A → Option B} → Holds P o → ((x : A) → P x → Holds Q (f x)) → Holds Q (o >>= f)
+onward {o = None} h k = record { of = λ y e. absurd cc }
+onward {o = Some x} h k = record { of = (k x (h.of x refl)).of }
+
+-- what follows from it
+weaken : {A : Type 0} {P Q : A → Type 0} {o : Option A} → Holds P o → ((x : A) → P x → Q x) → Holds Q o
+weaken h k = record { of = λ x e. k x (h.of x e) }
+
+-- what stands behind a test
+tested : {A : Type 0} {P : A → Type 0} {o q : Option A} (b : Bool) → (b ≡ true → Holds P o) → (b ≡ false → Holds P q) → Holds P (cond b o q)
+tested true h k = h refl
+tested false h k = k refl
+
 -- Of each text, or of each list of words, just that is read which it says.
 pub record Means {W A : Type 0} (read : W → Option A) (Says : W → A → Type 0) : Type 0 where
-  pub found : (w : W) (x : A) → read w ≡ Some x → Says w x
+  pub found : (w : W) → Holds (Says w) (read w)
   pub again : (w : W) (x : A) → Says w x → read w ≡ Some x
 
 -- words
 abbrev Lines : Type 0
 Lines = List (List ℕ)
 
+-- a part of them stands in front of the rest
+abbrev Stands : {A : Type 0} → (Lines → A → Type 0) → Lines → A × Lines → Type 0
+Stands Says whole x = (part : Lines) × (whole ≡ part ++ x.1) × Says part x.0
+
 -- The same of what is read from the front of some words, where those behind it are of a kind.
 record Fronts {A : Type 0} (read : Lines → Option (A × Lines)) (Says : Lines → A → Type 0) (Rest : Lines → Type 0) : Type 0 where
-  found : (whole : Lines) (x : A × Lines) → read whole ≡ Some x → (part : Lines) × (whole ≡ part ++ x.1) × Says part x.0
+  found : (whole : Lines) → Holds (Stands Says whole) (read whole)
   again : (part rest : Lines) (x : A) → Rest rest → Says part x → read (part ++ rest) ≡ Some (x, rest)
-
--- the parts of a reading that found something
-bound : {A B : Type 0} {o : Option A} {f : A → Option B} {y : B} → (o >>= f) ≡ Some y → (x : A) × (o ≡ Some x) × (f x ≡ Some y)
-bound {o = None} e = absurd cc
-bound {o = Some x} e = (x, refl, e)
-
--- a reading behind a test that found something
-tested : {A : Type 0} (b : Bool) {o : Option A} {y : A} → cond b o None ≡ Some y → (b ≡ true) × (o ≡ Some y)
-tested true e = (refl, e)
-tested false e = absurd cc
 
 -- what other values stand for
 via_means : {W A B : Type 0} {f : W → Option A} {Says : W → A → Type 0} (to : A → B) (from : B → A) → ((x : A) → from (to x) ≡ x) → ((y : B) → to (from y) ≡ y) → Means f Says
     → Means (λ w. f w >>= λ x. Some (to x)) (λ w y. Says w (from y))
 via_means {Says = Says} to from there back m = record {
-  found = λ w y e. let a = bound e in subst (λ z. Says w (from z)) (same_Some _ _ a.2) (subst (Says w) (sym (there a.0)) (m.found w a.0 a.1));
+  found = λ w. onward (m.found w) (λ x h. just (subst (Says w) (sym (there x)) h));
   again = λ w y h. rw (m.again w (from y) h, back y) refl;
 }
 
@@ -70,11 +88,10 @@ all_digits (c ∷ cs) e =
 number_means : (limit : ℕ) → Means (number_in limit) (IsNumber limit)
 unfolding number_in
 number_means limit = record {
-  found = λ word n e.
-      let g = cond_some (is_number limit word) (digits_value 10 word) n e in
-      let p = conjuncts (ltb 0 (length word) && list_all (λ (c : ℕ). is_digit c 10) word) (ltb (digits_value 10 word) limit) g.0 in
+  found = λ word. tested (is_number limit word) (λ e.
+      let p = conjuncts (ltb 0 (length word) && list_all (λ (c : ℕ). is_digit c 10) word) (ltb (digits_value 10 word) limit) e in
       let q = conjuncts (ltb 0 (length word)) (list_all (λ (c : ℕ). is_digit c 10) word) p.0 in
-      record { digits = (ltb-true 0 (length word) q.0, all_digits word q.1); value = g.1; small = subst (λ v. v < limit) g.1 (ltb-true (digits_value 10 word) limit p.1) };
+      just (record { digits = (ltb-true 0 (length word) q.0, all_digits word q.1); value = refl; small = ltb-true (digits_value 10 word) limit p.1 })) (λ e. nothing);
   again = λ word n h. number_of limit word n h.digits h.value h.small;
 }
 
@@ -110,17 +127,15 @@ unfolding cut
 cut_nowhere mark word h = rw (place_nowhere mark word h, le-ltb (length word) (length word) (omega arith)) refl
 
 -- the parts of a cut, with the mark between them, are the text
-cut_whole : (mark : ℕ) (word : List ℕ) (parts : List ℕ × List ℕ) → cut mark word ≡ Some parts → word ≡ parts.0 ++ mark ∷ parts.1
+cut_whole : (mark : ℕ) (word : List ℕ) → Holds (λ parts. word ≡ parts.0 ++ mark ∷ parts.1) (cut mark word)
 unfolding cut
-cut_whole mark word parts e = at_place (position (λ b. eqb b mark) word) refl e
+cut_whole mark word = at_place (position (λ b. eqb b mark) word) refl
   where
-    at_place : (at : Option ℕ) → position (λ b. eqb b mark) word ≡ at → option_map (λ k. (take k word, drop (k + 1) word)) at ≡ Some parts → word ≡ parts.0 ++ mark ∷ parts.1
-    at_place None is f = absurd cc
-    at_place (Some k) is f =
+    at_place : (at : Option ℕ) → position (λ b. eqb b mark) word ≡ at → Holds (λ (parts : List ℕ × List ℕ). word ≡ parts.0 ++ mark ∷ parts.1) (option_map (λ k. (take k word, drop (k + 1) word)) at)
+    at_place None is = nothing
+    at_place (Some k) is =
         let p = position-Some (λ b. eqb b mark) word k 0 is in
-        let whole : word ≡ take k word ++ mark ∷ drop (k + 1) word =
-        split_at word k 0 p.0 ∙ rw (eqb-true (get_or word k 0) mark p.1, ← add-one k) refl in
-        subst (λ (q : List ℕ × List ℕ). word ≡ q.0 ++ mark ∷ q.1) (same_Some (take k word, drop (k + 1) word) parts f) whole
+        just (split_at word k 0 p.0 ∙ rw (eqb-true (get_or word k 0) mark p.1, ← add-one k) refl)
 
 -- a pair is cut at its mark
 cut_pair : {A B : Type 0} {mark : ℕ} {First : List ℕ → A → Type 0} {Second : List ℕ → B → Type 0} {word : List ℕ} {x : A × B} → (h : (First ⊗ After mark Second) word x) → IsFree mark h.front
@@ -129,18 +144,10 @@ cut_pair {mark = mark} h free = ap (cut mark) (h.joined ∙ ap (λ back. h.front
 
 pair_means : {A B : Type 0} {f : List ℕ → Option A} {g : List ℕ → Option B} {First : List ℕ → A → Type 0} {Second : List ℕ → B → Type 0} (mark : ℕ)
     → ((word : List ℕ) (x : A) → First word x → IsFree mark word) → Means f First → Means g Second → Means (pair_at mark f g) (First ⊗ After mark Second)
-pair_means {First = First} {Second = Second} mark free p q = record {
-  found = λ word x e.
-      let a = bound e in
-      let b = bound a.2 in
-      let c = bound b.2 in
-      subst ((First ⊗ After mark Second) word) (same_Some _ _ c.2) (record {
-        front = a.0.0;
-        back = mark ∷ a.0.1;
-        joined = cut_whole mark word a.0 a.1;
-        first = p.found a.0.0 b.0 b.1;
-        second = (a.0.1, refl, q.found a.0.1 c.0 c.1);
-      });
+pair_means mark free p q = record {
+  found = λ word.
+      onward (cut_whole mark word) (λ parts whole. onward (p.found parts.0) (λ x first. onward (q.found parts.1) (λ y second.
+      just (record { front = parts.0; back = mark ∷ parts.1; joined = whole; first = first; second = (parts.1, refl, second) }))));
   again = λ word x h. rw (cut_pair h (free h.front x.0 h.first), p.again h.front x.0 h.first, q.again h.second.0 x.1 h.second.2) refl;
 }
 
@@ -168,22 +175,16 @@ key_free mark large other word key h =
 
 -- ---- bytes
 
--- no digits write no bytes
-hex_end : (bytes : List ℕ) → Some [] ≡ Some bytes → IsHex [] bytes
-hex_end [] e = tt
-hex_end (b ∷ bs) e = absurd cc
-
 -- what is read as bytes is written by these digits
-hex_found : (digits bytes : List ℕ) → hex_in digits ≡ Some bytes → IsHex digits bytes
+hex_found : (digits : List ℕ) → Holds (IsHex digits) (hex_in digits)
 unfolding hex_in byte_in
-hex_found [] bytes e = hex_end bytes e
-hex_found (high ∷ []) bytes e = absurd cc
-hex_found (high ∷ low ∷ digits) bytes e =
-    let a = bound e in
-    let b = bound a.2 in
-    let g = cond_some (is_digit high 16 && is_digit low 16) (16 * digit_value high + digit_value low) a.0 a.1 in
-    let p = conjuncts (is_digit high 16) (is_digit low 16) g.0 in
-    subst (IsHex (high ∷ low ∷ digits)) (same_Some (a.0 ∷ b.0) bytes b.2) (ltb-true (digit_value high) 16 p.0, ltb-true (digit_value low) 16 p.1, sym g.1, hex_found digits b.0 b.1)
+hex_found [] = just tt
+hex_found (high ∷ []) = nothing
+hex_found (high ∷ low ∷ digits) = onward digits_found (λ byte one. onward (hex_found digits) (λ bytes more. just (one.0, one.1, one.2, more)))
+  where
+    digits_found : Holds (λ byte. (digit_value high < 16) × (digit_value low < 16) × (byte ≡ 16 * digit_value high + digit_value low)) (byte_in high low)
+    digits_found = tested (is_digit high 16 && is_digit low 16) (λ e.
+        let p = conjuncts (is_digit high 16) (is_digit low 16) e in just (ltb-true (digit_value high) 16 p.0, ltb-true (digit_value low) 16 p.1, refl)) (λ e. nothing)
 
 -- digits are read as the bytes that they write
 hex_again : (digits bytes : List ℕ) → IsHex digits bytes → hex_in digits ≡ Some bytes
@@ -197,37 +198,20 @@ hex_again (high ∷ low ∷ digits) (byte ∷ bytes) h =
 
 -- ---- writes
 
--- what is read as a put is one
-put_found : (word : List ℕ) (parts : List ℕ × List ℕ) (write : Write) → cut 61 word ≡ Some parts → put_in parts ≡ Some write → IsWrite word write
-unfolding put_in
-put_found word parts write c e =
-    let a = bound e in
-    let b = bound a.2 in
-    subst (IsWrite word) (same_Some (record { key = a.0; value = Some b.0 }) write b.2) (record {
-      front = parts.0;
-      back = 61 ∷ parts.1;
-      joined = cut_whole 61 word parts c;
-      first = key_means.found parts.0 a.0 a.1;
-      second = (parts.1, refl, hex_found parts.1 b.0 b.1);
-    })
-
--- what is read as a delete is one
-delete_found : (word : List ℕ) (key : Key) → deleted_in word ≡ Some key → IsWrite word (delete key)
-unfolding deleted_in
-delete_found word key e =
-    let a = bound e in
-    let b = bound a.2 in
-    let g = cond_some (eqb (length a.0.1) 0) b.0 key b.2 in
-    let nothing : a.0.1 ≡ [] = nil_from_length a.0.1 (eqb-true (length a.0.1) 0 g.0) in
-    subst (λ k. IsWrite word (delete k)) g.1 (a.0.0, cut_whole 45 word a.0 a.1 ∙ ap (λ rest. a.0.0 ++ 45 ∷ rest) nothing, key_means.found a.0.0 b.0 b.1)
-
 -- what is read as a write is one, whether the word has an `=` or not
-write_found : (word : List ℕ) (write : Write) (parts : Option (List ℕ × List ℕ)) (key : Option Key) → cut 61 word ≡ parts → deleted_in word ≡ key
-    → write_by parts word ≡ Some write → IsWrite word write
-write_found word write (Some parts) key c d e = put_found word parts write c e
-write_found word write None None c d e = absurd (let none : write_by None word ≡ None = rw d refl in cc)
-write_found word write None (Some key) c d e =
-    subst (IsWrite word) (same_Some _ _ (let one : write_by None word ≡ Some (delete key) = rw d refl in sym one ∙ e)) (delete_found word key d)
+write_found : (word : List ℕ) (parts : Option (List ℕ × List ℕ)) → Holds (λ p. word ≡ p.0 ++ 61 ∷ p.1) parts → Holds (IsWrite word) (write_by parts word)
+unfolding put_in deleted_in
+write_found word (Some parts) whole =
+    onward (key_means.found parts.0) (λ key first. onward (hex_found parts.1) (λ bytes second.
+    just (record { front = parts.0; back = 61 ∷ parts.1; joined = whole.of parts refl; first = first; second = (parts.1, refl, second) })))
+write_found word None whole =
+    mapped delete (deleted_in word) (onward (cut_whole 45 word) (λ parts whole. onward (key_means.found parts.0) (λ key first. tested (eqb (length parts.1) 0) (λ e.
+    let none : parts.1 ≡ [] = nil_from_length parts.1 (eqb-true (length parts.1) 0 e) in
+    just (parts.0, whole ∙ ap (λ rest. parts.0 ++ 45 ∷ rest) none, first)) (λ e. nothing))))
+  where
+    mapped : (f : Key → Write) (o : Option Key) → Holds (λ key. IsWrite word (f key)) o → Holds (IsWrite word) (option_map f o)
+    mapped f None h = nothing
+    mapped f (Some key) h = just (h.of key refl)
 
 -- a delete and a put are read as themselves
 write_again : (word : List ℕ) (key : Key) (value : Option (List ℕ)) → IsWrite word (record { key = key; value = value }) → write_in word ≡ Some (record { key = key; value = value })
@@ -243,7 +227,7 @@ write_again word key (Some bytes) h =
 write_means : Means write_in IsWrite
 unfolding write_in
 write_means = record {
-  found = λ word write e. write_found word write (cut 61 word) (deleted_in word) refl refl e;
+  found = λ word. write_found word (cut 61 word) (cut_whole 61 word);
   again = λ word write h. write_again word write.key write.value h;
 }
 
@@ -257,31 +241,23 @@ next_is text (word ∷ rest) e = ap (λ w. w ∷ rest) ((bytes_eq-Decides word t
 -- what stands behind a word
 after_means : {A : Type 0} {f : Lines → Option A} {Says : Lines → A → Type 0} (text : List ℕ) → Means f Says → Means (after text f) (After text Says)
 after_means text m = record {
-  found = λ whole x e.
-      let a = tested (is_next text whole) e in
-      (drop 1 whole, next_is text whole a.0, m.found (drop 1 whole) x a.1);
+  found = λ whole. tested (is_next text whole) (λ e. weaken (m.found (drop 1 whole)) (λ x h. (drop 1 whole, next_is text whole e, h))) (λ e. nothing);
   again = λ whole x h. rw (h.1, (bytes_eq-Decides text text).1 refl) (m.again h.0 x h.2);
 }
 
 -- one word
-one_found : {A : Type 0} {f : List ℕ → Option A} {Says : List ℕ → A → Type 0} → Means f Says → (whole : Lines) (x : A × Lines) → next f whole ≡ Some x
-    → (part : Lines) × (whole ≡ part ++ x.1) × One Says part x.0
-one_found m [] x e = absurd cc
-one_found {A} {Says = Says} m (word ∷ rest) x e =
-    let a = bound e in
-    subst (λ (z : A × Lines). (part : Lines) × ((word ∷ rest) ≡ part ++ z.1) × One Says part z.0) (same_Some _ _ a.2) (word ∷ [], refl, (word, refl, m.found word a.0 a.1))
+one_found : {A : Type 0} {f : List ℕ → Option A} {Says : List ℕ → A → Type 0} → Means f Says → (whole : Lines) → Holds (Stands (One Says) whole) (next f whole)
+one_found m [] = nothing
+one_found m (word ∷ rest) = onward (m.found word) (λ x h. just (word ∷ [], refl, (word, refl, h)))
 
 one_fronts : {A : Type 0} {f : List ℕ → Option A} {Says : List ℕ → A → Type 0} → Means f Says → Fronts (next f) (One Says) (λ rest. Unit {0})
 one_fronts m = record { found = one_found m; again = λ part rest x any h. rw (h.1, m.again h.0 x h.2) refl }
 
 -- each word
-each_found : {A : Type 0} {f : List ℕ → Option A} {Says : List ℕ → A → Type 0} → Means f Says → (whole : Lines) (xs : List A) → each f whole ≡ Some xs → AllZip Says whole xs
+each_found : {A : Type 0} {f : List ℕ → Option A} {Says : List ℕ → A → Type 0} → Means f Says → (whole : Lines) → Holds (AllZip Says whole) (each f whole)
 unfolding each
-each_found {Says = Says} m [] xs e = subst (AllZip Says []) (same_Some [] xs e) tt
-each_found {Says = Says} m (word ∷ rest) xs e =
-    let a = bound e in
-    let b = bound a.2 in
-    subst (AllZip Says (word ∷ rest)) (same_Some (a.0 ∷ b.0) xs b.2) (m.found word a.0 a.1, each_found m rest b.0 b.1)
+each_found m [] = just tt
+each_found m (word ∷ rest) = onward (m.found word) (λ x h. onward (each_found m rest) (λ xs more. just (h, more)))
 
 each_again : {A : Type 0} {f : List ℕ → Option A} {Says : List ℕ → A → Type 0} → Means f Says → (whole : Lines) (xs : List A) → AllZip Says whole xs → each f whole ≡ Some xs
 unfolding each
@@ -293,22 +269,13 @@ each_again m (word ∷ rest) (x ∷ xs) z = rw (m.again word x z.0, each_again m
 -- one word or more
 more_means : {A : Type 0} {f : List ℕ → Option A} {Says : List ℕ → A → Type 0} → Means f Says → Means (some_each f) (More Says)
 more_means m = record {
-  found = λ whole xs e. let a = tested (ltb 0 (length whole)) e in (ltb-true 0 (length whole) a.0, each_found m whole xs a.1);
+  found = λ whole. tested (ltb 0 (length whole)) (λ e. weaken (each_found m whole) (λ xs h. (ltb-true 0 (length whole) e, h))) (λ e. nothing);
   again = λ whole xs h. rw (lt-ltb 0 (length whole) h.0) (each_again m whole xs h.1);
 }
 
 -- ---- parts
 
--- a part that may be missing, whether its mark stands there or not
-optional_found : {A : Type 0} {f : Lines → Option (A × Lines)} {Says : Lines → A → Type 0} {Rest : Lines → Type 0} (text : List ℕ) (value : A) → Fronts f Says Rest
-    → (whole : Lines) (x : A × Lines) (marked : Bool) → is_next text whole ≡ marked → cond marked (f (drop 1 whole)) (Some (value, whole)) ≡ Some x
-    → (part : Lines) × (whole ≡ part ++ x.1) × Optional text value Says part x.0
-optional_found text value m whole x true is e =
-    let a = m.found (drop 1 whole) x e in
-    (text ∷ a.0, next_is text whole is ∙ ap (λ ws. text ∷ ws) a.1, inr (a.0, refl, a.2))
-optional_found {A} {Says = Says} text value m whole x false is e =
-    subst (λ (z : A × Lines). (part : Lines) × (whole ≡ part ++ z.1) × Optional text value Says part z.0) (same_Some _ _ e) ([], refl, inl (refl, refl))
-
+-- a part that may be missing
 optional_again : {A : Type 0} {f : Lines → Option (A × Lines)} {Says : Lines → A → Type 0} {Rest : Lines → Type 0} (text : List ℕ) (value : A) → Fronts f Says Rest
     → (part rest : Lines) (x : A) → Rest rest × (is_next text rest ≡ false) → Optional text value Says part x → optional text value f (part ++ rest) ≡ Some (x, rest)
 optional_again text value m part rest x other (inl h) = rw (h.0, other.1, h.1) refl
@@ -317,41 +284,28 @@ optional_again text value m part rest x other (inr h) = rw (h.1, (bytes_eq-Decid
 optional_fronts : {A : Type 0} {f : Lines → Option (A × Lines)} {Says : Lines → A → Type 0} {Rest : Lines → Type 0} (text : List ℕ) (value : A) → Fronts f Says Rest
     → Fronts (optional text value f) (Optional text value Says) (λ rest. Rest rest × (is_next text rest ≡ false))
 optional_fronts text value m = record {
-  found = λ whole x e. optional_found text value m whole x (is_next text whole) refl e;
+  found = λ whole.
+      tested (is_next text whole) (λ e. weaken (m.found (drop 1 whole)) (λ x h. (text ∷ h.0, next_is text whole e ∙ ap (λ ws. text ∷ ws) h.1, inr (h.0, refl, h.2))))
+      (λ e. just ([], refl, inl (refl, refl)));
   again = optional_again text value m;
 }
 
 -- a part, and what stands behind it
 behind_means : {A B : Type 0} {f : Lines → Option (A × Lines)} {g : Lines → Option B} {First : Lines → A → Type 0} {Second : Lines → B → Type 0} {Rest : Lines → Type 0}
     → Fronts f First Rest → Means g Second → ((rest : Lines) (y : B) → Second rest y → Rest rest) → Means (behind f g) (First ⊗ Second)
-behind_means {First = First} {Second = Second} p q kind = record {
-  found = λ whole x e.
-      let a = bound e in
-      let b = bound a.2 in
-      let one = p.found whole a.0 a.1 in
-      subst ((First ⊗ Second) whole) (same_Some _ _ b.2) (record { front = one.0; back = a.0.1; joined = one.1; first = one.2; second = q.found a.0.1 b.0 b.1 });
+behind_means p q kind = record {
+  found = λ whole. onward (p.found whole) (λ x one. onward (q.found x.1) (λ y second. just (record { front = one.0; back = x.1; joined = one.1; first = one.2; second = second })));
   again = λ whole x h. rw (h.joined, p.again h.front h.back x.0 (kind h.back x.1 h.second) h.first, q.again h.back x.1 h.second) refl;
 }
 
 -- ---- keys up to the word `w`
 
--- what is read stands in front of the rest
-abbrev KeysStand : Lines → List Key × Lines → Type 0
-KeysStand whole x = (part : Lines) × (whole ≡ part ++ x.1) × More IsKey part x.0
-
--- one key more, whether it is the last or not
-keys_cases : (word : List ℕ) (key : Key) (rest : Lines) (last : Bool) (x : List Key × Lines) → IsKey word key → ((y : List Key × Lines) → keys_in rest ≡ Some y → KeysStand rest y)
-    → cond last (Some (key ∷ [], rest)) (keys_in rest >>= λ keys. Some (key ∷ keys.0, keys.1)) ≡ Some x → KeysStand (word ∷ rest) x
-keys_cases word key rest true x k h e = subst (KeysStand (word ∷ rest)) (same_Some _ _ e) (word ∷ [], refl, (omega arith, (k, tt)))
-keys_cases word key rest false x k h e =
-    let a = bound e in
-    let b = h a.0 a.1 in
-    subst (KeysStand (word ∷ rest)) (same_Some _ _ a.2) (word ∷ b.0, ap (λ ws. word ∷ ws) b.1, (omega arith, (k, b.2.1)))
-
-keys_found : (whole : Lines) (x : List Key × Lines) → keys_in whole ≡ Some x → KeysStand whole x
+keys_found : (whole : Lines) → Holds (Stands (More IsKey) whole) (keys_in whole)
 unfolding keys_in
-keys_found [] x e = absurd cc
-keys_found (word ∷ rest) x e = let a = bound e in keys_cases word a.0 rest (is_next (codes "w") rest) x (key_means.found word a.0 a.1) (keys_found rest) a.2
+keys_found [] = nothing
+keys_found (word ∷ rest) =
+    onward (key_means.found word) (λ key first. tested (is_next (codes "w") rest) (λ e. just (word ∷ [], refl, (omega arith, (first, tt))))
+    (λ e. onward (keys_found rest) (λ keys more. just (word ∷ more.0, ap (λ ws. word ∷ ws) more.1, (omega arith, (first, more.2.1))))))
 
 -- a key is not the word `w`
 key_not_mark : (word : List ℕ) (key : Key) (b : Bool) → IsKey word key → bytes_eq word (codes "w") ≡ b → b ≡ false
@@ -411,7 +365,7 @@ items_mean = after_means (codes "item") tail_means
 
 -- what is read of an item's line is what it says
 pub item_found : (line : List ℕ) (w : Transaction) → item_in (words line) ≡ Some w → IsItemLine line w
-item_found line w e = items_mean.found (words line) w e
+item_found line w e = (items_mean.found (words line)).of w e
 
 -- what an item's line says is read of it
 pub item_again : (line : List ℕ) (w : Transaction) → IsItemLine line w → item_in (words line) ≡ Some w
@@ -430,7 +384,7 @@ params_mean = after_means (codes "params") setting_means
 
 -- what is read of a params line is what it says
 pub params_found : (line : List ℕ) (p : Setting) → params_in (words line) ≡ Some p → IsParamsLine line p
-params_found line p e = params_mean.found (words line) p e
+params_found line p e = (params_mean.found (words line)).of p e
 
 -- what a params line says is read of it
 pub params_again : (line : List ℕ) (p : Setting) → IsParamsLine line p → params_in (words line) ≡ Some p
