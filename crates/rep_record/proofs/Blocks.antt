@@ -69,10 +69,7 @@ block_read bytes cell js h =
     let sizes : BLOCK ≡ 18 + (length (run_bytes js) + length h.rest) =
     sym h.has_head.size ∙ ap length h.has_head.there ∙ length-append (head_bytes h.head) h.body ∙ ap (λ n. n + length h.body) (length-head h.head)
     ∙ ap (λ n. 18 + n) (ap length h.are_records.there ∙ length-append (run_bytes js) h.rest) in
-    let filling : h.rest ≡ zeros (MAX_BLOCK - length (run_bytes js)) = blank_is h.rest h.blank ∙ ap zeros (omega (arith, sizes)) in
-    let body : h.body ≡ run_bytes js ++ zeros (MAX_BLOCK - length (run_bytes js)) = h.are_records.there ∙ ap (λ (rest : List ℕ). run_bytes js ++ rest) filling in
-    let spelled : bytes ≡ number_bytes 8 h.head.cell ++ (number_bytes 8 h.head.first ++ (number_bytes 2 h.head.count ++ (run_bytes js ++ zeros (MAX_BLOCK - length (run_bytes js))))) =
-    h.has_head.there ∙ ap (λ (rest : List ℕ). head_bytes h.head ++ rest) body ∙ whole h.head.cell h.head.first h.head.count (run_bytes js ++ zeros (MAX_BLOCK - length (run_bytes js))) in (
+    let filling : h.rest ≡ zeros (MAX_BLOCK - length (run_bytes js)) = blank_is h.rest h.blank ∙ ap zeros (omega (arith, sizes)) in (
       record {
         cell_fits = omega (arith, h.is_cell, h.has_head.fits.cell);
         some = some;
@@ -81,7 +78,7 @@ block_read bytes cell js h =
         follow = subst (λ n. SeqnosFrom n js) (sym first) seqnos;
         fits = omega (arith, sizes);
       },
-      spelled ∙ rw (h.is_cell, first, all) refl,
+      rw (h.has_head.there, h.are_records.there, filling, h.is_cell, first, all) (simp append_assoc),
     )
 
 -- ---- what is spelled so is read

@@ -13,14 +13,6 @@ use Rattle.rep_record.specs.RecordLaws.{body_short}
 use Rattle.rep_record.specs.Blocks.{has_room, is_next, run_bytes}
 use Rattle.rep_record.specs.Fronts.{fitting, IsLongestFront}
 
--- where the block takes the first item, it is one of those that are taken
-fitting_room : (block : List Judged) (j : Judged) (js : List Judged) → has_room block j ≡ true → fitting block (j ∷ js) ≡ fitting (block ++ j ∷ []) js + 1
-fitting_room block j js room = rw room refl
-
--- and else none is
-fitting_full : (block : List Judged) (j : Judged) (js : List Judged) → has_room block j ≡ false → fitting block (j ∷ js) ≡ 0
-fitting_full block j js full = rw full refl
-
 -- a block with an item and with those behind it
 behind : (block : List Judged) (j : Judged) (js : List Judged) (b : Bool) (d : Judged) → has_room ((block ++ j ∷ []) ++ js) d ≡ b → has_room (block ++ j ∷ js) d ≡ b
 behind block j js b d e = ap (λ (js : List Judged). has_room js d) (sym (append_assoc block (j ∷ []) js)) ∙ e
@@ -64,11 +56,12 @@ front_behind block j js n is = record {
 
 pub only_fitting : (block js : List Judged) (n : ℕ) → IsLongestFront block js n → n ≡ fitting block js
 only_fitting block [] n is = omega (arith, is.within)
-only_fitting block (j ∷ js) zero is = sym (fitting_full block j js (ap (λ (bs : List Judged). has_room bs j) (sym (append-nil block)) ∙ is.stops j (omega arith)))
+only_fitting block (j ∷ js) zero is =
+    let full : has_room block j ≡ false = ap (λ (bs : List Judged). has_room bs j) (sym (append-nil block)) ∙ is.stops j (omega arith) in
+    rw full refl
 only_fitting block (j ∷ js) (suc n) is =
-    let rest : n ≡ fitting (block ++ j ∷ []) js = only_fitting (block ++ j ∷ []) js n (front_behind block j js n is) in
-    let more : suc n ≡ fitting (block ++ j ∷ []) js + 1 = omega (arith, rest) in
-    more ∙ sym (fitting_room block j js (ap (λ (bs : List Judged). has_room bs j) (sym (append-nil block)) ∙ is.fits 0 j (omega arith)))
+    let room : has_room block j ≡ true = ap (λ (bs : List Judged). has_room bs j) (sym (append-nil block)) ∙ is.fits 0 j (omega arith) in
+    rw room (omega (arith, only_fitting (block ++ j ∷ []) js n (front_behind block j js n is)))
 
 -- ---- an empty block
 
@@ -79,7 +72,7 @@ takes_first j placed h =
     rw (placed, le-leb (0 + length (record_bytes j)) MAX_BLOCK size) refl
 
 pub fitting_first : (j : Judged) (js : List Judged) → is_placed j ≡ true → IsWithinLimits j.item → 1 ≤ fitting [] (j ∷ js)
-fitting_first j js placed h = omega (arith, fitting_room [] j js (takes_first j placed h))
+fitting_first j js placed h = let room = takes_first j placed h in rw room (omega arith)
 
 -- ---- no more than a block may have
 

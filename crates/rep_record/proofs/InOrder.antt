@@ -1,5 +1,5 @@
 -- Items in the order of their seqnos.
-use Rattle.std.proofs.Common.{◌≡◌, ℕ, zero, suc, ◌+◌, ◌≤◌, List, [], ◌∷◌, ◌++◌, length, take, drop, subst, arith}
+use Rattle.std.proofs.Common.{◌≡◌, ℕ, zero, suc, ◌+◌, ◌≤◌, List, [], ◌∷◌, ◌++◌, length, take, drop, add-zero, arith}
 use Rattle.rep_types.specs.declared.judged.Judged.{Judged}
 use Rattle.rep_record.specs.Blocks.{SeqnosFrom}
 
@@ -10,12 +10,10 @@ SeqnosFrom_push n (i ∷ js) j follow is = (follow.0, SeqnosFrom_push (n + 1) js
 
 -- what is left of a run behind a front
 pub SeqnosFrom-drop : (n k : ℕ) (js : List Judged) → SeqnosFrom n js → k ≤ length js → SeqnosFrom (n + k) (drop k js)
-SeqnosFrom-drop n zero js follow inside = let P : ℕ → Type 0 = λ m. SeqnosFrom m js in let same : n ≡ n + 0 = omega arith in subst P same follow
+SeqnosFrom-drop n zero js follow inside = rw add-zero follow
 SeqnosFrom-drop n (suc k) [] follow inside = tt
 SeqnosFrom-drop n (suc k) (i ∷ js) follow inside =
-    let P : ℕ → Type 0 = λ m. SeqnosFrom m (drop k js) in
-    let same : n + 1 + k ≡ n + suc k = omega arith in
-    subst P same (SeqnosFrom-drop (n + 1) k js follow.1 (omega arith))
+    let same : n + suc k ≡ n + 1 + k = omega arith in rw same (SeqnosFrom-drop (n + 1) k js follow.1 (omega arith))
 
 -- a front of a run
 pub SeqnosFrom-take : (n k : ℕ) (js : List Judged) → SeqnosFrom n js → SeqnosFrom n (take k js)
