@@ -7,7 +7,7 @@ use Rattle.std.proofs.lemmas.Option.{same_Some, cond_some}
 use Rattle.rep_types.specs.declared.limits.TheConstants.{MAX_SEQNO}
 use Rattle.rep_types.specs.declared.judged.Judged.{Judged}
 use Rattle.rep_types.specs.declared.refusal.Refusal.{Refusal}
-use Rattle.rep_forms.specs.Forms.{number_bytes, zeros, AreMany}
+use Rattle.rep_forms.specs.Forms.{zeros, AreMany}
 use Rattle.rep_forms.specs.Told.{AreTold, RunsAreTold}
 use Rattle.rep_forms.specs.FormLaws.{length_number, length_zeros, conjuncts, blank_is, zeros_blank}
 use Rattle.rep_forms.specs.Runs.{Leads, Follow}
@@ -55,10 +55,6 @@ first_small (j ∷ js) h = omega (arith, h.0.seqno)
 length-head : (head : Head) → length (head_bytes head) ≡ 18
 length-head head = simp (length-append, length_number) refl
 
--- a head and what stands behind it as a block
-whole : (cell first count : ℕ) (rest : List ℕ) → head_bytes (record { cell = cell; first = first; count = count }) ++ rest ≡ number_bytes 8 cell ++ (number_bytes 8 first ++ (number_bytes 2 count ++ rest))
-whole cell first count rest = simp append_assoc
-
 -- what is read is a block
 pub block_read : (bytes : List ℕ) (cell : ℕ) (js : List Judged) → IsRead bytes cell js → IsBlock cell js × (bytes ≡ block_bytes cell js)
 block_read bytes cell js h =
@@ -67,8 +63,7 @@ block_read bytes cell js h =
     let seqnos = seqnos_of h.head.first js h.are_records.follow.0 h.are_records.follow.1 in
     let first : first_seqno js ≡ h.head.first = first_is h.head.first js some seqnos in
     let sizes : BLOCK ≡ 18 + (length (run_bytes js) + length h.rest) =
-    sym h.has_head.size ∙ ap length h.has_head.there ∙ length-append (head_bytes h.head) h.body ∙ ap (λ n. n + length h.body) (length-head h.head)
-    ∙ ap (λ n. 18 + n) (ap length h.are_records.there ∙ length-append (run_bytes js) h.rest) in
+    sym h.has_head.size ∙ rw (h.has_head.there, h.are_records.there) (simp (length-append, length_number) (omega arith)) in
     let filling : h.rest ≡ zeros (MAX_BLOCK - length (run_bytes js)) = blank_is h.rest h.blank ∙ ap zeros (omega (arith, sizes)) in (
       record {
         cell_fits = omega (arith, h.is_cell, h.has_head.fits.cell);
@@ -87,7 +82,7 @@ pub says : (bytes : List ℕ) (cell : ℕ) (js : List Judged) → IsBlock cell j
 says bytes cell js h e =
     let filling : List ℕ = zeros (MAX_BLOCK - length (run_bytes js)) in
     let head : Head = record { cell = cell; first = first_seqno js; count = length js } in
-    let there : bytes ≡ head_bytes head ++ (run_bytes js ++ filling) = e ∙ sym (whole cell (first_seqno js) (length js) (run_bytes js ++ filling)) in
+    let there : bytes ≡ head_bytes head ++ (run_bytes js ++ filling) = rw e (simp append_assoc) in
     let size : length bytes ≡ BLOCK =
     ap length there ∙ length-append (head_bytes head) (run_bytes js ++ filling) ∙ omega (arith, length-head head, length-append (run_bytes js) filling, length_zeros (MAX_BLOCK - length (run_bytes js)), h.fits) in
     record {

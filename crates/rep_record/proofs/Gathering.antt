@@ -1,17 +1,36 @@
--- Records that are gathered one by one.
-use Rattle.std.proofs.Common.{◌≡◌, ℕ, ◌+◌, ◌≤◌, ◌<◌, true, false, eqb, List, [], ◌∷◌, ◌++◌, length, Option, Some, refl, sym, ap, subst, ◌∙◌, arith, length-append, cond}
+-- Items in the order of their seqnos, and records that are gathered one by one.
+use Rattle.std.proofs.Common.{◌≡◌, ℕ, zero, suc, ◌+◌, ◌≤◌, List, [], ◌∷◌, ◌++◌, length, take, drop, add-zero, arith, ◌<◌, true, false, eqb, Option, Some, refl, sym, ap, subst, ◌∙◌, length-append, cond}
+use Rattle.rep_types.specs.declared.judged.Judged.{Judged}
+use Rattle.rep_record.specs.Blocks.{SeqnosFrom, first_seqno, run_bytes, is_next}
 use Rattle.std.specs.Option.{option_map_or}
 use Rattle.std.proofs.lemmas.Bool.{eqb-true, ne_eqb}
 use Rattle.std.proofs.lemmas.List.{append-nil}
-use Rattle.rep_types.specs.declared.judged.Judged.{Judged}
 use Rattle.rep_forms.specs.Forms.{each}
 use Rattle.rep_forms.specs.FormLaws.{each_again, run_more, all_more}
 use Rattle.rep_record.specs.declared.limits.TheConstants.{MAX_RECORDS, MAX_BLOCK}
 use Rattle.rep_record.specs.Records.{IsRecord, record_bytes, record_form}
 use Rattle.rep_record.specs.RecordLaws.{record_is_form}
-use Rattle.rep_record.specs.Blocks.{first_seqno, SeqnosFrom, run_bytes, is_next}
 use Rattle.rep_record.specs.Gathered.{gathered_in, AreGathered, IsGathered}
-use Rattle.rep_record.proofs.InOrder.{SeqnosFrom_push}
+
+-- the next item behind those of a run
+pub SeqnosFrom_push : (n : ℕ) (js : List Judged) (j : Judged) → SeqnosFrom n js → j.seqno ≡ n + length js → SeqnosFrom n (js ++ j ∷ [])
+SeqnosFrom_push n [] j follow is = (omega arith, tt)
+SeqnosFrom_push n (i ∷ js) j follow is = (follow.0, SeqnosFrom_push (n + 1) js j follow.1 (omega arith))
+
+-- what is left of a run behind a front
+pub SeqnosFrom-drop : (n k : ℕ) (js : List Judged) → SeqnosFrom n js → k ≤ length js → SeqnosFrom (n + k) (drop k js)
+SeqnosFrom-drop n zero js follow inside = rw add-zero follow
+SeqnosFrom-drop n (suc k) [] follow inside = tt
+SeqnosFrom-drop n (suc k) (i ∷ js) follow inside =
+    let same : n + suc k ≡ n + 1 + k = omega arith in rw same (SeqnosFrom-drop (n + 1) k js follow.1 (omega arith))
+
+-- a front of a run
+pub SeqnosFrom-take : (n k : ℕ) (js : List Judged) → SeqnosFrom n js → SeqnosFrom n (take k js)
+SeqnosFrom-take n zero js follow = tt
+SeqnosFrom-take n (suc k) [] follow = tt
+SeqnosFrom-take n (suc k) (i ∷ js) follow = (follow.0, SeqnosFrom-take (n + 1) k js follow.1)
+
+-- ---- records that are gathered
 
 -- the records that were gathered are read again
 gathered_is : {first count : ℕ} {bytes : List ℕ} {js : List Judged} → AreGathered first count bytes js → gathered_in count bytes ≡ js

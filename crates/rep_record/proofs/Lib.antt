@@ -4,9 +4,7 @@ pub mod Kept
 pub mod Parts
 pub mod Outcomes
 pub mod TextLines
-pub mod NextLine
 pub mod Writing
 pub mod Blocks
 pub mod Gathering
 pub mod Fronts
-pub mod InOrder

@@ -3,6 +3,7 @@ use Rattle.std.proofs.Common.{◌≡◌, ℕ, ◌<◌, Bool, true, false, cond, 
 use Rattle.std.specs.Prelude.{◌&&◌, ◌||◌, IfOk}
 use Rattle.std.specs.List.{list_any}
 use Rattle.std.specs.Option.{option_map}
+use Rattle.std.proofs.Math.Bool.{and-false}
 use Rattle.std.proofs.lemmas.Bool.{cases_lt, lt-ltb, le-ltb, lt-leb}
 use Rattle.std.proofs.lemmas.List.{take_all, length-take, length-map}
 use Rattle.rep_types.specs.declared.value.Write.{Write}
@@ -55,11 +56,6 @@ kept_outcome keep judge limit same number (Some x) = same x
 
 pub item_kept : (number : ℕ) (form : Option Transaction) → outcome (limited_draft number) number (option_map drafted form) ≡ item_outcome number form
 item_kept number form = kept_outcome drafted (limited_draft number) (limited number) (limited_drafted number) number form
-
--- and false is false
-and-false : (b : Bool) → (b && false) ≡ false
-and-false true = refl
-and-false false = refl
 
 -- too many tables are outside the limits
 wide_setting : (p : Setting) → 8 < length p.rows → is_setting p ≡ false

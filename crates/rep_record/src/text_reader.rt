@@ -157,7 +157,7 @@ impl TextReader {
     /// not end, with its line feed, within the first 67,108,864 bytes of the text. Refuses with
     /// `StreamFault` also where the reader fails; an interrupted read is tried again. After a
     /// refusal the rest of the text is not to be read.
-    #[tactic(auto, using(crate::proofs::NextLine::last_next))]
+    #[tactic(auto, using(crate::proofs::TextLines::last_next))]
     pub fn next_line<R: Read>(
         &mut self,
         reader: &mut R,

@@ -1,8 +1,7 @@
 use Rattle.std.proofs.Common.{◌≡◌, arith, ap, sym, ◌∙◌}
 use Rattle.std.proofs.KnownBytes.{Consumes-trans}
 use Rattle.std.proofs.lemmas.Bool.{ne_eqb, eqb-true, eqb-false}
-use Rattle.rep_record.proofs.TextLines.{no_feed_more}
-use Rattle.rep_record.proofs.NextLine.{fed_next, long_next}
+use Rattle.rep_record.proofs.TextLines.{no_feed_more, fed_next, long_next}
 use Rattle.rep_record.proofs.text_reader.TextReader.next_line.Goals as goal
 
 pub returns-then-byte-eq10-clause-known : goal.returns-then-byte-eq10-clause-known
