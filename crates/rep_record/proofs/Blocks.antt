@@ -51,10 +51,6 @@ first_small (j ∷ js) h = omega (arith, h.0.seqno)
 
 -- ---- what is read is spelled so
 
--- the length of a head
-length-head : (head : Head) → length (head_bytes head) ≡ 18
-length-head head = simp (length-append, length_number) refl
-
 -- what is read is a block
 pub block_read : (bytes : List ℕ) (cell : ℕ) (js : List Judged) → IsRead bytes cell js → IsBlock cell js × (bytes ≡ block_bytes cell js)
 block_read bytes cell js h =
@@ -83,8 +79,7 @@ says bytes cell js h e =
     let filling : List ℕ = zeros (MAX_BLOCK - length (run_bytes js)) in
     let head : Head = record { cell = cell; first = first_seqno js; count = length js } in
     let there : bytes ≡ head_bytes head ++ (run_bytes js ++ filling) = rw e (simp append_assoc) in
-    let size : length bytes ≡ BLOCK =
-    ap length there ∙ length-append (head_bytes head) (run_bytes js ++ filling) ∙ omega (arith, length-head head, length-append (run_bytes js) filling, length_zeros (MAX_BLOCK - length (run_bytes js)), h.fits) in
+    let size : length bytes ≡ BLOCK = rw there (simp (length-append, length_number, length_zeros) (omega (arith, h.fits))) in
     record {
       head = head;
       is_cell = refl;

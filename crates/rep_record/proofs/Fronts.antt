@@ -17,24 +17,21 @@ use Rattle.rep_record.specs.Fronts.{fitting, IsLongestFront}
 behind : (block : List Judged) (j : Judged) (js : List Judged) (b : Bool) (d : Judged) → has_room ((block ++ j ∷ []) ++ js) d ≡ b → has_room (block ++ j ∷ js) d ≡ b
 behind block j js b d e = ap (λ (js : List Judged). has_room js d) (sym (append_assoc block (j ∷ []) js)) ∙ e
 
--- each item of a longer front, where the first is taken and those behind it
-fits_cons : (block : List Judged) (j : Judged) (js : List Judged) (n : ℕ) → has_room block j ≡ true
-    → ((k : ℕ) (d : Judged) → k < n → has_room ((block ++ j ∷ []) ++ take k js) (slice_index_or js k d) ≡ true)
-    → (k : ℕ) (d : Judged) → k < n + 1 → has_room (block ++ take k (j ∷ js)) (slice_index_or (j ∷ js) k d) ≡ true
-fits_cons block j js n room rest zero d inside = ap (λ (bs : List Judged). has_room bs j) (append-nil block) ∙ room
-fits_cons block j js n room rest (suc k) d inside = behind block j (take k js) true (slice_index_or js k d) (rest k d (omega arith))
-
 -- a longest front of a list, from that behind its first item
 front_cases : (block : List Judged) (j : Judged) (js : List Judged) (n : ℕ) (b : Bool) → has_room block j ≡ b → IsLongestFront (block ++ j ∷ []) js n
     → IsLongestFront block (j ∷ js) (if b then n + 1 else 0)
 front_cases block j js n true room is = record {
   within = omega (arith, is.within);
-  fits = fits_cons block j js n room is.fits;
+  fits = fits;
   stops = λ d inside.
       let P : ℕ → Type 0 = λ m. has_room (block ++ take m (j ∷ js)) (slice_index_or (j ∷ js) m d) ≡ false in
       let same : suc n ≡ n + 1 = omega arith in
       subst P same (behind block j (take n js) false (slice_index_or js n d) (is.stops d (omega arith)));
 }
+  where
+    fits : (k : ℕ) (d : Judged) → k < n + 1 → has_room (block ++ take k (j ∷ js)) (slice_index_or (j ∷ js) k d) ≡ true
+    fits zero d inside = ap (λ (bs : List Judged). has_room bs j) (append-nil block) ∙ room
+    fits (suc k) d inside = behind block j (take k js) true (slice_index_or js k d) (is.fits k d (omega arith))
 front_cases block j js n false full is = record {
   within = omega arith;
   fits = λ k d inside. absurd (omega arith);

@@ -1,7 +1,7 @@
 -- Items in the order of their seqnos, and records that are gathered one by one.
 use Rattle.std.proofs.Common.{◌≡◌, ℕ, zero, suc, ◌+◌, ◌≤◌, List, [], ◌∷◌, ◌++◌, length, take, drop, add-zero, arith, ◌<◌, true, false, eqb, Option, Some, refl, sym, ap, subst, ◌∙◌, length-append, cond}
 use Rattle.rep_types.specs.declared.judged.Judged.{Judged}
-use Rattle.rep_record.specs.Blocks.{SeqnosFrom, first_seqno, run_bytes, is_next}
+use Rattle.rep_record.specs.Blocks.{SeqnosFrom, first_seqno, run_bytes, is_next, gathered_in, AreGathered, IsGathered}
 use Rattle.std.specs.Option.{option_map_or}
 use Rattle.std.proofs.lemmas.Bool.{eqb-true, ne_eqb}
 use Rattle.std.proofs.lemmas.List.{append-nil}
@@ -10,7 +10,6 @@ use Rattle.rep_forms.specs.FormLaws.{each_again, run_more, all_more}
 use Rattle.rep_record.specs.declared.limits.TheConstants.{MAX_RECORDS, MAX_BLOCK}
 use Rattle.rep_record.specs.Records.{IsRecord, record_bytes, record_form}
 use Rattle.rep_record.specs.RecordLaws.{record_is_form}
-use Rattle.rep_record.specs.Gathered.{gathered_in, AreGathered, IsGathered}
 
 -- the next item behind those of a run
 pub SeqnosFrom_push : (n : ℕ) (js : List Judged) (j : Judged) → SeqnosFrom n js → j.seqno ≡ n + length js → SeqnosFrom n (js ++ j ∷ [])

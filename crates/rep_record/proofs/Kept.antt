@@ -3,7 +3,7 @@ use Rattle.std.proofs.Common.{◌≡◌, ℕ, zero, suc, ◌^◌, ◌≤◌, Boo
 use Rattle.std.specs.Prelude.{◌||◌, codes}
 use Rattle.std.specs.List.{fold, list_any}
 use Rattle.std.specs.Option.{option_map}
-use Rattle.std.proofs.Math.Bool.{or_assoc}
+use Rattle.std.proofs.Math.Bool.{or_assoc, or-false}
 use Rattle.std.proofs.lemmas.List.{append-nil}
 use Rattle.rep_types.specs.declared.key.Key.{Key}
 use Rattle.rep_types.specs.declared.value.Write.{Write}
@@ -61,17 +61,10 @@ pub hex_kept : (digits : List ℕ) → hex_from [] digits ≡ option_map (take 6
 hex_kept digits = hex_from_is [] digits ∙ same_map (fold (keep 63) []) (take 63) (fold_keep 63 []) (hex_in digits)
 
 -- one step of the loop over the digits
-pub hex_step : (kept rest : List ℕ) (byte : ℕ) → 2 ≤ length rest → byte_in (get_or rest 0 0) (get_or rest 1 0) ≡ Some byte
-    → hex_from kept rest ≡ hex_from (take 63 (kept ++ byte ∷ [])) (drop 2 rest)
-hex_step kept [] byte le e = absurd (omega arith)
-hex_step kept (high ∷ []) byte le e = absurd (omega arith)
-hex_step kept (high ∷ low ∷ digits) byte le e = rw e refl
-
--- two digits that write no byte
-pub hex_stop : (kept rest : List ℕ) → 2 ≤ length rest → byte_in (get_or rest 0 0) (get_or rest 1 0) ≡ None → hex_from kept rest ≡ None
-hex_stop kept [] le e = absurd (omega arith)
-hex_stop kept (high ∷ []) le e = absurd (omega arith)
-hex_stop kept (high ∷ low ∷ digits) le e = rw e refl
+pub hex_step : (kept rest : List ℕ) → 2 ≤ length rest → hex_from kept rest ≡ (byte_in (get_or rest 0 0) (get_or rest 1 0) >>= λ byte. hex_from (take 63 (kept ++ byte ∷ [])) (drop 2 rest))
+hex_step kept [] le = absurd (omega arith)
+hex_step kept (high ∷ []) le = absurd (omega arith)
+hex_step kept (high ∷ low ∷ digits) le = refl
 
 -- ---- words
 
@@ -99,20 +92,15 @@ abbrev pub keep_write : List Write × Bool → Write → List Write × Bool
 keep_write kept write = (keep 17 kept.0 (short_write write), kept.1 || is_long write)
 
 -- the list and the test apart
-fold_writes : (front : List Write) (long : Bool) (writes : List Write) → fold keep_write (front, long) writes ≡ (fold (keep 17) front (map short_write writes), fold (λ so_far w. so_far || is_long w) long writes)
-fold_writes front long [] = refl
-fold_writes front long (write ∷ writes) = fold_writes (keep 17 front (short_write write)) (long || is_long write) writes
-
-fold_long : (long : Bool) (writes : List Write) → fold (λ so_far w. so_far || is_long w) long writes ≡ (long || list_any is_long writes)
-fold_long true [] = refl
-fold_long false [] = refl
-fold_long long (write ∷ writes) = fold_long (long || is_long write) writes ∙ or_assoc long (is_long write) (list_any is_long writes)
+fold_writes : (front : List Write) (long : Bool) (writes : List Write) → fold keep_write (front, long) writes ≡ (fold (keep 17) front (map short_write writes), long || list_any is_long writes)
+fold_writes front long [] = rw or-false refl
+fold_writes front long (write ∷ writes) = fold_writes (keep 17 front (short_write write)) (long || is_long write) writes ∙ rw or_assoc refl
 
 -- all of the writes, from nothing on
 pub writes_kept : (words : List (List ℕ)) → each_from keep_write write_in ([], false) words ≡ option_map drafted_writes (each write_in words)
 writes_kept words =
     each_from_is keep_write write_in ([], false) words
-    ∙ same_map (fold keep_write ([], false)) drafted_writes (λ writes. fold_writes [] false writes ∙ rw (fold_keep 17 [] (map short_write writes), fold_long false writes) refl) (each write_in words)
+    ∙ same_map (fold keep_write ([], false)) drafted_writes (λ writes. fold_writes [] false writes ∙ rw (fold_keep 17 [] (map short_write writes)) refl) (each write_in words)
 
 -- ---- keys up to the word `w`
 

@@ -22,7 +22,7 @@ use Rattle.rep_forms.specs.FormLaws.{conjuncts}
 use Rattle.rep_record.specs.Words.{words, cut}
 use Rattle.rep_record.specs.Grammar.{IsNumber, ◌⊗◌, After, Optional, One, More, IsKey, IsHex, IsWrite, IsLabel, AreLabels, AreReads, AreWrites, IsTail, IsItemLine, IsSetting, IsParamsLine}
 use Rattle.rep_record.proofs.Lines.{IsFree, free_append}
-use Rattle.rep_record.specs.Reading.{is_number, number_in, pair_at, is_next, after, optional, behind, next, each, some_each, key_in, label_in, byte_in, hex_in, put_in, deleted_in, delete, write_by, write_in, labels_in, keys_in, reads_in, writes_in, tail_in, item_in, setting_in, params_in}
+use Rattle.rep_record.specs.Reading.{is_number, number_in, pair_at, is_next, after, optional, behind, next, each, some_each, key_in, label_in, byte_in, hex_in, put_in, deleted_in, delete, write_by, write_in, labels_in, keys_in, reads_in, writes_in, tail_in, setting_in, item_form, params_form}
 
 -- ---- what it means to read as the grammar says
 
@@ -359,16 +359,15 @@ tail_means =
 
 -- ---- lines
 
-items_mean : Means item_in (After (codes "item") IsTail)
-unfolding item_in
+items_mean : Means (after (codes "item") tail_in) (After (codes "item") IsTail)
 items_mean = after_means (codes "item") tail_means
 
 -- what is read of an item's line is what it says
-pub item_found : (line : List ℕ) (w : Transaction) → item_in (words line) ≡ Some w → IsItemLine line w
+pub item_found : (line : List ℕ) (w : Transaction) → item_form line ≡ Some w → IsItemLine line w
 item_found line w e = (items_mean.found (words line)).of w e
 
 -- what an item's line says is read of it
-pub item_again : (line : List ℕ) (w : Transaction) → IsItemLine line w → item_in (words line) ≡ Some w
+pub item_again : (line : List ℕ) (w : Transaction) → IsItemLine line w → item_form line ≡ Some w
 item_again line w h = items_mean.again (words line) w h
 
 setting_means : Means setting_in IsSetting
@@ -378,14 +377,13 @@ setting_means =
     via_means (λ x. setting x.0 x.1.0 x.1.1) (λ (p : Setting). (p.window, (p.cells, p.rows))) (λ x. refl {a = x}) (λ p. refl {a = p})
     (behind_means (one_fronts n) (behind_means (one_fronts n) (more_means n) (λ rest x h. tt)) (λ rest x h. tt))
 
-params_mean : Means params_in (After (codes "params") IsSetting)
-unfolding params_in
+params_mean : Means (after (codes "params") setting_in) (After (codes "params") IsSetting)
 params_mean = after_means (codes "params") setting_means
 
 -- what is read of a params line is what it says
-pub params_found : (line : List ℕ) (p : Setting) → params_in (words line) ≡ Some p → IsParamsLine line p
+pub params_found : (line : List ℕ) (p : Setting) → params_form line ≡ Some p → IsParamsLine line p
 params_found line p e = (params_mean.found (words line)).of p e
 
 -- what a params line says is read of it
-pub params_again : (line : List ℕ) (p : Setting) → IsParamsLine line p → params_in (words line) ≡ Some p
+pub params_again : (line : List ℕ) (p : Setting) → IsParamsLine line p → params_form line ≡ Some p
 params_again line p h = params_mean.again (words line) p h

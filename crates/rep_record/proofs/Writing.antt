@@ -29,7 +29,3 @@ decimal_longer n many small = rw (decimal_step n many small) (length-append _ _)
 pub digits_pushed : (old mid new : List ℕ) (n : ℕ) → 10 ≤ n → n < 2 ^ 64 →
     mid ≡ old ++ decimal (n / 10) → new ≡ mid ++ (48 + n % 10) ∷ [] → new ≡ old ++ decimal n
 digits_pushed old mid new n many small front last = rw (last, front, decimal_step n many small) (append_assoc old (decimal (n / 10)) _)
-
--- what is pushed makes a text that much longer
-pub length_pushed : (old more new : List ℕ) → new ≡ old ++ more → length new ≡ length old + length more
-length_pushed old more new e = rw e (length-append old more)

@@ -131,25 +131,17 @@ unfoldable pub tail_in : List (List ℕ) → Option Transaction
 tail_in words =
     behind (next (number_in (2 ^ 64))) (behind labels_in (behind reads_in writes_in)) words >>= λ x. Some (transaction x.1.0.0 x.1.0.1 x.0 x.1.1.0 x.1.1.1)
 
--- an item's words: `item` and a tail
-unfoldable pub item_in : List (List ℕ) → Option Transaction
-item_in words = after (codes "item") tail_in words
-
 -- what stands behind `params`: `W N rows rows ..`
 unfoldable pub setting_in : List (List ℕ) → Option Setting
 setting_in words = behind (next (number_in (2 ^ 32))) (behind (next (number_in (2 ^ 32))) (some_each (number_in (2 ^ 32)))) words >>= λ x. Some (setting x.0 x.1.0 x.1.1)
 
--- a params line's words: `params` and what stands behind it
-unfoldable pub params_in : List (List ℕ) → Option Setting
-params_in words = after (codes "params") setting_in words
-
--- What an item's line says, where it is of the form.
+-- What an item's line says, `item` and a tail, where it is of the form.
 abbrev pub item_form : List ℕ → Option Transaction
-item_form line = item_in (words line)
+item_form line = after (codes "item") tail_in (words line)
 
--- What a params line says, where it is of the form.
+-- What a params line says, `params` and what stands behind it, where it is of the form.
 abbrev pub params_form : List ℕ → Option Setting
-params_form line = params_in (words line)
+params_form line = after (codes "params") setting_in (words line)
 
 -- whether a value of more than 62 bytes is put
 abbrev pub is_long : Write → Bool

@@ -23,7 +23,7 @@ pub struct BlockBuilder {
 impl Model for BlockBuilder {
     ghost use Rattle.std.specs.Prelude.{List};
     ghost use Rattle.rep_types.specs.declared.judged.Judged.{Judged};
-    ghost use Rattle.rep_record.specs.Gathered.{gathered_in, IsGathered};
+    ghost use Rattle.rep_record.specs.Blocks.{gathered_in, IsGathered};
 
     ghost Value = { List Judged };
 

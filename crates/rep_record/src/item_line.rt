@@ -134,7 +134,6 @@ fn read_tail_draft(words: &mut Words) -> Option<Draft>
 }
 
 /// What an item's line says.
-#[tactic(auto, unfolding(crate::specs::Reading::item_in))]
 fn read_draft(line: &[u8]) -> Option<Draft>
     ensures { result ≡ option_map drafted (item_form line.now) }
 {

@@ -55,7 +55,7 @@ fn read_rows(mut words: Words) -> Option<ArrayVec<u32, 9>>
 }
 
 /// What a params line says.
-#[tactic(auto, unfolding(crate::specs::Reading::params_in, crate::specs::Reading::setting_in))]
+#[tactic(auto, unfolding(crate::specs::Reading::setting_in))]
 fn read_draft(line: &[u8]) -> Option<ParamsDraft>
     ensures { result ≡ option_map drafted_setting (params_form line.now) }
 {

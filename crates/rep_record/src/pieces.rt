@@ -69,7 +69,7 @@ fn read_byte(high: u8, low: u8) -> Option<u8>
 }
 
 /// The bytes that hexadecimal digits write, or the first 63 of them.
-#[tactic(auto, using(crate::proofs::Kept::hex_kept, crate::proofs::Kept::hex_step, crate::proofs::Kept::hex_stop, std::proofs::lemmas::List::take_rest))]
+#[tactic(auto, using(crate::proofs::Kept::hex_kept, crate::proofs::Kept::hex_step, std::proofs::lemmas::List::take_rest))]
 fn read_hex(digits: &[u8]) -> Option<ArrayVec<u8, 63>>
     ensures { option_map (λ bytes. bytes.items) result ≡ option_map (take 63) (hex_in digits.now) }
 {

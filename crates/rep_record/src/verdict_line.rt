@@ -47,7 +47,7 @@ fn push_digit(text: &mut ArrayString<64>, digit: u8)
 }
 
 /// Puts the number in decimal behind the text.
-#[tactic(auto, using(crate::proofs::Writing::decimal_longer, crate::proofs::Writing::digits_pushed, crate::proofs::Writing::length_pushed, std::proofs::lemmas::Fmt::decimal_digit))]
+#[tactic(auto, using(crate::proofs::Writing::decimal_longer, crate::proofs::Writing::digits_pushed, rep_forms::specs::FormLaws::sizes, std::proofs::lemmas::Fmt::decimal_digit))]
 fn push_decimal(text: &mut ArrayString<64>, number: u64)
     requires { array_string_len text.old + length (decimal number) ≤ 64 }
     ensures bytes { text.new.bytes ≡ text.old.bytes ++ decimal number }

@@ -1,8 +1,7 @@
 use Rattle.std.proofs.Common.{◌≡◌, List, ℕ, cond, eqb, length, ◌++◌, ◌∷◌, [], ◌+◌, ◌≤◌, true, rules, subst, ap, sym, ◌∙◌, arith, length-append}
 use Rattle.rep_types.specs.declared.judged.Judged.{Judged}
 use Rattle.rep_record.specs.declared.limits.TheConstants.{MAX_BLOCK}
-use Rattle.rep_record.specs.Blocks.{is_next, has_room}
-use Rattle.rep_record.specs.Gathered.{gathered_in, IsGathered}
+use Rattle.rep_record.specs.Blocks.{is_next, has_room, gathered_in, IsGathered}
 use Rattle.rep_record.proofs.Gathering.{gathered_more}
 use Rattle.rep_record.proofs.block.BlockBuilder.push.Goals as goal
 
@@ -21,10 +20,7 @@ gathered c =
 pub invariant_of-self : goal.invariant_of-self
 invariant_of-self c = subst (λ n. IsGathered n (c.self.inside.count + 1) c.put_bytes.new.out.items) (sym c.first_of-self-inside.ensures) (gathered c).0
 
--- there is room
-room : (c : goal.After-self-2-1) → has_room c.args.self.now c.args.judged.now ≡ true
-room c = search rules
-
 pub returns-clause-after : goal.returns-clause-after
 returns-clause-after c =
-    rw (room c) ((gathered c).1 ∙ ap (λ (js : List Judged). js ++ c.args.judged.now ∷ []) c.self.view_is)
+    let room : has_room c.args.self.now c.args.judged.now ≡ true = search rules in
+    rw room ((gathered c).1 ∙ ap (λ (js : List Judged). js ++ c.args.judged.now ∷ []) c.self.view_is)
