@@ -108,9 +108,12 @@ pub answer_found : (bytes : List ℕ) (r : Result Contents Refusal) → IfOk r (
 answer_found bytes (Ok b) h = block_read bytes b.cell b.records h
 answer_found bytes (Err e) h = tt
 
-pub answer_only : (r : Result Contents Refusal) (cell : ℕ) (js : List Judged) → IsOkAnd r (λ b. (b.cell ≡ cell) × (b.records ≡ js)) → r ≡ Ok (contents cell js)
-answer_only (Ok b) cell js h = ap (λ n. Ok (contents n b.records)) h.0 ∙ ap (λ rs. Ok (contents cell rs)) h.1
-answer_only (Err e) cell js h = absurd h
+pub answer_only : (bytes : List ℕ) (r : Result Contents Refusal) → ((cell : ℕ) (js : List Judged) → IsRead bytes cell js → IsOkAnd r (λ b. (b.cell ≡ cell) × (b.records ≡ js)))
+    → (cell : ℕ) (js : List Judged) → IsBlock cell js → bytes ≡ block_bytes cell js → r ≡ Ok (contents cell js)
+answer_only bytes (Ok b) only cell js h e =
+    let same = only cell js (says bytes cell js h e) in
+    ap (λ n. Ok (contents n b.records)) same.0 ∙ ap (λ rs. Ok (contents cell rs)) same.1
+answer_only bytes (Err refusal) only cell js h e = absurd (only cell js (says bytes cell js h e))
 
 -- ---- blocks are told apart
 

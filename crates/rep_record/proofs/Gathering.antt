@@ -42,14 +42,13 @@ are_gathered : {first count : ℕ} {bytes : List ℕ} {js : List Judged} → Are
 are_gathered {first} {count} {bytes} h = (subst (AreGathered first count bytes) (sym (gathered_is h)) h, gathered_is h)
 
 -- nothing is gathered of no bytes
-none_gathered : (bytes : List ℕ) → bytes ≡ [] → IsGathered 0 0 bytes × (gathered_in 0 bytes ≡ [])
-none_gathered bytes e = are_gathered (record { spelled = e; are_records = tt; is_first = refl; follow = tt; size = refl; few = omega arith; fits = omega (arith, ap length e) })
-
 pub gathered_none : (bytes : List ℕ) → bytes ≡ [] → AreGathered 0 0 bytes (gathered_in 0 bytes)
-gathered_none bytes e = (none_gathered bytes e).0
+gathered_none bytes e =
+    (are_gathered {js = []} (record { spelled = e; are_records = tt; is_first = refl; follow = tt; size = refl; few = omega arith; fits = omega (arith, ap length e) })).0
 
-pub none_read : (bytes : List ℕ) → bytes ≡ [] → gathered_in 0 bytes ≡ []
-none_read bytes e = (none_gathered bytes e).1
+pub none_read : (bytes : List ℕ) → gathered_in 0 bytes ≡ []
+unfolding each
+none_read bytes = refl
 
 -- the first seqno with one more
 first_more : (js : List Judged) (j : Judged) (n first : ℕ) → length js ≡ n → first ≡ first_seqno js → cond (eqb n 0) j.seqno first ≡ first_seqno (js ++ j ∷ [])

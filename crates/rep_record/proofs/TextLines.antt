@@ -5,7 +5,7 @@ use Rattle.std.specs.Io.KnownBytes.{Keeps, Consumes, prepend_known, IsAtEnd}
 use Rattle.std.proofs.lemmas.Bool.{eqb-true, le-ltb, lt-ltb}
 use Rattle.std.specs.List.{onto_first}
 use Rattle.rep_record.proofs.Lines.{IsFree, free_append}
-use Rattle.rep_record.specs.Lines.{raw_lines, without_feed, EndsAtFeed, AreFed, AreLines, Unread, ahead, line_fault, HandedOut, IsRefused, NextLine, Counted}
+use Rattle.rep_record.specs.Lines.{raw_lines, without_feed, EndsAtFeed, AreFed, AreLines, Unread, ahead, HandedOut, IsRefused, NextLine, Counted}
 use Rattle.rep_types.specs.declared.refusal.Refusal.{Refusal}
 use Rattle.rep_types.specs.declared.refusal.Refusal.TheVariants.{Malformed, StreamFault}
 
@@ -121,11 +121,6 @@ are_lines (b ∷ text) = lines_on b text (eqb b 10) refl (are_lines text)
 
 -- ---- a call that hands out a line
 
--- a line within the limits has no fault
-pub no_fault : (number before : ℕ) (raw line : List ℕ) → without_feed raw ≡ line → length line ≤ 4096 → before + length raw ≤ 67108864 →
-    line_fault number before raw ≡ None
-no_fault number before raw line e short within = rw (e, le-ltb 4096 (length line) short, le-ltb 67108864 (before + length raw) within) refl
-
 -- the text's first line is handed out
 pub handed : (text raw rest line : List ℕ) (old mid new : Unread) (left : Option (List ℕ)) →
     raw_lines text ≡ raw ∷ raw_lines rest → without_feed raw ≡ line → length line ≤ 4096 → ahead mid left ≡ Some rest →
@@ -134,7 +129,7 @@ handed text raw rest line old mid new left lines e short left_is taken (counted,
   raw = raw;
   rest = rest;
   lines = lines;
-  allowed = no_fault (old.number + 1) old.taken raw line e short (omega arith);
+  allowed = rw (e, le-ltb 4096 (length line) short, le-ltb 67108864 (old.taken + length raw) (omega arith)) refl;
   line_is = sym e;
   taken = ap (λ u. u.taken) counted ∙ ap (λ n. n + length raw) taken;
   ahead_is = rw counted left_is;

@@ -48,9 +48,6 @@ lists_fit j h = (
   refl,
 )
 
-labels_fit : (j : Judged) → IsRecord j → label_fields.Fits (record { seqno = j.seqno; last_seen = j.item.last_seen; source = j.item.source; trx = j.item.trx })
-labels_fit j h = ((omega (arith, h.seqno), (h.last_seen, (h.source, h.trx))), refl)
-
 -- a record's body takes at most 1,227 bytes
 pub body_short : (j : Judged) → IsWithinLimits j.item → length (body_bytes j) ≤ 1227
 body_short j h =
@@ -64,5 +61,5 @@ body_short j h =
 pub record_is_form : IsForm record_form
 record_is_form =
     named_is_form record_fields IsRecord record_bytes fields_is_form
-    (λ j h. ((omega (arith, body_short j h.limits), (labels_fit j h, (verdict_fits j.seqno j.verdict h.seqno h.verdict, lists_fit j h))), rw (checked_again j.item h.limits) refl))
+    (λ j h. ((omega (arith, body_short j h.limits), (((omega (arith, h.seqno), (h.last_seen, (h.source, h.trx))), refl), (verdict_fits j.seqno j.verdict h.seqno h.verdict, lists_fit j h))), rw (checked_again j.item h.limits) refl))
     (λ j h. refl)
