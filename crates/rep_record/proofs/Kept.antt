@@ -114,7 +114,8 @@ abbrev onto_keys : List Key → List Key × List (List ℕ) → List Key × List
 onto_keys kept keys = (fold (keep 17) kept keys.0, keys.1)
 
 -- one more key
-more_keys : (kept : List Key) (key : Key) (read : Option (List Key × List (List ℕ))) → option_map (onto_keys (keep 17 kept key)) read ≡ option_map (onto_keys kept) (read >>= λ keys. Some (key ∷ keys.0, keys.1))
+more_keys : (kept : List Key) (key : Key) (read : Option (List Key × List (List ℕ)))
+    → option_map (onto_keys (keep 17 kept key)) read ≡ option_map (onto_keys kept) (read >>= λ keys. Some (key ∷ keys.0, keys.1))
 more_keys kept key None = refl
 more_keys kept key (Some keys) = refl
 

@@ -85,13 +85,13 @@ if_same : {A : Type 0} (P : A → Type 0) (x : A) (r : Result A Refusal) → IfO
 if_same P x (Ok v) e h = subst P e h
 if_same P x (Err refusal) e h = tt
 
-comes : {A : Type 0} {read : List ℕ → Option A} {Says : List ℕ → A → Type 0} (limit : A → Result A Refusal) → ((line : List ℕ) (x : A) → read line ≡ Some x → Says line x) → ((line : List ℕ) (x : A) → Says line x → read line ≡ Some x) → ((x : A) → IfOk (limit x) (λ v. x ≡ v))
-    → (number : ℕ) (line : List ℕ) (form : Option A) → read line ≡ form → Comes (Says line) limit number (outcome limit number form)
-comes limit found again same number line None e = record { found = tt; formed = λ x h. absurd (let some = again line x h in cc); unformed = λ none. refl }
-comes {Says = Says} limit found again same number line (Some w) e = record {
-  found = if_same (Says line) w (limit w) (same w) (found line w e);
-  formed = λ x h. let some = again line x h in let is : w ≡ x = cc in ap limit is;
-  unformed = λ none. absurd (none w (found line w e));
+comes : {A : Type 0} {Says : A → Type 0} (limit : A → Result A Refusal) (number : ℕ) → ((x : A) → IfOk (limit x) (λ v. x ≡ v))
+    → (form : Option A) → ((x : A) → form ≡ Some x → Says x) → ((x : A) → Says x → form ≡ Some x) → Comes Says limit number (outcome limit number form)
+comes limit number same None found again = record { found = tt; formed = λ x h. absurd (let some = again x h in cc); unformed = λ none. refl }
+comes {Says = Says} limit number same (Some w) found again = record {
+  found = if_same Says w (limit w) (same w) (found w refl);
+  formed = λ x h. let is = again x h in let one : w ≡ x = cc in ap limit one;
+  unformed = λ none. absurd (none w (found w refl));
 }
 
 -- a test that refuses changes nothing else
@@ -115,8 +115,8 @@ allowed_same p false = tt
 
 pub item_comes : (number : ℕ) (line : List ℕ) (r : Result Transaction Refusal) → r ≡ item_line number line → Comes (IsItemLine line) (limited number) number r
 item_comes number line r e =
-    subst (Comes (IsItemLine line) (limited number) number) (sym e) (comes (limited number) item_found item_again (limited_same number) number line (item_form line) refl)
+    subst (Comes (IsItemLine line) (limited number) number) (sym e) (comes (limited number) number (limited_same number) (item_form line) (item_found line) (item_again line))
 
 pub params_come : (number : ℕ) (line : List ℕ) (r : Result Setting Refusal) → r ≡ params_line number line → Comes (IsParamsLine line) allowed number r
 params_come number line r e =
-    subst (Comes (IsParamsLine line) allowed number) (sym e) (comes allowed params_found params_again (λ p. allowed_same p (is_setting p)) number line (params_form line) refl)
+    subst (Comes (IsParamsLine line) allowed number) (sym e) (comes allowed number (λ p. allowed_same p (is_setting p)) (params_form line) (params_found line) (params_again line))

@@ -309,7 +309,9 @@ keys_found (word ∷ rest) =
 
 -- a key is not the word `w`
 key_not_mark : (word : List ℕ) (key : Key) (b : Bool) → IsKey word key → bytes_eq word (codes "w") ≡ b → b ≡ false
-key_not_mark word key true h e = absurd (omega (arith, ap length (sym h.joined ∙ (bytes_eq-Decides word (codes "w")).0 e), length-append h.front h.back, ap length h.second.1, h.first.digits.0, h.second.2.digits.0))
+key_not_mark word key true h e =
+    let size = ap length (sym h.joined ∙ (bytes_eq-Decides word (codes "w")).0 e) in
+    absurd (omega (arith, size, length-append h.front h.back, ap length h.second.1, h.first.digits.0, h.second.2.digits.0))
 key_not_mark word key false h e = refl
 
 keys_again : (part rest : Lines) (keys : List Key) → is_next (codes "w") rest ≡ true → More IsKey part keys → keys_in (part ++ rest) ≡ Some (keys, rest)

@@ -1,4 +1,5 @@
--- The grammar of a line of an order text, by cases on its words and bytes, apart from how a line is read.
+-- The grammar of a line of an order text, apart from how a line is read: what each piece of a word and each part of a line
+-- says, and how they stand together.
 use Rattle.std.specs.Prelude.{◌≡◌, ℕ, ◌+◌, ◌*◌, ◌^◌, ◌<◌, List, [], ◌∷◌, ◌++◌, length, codes, MatchOption, ◌⊎◌}
 use Rattle.std.specs.List.{AllZip}
 use Rattle.std.specs.Char.{digit_value}
@@ -18,7 +19,7 @@ pub record IsNumber (limit : ℕ) (word : List ℕ) (n : ℕ) : Type 0 where
 -- ---- how pieces and parts stand together
 
 infixr 5 ◌⊗◌
--- One behind another.
+-- One behind another: up to some place the first says its value, and from there on the second.
 pub record ◌⊗◌ {W A B : Type 0} (First : List W → A → Type 0) (Second : List W → B → Type 0) (whole : List W) (x : A × B) : Type 0 where
   pub front : List W
   pub back : List W
@@ -26,25 +27,25 @@ pub record ◌⊗◌ {W A B : Type 0} (First : List W → A → Type 0) (Second 
   pub first : First front x.0
   pub second : Second back x.1
 
--- What stands behind this mark.
+-- What stands behind this mark: a byte in a word, or a word in a line.
 abbrev pub After : {W A : Type 0} → W → (List W → A → Type 0) → List W → A → Type 0
 After {W} mark Says whole x = (rest : List W) × (whole ≡ mark ∷ rest) × Says rest x
 
--- The same, or nothing, which says this value.
+-- The same with its mark; or nothing at all, which says this value.
 abbrev pub Optional : {W A : Type 0} → W → A → (List W → A → Type 0) → List W → A → Type 0
 Optional mark value Says whole x = ((whole ≡ []) × (x ≡ value)) ⊎ After mark Says whole x
 
--- One word.
+-- One word, which says the value.
 abbrev pub One : {A : Type 0} → (List ℕ → A → Type 0) → List (List ℕ) → A → Type 0
 One Says part x = (word : List ℕ) × (part ≡ word ∷ []) × Says word x
 
--- One word or more.
+-- One word or more, each of which says one of the values, in their order.
 abbrev pub More : {A : Type 0} → (List ℕ → A → Type 0) → List (List ℕ) → List A → Type 0
 More Says part xs = (0 < length part) × AllZip Says part xs
 
 -- ---- the pieces
 
--- A key: `table/row`.
+-- A key: `table/row`. The byte 47 is `/`.
 abbrev pub IsKey : List ℕ → Key → Type 0
 IsKey word key = (IsNumber (2 ^ 8) ⊗ After 47 (IsNumber (2 ^ 32))) word (key.table, key.row)
 
@@ -57,11 +58,11 @@ IsHex (high ∷ low ∷ digits) [] = ⊥
 IsHex (high ∷ low ∷ digits) (byte ∷ bytes) =
     (digit_value high < 16) × (digit_value low < 16) × (byte ≡ 16 * digit_value high + digit_value low) × IsHex digits bytes
 
--- A write: `key=hex`, which puts these bytes, or `key-`, a delete.
+-- A write: `key=hex`, which puts these bytes, or `key-`, a delete. The byte 61 is `=`.
 abbrev pub IsWrite : List ℕ → Write → Type 0
 IsWrite word write = MatchOption write.value ((key : List ℕ) × (word ≡ key ++ codes "-") × IsKey key write.key) (λ bytes. (IsKey ⊗ After 61 IsHex) word (write.key, bytes))
 
--- Labels: `source:trx`.
+-- Labels: `source:trx`. The byte 58 is `:`.
 abbrev pub IsLabel : List ℕ → ℕ × ℕ → Type 0
 IsLabel word label = (IsNumber (2 ^ 64) ⊗ After 58 (IsNumber (2 ^ 64))) word label
 

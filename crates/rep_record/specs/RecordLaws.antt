@@ -61,5 +61,7 @@ body_short j h =
 pub record_is_form : IsForm record_form
 record_is_form =
     named_is_form record_fields IsRecord record_bytes fields_is_form
-    (λ j h. ((omega (arith, body_short j h.limits), (((omega (arith, h.seqno), (h.last_seen, (h.source, h.trx))), refl), (verdict_fits j.seqno j.verdict h.seqno h.verdict, lists_fit j h))), rw (checked_again j.item h.limits) refl))
+    (λ j h.
+    let verdict = verdict_fits j.seqno j.verdict h.seqno h.verdict in
+    ((omega (arith, body_short j h.limits), (((omega (arith, h.seqno), (h.last_seen, (h.source, h.trx))), refl), (verdict, lists_fit j h))), rw (checked_again j.item h.limits) refl))
     (λ j h. refl)
