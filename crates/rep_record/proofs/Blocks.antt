@@ -1,20 +1,20 @@
 -- What is read as a block is spelled so, and what is spelled so is read.
-use Rattle.std.proofs.Common.{◌≡◌, ℕ, ◌+◌, ◌-◌, ◌≤◌, ◌<◌, ◌^◌, true, eqb, leb, List, [], ◌∷◌, ◌++◌, length, Some, refl, sym, ap, subst, ◌∙◌, append_assoc, arith, length-append}
+use Rattle.std.proofs.Common.{◌≡◌, ℕ, ◌+◌, ◌-◌, ◌≤◌, ◌<◌, ◌^◌, eqb, leb, List, [], ◌∷◌, ◌++◌, length, Option, Some, refl, sym, ap, subst, ◌∙◌, append_assoc, arith, length-append}
 use Rattle.std.specs.Prelude.{◌&&◌, Result, Ok, Err, IfOk, IsOkAnd}
 use Rattle.std.specs.List.{AllByRecursion}
 use Rattle.std.proofs.lemmas.Bool.{eqb-true, eq-eqb, le-leb}
-use Rattle.std.proofs.lemmas.Option.{cond_some}
+use Rattle.std.proofs.lemmas.Option.{same_Some, cond_some}
 use Rattle.rep_types.specs.declared.limits.TheConstants.{MAX_SEQNO}
 use Rattle.rep_types.specs.declared.judged.Judged.{Judged}
 use Rattle.rep_types.specs.declared.refusal.Refusal.{Refusal}
-use Rattle.rep_forms.specs.Forms.{number_bytes, zeros, are_blank, AreMany}
+use Rattle.rep_forms.specs.Forms.{zeros, AreMany}
 use Rattle.rep_forms.specs.Told.{AreTold, RunsAreTold}
 use Rattle.rep_forms.specs.FormLaws.{length_number, length_zeros, conjuncts, blank_is, zeros_blank}
 use Rattle.rep_forms.specs.Runs.{Leads, Follow}
 use Rattle.rep_record.specs.declared.block_reader.Head.{Head}
 use Rattle.rep_record.specs.declared.limits.TheConstants.{MAX_BLOCK, BLOCK}
 use Rattle.rep_record.specs.Records.{IsRecord, record_form}
-use Rattle.rep_record.specs.Blocks.{first_seqno, SeqnosFrom, run_bytes, IsBlock, block_bytes, Contents, contents, head_bytes, head_form, HasHead, next_seqno, AreRecords, IsRead}
+use Rattle.rep_record.specs.Blocks.{first_seqno, SeqnosFrom, run_bytes, IsBlock, block_bytes, Contents, contents, head_bytes, head_form, next_seqno, AreRecords, IsRead}
 
 -- ---- seqnos that follow one another
 
@@ -51,14 +51,6 @@ first_small (j ∷ js) h = omega (arith, h.0.seqno)
 
 -- ---- what is read is spelled so
 
--- the length of a head
-length-head : (head : Head) → length (head_bytes head) ≡ 18
-length-head head = simp (length-append, length_number) refl
-
--- a head and what stands behind it as a block
-whole : (cell first count : ℕ) (rest : List ℕ) → head_bytes (record { cell = cell; first = first; count = count }) ++ rest ≡ number_bytes 8 cell ++ (number_bytes 8 first ++ (number_bytes 2 count ++ rest))
-whole cell first count rest = simp append_assoc
-
 -- what is read is a block
 pub block_read : (bytes : List ℕ) (cell : ℕ) (js : List Judged) → IsRead bytes cell js → IsBlock cell js × (bytes ≡ block_bytes cell js)
 block_read bytes cell js h =
@@ -67,12 +59,8 @@ block_read bytes cell js h =
     let seqnos = seqnos_of h.head.first js h.are_records.follow.0 h.are_records.follow.1 in
     let first : first_seqno js ≡ h.head.first = first_is h.head.first js some seqnos in
     let sizes : BLOCK ≡ 18 + (length (run_bytes js) + length h.rest) =
-    sym h.has_head.size ∙ ap length h.has_head.there ∙ length-append (head_bytes h.head) h.body ∙ ap (λ n. n + length h.body) (length-head h.head)
-    ∙ ap (λ n. 18 + n) (ap length h.are_records.there ∙ length-append (run_bytes js) h.rest) in
-    let filling : h.rest ≡ zeros (MAX_BLOCK - length (run_bytes js)) = blank_is h.rest h.blank ∙ ap zeros (omega (arith, sizes)) in
-    let body : h.body ≡ run_bytes js ++ zeros (MAX_BLOCK - length (run_bytes js)) = h.are_records.there ∙ ap (λ (rest : List ℕ). run_bytes js ++ rest) filling in
-    let spelled : bytes ≡ number_bytes 8 h.head.cell ++ (number_bytes 8 h.head.first ++ (number_bytes 2 h.head.count ++ (run_bytes js ++ zeros (MAX_BLOCK - length (run_bytes js))))) =
-    h.has_head.there ∙ ap (λ (rest : List ℕ). head_bytes h.head ++ rest) body ∙ whole h.head.cell h.head.first h.head.count (run_bytes js ++ zeros (MAX_BLOCK - length (run_bytes js))) in (
+    sym h.has_head.size ∙ rw (h.has_head.there, h.are_records.there) (simp (length-append, length_number) (omega arith)) in
+    let filling : h.rest ≡ zeros (MAX_BLOCK - length (run_bytes js)) = blank_is h.rest h.blank ∙ ap zeros (omega (arith, sizes)) in (
       record {
         cell_fits = omega (arith, h.is_cell, h.has_head.fits.cell);
         some = some;
@@ -81,33 +69,20 @@ block_read bytes cell js h =
         follow = subst (λ n. SeqnosFrom n js) (sym first) seqnos;
         fits = omega (arith, sizes);
       },
-      spelled ∙ rw (h.is_cell, first, all) refl,
+      rw (h.has_head.there, h.are_records.there, filling, h.is_cell, first, all) (simp append_assoc),
     )
 
 -- ---- what is spelled so is read
 
--- What a block's bytes say.
-pub record Says (bytes : List ℕ) (cell : ℕ) (js : List Judged) : Type 0 where
-  pub head : Head
-  pub is_cell : head.cell ≡ cell
-  pub is_count : head.count ≡ length js
-  pub body : List ℕ
-  pub has_head : HasHead bytes head body
-  pub rest : List ℕ
-  pub are_records : AreRecords head body js rest
-  pub blank : are_blank rest ≡ true
-
-pub says : (bytes : List ℕ) (cell : ℕ) (js : List Judged) → IsBlock cell js → bytes ≡ block_bytes cell js → Says bytes cell js
+pub says : (bytes : List ℕ) (cell : ℕ) (js : List Judged) → IsBlock cell js → bytes ≡ block_bytes cell js → IsRead bytes cell js
 says bytes cell js h e =
     let filling : List ℕ = zeros (MAX_BLOCK - length (run_bytes js)) in
     let head : Head = record { cell = cell; first = first_seqno js; count = length js } in
-    let there : bytes ≡ head_bytes head ++ (run_bytes js ++ filling) = e ∙ sym (whole cell (first_seqno js) (length js) (run_bytes js ++ filling)) in
-    let size : length bytes ≡ BLOCK =
-    ap length there ∙ length-append (head_bytes head) (run_bytes js ++ filling) ∙ omega (arith, length-head head, length-append (run_bytes js) filling, length_zeros (MAX_BLOCK - length (run_bytes js)), h.fits) in
+    let there : bytes ≡ head_bytes head ++ (run_bytes js ++ filling) = rw e (simp append_assoc) in
+    let size : length bytes ≡ BLOCK = rw there (simp (length-append, length_number, length_zeros) (omega (arith, h.fits))) in
     record {
       head = head;
       is_cell = refl;
-      is_count = refl;
       body = run_bytes js ++ filling;
       has_head = record {
         size = size;
@@ -123,13 +98,22 @@ says bytes cell js h e =
 
 -- ---- the answer
 
+-- what was taken from the front is the block's head, and its records are behind it
+pub matched : {bytes : List ℕ} {cell : ℕ} {js : List Judged} → (s : IsRead bytes cell js) → (head : Head) (body : List ℕ) → ◌≡◌ {A = Option (Head × List ℕ)} (Some (head, body)) (Some (s.head, s.body))
+    → (head ≡ s.head) × AreRecords head body js s.rest
+matched {js = js} s head body e =
+    subst (λ (x : Head × List ℕ). (x.0 ≡ s.head) × AreRecords x.0 x.1 js s.rest) (sym (same_Some (head, body) (s.head, s.body) e)) (refl, s.are_records)
+
 pub answer_found : (bytes : List ℕ) (r : Result Contents Refusal) → IfOk r (λ b. IsRead bytes b.cell b.records) → IfOk r (λ b. IsBlock b.cell b.records × (bytes ≡ block_bytes b.cell b.records))
 answer_found bytes (Ok b) h = block_read bytes b.cell b.records h
 answer_found bytes (Err e) h = tt
 
-pub answer_only : (r : Result Contents Refusal) (cell : ℕ) (js : List Judged) → IsOkAnd r (λ b. (b.cell ≡ cell) × (b.records ≡ js)) → r ≡ Ok (contents cell js)
-answer_only (Ok b) cell js h = ap (λ n. Ok (contents n b.records)) h.0 ∙ ap (λ rs. Ok (contents cell rs)) h.1
-answer_only (Err e) cell js h = absurd h
+pub answer_only : (bytes : List ℕ) (r : Result Contents Refusal) → ((cell : ℕ) (js : List Judged) → IsRead bytes cell js → IsOkAnd r (λ b. (b.cell ≡ cell) × (b.records ≡ js)))
+    → (cell : ℕ) (js : List Judged) → IsBlock cell js → bytes ≡ block_bytes cell js → r ≡ Ok (contents cell js)
+answer_only bytes (Ok b) only cell js h e =
+    let same = only cell js (says bytes cell js h e) in
+    ap (λ n. Ok (contents n b.records)) same.0 ∙ ap (λ rs. Ok (contents cell rs)) same.1
+answer_only bytes (Err refusal) only cell js h e = absurd (only cell js (says bytes cell js h e))
 
 -- ---- blocks are told apart
 
@@ -139,10 +123,10 @@ told_by heads runs c d is js h k e =
     let one = says (block_bytes c is) c is h refl in
     let two = says (block_bytes c is) d js k e in
     let apart = heads one.head two.head one.body two.body one.has_head.fits two.has_head.fits (sym one.has_head.there ∙ two.has_head.there) in
-    let count : length js ≡ length is = sym two.is_count ∙ ap (λ (head : Head). head.count) (sym apart.0) ∙ one.is_count in
+    let count : length js ≡ length is = two.are_records.size ∙ ap (λ (head : Head). head.count) (sym apart.0) ∙ sym one.are_records.size in
     let fits : AreMany record_form (length is) (length is) is = record { size = refl; few = omega arith; each = h.are_records } in
     let also : AreMany record_form (length is) (length is) js = record { size = count; few = omega arith; each = k.are_records } in
     let there : run_bytes is ++ one.rest ≡ run_bytes js ++ two.rest = sym one.are_records.there ∙ apart.1 ∙ two.are_records.there in (
-      sym one.is_cell ∙ ap (λ (head : Head). head.cell) apart.0 ∙ two.is_cell,
+      one.is_cell ∙ ap (λ (head : Head). head.cell) apart.0 ∙ sym two.is_cell,
       (runs (length is) is js one.rest two.rest fits also there).0,
     )

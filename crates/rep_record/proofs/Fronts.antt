@@ -13,36 +13,25 @@ use Rattle.rep_record.specs.RecordLaws.{body_short}
 use Rattle.rep_record.specs.Blocks.{has_room, is_next, run_bytes}
 use Rattle.rep_record.specs.Fronts.{fitting, IsLongestFront}
 
--- where the block takes the first item, it is one of those that are taken
-fitting_room : (block : List Judged) (j : Judged) (js : List Judged) → has_room block j ≡ true → fitting block (j ∷ js) ≡ fitting (block ++ j ∷ []) js + 1
-fitting_room block j js room = rw room refl
-
--- and else none is
-fitting_full : (block : List Judged) (j : Judged) (js : List Judged) → has_room block j ≡ false → fitting block (j ∷ js) ≡ 0
-fitting_full block j js full = rw full refl
-
 -- a block with an item and with those behind it
 behind : (block : List Judged) (j : Judged) (js : List Judged) (b : Bool) (d : Judged) → has_room ((block ++ j ∷ []) ++ js) d ≡ b → has_room (block ++ j ∷ js) d ≡ b
 behind block j js b d e = ap (λ (js : List Judged). has_room js d) (sym (append_assoc block (j ∷ []) js)) ∙ e
-
--- each item of a longer front, where the first is taken and those behind it
-fits_cons : (block : List Judged) (j : Judged) (js : List Judged) (n : ℕ) → has_room block j ≡ true
-    → ((k : ℕ) (d : Judged) → k < n → has_room ((block ++ j ∷ []) ++ take k js) (slice_index_or js k d) ≡ true)
-    → (k : ℕ) (d : Judged) → k < n + 1 → has_room (block ++ take k (j ∷ js)) (slice_index_or (j ∷ js) k d) ≡ true
-fits_cons block j js n room rest zero d inside = ap (λ (bs : List Judged). has_room bs j) (append-nil block) ∙ room
-fits_cons block j js n room rest (suc k) d inside = behind block j (take k js) true (slice_index_or js k d) (rest k d (omega arith))
 
 -- a longest front of a list, from that behind its first item
 front_cases : (block : List Judged) (j : Judged) (js : List Judged) (n : ℕ) (b : Bool) → has_room block j ≡ b → IsLongestFront (block ++ j ∷ []) js n
     → IsLongestFront block (j ∷ js) (if b then n + 1 else 0)
 front_cases block j js n true room is = record {
   within = omega (arith, is.within);
-  fits = fits_cons block j js n room is.fits;
+  fits = fits;
   stops = λ d inside.
       let P : ℕ → Type 0 = λ m. has_room (block ++ take m (j ∷ js)) (slice_index_or (j ∷ js) m d) ≡ false in
       let same : suc n ≡ n + 1 = omega arith in
       subst P same (behind block j (take n js) false (slice_index_or js n d) (is.stops d (omega arith)));
 }
+  where
+    fits : (k : ℕ) (d : Judged) → k < n + 1 → has_room (block ++ take k (j ∷ js)) (slice_index_or (j ∷ js) k d) ≡ true
+    fits zero d inside = ap (λ (bs : List Judged). has_room bs j) (append-nil block) ∙ room
+    fits (suc k) d inside = behind block j (take k js) true (slice_index_or js k d) (is.fits k d (omega arith))
 front_cases block j js n false full is = record {
   within = omega arith;
   fits = λ k d inside. absurd (omega arith);
@@ -64,11 +53,12 @@ front_behind block j js n is = record {
 
 pub only_fitting : (block js : List Judged) (n : ℕ) → IsLongestFront block js n → n ≡ fitting block js
 only_fitting block [] n is = omega (arith, is.within)
-only_fitting block (j ∷ js) zero is = sym (fitting_full block j js (ap (λ (bs : List Judged). has_room bs j) (sym (append-nil block)) ∙ is.stops j (omega arith)))
+only_fitting block (j ∷ js) zero is =
+    let full : has_room block j ≡ false = ap (λ (bs : List Judged). has_room bs j) (sym (append-nil block)) ∙ is.stops j (omega arith) in
+    rw full refl
 only_fitting block (j ∷ js) (suc n) is =
-    let rest : n ≡ fitting (block ++ j ∷ []) js = only_fitting (block ++ j ∷ []) js n (front_behind block j js n is) in
-    let more : suc n ≡ fitting (block ++ j ∷ []) js + 1 = omega (arith, rest) in
-    more ∙ sym (fitting_room block j js (ap (λ (bs : List Judged). has_room bs j) (sym (append-nil block)) ∙ is.fits 0 j (omega arith)))
+    let room : has_room block j ≡ true = ap (λ (bs : List Judged). has_room bs j) (sym (append-nil block)) ∙ is.fits 0 j (omega arith) in
+    rw room (omega (arith, only_fitting (block ++ j ∷ []) js n (front_behind block j js n is)))
 
 -- ---- an empty block
 
@@ -79,7 +69,7 @@ takes_first j placed h =
     rw (placed, le-leb (0 + length (record_bytes j)) MAX_BLOCK size) refl
 
 pub fitting_first : (j : Judged) (js : List Judged) → is_placed j ≡ true → IsWithinLimits j.item → 1 ≤ fitting [] (j ∷ js)
-fitting_first j js placed h = omega (arith, fitting_room [] j js (takes_first j placed h))
+fitting_first j js placed h = let room = takes_first j placed h in rw room (omega arith)
 
 -- ---- no more than a block may have
 

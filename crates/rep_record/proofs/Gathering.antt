@@ -1,30 +1,54 @@
--- Records that are gathered one by one.
-use Rattle.std.proofs.Common.{◌≡◌, ℕ, ◌+◌, ◌≤◌, ◌<◌, true, false, eqb, List, [], ◌∷◌, ◌++◌, length, Option, Some, refl, sym, ap, subst, ◌∙◌, arith, length-append, add-zero, cond}
-use Rattle.std.specs.List.{AllByRecursion}
+-- Items in the order of their seqnos, and records that are gathered one by one.
+use Rattle.std.proofs.Common.{◌≡◌, ℕ, zero, suc, ◌+◌, ◌≤◌, List, [], ◌∷◌, ◌++◌, length, take, drop, add-zero, arith, ◌<◌, true, false, eqb, Option, Some, refl, sym, ap, subst, ◌∙◌, length-append, cond}
+use Rattle.rep_types.specs.declared.judged.Judged.{Judged}
+use Rattle.rep_record.specs.Blocks.{SeqnosFrom, first_seqno, run_bytes, is_next, gathered_in, AreGathered, IsGathered}
 use Rattle.std.specs.Option.{option_map_or}
 use Rattle.std.proofs.lemmas.Bool.{eqb-true, ne_eqb}
 use Rattle.std.proofs.lemmas.List.{append-nil}
-use Rattle.rep_types.specs.declared.judged.Judged.{Judged}
 use Rattle.rep_forms.specs.Forms.{each}
 use Rattle.rep_forms.specs.FormLaws.{each_again, run_more, all_more}
 use Rattle.rep_record.specs.declared.limits.TheConstants.{MAX_RECORDS, MAX_BLOCK}
 use Rattle.rep_record.specs.Records.{IsRecord, record_bytes, record_form}
 use Rattle.rep_record.specs.RecordLaws.{record_is_form}
-use Rattle.rep_record.specs.Blocks.{first_seqno, SeqnosFrom, run_bytes, is_next}
-use Rattle.rep_record.specs.Gathered.{gathered_in, IsGathered}
+
+-- the next item behind those of a run
+pub SeqnosFrom_push : (n : ℕ) (js : List Judged) (j : Judged) → SeqnosFrom n js → j.seqno ≡ n + length js → SeqnosFrom n (js ++ j ∷ [])
+SeqnosFrom_push n [] j follow is = (omega arith, tt)
+SeqnosFrom_push n (i ∷ js) j follow is = (follow.0, SeqnosFrom_push (n + 1) js j follow.1 (omega arith))
+
+-- what is left of a run behind a front
+pub SeqnosFrom-drop : (n k : ℕ) (js : List Judged) → SeqnosFrom n js → k ≤ length js → SeqnosFrom (n + k) (drop k js)
+SeqnosFrom-drop n zero js follow inside = rw add-zero follow
+SeqnosFrom-drop n (suc k) [] follow inside = tt
+SeqnosFrom-drop n (suc k) (i ∷ js) follow inside =
+    let same : n + suc k ≡ n + 1 + k = omega arith in rw same (SeqnosFrom-drop (n + 1) k js follow.1 (omega arith))
+
+-- a front of a run
+pub SeqnosFrom-take : (n k : ℕ) (js : List Judged) → SeqnosFrom n js → SeqnosFrom n (take k js)
+SeqnosFrom-take n zero js follow = tt
+SeqnosFrom-take n (suc k) [] follow = tt
+SeqnosFrom-take n (suc k) (i ∷ js) follow = (follow.0, SeqnosFrom-take (n + 1) k js follow.1)
+
+-- ---- records that are gathered
+
+-- the records that were gathered are read again
+gathered_is : {first count : ℕ} {bytes : List ℕ} {js : List Judged} → AreGathered first count bytes js → gathered_in count bytes ≡ js
+gathered_is {count = count} {bytes = bytes} {js = js} h =
+    let read : each record_form.read count bytes ≡ Some (js, []) =
+    rw (← h.size, h.spelled, ← append-nil (run_bytes js)) (each_again record_form record_is_form js [] h.are_records) in
+    ap (λ (o : Option (List Judged × List ℕ)). option_map_or (λ (x : List Judged × List ℕ). x.0) o []) read
+
+are_gathered : {first count : ℕ} {bytes : List ℕ} {js : List Judged} → AreGathered first count bytes js → IsGathered first count bytes × (gathered_in count bytes ≡ js)
+are_gathered {first} {count} {bytes} h = (subst (AreGathered first count bytes) (sym (gathered_is h)) h, gathered_is h)
 
 -- nothing is gathered of no bytes
-pub gathered_none : (bytes : List ℕ) → bytes ≡ [] → IsGathered 0 0 bytes × (gathered_in 0 bytes ≡ [])
-unfolding each
-gathered_none bytes e = (
-  record { read = ap (λ (xs : List ℕ). Some ([], xs)) e; spelled = e; records = tt; is_first = refl; follow = tt; size = refl; few = omega arith; fits = omega (arith, ap length e) },
-  refl,
-)
+pub gathered_none : (bytes : List ℕ) → bytes ≡ [] → AreGathered 0 0 bytes (gathered_in 0 bytes)
+gathered_none bytes e =
+    (are_gathered {js = []} (record { spelled = e; are_records = tt; is_first = refl; follow = tt; size = refl; few = omega arith; fits = omega (arith, ap length e) })).0
 
--- one more that follows
-follow_more : (n : ℕ) (js : List Judged) (j : Judged) → SeqnosFrom n js → j.seqno ≡ n + length js → SeqnosFrom n (js ++ j ∷ [])
-follow_more n [] j h e = (e ∙ add-zero n, tt)
-follow_more n (i ∷ js) j h e = (h.0, follow_more (n + 1) js j h.1 (omega (arith, e)))
+pub none_read : (bytes : List ℕ) → gathered_in 0 bytes ≡ []
+unfolding each
+none_read bytes = refl
 
 -- the first seqno with one more
 first_more : (js : List Judged) (j : Judged) (n first : ℕ) → length js ≡ n → first ≡ first_seqno js → cond (eqb n 0) j.seqno first ≡ first_seqno (js ++ j ∷ [])
@@ -36,35 +60,19 @@ first_more (i ∷ js) j n first size e =
 -- the next seqno is the one behind them
 next_is : (js : List Judged) (j : Judged) → is_next js j ≡ true → SeqnosFrom (first_seqno js) js → SeqnosFrom (first_seqno (js ++ j ∷ [])) (js ++ j ∷ [])
 next_is [] j e h = (refl, tt)
-next_is (i ∷ js) j e h = follow_more i.seqno (i ∷ js) j h (omega (arith, eqb-true j.seqno (i.seqno + (length js + 1)) e))
-
--- the records that are read
-pub gathered_is : (count : ℕ) (bytes : List ℕ) (js : List Judged) → each record_form.read count bytes ≡ Some (js, []) → gathered_in count bytes ≡ js
-gathered_is count bytes js e = ap (λ (o : Option (List Judged × List ℕ)). option_map_or (λ (x : List Judged × List ℕ). x.0) o []) e
+next_is (i ∷ js) j e h = SeqnosFrom_push i.seqno (i ∷ js) j h (omega (arith, eqb-true j.seqno (i.seqno + (length js + 1)) e))
 
 -- one more
 pub gathered_more : (first count : ℕ) (bytes more : List ℕ) (j : Judged) → IsGathered first count bytes → IsRecord j → is_next (gathered_in count bytes) j ≡ true → count < MAX_RECORDS
     → more ≡ bytes ++ record_bytes j → length more ≤ MAX_BLOCK → IsGathered (cond (eqb count 0) j.seqno first) (count + 1) more × (gathered_in (count + 1) more ≡ gathered_in count bytes ++ j ∷ [])
 gathered_more first count bytes more j h r next room there fits =
     let js : List Judged = gathered_in count bytes in
-    let run : more ≡ run_bytes (js ++ j ∷ []) = there ∙ ap (λ (xs : List ℕ). xs ++ record_bytes j) h.spelled ∙ sym (run_more record_bytes js j) in
-    let all = all_more IsRecord js j h.records r in
-    let size : length (js ++ j ∷ []) ≡ count + 1 = length-append js (j ∷ []) ∙ omega (arith, h.size) in
-    let read : each record_form.read (count + 1) more ≡ Some (js ++ j ∷ [], []) =
-    ap (λ n. each record_form.read n more) (sym size) ∙ ap (each record_form.read (length (js ++ j ∷ []))) (run ∙ sym (append-nil (run_bytes (js ++ j ∷ [])))) ∙ each_again record_form record_is_form (js ++ j ∷ []) [] all in
-    let same = gathered_is (count + 1) more (js ++ j ∷ []) read in
-    let first_is : cond (eqb count 0) j.seqno first ≡ first_seqno (js ++ j ∷ []) = first_more js j count first h.size h.is_first in
-    let follow : SeqnosFrom (cond (eqb count 0) j.seqno first) (js ++ j ∷ []) =
-    subst (λ n. SeqnosFrom n (js ++ j ∷ [])) (sym first_is) (next_is js j next (subst (λ n. SeqnosFrom n js) h.is_first h.follow)) in (
-      record {
-        read = read ∙ ap (λ (rs : List Judged). Some (rs, [])) (sym same);
-        spelled = run ∙ ap run_bytes (sym same);
-        records = subst (λ (rs : List Judged). AllByRecursion IsRecord rs) (sym same) all;
-        is_first = first_is ∙ ap first_seqno (sym same);
-        follow = subst (λ (rs : List Judged). SeqnosFrom (cond (eqb count 0) j.seqno first) rs) (sym same) follow;
-        size = ap length same ∙ size;
-        few = omega (arith, room);
-        fits = fits;
-      },
-      same,
-    )
+    are_gathered (record {
+      spelled = there ∙ ap (λ (xs : List ℕ). xs ++ record_bytes j) h.spelled ∙ sym (run_more record_bytes js j);
+      are_records = all_more IsRecord js j h.are_records r;
+      is_first = first_more js j count first h.size h.is_first;
+      follow = next_is js j next h.follow;
+      size = length-append js (j ∷ []) ∙ omega (arith, h.size);
+      few = omega (arith, room);
+      fits = fits;
+    })

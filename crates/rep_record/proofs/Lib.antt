@@ -1,14 +1,10 @@
 pub mod Lines
-pub mod Numbers
-pub mod Kept
 pub mod Values
-pub mod Forms
+pub mod Kept
 pub mod Parts
 pub mod Outcomes
 pub mod TextLines
-pub mod NextLine
 pub mod Writing
 pub mod Blocks
 pub mod Gathering
 pub mod Fronts
-pub mod InOrder

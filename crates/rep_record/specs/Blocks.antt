@@ -9,7 +9,7 @@ use Rattle.rep_record.specs.declared.limits.TheConstants.{MAX_RECORDS, MAX_BLOCK
 use Rattle.rep_record.specs.declared.block_reader.Head.{Head}
 use Rattle.rep_forms.specs.Options.{given}
 use Rattle.rep_forms.specs.Forms.{Form, number, number_bytes, zeros, are_blank, ◌⊗◌, via, as_named}
-use Rattle.rep_forms.specs.Runs.{IsChain, StopsAt}
+use Rattle.rep_forms.specs.Runs.{IsChain, StopsAt, values_in}
 use Rattle.rep_record.specs.Records.{IsRecord, is_placed, record_bytes, record_form}
 
 -- ---- records in the order of their seqnos
@@ -38,6 +38,24 @@ is_next (r ∷ records) j = j.seqno == r.seqno + (length records + 1)
 -- whether the block takes the record: it has a spelling, it is the next one, and there is room
 abbrev pub has_room : List Judged → Judged → Bool
 has_room records j = is_placed j && is_next records j && nat_lt (length records) MAX_RECORDS && nat_le (length (run_bytes records) + length (record_bytes j)) MAX_BLOCK
+
+-- the records that the bytes spell
+abbrev pub gathered_in : ℕ → List ℕ → List Judged
+gathered_in count bytes = values_in record_form.read count bytes
+
+-- The bytes spell these records, so many, of seqnos that follow the first one, and are no more than a block has.
+pub record AreGathered (first count : ℕ) (bytes : List ℕ) (records : List Judged) : Type 0 where
+  pub spelled : bytes ≡ run_bytes records
+  pub are_records : AllByRecursion IsRecord records
+  pub is_first : first ≡ first_seqno records
+  pub follow : SeqnosFrom (first_seqno records) records
+  pub size : length records ≡ count
+  pub few : count ≤ MAX_RECORDS
+  pub fits : length bytes ≤ MAX_BLOCK
+
+-- They spell the records that are read from them.
+abbrev pub IsGathered : ℕ → ℕ → List ℕ → Type 0
+IsGathered first count bytes = AreGathered first count bytes (gathered_in count bytes)
 
 -- ---- the spelling
 

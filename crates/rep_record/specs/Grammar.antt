@@ -1,4 +1,5 @@
--- The grammar of a line of an order text, by cases on its words and bytes, apart from how a line is read.
+-- The grammar of a line of an order text, apart from how a line is read: what each piece of a word and each part of a line
+-- says, and how they stand together.
 use Rattle.std.specs.Prelude.{◌≡◌, ℕ, ◌+◌, ◌*◌, ◌^◌, ◌<◌, List, [], ◌∷◌, ◌++◌, length, codes, MatchOption, ◌⊎◌}
 use Rattle.std.specs.List.{AllZip}
 use Rattle.std.specs.Char.{digit_value}
@@ -15,13 +16,38 @@ pub record IsNumber (limit : ℕ) (word : List ℕ) (n : ℕ) : Type 0 where
   pub value : digits_value 10 word ≡ n
   pub small : n < limit
 
--- A key: `table/row`.
-pub record IsKey (word : List ℕ) (key : Key) : Type 0 where
-  pub table : List ℕ
-  pub row : List ℕ
-  pub whole : word ≡ table ++ 47 ∷ row
-  pub is_table : IsNumber (2 ^ 8) table key.table
-  pub is_row : IsNumber (2 ^ 32) row key.row
+-- ---- how pieces and parts stand together
+
+infixr 5 ◌⊗◌
+-- One behind another: up to some place the first says its value, and from there on the second.
+pub record ◌⊗◌ {W A B : Type 0} (First : List W → A → Type 0) (Second : List W → B → Type 0) (whole : List W) (x : A × B) : Type 0 where
+  pub front : List W
+  pub back : List W
+  pub joined : whole ≡ front ++ back
+  pub first : First front x.0
+  pub second : Second back x.1
+
+-- What stands behind this mark: a byte in a word, or a word in a line.
+abbrev pub After : {W A : Type 0} → W → (List W → A → Type 0) → List W → A → Type 0
+After {W} mark Says whole x = (rest : List W) × (whole ≡ mark ∷ rest) × Says rest x
+
+-- The same with its mark; or nothing at all, which says this value.
+abbrev pub Optional : {W A : Type 0} → W → A → (List W → A → Type 0) → List W → A → Type 0
+Optional mark value Says whole x = ((whole ≡ []) × (x ≡ value)) ⊎ After mark Says whole x
+
+-- One word, which says the value.
+abbrev pub One : {A : Type 0} → (List ℕ → A → Type 0) → List (List ℕ) → A → Type 0
+One Says part x = (word : List ℕ) × (part ≡ word ∷ []) × Says word x
+
+-- One word or more, each of which says one of the values, in their order.
+abbrev pub More : {A : Type 0} → (List ℕ → A → Type 0) → List (List ℕ) → List A → Type 0
+More Says part xs = (0 < length part) × AllZip Says part xs
+
+-- ---- the pieces
+
+-- A key: `table/row`. The byte 47 is `/`.
+abbrev pub IsKey : List ℕ → Key → Type 0
+IsKey word key = (IsNumber (2 ^ 8) ⊗ After 47 (IsNumber (2 ^ 32))) word (key.table, key.row)
 
 -- Bytes: two hexadecimal digits each, in either case.
 abbrev pub IsHex : List ℕ → List ℕ → Type 0
@@ -32,64 +58,41 @@ IsHex (high ∷ low ∷ digits) [] = ⊥
 IsHex (high ∷ low ∷ digits) (byte ∷ bytes) =
     (digit_value high < 16) × (digit_value low < 16) × (byte ≡ 16 * digit_value high + digit_value low) × IsHex digits bytes
 
--- what stands behind the key of a write: `-` for a delete, `=` and the value's bytes for a put
-abbrev pub IsWritten : List ℕ → Write → Type 0
-IsWritten mark write = MatchOption write.value (mark ≡ codes "-") (λ bytes. (digits : List ℕ) × (mark ≡ codes "=" ++ digits) × IsHex digits bytes)
+-- A write: `key=hex`, which puts these bytes, or `key-`, a delete. The byte 61 is `=`.
+abbrev pub IsWrite : List ℕ → Write → Type 0
+IsWrite word write = MatchOption write.value ((key : List ℕ) × (word ≡ key ++ codes "-") × IsKey key write.key) (λ bytes. (IsKey ⊗ After 61 IsHex) word (write.key, bytes))
 
--- A write: `key-` or `key=hex`.
-pub record IsWrite (word : List ℕ) (write : Write) : Type 0 where
-  pub key : List ℕ
-  pub mark : List ℕ
-  pub whole : word ≡ key ++ mark
-  pub is_key : IsKey key write.key
-  pub is_written : IsWritten mark write
+-- Labels: `source:trx`. The byte 58 is `:`.
+abbrev pub IsLabel : List ℕ → ℕ × ℕ → Type 0
+IsLabel word label = (IsNumber (2 ^ 64) ⊗ After 58 (IsNumber (2 ^ 64))) word label
 
--- Labels: `source:trx`.
-pub record IsLabel (word : List ℕ) (source trx : ℕ) : Type 0 where
-  pub first : List ℕ
-  pub second : List ℕ
-  pub whole : word ≡ first ++ 58 ∷ second
-  pub is_source : IsNumber (2 ^ 64) first source
-  pub is_trx : IsNumber (2 ^ 64) second trx
+-- ---- the parts of a line
 
 -- The labels' part of a line: nothing, for 0:0, or `id source:trx`.
-abbrev pub AreLabels : List (List ℕ) → ℕ → ℕ → Type 0
-AreLabels part source trx =
-    ((part ≡ []) × (source ≡ 0) × (trx ≡ 0)) ⊎ ((word : List ℕ) × (part ≡ codes "id" ∷ word ∷ []) × IsLabel word source trx)
+abbrev pub AreLabels : List (List ℕ) → ℕ × ℕ → Type 0
+AreLabels part label = Optional (codes "id") (0, 0) (One IsLabel) part label
 
 -- The reads' part of a line: nothing, or `r` and one key or more.
 abbrev pub AreReads : List (List ℕ) → List Key → Type 0
-AreReads part keys =
-    ((part ≡ []) × (keys ≡ [])) ⊎ ((rest : List (List ℕ)) × (part ≡ codes "r" ∷ rest) × (0 < length rest) × AllZip IsKey rest keys)
+AreReads part keys = Optional (codes "r") [] (More IsKey) part keys
 
 -- The writes' part of a line: `w` and one write or more.
 abbrev pub AreWrites : List (List ℕ) → List Write → Type 0
-AreWrites part writes = (rest : List (List ℕ)) × (part ≡ codes "w" ∷ rest) × (0 < length rest) × AllZip IsWrite rest writes
+AreWrites part writes = After (codes "w") (More IsWrite) part writes
 
 -- A tail: `last_seen [id source:trx] [r key key ..] w write write ..`. It stands for a write set whatever its counts, its
 -- lengths and the order of its keys are.
-pub record IsTail (tail : List (List ℕ)) (w : Transaction) : Type 0 where
-  pub seen : List ℕ
-  pub labels : List (List ℕ)
-  pub reads : List (List ℕ)
-  pub writes : List (List ℕ)
-  pub whole : tail ≡ seen ∷ (labels ++ (reads ++ writes))
-  pub is_seen : IsNumber (2 ^ 64) seen w.last_seen
-  pub are_labels : AreLabels labels w.source w.trx
-  pub are_reads : AreReads reads w.reads
-  pub are_writes : AreWrites writes w.writes
+abbrev pub IsTail : List (List ℕ) → Transaction → Type 0
+IsTail tail w = (One (IsNumber (2 ^ 64)) ⊗ (AreLabels ⊗ (AreReads ⊗ AreWrites))) tail (w.last_seen, ((w.source, w.trx), (w.reads, w.writes)))
 
 -- An item's line: `item` and a tail.
 abbrev pub IsItemLine : List ℕ → Transaction → Type 0
-IsItemLine line w = (tail : List (List ℕ)) × (words line ≡ codes "item" ∷ tail) × IsTail tail w
+IsItemLine line w = After (codes "item") IsTail (words line) w
 
--- A params line: `params W N rows rows ..`, one number for each table, one table or more.
-pub record IsParamsLine (line : List ℕ) (p : Setting) : Type 0 where
-  pub window : List ℕ
-  pub cells : List ℕ
-  pub rows : List (List ℕ)
-  pub whole : words line ≡ codes "params" ∷ window ∷ cells ∷ rows
-  pub some : 0 < length rows
-  pub is_window : IsNumber (2 ^ 32) window p.window
-  pub are_cells : IsNumber (2 ^ 32) cells p.cells
-  pub are_rows : AllZip (IsNumber (2 ^ 32)) rows p.rows
+-- A node's parameters: `W N rows rows ..`, one number for each table, one table or more.
+abbrev pub IsSetting : List (List ℕ) → Setting → Type 0
+IsSetting part p = (One (IsNumber (2 ^ 32)) ⊗ (One (IsNumber (2 ^ 32)) ⊗ More (IsNumber (2 ^ 32)))) part (p.window, (p.cells, p.rows))
+
+-- A params line: `params` and these.
+abbrev pub IsParamsLine : List ℕ → Setting → Type 0
+IsParamsLine line p = After (codes "params") IsSetting (words line) p

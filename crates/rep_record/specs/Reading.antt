@@ -12,29 +12,59 @@ use Rattle.rep_types.specs.Transactions.{Transaction, transaction, misplaced}
 use Rattle.rep_types.specs.Settings.{Setting, setting, allowed}
 pub use Rattle.rep_types.specs.Numbers.{given, is_number}
 unfoldable pub use Rattle.rep_types.specs.Numbers.{number_in}
+use Rattle.rep_forms.specs.Options.{◌>>=◌}
 use Rattle.rep_record.specs.Words.{words, cut}
 
-infixl 10 ◌>>=◌
--- what the rest makes of a piece, where there is one
-abbrev pub ◌>>=◌ : {A B : Type 0} → Option A → (A → Option B) → Option B
-None >>= f = None
-(Some x) >>= f = f x
+-- ---- how pieces and parts are read together
+
+-- a piece before the first mark, and one behind it
+abbrev pub pair_at : {A B : Type 0} → ℕ → (List ℕ → Option A) → (List ℕ → Option B) → List ℕ → Option (A × B)
+pair_at mark f g word = do
+  parts ← cut mark word
+  x ← f parts.0
+  y ← g parts.1
+  Some (x, y)
+
+-- whether the next word is this text
+abbrev pub is_next : List ℕ → List (List ℕ) → Bool
+is_next text [] = false
+is_next text (word ∷ rest) = bytes_eq word text
+
+-- what the words behind this one are
+abbrev pub after : {A : Type 0} → List ℕ → (List (List ℕ) → Option A) → List (List ℕ) → Option A
+after text f words = if is_next text words then f (drop 1 words) else None
+
+-- the same with the words behind it, or a value and all of the words
+abbrev pub optional : {A : Type 0} → List ℕ → A → (List (List ℕ) → Option (A × List (List ℕ))) → List (List ℕ) → Option (A × List (List ℕ))
+optional text value f words = if is_next text words then f (drop 1 words) else Some (value, words)
+
+-- a part, and what the words behind it are
+abbrev pub behind : {A B : Type 0} → (List (List ℕ) → Option (A × List (List ℕ))) → (List (List ℕ) → Option B) → List (List ℕ) → Option (A × B)
+behind f g words = f words >>= λ x. g x.1 >>= λ y. Some (x.0, y)
+
+-- what the next word is, and the words after it
+abbrev pub next : {A : Type 0} → (List ℕ → Option A) → List (List ℕ) → Option (A × List (List ℕ))
+next f [] = None
+next f (word ∷ rest) = f word >>= λ x. Some (x, rest)
+
+-- what each word is
+unfoldable pub each : {A : Type 0} → (List ℕ → Option A) → List (List ℕ) → Option (List A)
+each f [] = Some []
+each f (word ∷ rest) = f word >>= λ x. each f rest >>= λ xs. Some (x ∷ xs)
+
+-- what each word is, of one word or more
+abbrev pub some_each : {A : Type 0} → (List ℕ → Option A) → List (List ℕ) → Option (List A)
+some_each f words = if nat_lt 0 (length words) then each f words else None
+
+-- ---- the pieces
 
 -- a key: `table/row`
 unfoldable pub key_in : List ℕ → Option Key
-key_in word = do
-  parts ← cut 47 word
-  table ← number_in (2 ^ 8) parts.0
-  row ← number_in (2 ^ 32) parts.1
-  Some (record { table = table; row = row })
+key_in word = pair_at 47 (number_in (2 ^ 8)) (number_in (2 ^ 32)) word >>= λ x. Some (record { table = x.0; row = x.1 })
 
 -- labels: `source:trx`
 unfoldable pub label_in : List ℕ → Option (ℕ × ℕ)
-label_in word = do
-  parts ← cut 58 word
-  source ← number_in (2 ^ 64) parts.0
-  trx ← number_in (2 ^ 64) parts.1
-  Some (source, trx)
+label_in word = pair_at 58 (number_in (2 ^ 64)) (number_in (2 ^ 64)) word
 
 -- the byte that two digits write
 unfoldable pub byte_in : ℕ → ℕ → Option ℕ
@@ -76,28 +106,11 @@ write_by None word = option_map delete (deleted_in word)
 unfoldable pub write_in : List ℕ → Option Write
 write_in word = write_by (cut 61 word) word
 
--- whether the next word is this text
-abbrev pub is_next : List ℕ → List (List ℕ) → Bool
-is_next text [] = false
-is_next text (word ∷ rest) = bytes_eq word text
-
--- what the next word is, and the words after it
-abbrev pub next : {A : Type 0} → (List ℕ → Option A) → List (List ℕ) → Option (A × List (List ℕ))
-next f [] = None
-next f (word ∷ rest) = f word >>= λ x. Some (x, rest)
-
--- what each word is
-unfoldable pub each : {A : Type 0} → (List ℕ → Option A) → List (List ℕ) → Option (List A)
-each f [] = Some []
-each f (word ∷ rest) = f word >>= λ x. each f rest >>= λ xs. Some (x ∷ xs)
-
--- what each word is, of one word or more
-abbrev pub some_each : {A : Type 0} → (List ℕ → Option A) → List (List ℕ) → Option (List A)
-some_each f words = if nat_lt 0 (length words) then each f words else None
+-- ---- the parts of a line
 
 -- the labels, and the words after them
 unfoldable pub labels_in : List (List ℕ) → Option ((ℕ × ℕ) × List (List ℕ))
-labels_in words = if is_next (codes "id") words then next label_in (drop 1 words) else Some ((0, 0), words)
+labels_in words = optional (codes "id") (0, 0) (next label_in) words
 
 -- one key or more up to the word `w`, and the words from there on
 unfoldable pub keys_in : List (List ℕ) → Option (List Key × List (List ℕ))
@@ -107,44 +120,28 @@ keys_in (word ∷ rest) =
 
 -- the reads, and the words after them
 unfoldable pub reads_in : List (List ℕ) → Option (List Key × List (List ℕ))
-reads_in words = if is_next (codes "r") words then keys_in (drop 1 words) else Some ([], words)
+reads_in words = optional (codes "r") [] keys_in words
 
 -- the writes: `w` and one write or more
 unfoldable pub writes_in : List (List ℕ) → Option (List Write)
-writes_in words = if is_next (codes "w") words then some_each write_in (drop 1 words) else None
+writes_in words = after (codes "w") (some_each write_in) words
 
 -- a tail: `last_seen [id source:trx] [r key key ..] w write write ..`
 unfoldable pub tail_in : List (List ℕ) → Option Transaction
-tail_in words = do
-  seen ← next (number_in (2 ^ 64)) words
-  labels ← labels_in seen.1
-  reads ← reads_in labels.1
-  writes ← writes_in reads.1
-  Some (transaction labels.0.0 labels.0.1 seen.0 reads.0 writes)
-
--- an item's words: `item` and a tail
-unfoldable pub item_in : List (List ℕ) → Option Transaction
-item_in words = if is_next (codes "item") words then tail_in (drop 1 words) else None
+tail_in words =
+    behind (next (number_in (2 ^ 64))) (behind labels_in (behind reads_in writes_in)) words >>= λ x. Some (transaction x.1.0.0 x.1.0.1 x.0 x.1.1.0 x.1.1.1)
 
 -- what stands behind `params`: `W N rows rows ..`
 unfoldable pub setting_in : List (List ℕ) → Option Setting
-setting_in words = do
-  window ← next (number_in (2 ^ 32)) words
-  cells ← next (number_in (2 ^ 32)) window.1
-  rows ← some_each (number_in (2 ^ 32)) cells.1
-  Some (setting window.0 cells.0 rows)
+setting_in words = behind (next (number_in (2 ^ 32))) (behind (next (number_in (2 ^ 32))) (some_each (number_in (2 ^ 32)))) words >>= λ x. Some (setting x.0 x.1.0 x.1.1)
 
--- a params line's words: `params` and what stands behind it
-unfoldable pub params_in : List (List ℕ) → Option Setting
-params_in words = if is_next (codes "params") words then setting_in (drop 1 words) else None
-
--- What an item's line says, where it is of the form.
+-- What an item's line says, `item` and a tail, where it is of the form.
 abbrev pub item_form : List ℕ → Option Transaction
-item_form line = item_in (words line)
+item_form line = after (codes "item") tail_in (words line)
 
--- What a params line says, where it is of the form.
+-- What a params line says, `params` and what stands behind it, where it is of the form.
 abbrev pub params_form : List ℕ → Option Setting
-params_form line = params_in (words line)
+params_form line = after (codes "params") setting_in (words line)
 
 -- whether a value of more than 62 bytes is put
 abbrev pub is_long : Write → Bool
@@ -163,15 +160,18 @@ limited number w =
     else if list_any is_long w.writes then Err ValueTooLong
     else well_placed number w (misplaced w.reads w.writes)
 
--- what comes of a line by its number and what it says
+-- what comes of a line by its number and what it says, where that has to be inside limits
+abbrev pub outcome : {A B : Type 0} → (A → Result B Refusal) → ℕ → Option A → Result B Refusal
+outcome limit number None = Err (Malformed number)
+outcome limit number (Some x) = limit x
+
+-- what comes of an item's line by what it says
 abbrev pub item_outcome : ℕ → Option Transaction → Result Transaction Refusal
-item_outcome number None = Err (Malformed number)
-item_outcome number (Some w) = limited number w
+item_outcome number form = outcome (limited number) number form
 
 -- the same of a params line
 abbrev pub params_outcome : ℕ → Option Setting → Result Setting Refusal
-params_outcome number None = Err (Malformed number)
-params_outcome number (Some p) = allowed p
+params_outcome number form = outcome allowed number form
 
 -- What comes of an item's line with this number.
 abbrev pub item_line : ℕ → List ℕ → Result Transaction Refusal

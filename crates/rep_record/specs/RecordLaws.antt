@@ -1,5 +1,5 @@
 -- The law of records as bytes.
-use Rattle.std.proofs.Common.{◌≡◌, ℕ, ◌≤◌, length, Some, Ok, refl, arith, lit<, ◌*◌, length-append}
+use Rattle.std.proofs.Common.{◌≡◌, ℕ, ◌≤◌, length, Ok, refl, arith, lit<, ◌*◌, length-append}
 use Rattle.std.proofs.lemmas.Bool.{le-ltb, lt-ltb}
 use Rattle.rep_types.specs.declared.judged.Judged.{Judged}
 use Rattle.rep_types.specs.declared.verdict.Verdict.{Verdict}
@@ -7,41 +7,27 @@ use Rattle.rep_types.specs.declared.verdict.Verdict.TheVariants.{Commit, Conflic
 use Rattle.rep_types.specs.declared.limits.TheConstants.{MAX_SEQNO, MAX_READS, MAX_WRITES}
 use Rattle.rep_types.specs.declared.key.Key.{Key}
 use Rattle.rep_types.specs.Transactions.{Transaction, HasShortValue, IsWithinLimits, checked}
-use Rattle.rep_forms.specs.Forms.{IsForm, byte, number, both, ◌⊗◌, many}
+use Rattle.rep_forms.specs.Forms.{IsForm}
 use Rattle.rep_forms.specs.FormLaws.{length_number, run_short, all_of, byte_is_form, number_is_form, both_is_form, many_is_form, via_is_form, named_is_form}
-use Rattle.rep_forms.specs.Keys.{key_bytes, key_form}
+use Rattle.rep_forms.specs.Keys.{key_bytes}
 use Rattle.rep_forms.specs.KeyLaws.{key_is_form, key_short}
-use Rattle.rep_forms.specs.Writes.{write_bytes, write_form}
+use Rattle.rep_forms.specs.Writes.{write_bytes}
 use Rattle.rep_forms.specs.WriteLaws.{write_is_form, write_short}
-use Rattle.rep_record.specs.Records.{IsVerdictAt, IsRecord, verdict_code, conflict_seqno, body_bytes, record_bytes, label_parts, labels_of, label_fields, verdict_of, verdict_fields, Lists, list_fields, Parts, parts_of, item_of, record_fields, record_form}
+use Rattle.rep_record.specs.Records.{IsVerdictAt, IsRecord, body_bytes, record_bytes, label_fields, verdict_fields, list_fields, record_fields, record_form}
+
+ruleset forms = (via_is_form, both_is_form, number_is_form, byte_is_form, many_is_form, key_is_form, write_is_form)
 
 labels_is_form : IsForm label_fields
-labels_is_form =
-    via_is_form (number 8 ⊗ (number 8 ⊗ (number 8 ⊗ number 8))) label_parts labels_of
-    (both_is_form (number 8) (λ _. number 8 ⊗ (number 8 ⊗ number 8)) (number_is_form 8) (λ _.
-    both_is_form (number 8) (λ _. number 8 ⊗ number 8) (number_is_form 8) (λ _. both_is_form (number 8) (λ _. number 8) (number_is_form 8) (λ _. number_is_form 8))
-    ))
+labels_is_form = search forms
 
 verdict_is_form : IsForm verdict_fields
-verdict_is_form =
-    via_is_form (byte ⊗ number 8) (λ v. (verdict_code v, conflict_seqno v)) (λ x. verdict_of x.0 x.1) (both_is_form byte (λ _. number 8) byte_is_form (λ _. number_is_form 8))
+verdict_is_form = search forms
 
 lists_is_form : IsForm list_fields
-lists_is_form =
-    via_is_form (both byte (λ reads. both byte (λ writes. many MAX_READS reads key_form ⊗ many MAX_WRITES writes write_form)))
-    (λ (l : Lists). (length l.0, (length l.1, (l.0, l.1)))) (λ x. Some (x.1.1.0, x.1.1.1))
-    (both_is_form byte (λ reads. both byte (λ writes. many MAX_READS reads key_form ⊗ many MAX_WRITES writes write_form)) byte_is_form (λ reads.
-    both_is_form byte (λ writes. many MAX_READS reads key_form ⊗ many MAX_WRITES writes write_form) byte_is_form (λ writes.
-    both_is_form (many MAX_READS reads key_form) (λ _. many MAX_WRITES writes write_form) (many_is_form MAX_READS reads key_form key_is_form) (λ _. many_is_form MAX_WRITES writes write_form write_is_form)
-    )
-    ))
+lists_is_form = search forms depth 8
 
 fields_is_form : IsForm record_fields
-fields_is_form =
-    via_is_form (number 2 ⊗ (label_fields ⊗ (verdict_fields ⊗ list_fields))) parts_of (λ (x : Parts). item_of x.1.0 x.1.1.0 x.1.1.1)
-    (both_is_form (number 2) (λ _. label_fields ⊗ (verdict_fields ⊗ list_fields)) (number_is_form 2) (λ _.
-    both_is_form label_fields (λ _. verdict_fields ⊗ list_fields) labels_is_form (λ _. both_is_form verdict_fields (λ _. list_fields) verdict_is_form (λ _. lists_is_form))
-    ))
+fields_is_form = search (forms, labels_is_form, verdict_is_form, lists_is_form)
 
 -- a verdict that fits its item
 verdict_fits : (seqno : ℕ) (v : Verdict) → seqno ≤ MAX_SEQNO → IsVerdictAt seqno v → verdict_fields.Fits v
@@ -62,9 +48,6 @@ lists_fit j h = (
   refl,
 )
 
-labels_fit : (j : Judged) → IsRecord j → label_fields.Fits (record { seqno = j.seqno; last_seen = j.item.last_seen; source = j.item.source; trx = j.item.trx })
-labels_fit j h = ((omega (arith, h.seqno), (h.last_seen, (h.source, h.trx))), refl)
-
 -- a record's body takes at most 1,227 bytes
 pub body_short : (j : Judged) → IsWithinLimits j.item → length (body_bytes j) ≤ 1227
 body_short j h =
@@ -78,5 +61,7 @@ body_short j h =
 pub record_is_form : IsForm record_form
 record_is_form =
     named_is_form record_fields IsRecord record_bytes fields_is_form
-    (λ j h. ((omega (arith, body_short j h.limits), (labels_fit j h, (verdict_fits j.seqno j.verdict h.seqno h.verdict, lists_fit j h))), rw (checked_again j.item h.limits) refl))
+    (λ j h.
+    let verdict = verdict_fits j.seqno j.verdict h.seqno h.verdict in
+    ((omega (arith, body_short j h.limits), (((omega (arith, h.seqno), (h.last_seen, (h.source, h.trx))), refl), (verdict, lists_fit j h))), rw (checked_again j.item h.limits) refl))
     (λ j h. refl)

@@ -19,11 +19,8 @@ use Rattle.rep_forms.specs.Writes.{WriteFits, write_bytes, write_form}
 
 -- a conflict is with an item before this one
 abbrev pub IsVerdictAt : ℕ → Verdict → Type 0
-IsVerdictAt seqno Commit = Unit {0}
 IsVerdictAt seqno (Conflict m) = (1 ≤ m) × (m < seqno)
-IsVerdictAt seqno Stale = Unit {0}
-IsVerdictAt seqno Future = Unit {0}
-IsVerdictAt seqno BadKey = Unit {0}
+IsVerdictAt seqno verdict = Unit {0}
 
 -- What has a spelling: a seqno from 1 to the greatest, a write set within the limits, a verdict that fits the seqno, and numbers
 -- in the range of their types.
@@ -40,11 +37,8 @@ pub record IsRecord (j : Judged) : Type 0 where
 
 -- whether a conflict is with an item before this one
 abbrev pub is_verdict_at : ℕ → Verdict → Bool
-is_verdict_at seqno Commit = true
 is_verdict_at seqno (Conflict m) = nat_le 1 m && nat_lt m seqno
-is_verdict_at seqno Stale = true
-is_verdict_at seqno Future = true
-is_verdict_at seqno BadKey = true
+is_verdict_at seqno verdict = true
 
 -- whether the seqno is from 1 to the greatest and the verdict fits it: what a write set and numbers of their types leave open
 abbrev pub is_placed : Judged → Bool
@@ -61,11 +55,8 @@ verdict_code Future = 3
 verdict_code BadKey = 4
 
 abbrev pub conflict_seqno : Verdict → ℕ
-conflict_seqno Commit = 0
 conflict_seqno (Conflict m) = m
-conflict_seqno Stale = 0
-conflict_seqno Future = 0
-conflict_seqno BadKey = 0
+conflict_seqno verdict = 0
 
 abbrev pub verdict_bytes : Verdict → List ℕ
 verdict_bytes verdict = verdict_code verdict ∷ number_bytes 8 (conflict_seqno verdict)

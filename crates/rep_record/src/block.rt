@@ -23,7 +23,7 @@ pub struct BlockBuilder {
 impl Model for BlockBuilder {
     ghost use Rattle.std.specs.Prelude.{List};
     ghost use Rattle.rep_types.specs.declared.judged.Judged.{Judged};
-    ghost use Rattle.rep_record.specs.Gathered.{gathered_in, IsGathered};
+    ghost use Rattle.rep_record.specs.Blocks.{gathered_in, IsGathered};
 
     ghost Value = { List Judged };
 
@@ -41,6 +41,7 @@ fn first_of(count: u16, first: u64, seqno: u64) -> u64
 
 impl BlockBuilder {
     /// A block without records.
+    #[tactic(auto, using(crate::proofs::Gathering::gathered_none, crate::proofs::Gathering::none_read))]
     pub fn new() -> BlockBuilder
         ensures { result ≡ [] }
     {
@@ -112,6 +113,7 @@ impl BlockBuilder {
     }
 
     /// The bytes of the block for the cell with this number, 7,680; None where there is no record.
+    #[tactic(auto, using(rep_forms::specs::FormLaws::sizes))]
     pub fn write_body(&self, cell: u64) -> Option<ArrayVec<u8, BLOCK>>
         ensures some { IsSome result ↔ (0 < length self.now) }
         // What is written is a block, so it is read again.

@@ -101,7 +101,7 @@ impl<'a> Model for BlockReader<'a> {
 /// Reads a block, and says how it was read.
 fn read_body(bytes: &[u8]) -> Result<BlockReader<'_>, Refusal>
     ensures read { IfOk result (λ b. IsRead bytes.now b.cell b.records) }
-    ensures only { (cell : ℕ) (js : List Judged) → IsBlock cell js → bytes.now ≡ block_bytes cell js → IsOkAnd result (λ b. (b.cell ≡ cell) × (b.records ≡ js)) }
+    ensures only { (cell : ℕ) (js : List Judged) → IsRead bytes.now cell js → IsOkAnd result (λ b. (b.cell ≡ cell) × (b.records ≡ js)) }
     ensures refused { IfErr result (λ e. Refuses bytes.now e) }
 {
     let malformed = Refusal::Malformed { at: 0 };
@@ -135,6 +135,7 @@ fn read_body(bytes: &[u8]) -> Result<BlockReader<'_>, Refusal>
 /// 64, in 2; then the records, of that seqno and those that follow, as `read_record` reads them; and
 /// zeros. `at` is the offset of the first record that is not of the form or whose seqno does not
 /// follow, and 0 for the head and for the zeros.
+#[tactic(auto, using(crate::proofs::Blocks::answer_found))]
 pub fn read_block(bytes: &[u8]) -> Result<BlockReader<'_>, Refusal>
     // What is read is spelled so.
     ensures found { IfOk result (λ b. IsBlock b.cell b.records × (bytes.now ≡ block_bytes b.cell b.records)) }
@@ -177,6 +178,7 @@ impl<'a> BlockReader<'a> {
 }
 
 /// The bytes of a block tell its cell and its records: no two blocks have one spelling.
+#[tactic(auto, using(crate::proofs::Blocks::told_by))]
 pub fn blocks_are_told()
     ensures { BlocksAreTold }
 {

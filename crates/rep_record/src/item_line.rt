@@ -4,7 +4,7 @@ ghost use Rattle.std.specs.Prelude.{◌≡◌, IfOk, Err};
 ghost use Rattle.std.specs.Option.{option_map};
 ghost use Rattle.rep_types.specs.Transactions.{Transaction};
 ghost use Rattle.rep_record.specs.Grammar.{IsItemLine};
-ghost use Rattle.rep_record.specs.Reading.{labels_in, keys_in, reads_in, writes_in, tail_in, item_form, item_outcome, item_line, limited};
+ghost use Rattle.rep_record.specs.Reading.{labels_in, keys_in, reads_in, writes_in, tail_in, item_form, outcome, item_outcome, item_line, limited};
 ghost use Rattle.rep_record.specs.Drafts.{Gives, drafted_reads, drafted_writes, drafted, limited_draft};
 
 use crate::few::keep;
@@ -134,7 +134,6 @@ fn read_tail_draft(words: &mut Words) -> Option<Draft>
 }
 
 /// What an item's line says.
-#[tactic(auto, unfolding(crate::specs::Reading::item_in))]
 fn read_draft(line: &[u8]) -> Option<Draft>
     ensures { result ≡ option_map drafted (item_form line.now) }
 {
@@ -145,17 +144,26 @@ fn read_draft(line: &[u8]) -> Option<Draft>
     read_tail_draft(&mut words)
 }
 
+/// The write set of which this was kept, in the line with this number; a line of which nothing was is
+/// malformed.
+fn write_set_of(draft: Option<Draft>, number: u64) -> Result<WriteSet, Refusal>
+    ensures { result ≡ outcome (limited_draft number) number draft }
+{
+    let Some(draft) = draft else {
+        return Err(Refusal::Malformed { at: number });
+    };
+    draft.write_set(number)
+}
+
 /// The write set that the words say, in the line with this number: `last_seen [id source:trx]
 /// [r key key ..] w write write ..`, as in the line of an item.
 ///
 /// Refuses as `read_item_line` does.
+#[tactic(auto, using(crate::proofs::Outcomes::item_kept))]
 pub fn read_tail(mut words: Words, number: u64) -> Result<WriteSet, Refusal>
     ensures { result ≡ item_outcome number (tail_in words.entry) }
 {
-    let Some(draft) = read_tail_draft(&mut words) else {
-        return Err(Refusal::Malformed { at: number });
-    };
-    draft.write_set(number)
+    write_set_of(read_tail_draft(&mut words), number)
 }
 
 /// The write set that the line with this number says: `item last_seen [id source:trx]
@@ -175,8 +183,5 @@ pub fn read_item_line(line: &[u8], number: u64) -> Result<WriteSet, Refusal>
     ensures unformed { ((w : Transaction) → IsItemLine line.now w → ⊥) → result ≡ Err (Refusal.Malformed number) }
     ensures exact { result ≡ item_line number line.now }
 {
-    let Some(draft) = read_draft(line) else {
-        return Err(Refusal::Malformed { at: number });
-    };
-    draft.write_set(number)
+    write_set_of(read_draft(line), number)
 }

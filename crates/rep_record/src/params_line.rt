@@ -4,7 +4,7 @@ ghost use Rattle.std.specs.Prelude.{◌≡◌, ◌^◌, List, IfOk, Err, take};
 ghost use Rattle.std.specs.Option.{option_map};
 ghost use Rattle.rep_types.specs.Settings.{Setting, allowed};
 ghost use Rattle.rep_record.specs.Grammar.{IsParamsLine};
-ghost use Rattle.rep_record.specs.Reading.{number_in, next, some_each, params_form, params_line};
+ghost use Rattle.rep_record.specs.Reading.{number_in, next, some_each, outcome, params_form, params_line};
 ghost use Rattle.rep_record.specs.Drafts.{drafted_setting};
 
 use crate::few::keep;
@@ -55,7 +55,7 @@ fn read_rows(mut words: Words) -> Option<ArrayVec<u32, 9>>
 }
 
 /// What a params line says.
-#[tactic(auto, unfolding(crate::specs::Reading::params_in, crate::specs::Reading::setting_in))]
+#[tactic(auto, unfolding(crate::specs::Reading::setting_in))]
 fn read_draft(line: &[u8]) -> Option<ParamsDraft>
     ensures { result ≡ option_map drafted_setting (params_form line.now) }
 {
@@ -73,6 +73,17 @@ fn read_draft(line: &[u8]) -> Option<ParamsDraft>
     })
 }
 
+/// The parameters of which this was kept, of the line with this number; a line of which nothing was is
+/// malformed.
+fn params_of(draft: Option<ParamsDraft>, number: u64) -> Result<Params, Refusal>
+    ensures { result ≡ outcome allowed number draft }
+{
+    let Some(draft) = draft else {
+        return Err(Refusal::Malformed { at: number });
+    };
+    draft.params()
+}
+
 /// The parameters that the line with this number says: `params W N rows rows ..`, one number of rows
 /// for each table.
 ///
@@ -87,8 +98,5 @@ pub fn read_params_line(line: &[u8], number: u64) -> Result<Params, Refusal>
     ensures unformed { ((p : Setting) → IsParamsLine line.now p → ⊥) → result ≡ Err (Refusal.Malformed number) }
     ensures exact { result ≡ params_line number line.now }
 {
-    let Some(draft) = read_draft(line) else {
-        return Err(Refusal::Malformed { at: number });
-    };
-    draft.params()
+    params_of(read_draft(line), number)
 }

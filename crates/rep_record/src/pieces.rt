@@ -1,9 +1,9 @@
 //! The pieces of a line, each of which is one word.
 
-ghost use Rattle.std.specs.Prelude.{◌≡◌, ◌^◌, take};
+ghost use Rattle.std.specs.Prelude.{◌≡◌, ◌^◌, nat_le, nat_lt, length, take};
 ghost use Rattle.std.specs.Option.{option_map};
 ghost use Rattle.rep_record.specs.Words.{cut};
-ghost use Rattle.rep_record.specs.Reading.{number_in, key_in, label_in, byte_in, hex_in, put_in, deleted_in, write_in};
+ghost use Rattle.rep_record.specs.Reading.{given, number_in, key_in, label_in, byte_in, hex_in, put_in, deleted_in, write_in};
 ghost use Rattle.rep_record.specs.Drafts.{drafted_write};
 
 use crate::few::keep;
@@ -12,7 +12,7 @@ use arrayvec::ArrayVec;
 use rep_types::{Key, Value, Write, read_number};
 
 /// The number that the digits write, where it is below 2^32.
-#[tactic(auto, using(crate::proofs::Numbers::number_32))]
+#[tactic(auto, using(crate::proofs::Values::number_32))]
 pub(crate) fn read_u32(word: &[u8]) -> Option<u32>
     ensures { result ≡ number_in (2 ^ 32) word.now }
 {
@@ -20,7 +20,7 @@ pub(crate) fn read_u32(word: &[u8]) -> Option<u32>
 }
 
 /// The number that the digits write, where it is below 2^8.
-#[tactic(auto, using(crate::proofs::Numbers::number_8))]
+#[tactic(auto, using(crate::proofs::Values::number_8))]
 fn read_u8(word: &[u8]) -> Option<u8>
     ensures { result ≡ number_in (2 ^ 8) word.now }
 {
@@ -28,7 +28,7 @@ fn read_u8(word: &[u8]) -> Option<u8>
 }
 
 /// What stands before the first byte that is the mark, and what stands behind it.
-#[tactic(auto, using(crate::proofs::Lines::cut_is, std::proofs::lemmas::List::take_rest))]
+#[tactic(auto, using(std::proofs::lemmas::List::take_rest), unfolding(crate::specs::Words::cut))]
 fn cut_at(word: &[u8], mark: u8) -> Option<(&[u8], &[u8])>
     ensures { option_map (λ parts. (parts.0.now, parts.1.now)) result ≡ cut mark word.now }
 {
@@ -69,7 +69,7 @@ fn read_byte(high: u8, low: u8) -> Option<u8>
 }
 
 /// The bytes that hexadecimal digits write, or the first 63 of them.
-#[tactic(auto, using(crate::proofs::Kept::hex_kept, crate::proofs::Kept::hex_step, crate::proofs::Kept::hex_stop, std::proofs::lemmas::List::take_rest))]
+#[tactic(auto, using(crate::proofs::Kept::hex_kept, crate::proofs::Kept::hex_step, std::proofs::lemmas::List::take_rest))]
 fn read_hex(digits: &[u8]) -> Option<ArrayVec<u8, 63>>
     ensures { option_map (λ bytes. bytes.items) result ≡ option_map (take 63) (hex_in digits.now) }
 {
@@ -85,16 +85,24 @@ fn read_hex(digits: &[u8]) -> Option<ArrayVec<u8, 63>>
     Some(bytes)
 }
 
+/// The value of these bytes, and whether they are more than 62, so that there is none.
+fn short_value(bytes: &[u8]) -> (Option<Value>, bool)
+    ensures { result ≡ (given (nat_le (length bytes.now) 62) bytes.now, nat_lt 62 (length bytes.now)) }
+{
+    let value = Value::new(bytes).ok();
+    let is_long = value.is_none();
+    (value, is_long)
+}
+
 /// The put of the value that the digits write, and whether the value has more than 62 bytes, so that
 /// it is left out.
-#[tactic(auto, unfolding(crate::specs::Reading::put_in))]
+#[tactic(auto, using(crate::proofs::Values::put_kept), unfolding(crate::specs::Reading::put_in))]
 fn read_put(key: &[u8], digits: &[u8]) -> Option<(Write, bool)>
     ensures { result ≡ option_map drafted_write (put_in (key.now, digits.now)) }
 {
     let key = read_key(key)?;
     let bytes = read_hex(digits)?;
-    let value = Value::new(bytes.as_slice()).ok();
-    let is_long = value.is_none();
+    let (value, is_long) = short_value(bytes.as_slice());
     Some((Write { key, value }, is_long))
 }
 

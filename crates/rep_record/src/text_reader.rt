@@ -109,6 +109,7 @@ impl TextReader {
     /// buffer is empty.
     ///
     /// Refuses with `StreamFault` where the reader fails.
+    #[tactic(auto, using(crate::proofs::TextLines::byte_taken))]
     fn next_byte<R: Read>(&mut self, reader: &mut R) -> Result<Option<u8>, Refusal>
         ensures some { IfOk result (λ byte. IfSome byte (λ b.
             Consumes (ahead self.old (R.remaining reader.old)) (ahead self.new (R.remaining reader.new)) (b ∷ []))) }
@@ -156,6 +157,7 @@ impl TextReader {
     /// not end, with its line feed, within the first 67,108,864 bytes of the text. Refuses with
     /// `StreamFault` also where the reader fails; an interrupted read is tried again. After a
     /// refusal the rest of the text is not to be read.
+    #[tactic(auto, using(crate::proofs::TextLines::last_next))]
     pub fn next_line<R: Read>(
         &mut self,
         reader: &mut R,

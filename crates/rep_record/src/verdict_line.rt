@@ -14,6 +14,7 @@ use std::io::{ErrorKind, Write};
 ///
 /// Refuses with `StreamFault` where the writer fails or takes nothing of what is left; it has then
 /// taken a front of the bytes.
+#[tactic(auto, using(crate::proofs::Writing::front_grows, crate::proofs::Writing::front_stays))]
 pub fn put_all<W: Write>(writer: &mut W, bytes: &[u8]) -> Result<(), Refusal>
     ensures ok { OnOk result (Appends (W.contents writer.old) (W.contents writer.new) bytes.now) }
     // A writer that fails has taken a front of the bytes.
@@ -46,6 +47,7 @@ fn push_digit(text: &mut ArrayString<64>, digit: u8)
 }
 
 /// Puts the number in decimal behind the text.
+#[tactic(auto, using(crate::proofs::Writing::decimal_longer, crate::proofs::Writing::digits_pushed, rep_forms::specs::FormLaws::sizes, std::proofs::lemmas::Fmt::decimal_digit))]
 fn push_decimal(text: &mut ArrayString<64>, number: u64)
     requires { array_string_len text.old + length (decimal number) ≤ 64 }
     ensures bytes { text.new.bytes ≡ text.old.bytes ++ decimal number }

@@ -15,7 +15,7 @@ fn has_only_spaces(line: &[u8]) -> bool
 }
 
 /// Whether the line has no words.
-#[tactic(auto, using(crate::proofs::Lines::blank_from_words, crate::proofs::Lines::words_from_blank))]
+#[tactic(auto, using(crate::proofs::Lines::no_words))]
 pub fn is_blank(line: &[u8]) -> bool
     ensures value { result ≡ is_blank line.now }
     ensures no_words { IsTrue result ↔ (words line.now ≡ []) }

@@ -1,4 +1,4 @@
-use Rattle.rep_record.proofs.InOrder.{SeqnosFrom_push, SeqnosFrom-drop, SeqnosFrom-take}
+use Rattle.rep_record.proofs.Gathering.{SeqnosFrom_push, SeqnosFrom-drop, SeqnosFrom-take}
 use Rattle.rep_record.proofs.laws.stays_in_order.Goals as goal
 
 pub returns : goal.returns

@@ -1,10 +1,7 @@
-use Rattle.std.proofs.Common.{◌≡◌, List, ℕ, cond, eqb, length, ◌++◌, ◌∷◌, [], ◌+◌, ◌≤◌, ◌<◌, true, refl, subst, ap, sym, ◌∙◌, arith, length-append}
+use Rattle.std.proofs.Common.{◌≡◌, List, ℕ, cond, eqb, length, ◌++◌, ◌∷◌, [], ◌+◌, ◌≤◌, true, rules, subst, ap, sym, ◌∙◌, arith, length-append}
 use Rattle.rep_types.specs.declared.judged.Judged.{Judged}
-use Rattle.std.proofs.lemmas.Bool.{lt-ltb, le-leb}
-use Rattle.rep_record.specs.declared.limits.TheConstants.{MAX_RECORDS, MAX_BLOCK}
-use Rattle.rep_record.specs.Records.{record_bytes, is_placed}
-use Rattle.rep_record.specs.Blocks.{is_next, has_room, run_bytes}
-use Rattle.rep_record.specs.Gathered.{gathered_in, IsGathered}
+use Rattle.rep_record.specs.declared.limits.TheConstants.{MAX_BLOCK}
+use Rattle.rep_record.specs.Blocks.{is_next, has_room, gathered_in, IsGathered}
 use Rattle.rep_record.proofs.Gathering.{gathered_more}
 use Rattle.rep_record.proofs.block.BlockBuilder.push.Goals as goal
 
@@ -23,17 +20,7 @@ gathered c =
 pub invariant_of-self : goal.invariant_of-self
 invariant_of-self c = subst (λ n. IsGathered n (c.self.inside.count + 1) c.put_bytes.new.out.items) (sym c.first_of-self-inside.ensures) (gathered c).0
 
--- there is room
-room : (c : goal.After-self-2-1) → has_room c.args.self.now c.args.judged.now ≡ true
-room c =
-    let placed : is_placed c.args.judged.now ≡ true = c.in-Some.ensures.placed.0 refl in
-    let next : is_next c.args.self.now c.args.judged.now ≡ true = sym c.is_next.ensures ∙ c.if-not-is_next.false in
-    let size : length c.args.self.now ≡ c.self.inside.count = ap (λ (js : List Judged). length js) (sym c.self.view_is) ∙ c.self.invariant.size in
-    let run : length (run_bytes c.args.self.now) ≡ length c.self.inside.bytes.items = ap (λ (js : List Judged). length (run_bytes js)) (sym c.self.view_is) ∙ ap length (sym c.self.invariant.spelled) in
-    let few : length c.args.self.now < MAX_RECORDS = omega arith in
-    let fits : length (run_bytes c.args.self.now) + length (record_bytes c.args.judged.now) ≤ MAX_BLOCK = omega (arith, run, ap length c.in-Some.ensures.bytes.1) in
-    rw (placed, next, lt-ltb (length c.args.self.now) MAX_RECORDS few, le-leb (length (run_bytes c.args.self.now) + length (record_bytes c.args.judged.now)) MAX_BLOCK fits) refl
-
 pub returns-clause-after : goal.returns-clause-after
 returns-clause-after c =
-    rw (room c) ((gathered c).1 ∙ ap (λ (js : List Judged). js ++ c.args.judged.now ∷ []) c.self.view_is)
+    let room : has_room c.args.self.now c.args.judged.now ≡ true = search rules in
+    rw room ((gathered c).1 ∙ ap (λ (js : List Judged). js ++ c.args.judged.now ∷ []) c.self.view_is)

@@ -1,17 +1,8 @@
 use Rattle.std.proofs.Common.{◌≡◌, arith, ap, sym, ◌∙◌}
-use Rattle.std.proofs.KnownBytes.{Consumes-trans, Consumes-kept}
+use Rattle.std.proofs.KnownBytes.{Consumes-trans}
 use Rattle.std.proofs.lemmas.Bool.{ne_eqb, eqb-true, eqb-false}
-use Rattle.rep_record.proofs.TextLines.{no_feed_more}
-use Rattle.rep_record.proofs.NextLine.{fed_next, last_next, long_next}
+use Rattle.rep_record.proofs.TextLines.{no_feed_more, fed_next, long_next}
 use Rattle.rep_record.proofs.text_reader.TextReader.next_line.Goals as goal
-
-pub returns-in_default-clause-known : goal.returns-in_default-clause-known
-returns-in_default-clause-known g c =
-    let so_far = c.loop-byte.invariant in
-    let kept = rw c.in_default.is at c.in_ok-byte.ensures.left in
-    let end = rw c.in_default.is at c.in_ok-byte.ensures.end in
-    let counted = rw c.len.ensures.value at c.count_line.ensures in
-    last_next _ _ _ _ _ _ _ (Consumes-kept _ _ _ _ so_far.front kept) end so_far.no_feed so_far.short (c.next_byte.ensures.taken ∙ so_far.taken) counted
 
 pub returns-then-byte-eq10-clause-known : goal.returns-then-byte-eq10-clause-known
 returns-then-byte-eq10-clause-known g c =
