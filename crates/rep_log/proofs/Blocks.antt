@@ -23,7 +23,7 @@ Where = ℕ → List ℕ → Type 0
 number_first : (n : ℕ) (rest : List ℕ) → n < 256 ^ 8 → cell_in (number_bytes 8 n ++ rest) ≡ n
 number_first n rest small =
     let read : Some (number_in 8 (number_bytes 8 n), rest) ≡ Some (n, rest) =
-    sym (ap (λ (o : Option (List ℕ × List ℕ)). o >>= λ p. Some (number_in 8 p.0, p.1)) (part_again 8 (number_bytes 8 n) rest (length_number 8 n))) ∙ number_is_form 8 n rest small in
+    sym (ap (λ (o : Option (List ℕ × List ℕ)). o >>= λ p. Some (number_in 8 p.0, p.1)) (part_again 8 (number_bytes 8 n) rest (length_number 8 n))) ∙ (number_is_form 8).again n rest small in
     ap (number_in 8) (take_at (number_bytes 8 n) rest 8 (length_number 8 n)) ∙ ap (λ (x : ℕ × List ℕ). x.0) (same_Some (number_in 8 (number_bytes 8 n), rest) (n, rest) read)
 
 -- a block begins with its number

@@ -55,11 +55,11 @@ all_rest l log b next first blocks sealed s t syncs is le here i lt = elim (case
       (rest_later (stands_at log i) l i log.next next (t (Log i)) le (rest_synced (stands_at log i) l i log.next (s (Log i)) (t (Log i)) (syncs (Log i)) (is.rest i lt (λ busy_one. other))))
 ]
 
--- the log after a sync, by the phase before it
-synced_by :
-    (l : Layout) (log : Standing) (phase : Phase) (first : ℕ) (blocks : List (List Judged)) (sealed : List Judged) (s t : States) → log.phase ≡ phase → Syncs s t → LogIs l log first blocks sealed s
-    → LogIs l (synced_in log phase) first (blocks_synced phase blocks sealed) sealed t
-synced_by l log Resting first blocks sealed s t e syncs is = record {
+-- the log in this phase behind a sync that changes no cell's kind
+stays_synced :
+    (l : Layout) (log : Standing) (phase : Phase) (first : ℕ) (blocks : List (List Judged)) (sealed : List Judged) (s t : States) → Syncs s t → LogIs l log first blocks sealed s
+    → busy phase ≡ busy log.phase → IsDue phase l (log.next % l.cells) log.next log.seqno sealed (t (log_of l log.next)) → LogIs l (record log { phase = phase }) first blocks sealed t
+stays_synced l log phase first blocks sealed s t syncs is same due = record {
   cells = is.cells;
   some = is.some;
   known = is.known;
@@ -68,14 +68,28 @@ synced_by l log Resting first blocks sealed s t e syncs is = record {
   live = open_synced s t l log.start first blocks syncs is.live;
   next = is.next;
   seqno = is.seqno;
-  room = is.room;
-  rest = λ i lt other. rest_synced (stands_at log i) l i log.next (s (Log i)) (t (Log i)) (syncs (Log i)) (is.rest i lt other);
-  due = subst (λ p. IsDue p l (log.next % l.cells) log.next log.seqno sealed (t (log_of l log.next))) (sym e) tt;
+  room = omega (arith, same, is.room);
+  rest = λ i lt other. rest_synced (stands_at log i) l i log.next (s (Log i)) (t (Log i)) (syncs (Log i)) (is.rest i lt (λ b. other (same ∙ b)));
+  due = due;
 }
+
+-- what is said of the next block's cell in the phase that the log is in
+due_at : (l : Layout) (log : Standing) (phase : Phase) (first : ℕ) (blocks : List (List Judged)) (sealed : List Judged) (s : States) → log.phase ≡ phase → LogIs l log first blocks sealed s
+    → IsDue phase l (log.next % l.cells) log.next log.seqno sealed (s (log_of l log.next))
+due_at l log phase first blocks sealed s e is = subst (λ (p : Phase). IsDue p l (log.next % l.cells) log.next log.seqno sealed (s (log_of l log.next))) e is.due
+
+-- a phase that the sync leaves
+same_phase : {l : Layout} {log : Standing} {phase : Phase} {first : ℕ} {blocks : List (List Judged)} {sealed : List Judged} {t : States} → log.phase ≡ phase → LogIs l (record log { phase = phase }) first blocks sealed t → LogIs l log first blocks sealed t
+same_phase {l} {log} {phase} {first} {blocks} {sealed} {t} e h = subst (λ (p : Phase). LogIs l (record log { phase = p }) first blocks sealed t) (sym e) h
+
+-- the log after a sync, by the phase before it
+synced_by :
+    (l : Layout) (log : Standing) (phase : Phase) (first : ℕ) (blocks : List (List Judged)) (sealed : List Judged) (s t : States) → log.phase ≡ phase → Syncs s t → LogIs l log first blocks sealed s
+    → LogIs l (synced_in log phase) first (blocks_synced phase blocks sealed) sealed t
+synced_by l log Resting first blocks sealed s t e syncs is = same_phase e (stays_synced l log Resting first blocks sealed s t syncs is (ap busy (sym e)) tt)
 synced_by l log Closing first blocks sealed s t e syncs is =
-    let at = log.next % l.cells in
-    let due : IsDue Closing l at log.next log.seqno sealed (s (log_of l log.next)) = subst (λ (p : Phase). IsDue p l at log.next log.seqno sealed (s (log_of l log.next))) e is.due in
-    let closed : t (Log at) ≡ Closed = ap t (sym (log_is l log.next is.some)) ∙ syncs (log_of l log.next) ∙ ap synced due.1 in
+    let due = due_at l log Closing first blocks sealed s e is in
+    let closed : t (Log (log.next % l.cells)) ≡ Closed = ap t (sym (log_is l log.next is.some)) ∙ syncs (log_of l log.next) ∙ ap synced due.1 in
     record {
       cells = is.cells;
       some = is.some;
@@ -90,43 +104,15 @@ synced_by l log Closing first blocks sealed s t e syncs is =
       due = tt;
     }
 synced_by l log (Filling n) first blocks sealed s t e syncs is =
-    let at = log.next % l.cells in
-    let due : IsDue (Filling n) l at log.next log.seqno sealed (s (log_of l log.next)) = subst (λ (p : Phase). IsDue p l at log.next log.seqno sealed (s (log_of l log.next))) e is.due in
-    let one : busy log.phase ≡ 1 = ap busy e in
-    record {
-      cells = is.cells;
-      some = is.some;
-      known = is.known;
-      starts = is.starts;
-      limit = is.limit;
-      live = open_synced s t l log.start first blocks syncs is.live;
-      next = is.next;
-      seqno = is.seqno;
-      room = omega (arith, one, is.room);
-      rest = λ i lt other. rest_synced (stands_at log i) l i log.next (s (Log i)) (t (Log i)) (syncs (Log i)) (is.rest i lt (λ b. other refl));
-      due = record { state_is = syncs (log_of l log.next) ∙ ap synced due.state_is; size = due.size; block = due.block };
-    }
+    let due = due_at l log (Filling n) first blocks sealed s e is in
+    stays_synced l log (Filled n) first blocks sealed s t syncs is (ap busy (sym e)) (record { state_is = syncs (log_of l log.next) ∙ ap synced due.state_is; size = due.size; block = due.block })
 synced_by l log (Filled n) first blocks sealed s t e syncs is =
-    let at = log.next % l.cells in
-    let due : IsDue (Filled n) l at log.next log.seqno sealed (s (log_of l log.next)) = subst (λ (p : Phase). IsDue p l at log.next log.seqno sealed (s (log_of l log.next))) e is.due in
-    record {
-      cells = is.cells;
-      some = is.some;
-      known = is.known;
-      starts = is.starts;
-      limit = is.limit;
-      live = open_synced s t l log.start first blocks syncs is.live;
-      next = is.next;
-      seqno = is.seqno;
-      room = is.room;
-      rest = λ i lt other. rest_synced (stands_at log i) l i log.next (s (Log i)) (t (Log i)) (syncs (Log i)) (is.rest i lt other);
-      due = subst (λ (p : Phase). IsDue p l at log.next log.seqno sealed (t (log_of l log.next))) (sym e) (record { state_is = syncs (log_of l log.next) ∙ ap synced due.state_is; size = due.size; block = due.block });
-    }
+    let due = due_at l log (Filled n) first blocks sealed s e is in
+    same_phase e (stays_synced l log (Filled n) first blocks sealed s t syncs is (ap busy (sym e)) (record { state_is = syncs (log_of l log.next) ∙ ap synced due.state_is; size = due.size; block = due.block }))
 synced_by l log (Opening n) first blocks sealed s t e syncs is =
-    let at = log.next % l.cells in
-    let due : IsDue (Opening n) l at log.next log.seqno sealed (s (log_of l log.next)) = subst (λ (p : Phase). IsDue p l at log.next log.seqno sealed (s (log_of l log.next))) e is.due in
+    let due = due_at l log (Opening n) first blocks sealed s e is in
     let one : busy log.phase ≡ 1 = ap busy e in
-    let there : log_of l log.next ≡ Log at = log_is l log.next is.some in
+    let there : log_of l log.next ≡ Log (log.next % l.cells) = log_is l log.next is.some in
     let opened : t (log_of l log.next) ≡ Opened (block_bytes log.next sealed) = syncs (log_of l log.next) ∙ ap synced due.state_is in
     let number : cell_in (block_bytes log.next sealed) ≡ log.next = cell_is log.next sealed due.block.is_block in
     record {
@@ -136,12 +122,12 @@ synced_by l log (Opening n) first blocks sealed s t e syncs is =
       starts = is.starts;
       limit = is.limit;
       live = stand_more (StandsOpen t l) log.start first blocks sealed (open_synced s t l log.start first blocks syncs is.live)
-          (subst (λ m. StandsOpen t l m (block_bytes m sealed)) is.next opened) (subst (λ m. IsBlockFrom m (seqno_after first blocks) sealed) is.next (subst (λ m. IsBlockFrom log.next m sealed) is.seqno due.block));
+      (subst (λ m. StandsOpen t l m (block_bytes m sealed)) is.next opened) (subst (λ m. IsBlockFrom m (seqno_after first blocks) sealed) is.next (subst (λ m. IsBlockFrom log.next m sealed) is.seqno due.block));
       next = omega (arith, is.next, length-append blocks (sealed ∷ []));
       seqno = omega (arith, is.seqno, due.size, seqno_more first blocks sealed);
       room = omega (arith, one, is.room);
       rest = λ i lt other. all_rest l log true (log.next + 1) first blocks sealed s t syncs is (omega arith)
-          (block_bytes log.next sealed, ap t (sym there) ∙ opened, record { in_place = ap (log_of l) number ∙ there; below = omega (arith, number) }) i lt;
+      (block_bytes log.next sealed, ap t (sym there) ∙ opened, record { in_place = ap (log_of l) number ∙ there; below = omega (arith, number) }) i lt;
       due = tt;
     }
 

@@ -1,10 +1,8 @@
 //! The log on the disk: a ring of gated cells, each with a block of records.
 //!
-//! Blocks are numbered from 0 on and lie in the cells in turn. A block is written in four steps, each
-//! of one call of the device: the gate of an earlier block is closed where one stands open, the body
-//! is written, it is made stable, and its gate is opened; with the sync behind that the block is
-//! durable. So a stop at any moment leaves the durable blocks, or those with the one whose gate was
-//! opening.
+//! Blocks lie in the cells in turn. One is written step by step, with a sync behind each: the gate of an
+//! earlier block is closed where one stands open, the body is written, and its gate is opened. So a
+//! stop at any moment leaves the durable blocks, or those with the one whose gate was opening.
 #![tactic(auto)]
 
 mod laws;

@@ -1,6 +1,6 @@
 //! Where the log stands, and the steps of its next block.
 
-ghost use Rattle.std.specs.Prelude.{◌≡◌, ◌+◌, ◌-◌, ◌<◌, ◌≤◌, ◌%◌, ◌⊎◌, [], None, Some, length, IfOk, IfErr, IfSome};
+ghost use Rattle.std.specs.Prelude.{◌≡◌, ◌+◌, ◌-◌, ◌<◌, ◌≤◌, ◌%◌, ◌⊎◌, [], None, Some, Err, length, IfOk, IfErr, IfSome};
 ghost use Rattle.rep_types.specs.declared.judged.Judged.{Judged};
 ghost use Rattle.rep_disk.specs.History.{seen, failed};
 ghost use Rattle.rep_disk.specs.Calls.{IsCall};
@@ -82,7 +82,7 @@ impl Log {
         ensures call { IsCall D.size D.failures D.honest (disk_of cells.old) (disk_of cells.new) (fault_of result) }
         ensures layout { layout_of cells.new ≡ layout_of cells.old }
         ensures same { D.honest (disk_of cells.old) → D.history (disk_of cells.new) ≡ D.history (disk_of cells.old) }
-        ensures cells { IfOk result (λ x. HasCells (layout_of cells.old)) }
+        ensures cells { HasCells (layout_of cells.old) ⊎ (result ≡ Err Refusal.BadParams) }
         ensures finds { D.honest (disk_of cells.old) → failed (D.history (disk_of cells.old)) ≡ [] → IfOk result (λ x. Finds (layout_of cells.old) (seen (D.history (disk_of cells.old))) start (position + 1) x.0 x.1.items) }
         ensures refused { IfErr result (λ e. (e ≡ Refusal.DiskFault) ⊎ (((e ≡ Refusal.BadParams) × (HasCells (layout_of cells.old) → ⊥)) ⊎ RefusesLog (D.honest (disk_of cells.old) → failed (D.history (disk_of cells.old)) ≡ [] → IsOfForm (reading_of (layout_of cells.old) (seen (D.history (disk_of cells.old)))) (layout_of cells.old) start (position + 1) → ⊥) e)) }
     {
