@@ -9,6 +9,16 @@ mod cert;
 #[cfg(test)]
 mod layout;
 #[cfg(test)]
+mod log;
+#[cfg(test)]
+mod log_bench;
+#[cfg(test)]
+mod log_refusals;
+#[cfg(test)]
+mod log_scan;
+#[cfg(test)]
+mod log_stops;
+#[cfg(test)]
 mod plain;
 #[cfg(test)]
 mod record;
