@@ -6,6 +6,7 @@ mod certifying;
 mod devices;
 mod items;
 mod locks;
+mod logs;
 mod replicas;
 
 use anyhow::Result;
@@ -24,6 +25,8 @@ fn run<R: Print + AllocGlobal>(rt: &R) -> Result<()> {
     ))?;
     let (read, left) = devices::device(alloc)?;
     rt.println(format_args!("device: {read:?} read, {left:?} after a stop"))?;
+    let (next, records) = logs::log(alloc)?;
+    rt.println(format_args!("log: {records} records found, the next block is {next}"))?;
     let (ticket, values) = locks::lock(alloc)?;
     rt.println(format_args!("lock: ticket {ticket}, {values} values at home"))?;
     Ok(())
