@@ -1,5 +1,5 @@
 -- What stands in the cells in every image.
-use Rattle.std.proofs.Common.{◌≡◌, ◌≢◌, ℕ, ◌+◌, ◌%◌, ◌<◌, ◌≤◌, ◌⊎◌, Bool, true, false, List, [], ◌∷◌, ◌++◌, length, take, drop, Option, Some, None, refl, sym, ap, subst, ◌∙◌, arith, inl, inr, length-append, length-drop}
+use Rattle.std.proofs.Common.{◌≡◌, ◌≢◌, ℕ, ◌+◌, ◌%◌, ◌<◌, ◌≤◌, ◌⊎◌, Bool, true, false, List, [], ◌∷◌, ◌++◌, length, drop, Option, Some, None, refl, sym, ap, subst, ◌∙◌, arith, inl, inr, length-append, length-drop}
 use Rattle.std.proofs.lemmas.Bool.{cases_eq, lt-ltb}
 use Rattle.std.proofs.lemmas.Option.{same_Some}
 use Rattle.rep_types.specs.declared.judged.Judged.{Judged}
@@ -8,12 +8,12 @@ use Rattle.rep_layout.specs.declared.place.Layout.{Layout}
 use Rattle.rep_layout.specs.declared.place.Place.TheVariants.{Log}
 use Rattle.rep_layout.specs.Places.{log_of, TurnsAreTaken}
 use Rattle.rep_cells.specs.Readings.{IsPlace, Reading}
-use Rattle.rep_cells.specs.States.{State, States, Closed, Opened, Allows, Allowed}
+use Rattle.rep_cells.specs.States.{State, Allows}
 use Rattle.rep_log.specs.declared.phase.Phase.{Phase}
 use Rattle.rep_log.specs.declared.phase.Phase.TheVariants.{Resting, Closing, Filling, Filled, Opening}
 use Rattle.rep_log.specs.Tail.{IsBlockFrom, Shows, seqno_after, cell_in, IsOld, IsLog}
-use Rattle.rep_log.specs.Standing.{stands_at, busy, AtRest, IsDue, IsWritten, StandsOpen, LogIs}
-use Rattle.rep_log.specs.Laws.{HoldsFrom, MayHold, TheLogInEveryImage}
+use Rattle.rep_log.specs.Standing.{stands_at, busy, AtRest, IsDue, IsWritten, StandsOpen}
+use Rattle.rep_log.specs.Laws.{HoldsFrom, TheLogInEveryImage}
 use Rattle.rep_log.proofs.Blocks.{cell_is, stand_moved, stand_behind, stand_more, stays_below}
 use Rattle.rep_log.proofs.Cells.{log_is, index_small}
 

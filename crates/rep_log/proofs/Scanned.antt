@@ -1,7 +1,7 @@
 -- How far a scan has come in a reading, and what it finds in the end.
 use Rattle.std.proofs.Common.{◌≡◌, ◌≢◌, ℕ, suc, ◌+◌, ◌-◌, ◌*◌, ◌/◌, ◌%◌, ◌<◌, ◌≤◌, ◌⊎◌, Bool, true, false, is_some, List, [], ◌∷◌, ◌++◌, length, take, get_or, Option, Some, None, refl, sym, ap, subst, ◌∙◌, append_assoc, append-nil, arith, inl, inr, length-append, get_or-set_same, get_or-set_other, div-add-mod', suc-mul}
 use Rattle.std.specs.Prelude.{slice_set}
-use Rattle.std.proofs.lemmas.Bool.{cases_eq, cases_lt}
+use Rattle.std.proofs.lemmas.Bool.{cases_lt}
 use Rattle.std.proofs.lemmas.Nat.{mod_below, mod-mul-add}
 use Rattle.std.proofs.lemmas.Option.{same_Some}
 use Rattle.rep_types.specs.declared.judged.Judged.{Judged}
@@ -15,12 +15,11 @@ use Rattle.rep_layout.specs.declared.place.Place.TheVariants.{Log}
 use Rattle.rep_layout.specs.declared.place.TheConstants.{GATE}
 use Rattle.rep_layout.specs.Places.{body_len, gate_len, offset_of, gate_of, log_of, TurnsAreTaken}
 use Rattle.rep_cells.specs.Readings.{Reading, reading_of}
-use Rattle.rep_cells.specs.States.{State, Closed, Opened}
 use Rattle.rep_cells.specs.Known.{IsReadable, found_as, found}
 use Rattle.rep_log.specs.declared.phase.Phase.TheVariants.{Resting}
 use Rattle.rep_log.specs.Tail.{IsBlockFrom, Stand, Shows, seqno_after, records_of, cell_in, IsOld, IsLog, IsOfForm}
-use Rattle.rep_log.specs.Standing.{Standing, stands_at, AtRest, StandsOpen, LogIs}
-use Rattle.rep_log.specs.Scanning.{Found, IsTaken, taken_with, noted_at, Takes, Passes, Visits, HoldsNoBlock, IsMisplaced, IsNoCell, Finds}
+use Rattle.rep_log.specs.Standing.{Standing, AtRest, StandsOpen}
+use Rattle.rep_log.specs.Scanning.{Found, Visits, IsNoCell, Finds}
 use Rattle.rep_log.proofs.Blocks.{cell_is, stand_moved, stand_more, standing_at, seqno_more}
 use Rattle.rep_log.proofs.Cells.{log_is, index_small, same_cell}
 use Rattle.rep_log.proofs.Told.{begins, a_lap_at_most}

@@ -1,5 +1,5 @@
 -- A call on the next block's cell, where it is due.
-use Rattle.std.proofs.Common.{◌≡◌, ◌≢◌, ℕ, suc, ◌+◌, ◌%◌, ◌<◌, ◌≤◌, Bool, true, false, cond, eqb, leb, List, [], length, Option, Some, None, Result, Ok, Err, refl, sym, ap, subst, ◌∙◌, arith, OnOk, OnErr, IfErr}
+use Rattle.std.proofs.Common.{◌≡◌, ℕ, ◌+◌, ◌%◌, ◌<◌, ◌≤◌, Bool, true, false, cond, eqb, leb, List, length, Option, Some, None, Result, Ok, Err, refl, sym, ap, subst, ◌∙◌, arith, OnOk, OnErr, IfErr}
 use Rattle.std.specs.Prelude.{◌&&◌}
 use Rattle.std.proofs.lemmas.Bool.{eqb-true, leb-false}
 use Rattle.rep_types.specs.declared.limits.TheConstants.{MAX_SEQNO}
@@ -14,16 +14,13 @@ use Rattle.rep_layout.specs.declared.place.Layout.{Layout}
 use Rattle.rep_layout.specs.declared.place.Place.{Place}
 use Rattle.rep_layout.specs.declared.place.Place.TheVariants.{Log}
 use Rattle.rep_layout.specs.Places.{log_of, TurnsAreTaken}
-use Rattle.rep_cells.specs.States.{State, States, Closed, Filling, Filled, Opening, Opened, Closing, filling, opening, closing}
-use Rattle.rep_cells.specs.Known.{Assigns}
-use Rattle.rep_cells.specs.Calls.{Reaches, Writes, WritesOnly, Stepped, StepsAt}
+use Rattle.rep_cells.specs.States.{State, States, filling, opening, closing}
+use Rattle.rep_cells.specs.Calls.{WritesOnly, Stepped, StepsAt}
 use Rattle.rep_log.specs.declared.phase.Phase.{Phase}
 use Rattle.rep_log.specs.declared.phase.Phase.TheVariants.{Resting, Closing as is_closing, Filling as is_filling, Filled as is_filled, Opening as is_opening}
-use Rattle.rep_log.specs.declared.phase.Step.{Step}
-use Rattle.rep_log.specs.declared.phase.Step.TheVariants.{Recycle, Seal, Gate, Sync, Full}
-use Rattle.rep_log.specs.Tail.{IsBlockFrom, Stand, IsOld}
-use Rattle.rep_log.specs.Standing.{Standing, stands_at, index_of, due_at_rest, due_in, due_of, busy, AtRest, IsDue, IsWritten, StandsOpen, LogIs}
-use Rattle.rep_log.specs.Moves.{unless_recycle, unless_seal, unless_gate, recycle_refusal, seal_refusal, gate_refusal, fault_of, recycled, sealed_as, gated_in, gated, Steps, IsStep}
+use Rattle.rep_log.specs.declared.phase.Step.TheVariants.{Recycle, Seal, Full}
+use Rattle.rep_log.specs.Standing.{Standing, stands_at, index_of, due_at_rest, due_in, due_of, busy, AtRest, IsDue, StandsOpen, LogIs}
+use Rattle.rep_log.specs.Moves.{unless_recycle, unless_seal, unless_gate, recycle_refusal, seal_refusal, gate_refusal, fault_of, IsStep}
 use Rattle.rep_log.proofs.Blocks.{last_small, stand_moved}
 use Rattle.rep_log.proofs.Cells.{log_is, index_small, other_cell}
 

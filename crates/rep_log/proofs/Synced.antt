@@ -1,18 +1,17 @@
 -- What a sync makes of a log, and a later start.
-use Rattle.std.proofs.Common.{◌≡◌, ◌≢◌, ℕ, ◌+◌, ◌-◌, ◌%◌, ◌<◌, ◌≤◌, Bool, true, false, List, [], ◌∷◌, ◌++◌, length, get_or, take, drop, refl, sym, ap, subst, ◌∙◌, arith, inl, inr, length-append, length-drop, length-set, get_or-set_same, get_or-set_other}
+use Rattle.std.proofs.Common.{◌≡◌, ◌≢◌, ℕ, ◌+◌, ◌-◌, ◌%◌, ◌<◌, ◌≤◌, Bool, true, false, List, [], ◌∷◌, length, get_or, take, drop, refl, sym, ap, subst, ◌∙◌, arith, inl, inr, length-append, length-drop, length-set, get_or-set_same, get_or-set_other}
 use Rattle.std.specs.Prelude.{min, max, slice_set}
 use Rattle.std.proofs.lemmas.Bool.{cases_eq}
 use Rattle.rep_types.specs.declared.judged.Judged.{Judged}
 use Rattle.rep_record.specs.Blocks.{block_bytes}
 use Rattle.rep_layout.specs.declared.place.Layout.{Layout}
-use Rattle.rep_layout.specs.declared.place.Place.{Place}
 use Rattle.rep_layout.specs.declared.place.Place.TheVariants.{Log}
 use Rattle.rep_layout.specs.Places.{log_of}
 use Rattle.rep_cells.specs.States.{State, States, Closed, Opened, synced, Syncs}
 use Rattle.rep_log.specs.declared.phase.Phase.{Phase}
 use Rattle.rep_log.specs.declared.phase.Phase.TheVariants.{Resting, Closing, Filling, Filled, Opening}
-use Rattle.rep_log.specs.Tail.{IsBlockFrom, Stand, seqno_after, cell_in, IsOld}
-use Rattle.rep_log.specs.Standing.{Standing, stands_at, index_of, busy, AtRest, IsDue, IsWritten, StandsOpen, LogIs}
+use Rattle.rep_log.specs.Tail.{IsBlockFrom, Stand, seqno_after, cell_in}
+use Rattle.rep_log.specs.Standing.{Standing, stands_at, index_of, busy, AtRest, IsDue, StandsOpen, LogIs}
 use Rattle.rep_log.specs.Moves.{synced_in, after_sync, blocks_synced, started, SyncsLog, StartsLater}
 use Rattle.rep_log.proofs.Blocks.{cell_is, stand_moved, stand_behind, stand_more, seqno_more, seqno_rest, stays_below}
 use Rattle.rep_log.proofs.Cells.{log_is, index_small}
@@ -122,12 +121,12 @@ synced_by l log (Opening n) first blocks sealed s t e syncs is =
       starts = is.starts;
       limit = is.limit;
       live = stand_more (StandsOpen t l) log.start first blocks sealed (open_synced s t l log.start first blocks syncs is.live)
-      (subst (λ m. StandsOpen t l m (block_bytes m sealed)) is.next opened) (subst (λ m. IsBlockFrom m (seqno_after first blocks) sealed) is.next (subst (λ m. IsBlockFrom log.next m sealed) is.seqno due.block));
+          (subst (λ m. StandsOpen t l m (block_bytes m sealed)) is.next opened) (subst (λ m. IsBlockFrom m (seqno_after first blocks) sealed) is.next (subst (λ m. IsBlockFrom log.next m sealed) is.seqno due.block));
       next = omega (arith, is.next, length-append blocks (sealed ∷ []));
       seqno = omega (arith, is.seqno, due.size, seqno_more first blocks sealed);
       room = omega (arith, one, is.room);
       rest = λ i lt other. all_rest l log true (log.next + 1) first blocks sealed s t syncs is (omega arith)
-      (block_bytes log.next sealed, ap t (sym there) ∙ opened, record { in_place = ap (log_of l) number ∙ there; below = omega (arith, number) }) i lt;
+          (block_bytes log.next sealed, ap t (sym there) ∙ opened, record { in_place = ap (log_of l) number ∙ there; below = omega (arith, number) }) i lt;
       due = tt;
     }
 

@@ -1,17 +1,16 @@
 -- A reading has one log at most from a block on.
-use Rattle.std.proofs.Common.{◌≡◌, ℕ, zero, suc, ◌+◌, ◌%◌, ◌<◌, ◌≤◌, List, [], ◌∷◌, length, take, Some, refl, sym, ap, subst, ◌∙◌, arith, inl, inr}
+use Rattle.std.proofs.Common.{◌≡◌, ℕ, ◌+◌, ◌%◌, ◌<◌, ◌≤◌, List, [], ◌∷◌, length, take, refl, sym, ap, subst, ◌∙◌, arith, inl, inr}
 use Rattle.std.proofs.lemmas.Bool.{cases_lt}
 use Rattle.std.proofs.lemmas.List.{take_all}
 use Rattle.std.proofs.lemmas.Option.{same_Some}
 use Rattle.rep_types.specs.declared.judged.Judged.{Judged}
 use Rattle.rep_record.specs.Blocks.{block_bytes, BlocksAreTold}
 use Rattle.rep_layout.specs.declared.place.Layout.{Layout}
-use Rattle.rep_layout.specs.declared.place.Place.TheVariants.{Log}
 use Rattle.rep_layout.specs.Places.{log_of, TurnsAreTaken}
 use Rattle.rep_cells.specs.Readings.{Reading}
 use Rattle.rep_log.specs.Tail.{Stand, Shows, cell_in, IsLog}
 use Rattle.rep_log.specs.Laws.{TheLogIsTold}
-use Rattle.rep_log.proofs.Blocks.{cell_is, Standing_at, standing_at}
+use Rattle.rep_log.proofs.Blocks.{cell_is, standing_at}
 use Rattle.rep_log.proofs.Cells.{log_is, index_small}
 
 -- two blocks that stand in one cell are one

@@ -1,5 +1,5 @@
 -- What the log's calls do: what is refused, how the log stands after each, and what they make of the states of its cells.
-use Rattle.std.specs.Prelude.{◌≡◌, ◌≢◌, ℕ, ◌+◌, ◌-◌, ◌==◌, ◌&&◌, true, false, if◌then◌else◌, min, max, List, [], ◌∷◌, ◌++◌, length, take, drop, Option, None, Some, Result, Ok, Err, IfErr, slice_set}
+use Rattle.std.specs.Prelude.{◌≡◌, ◌≢◌, ℕ, ◌+◌, ◌-◌, ◌==◌, ◌&&◌, true, false, if◌then◌else◌, min, max, List, [], ◌∷◌, ◌++◌, take, drop, Option, None, Some, Result, Ok, Err, IfErr, slice_set}
 use Rattle.rep_types.specs.declared.judged.Judged.{Judged}
 use Rattle.rep_types.specs.declared.refusal.Refusal.{Refusal}
 use Rattle.rep_types.specs.declared.refusal.Refusal.TheVariants.{NotDue, LogFull, DiskFault}

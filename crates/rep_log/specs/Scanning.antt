@@ -1,17 +1,16 @@
 -- What a scan finds, and how far it has come.
-use Rattle.std.specs.Prelude.{◌≡◌, ◌⊎◌, ℕ, ◌+◌, ◌<◌, ◌≤◌, ◌%◌, Bool, is_some, List, [], ◌++◌, length, get_or, slice_set, Option, Some, Result}
+use Rattle.std.specs.Prelude.{◌≡◌, ◌⊎◌, ℕ, ◌+◌, ◌<◌, ◌≤◌, ◌%◌, Bool, is_some, List, [], ◌++◌, length, slice_set, Option, Some}
 use Rattle.rep_types.specs.declared.judged.Judged.{Judged}
-use Rattle.rep_types.specs.declared.limits.TheConstants.{MAX_CELLS, MAX_SEQNO}
+use Rattle.rep_types.specs.declared.limits.TheConstants.{MAX_CELLS}
 use Rattle.rep_types.specs.declared.refusal.Part.TheVariants.{Log as in_log}
 use Rattle.rep_types.specs.declared.refusal.Refusal.{Refusal}
 use Rattle.rep_types.specs.declared.refusal.Refusal.TheVariants.{OutOfMemory, Corrupt}
 use Rattle.rep_record.specs.Blocks.{block_bytes}
 use Rattle.rep_layout.specs.declared.place.Layout.{Layout}
-use Rattle.rep_layout.specs.Places.{log_of}
-use Rattle.rep_cells.specs.Readings.{Reading, reading_of}
+use Rattle.rep_cells.specs.Readings.{reading_of}
 use Rattle.rep_cells.specs.Known.{found}
 use Rattle.rep_log.specs.declared.phase.Phase.TheVariants.{Resting}
-use Rattle.rep_log.specs.Tail.{IsBlockFrom, Stand, Shows, seqno_after, records_of, cell_in, IsOld, IsLog}
+use Rattle.rep_log.specs.Tail.{IsBlockFrom, records_of, cell_in, IsLog}
 use Rattle.rep_log.specs.Standing.{Standing, LogIs}
 
 -- a log has a cell, and no more than the limit

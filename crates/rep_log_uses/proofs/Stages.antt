@@ -1,5 +1,5 @@
 -- A block that is appended, call by call.
-use Rattle.std.proofs.Common.{◌≡◌, ◌⊎◌, ℕ, Result, Ok, Err, OnOk, IsErr, ◌+◌, ◌≤◌, List, [], ◌∷◌, ◌++◌, length, take, drop, None, refl, sym, ap, subst, ◌∙◌, arith, inl, inr}
+use Rattle.std.proofs.Common.{◌≡◌, ℕ, Result, Ok, Err, OnOk, IsErr, ◌+◌, ◌≤◌, List, [], ◌∷◌, length, take, drop, None, refl, ap, subst, ◌∙◌, arith, inl, inr}
 use Rattle.std.proofs.lemmas.Bool.{false≢true, eq-eqb}
 use Rattle.std.proofs.lemmas.Result.{on_ok_weaker}
 use Rattle.std.proofs.lemmas.List.{length-append, take-append-le}
@@ -16,8 +16,7 @@ use Rattle.rep_log.specs.declared.phase.Phase.TheVariants.{Filled, Opening}
 use Rattle.rep_log.specs.Tail.{IsLog, seqno_after, records_of}
 use Rattle.rep_log.specs.Standing.{Standing, LogIs}
 use Rattle.rep_log.specs.Moves.{sealed_as, gated, after_sync, blocks_synced, gate_refusal, Steps}
-use Rattle.rep_log.specs.Laws.{MayHold, HoldsFrom, TheLogInEveryImage, TheLogIsTold}
-use Rattle.rep_log.specs.Scanning.{Finds}
+use Rattle.rep_log.specs.Laws.{MayHold, TheLogInEveryImage, TheLogIsTold}
 use Rattle.rep_log_uses.specs.Appending.{Settles, HoldsOneOf, Appends, WhatAStopLeavesIsFound}
 
 -- what calls add, behind those before them

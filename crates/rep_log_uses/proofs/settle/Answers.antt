@@ -1,4 +1,4 @@
-use Rattle.std.proofs.Common.{◌≡◌, false, Result, Ok, Err, OnOk, sym}
+use Rattle.std.proofs.Common.{◌≡◌, false, Result, Ok, Err, OnOk}
 use Rattle.std.specs.Result.{is_err}
 use Rattle.rep_log_uses.proofs.settle.Goals as goal
 

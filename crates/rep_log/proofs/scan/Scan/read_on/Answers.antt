@@ -1,6 +1,6 @@
-use Rattle.std.proofs.Common.{◌≡◌, ℕ, List, [], Option, option_map, Bor, subst, ap, ◌∙◌, inl, inr}
+use Rattle.std.proofs.Common.{ℕ, List, Option, option_map, Bor, subst, ap, ◌∙◌, inl, inr}
 use Rattle.std.proofs.lemmas.Result.{IfErr-weaker, on_ok_weaker}
-use Rattle.rep_disk.specs.History.{History, seen, failed}
+use Rattle.rep_disk.specs.History.{History, seen}
 use Rattle.rep_layout.specs.declared.place.Layout.{Layout}
 use Rattle.rep_layout.specs.Places.{log_of}
 use Rattle.rep_cells.specs.Device.{disk_of, layout_of}
