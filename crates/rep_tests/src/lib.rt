@@ -1,4 +1,4 @@
-//! Tests of the libraries that stand below the program, one file for each crate, against values that
+//! Tests of the libraries that stand below the program, a file or some for each crate, against values that
 //! were written by hand. They stand in a crate of their own so that a tested crate is proved once.
 #![tactic(auto)]
 

@@ -1,8 +1,8 @@
 //! The log over several laps, with small blocks and with the largest.
 
 use crate::log_bench::{
-    CELLS, Call, LAYOUT, Look, SIZE, append, assert_scans, at_rest, before, bench_of, block_behind,
-    block_of, count_of, item, look_at, make, scan_bytes, take_up,
+    CELLS, Call, GATE, LAYOUT, Look, SIZE, append, assert_scans, at_rest, before, bench_of,
+    block_behind, block_of, count_of, item, look_at, make, scan_bytes, take_up,
 };
 use rep_cells::Cells;
 use rep_disk::MemDisk;
@@ -62,7 +62,7 @@ fn assert_lies(rt: &impl Abort, bytes: &[u8], block: u32) -> Result<(), Fail> {
     assert!(rt; count.starts_with(&count_of(block).to_be_bytes()));
     let mut open = [0; 512];
     open[0] = 0xA5;
-    let gate = bytes.get(at + 7_680..).ok_or("no gate")?;
+    let gate = bytes.get(at + GATE..).ok_or("no gate")?;
     assert!(rt; gate.starts_with(&open));
     Ok(())
 }

@@ -15,8 +15,19 @@ pub(crate) const LAYOUT: Layout = Layout { cells: 4, pages: 0 };
 
 pub(crate) const SIZE: usize = 87_040;
 
-/// The first byte of each cell. Its gate begins 7,680 bytes behind it.
-pub(crate) const CELLS: [usize; 4] = [54_272, 62_464, 70_656, 78_848];
+/// The first byte of each cell.
+pub(crate) const CELL_0: usize = 54_272;
+
+pub(crate) const CELL_1: usize = 62_464;
+
+pub(crate) const CELL_2: usize = 70_656;
+
+pub(crate) const CELL_3: usize = 78_848;
+
+pub(crate) const CELLS: [usize; 4] = [CELL_0, CELL_1, CELL_2, CELL_3];
+
+/// How far behind it its gate begins.
+pub(crate) const GATE: usize = 7_680;
 
 pub(crate) const CORRUPT: Refusal = Refusal::Corrupt { part: Part::Log };
 

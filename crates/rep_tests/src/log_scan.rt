@@ -1,8 +1,8 @@
 //! What a scan takes for a log, and what it refuses, each at a byte of its own.
 
 use crate::log_bench::{
-    CORRUPT, LAYOUT, Look, SIZE, append, assert_scans, at_rest, before, bench_of, block_of,
-    changed, items_of, look_at, scan_bytes, take_up,
+    CELL_0, CELL_1, CELL_2, CELL_3, CORRUPT, GATE, LAYOUT, Look, SIZE, append, assert_scans,
+    at_rest, before, bench_of, block_of, changed, items_of, look_at, scan_bytes, take_up,
 };
 use rep_disk::{Disk, MemDisk};
 use rep_layout::Layout;
@@ -10,17 +10,6 @@ use rep_log::{Log, Step};
 use rep_types::Refusal;
 use std::alloc::Global;
 use std::test::Fail;
-
-/// The first bytes of the four cells, and of the gates behind their bodies.
-const CELL_0: usize = 54_272;
-
-const CELL_1: usize = 62_464;
-
-const CELL_2: usize = 70_656;
-
-const CELL_3: usize = 78_848;
-
-const GATE: usize = 7_680;
 
 /// The first record of a block, and the second: the first has 60 bytes.
 const FIRST: usize = 18;
@@ -40,9 +29,9 @@ const FAULTS: [Case; 22] = [
     ("another first seqno in the head", 0, &[(CELL_0 + 15, 2)]),
     ("a shorter record", 0, &[(CELL_0 + FIRST + 1, 59)]),
     ("a longer record", 0, &[(CELL_0 + SECOND + 1, 61)]),
-    ("a fifth verdict", 0, &[(CELL_0 + FIRST + 34, 5)]),
+    ("a verdict of number 5", 0, &[(CELL_0 + FIRST + 34, 5)]),
     (
-        "a verdict in the last block",
+        "a verdict of number 5 in the last block",
         0,
         &[(CELL_2 + SECOND + 34, 5)],
     ),

@@ -94,8 +94,7 @@ const PHASES: [Phase; 6] = [
 /// The way of the fifth block, of which the call of this index fails.
 fn fault(rt: &(impl Abort + AllocGlobal), index: usize, phase: Phase) -> Result<(), Fail> {
     let alloc = rt.alloc();
-    let Bench { log, cells } = bench_of(alloc, 4)?;
-    let mut log = log;
+    let Bench { mut log, cells } = bench_of(alloc, 4)?;
     let disk = cells.into_disk();
     let mut cells = take_up(
         FaultOnce::new(disk, (index as u64).saturating_add(1)),
