@@ -67,12 +67,12 @@ impl Log {
     /// and the records of its blocks. On an honest device a sync has to stand before it, so that what
     /// is read is stable.
     ///
-    /// From the start on, blocks are taken as long as the next cell stands open over the next number,
-    /// at most one lap. Refuses with `Corrupt` of the log where such a body is no block, or its seqnos
-    /// do not follow; where an open cell holds a number that does not belong there, or one from the
-    /// start on that was not taken; and where the start is behind the position, or that is over 2^60.
-    /// Refuses with `BadParams` a layout without cells or of more than 1,024, with `DiskFault` where
-    /// the device failed, and with `OutOfMemory`.
+    /// Refuses with `BadParams` a layout without cells or of more than 1,024. From the start on, blocks
+    /// are taken as long as the next cell stands open over the next number, at most one lap. Refuses with
+    /// `Corrupt` of the log where such a body is no block, or its seqnos do not follow; where an open cell
+    /// holds a number that does not belong there, or one from the start on that was not taken; and where
+    /// the start is behind the position, or that is over 2^60. Refuses with `DiskFault` where the device
+    /// failed, and with `OutOfMemory`.
     pub fn scan<D: Disk>(
         alloc: Global,
         cells: &mut Cells<D>,
@@ -238,9 +238,9 @@ impl Log {
     /// Writes the body of the next block, with the records that were gathered, into its cell: one write.
     ///
     /// Refuses with `NotDue` where that is not due, on cells of another log, and for a block that is
-    /// empty or of other seqnos than those that come next; with `LogFull` where the cell is live, its
-    /// block still needed; with `DiskFault` where the device failed, and then the log stands as if it
-    /// had not: whoever calls stops.
+    /// empty or of other seqnos than those that come next, also where the log is full; then with `LogFull`
+    /// where the cell is live, its block still needed; and with `DiskFault` where the device failed, and
+    /// then the log stands as if it had not: whoever calls stops.
     pub fn seal<D: Disk>(
         &mut self,
         cells: &mut Cells<D>,
@@ -285,7 +285,8 @@ impl Log {
         refusal_of(cells.open_gate(layout.log_of(self.next)))
     }
 
-    /// Moves on by a sync that succeeded.
+    /// Moves on by a sync that succeeded. It stands apart from `synced`, whose law is of all that this
+    /// does together.
     fn settle(&mut self) -> u16
         ensures durable { result ≡ durable_by self.old.phase }
         ensures after { self.new ≡ after_sync self.old }
@@ -313,7 +314,8 @@ impl Log {
     }
 
     /// Takes note of a sync that succeeded, and says how many records it made durable: those of the
-    /// next block where its gate was opened, and none else.
+    /// next block where its gate was opened, and none else. Called where no sync succeeded, it says so
+    /// all the same: nothing is then durable.
     pub fn synced(&mut self) -> u16
         ensures durable { result ≡ durable_by self.old.phase }
         ensures after { self.new ≡ after_sync self.old }
