@@ -23,7 +23,7 @@ pub struct VersionKey {
 }
 
 /// What a row is at a snapshot, of the versions that are kept.
-#[derive(Drop)]
+#[derive(Clone, Copy, Debug, PartialEq, Eq)]
 pub enum At<'a> {
     /// The newest version at most at the snapshot put this value.
     Found(&'a Value),
