@@ -56,7 +56,8 @@ added_at old w false false l = refl
 
 pub added_more : (seqno : ℕ) (w : Write) (ws : List Write) (m n : Kept) → IsAdded seqno ws (insert m (record { key = w.key; seqno = seqno }) w.value) n → IsAdded seqno (w ∷ ws) m n
 added_more seqno w ws m n h key s =
-    let put = get-insert versions_total m (record { key = w.key; seqno = seqno }) w.value (record { key = key; seqno = s }) ∙ ap (λ b. cond b (Some w.value) (version_at m key s)) (same_version w.key key s seqno) in
+    let put = get-insert versions_total m (record { key = w.key; seqno = seqno }) w.value (record { key = key; seqno = s })
+    ∙ ap (λ b. cond b (Some w.value) (version_at m key s)) (same_version w.key key s seqno) in
     h key s ∙ ap (λ o. if s == seqno then overlaid o (latest (λ (write : Write). key_eq write.key key) ws) else o) put ∙ added_at (version_at m key s) w (key_eq w.key key) (s == seqno) _
 
 -- taken back again

@@ -10,7 +10,7 @@ use Rattle.rep_types.specs.declared.key.Key.{Key}
 use Rattle.rep_types.specs.Keys.{key_cmp}
 use Rattle.rep_versions.specs.declared.versions.VersionKey.{VersionKey}
 use Rattle.rep_versions.specs.Versions.{version_cmp, version_at, Version, IsNewest}
-use Rattle.rep_versions.proofs.Places.{keys_total, exact_keys, found_at, get_version}
+use Rattle.rep_versions.proofs.Places.{keys_total, exact_keys, Stored, found_at, get_version}
 
 -- the version of a row at a seqno
 abbrev version : Key → ℕ → VersionKey
@@ -56,7 +56,7 @@ none_found : (o : Option Version) → (IsSome o → ⊥) → o ≡ None
 none_found None h = refl
 none_found (Some x) h = absurd (h refl)
 
-module _ (es : List (VersionKey × Version)) (key : Key) (s : ℕ) where
+module _ (es : List Stored) (key : Key) (s : ℕ) where
   newest_of_row : (m : ℕ) (x : Version) → m ≤ s → found_at es (version key m) ≡ Some x
       → ((q : VersionKey) → IsWithin key s q → IsSome (found_at es q) → is_lt (version_cmp (version key m) q) ≡ false)
       → IsNewest (from_entries {R = version_cmp} es) key s m x
@@ -73,9 +73,11 @@ module _ (es : List (VersionKey × Version)) (key : Key) (s : ℕ) where
   newest_within v x within found none =
       let row = in_row key s v within in
       let same : v ≡ version key v.seqno = ap (λ k. version k v.seqno) row.0 in
-      newest_of_row v.seqno x row.1 (subst (λ u. found_at es u ≡ Some x) same found) (subst (λ u. (q : VersionKey) → IsWithin key s q → IsSome (found_at es q) → is_lt (version_cmp u q) ≡ false) same none)
+      newest_of_row v.seqno x row.1 (subst (λ u. found_at es u ≡ Some x) same found)
+      (subst (λ u. (q : VersionKey) → IsWithin key s q → IsSome (found_at es q) → is_lt (version_cmp u q) ≡ false) same none)
 
-  pub newest : (first last : VersionKey) → first ≡ version key 0 → last ≡ version key s → (v : VersionKey) (x : Version) → IsBetween first last v → found_at es v ≡ Some x
+  pub newest : (first last : VersionKey) → first ≡ version key 0 → last ≡ version key s → (v : VersionKey) (x : Version)
+      → IsBetween first last v → found_at es v ≡ Some x
       → ((q : VersionKey) → IsBetween first last q → IsSome (found_at es q) → is_lt (version_cmp v q) ≡ false)
       → IsNewest (from_entries {R = version_cmp} es) key s v.seqno x
   newest first last e f v x within found none =

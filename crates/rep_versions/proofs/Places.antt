@@ -28,16 +28,20 @@ keys_total = then_total (on_total (λ k. k.table) nat_cmp_total) (on_total (λ k
 pub versions_total : IsTotalOrder version_cmp
 versions_total = then_total (on_total (λ v. v.key) keys_total) (on_total (λ v. v.seqno) nat_cmp_total)
 
+-- a version with its name, as the map has it
+abbrev pub Stored : Type 0
+Stored = VersionKey × Version
+
 -- what a look-up in the entries finds
-abbrev pub found_at : List (VersionKey × Version) → VersionKey → Option Version
+abbrev pub found_at : List Stored → VersionKey → Option Version
 found_at es q = lookup (is_at (version_cmp q)) es
 
-find_version : (es : List (VersionKey × Version)) (q : VersionKey) → find version_cmp q es ≡ found_at es q
+find_version : (es : List Stored) (q : VersionKey) → find version_cmp q es ≡ found_at es q
 find_version [] q = refl
 find_version (e ∷ es) q = ap (cond (is_at (version_cmp q) e.0) (Some e.1)) (find_version es q)
 
 -- what the map that the entries make has at a version
-pub get_version : (es : List (VersionKey × Version)) (q : VersionKey) → get (from_entries {R = version_cmp} es) q ≡ found_at es q
+pub get_version : (es : List Stored) (q : VersionKey) → get (from_entries {R = version_cmp} es) q ≡ found_at es q
 get_version es q = get-from_entries versions_total es q ∙ find_version es q
 
 -- two maps that have the same at each row and seqno are one
@@ -45,18 +49,21 @@ pub same_kept : (m n : Kept) → ((key : Key) (s : ℕ) → version_at m key s �
 same_kept m n h = same_map versions_total exact_versions m n (λ q. h q.key q.seqno)
 
 -- entries that differ at one version make maps that differ there
-pub one_put : (es fs : List (VersionKey × Version)) (v : VersionKey) (w : Version) → ((q : VersionKey) → found_at fs q ≡ cond (is_at (version_cmp v) q) (Some w) (found_at es q)) → from_entries {R = version_cmp} fs ≡ insert (from_entries es) v w
+pub one_put : (es fs : List Stored) (v : VersionKey) (w : Version) → ((q : VersionKey) → found_at fs q ≡ cond (is_at (version_cmp v) q) (Some w) (found_at es q))
+    → from_entries {R = version_cmp} fs ≡ insert (from_entries es) v w
 one_put es fs v w h = same_map versions_total exact_versions _ _ (λ q.
     get_version fs q ∙ h q ∙ ap (λ b. cond b (Some w) (found_at es q)) ((eq_by_cmp_equiv versions_total).symm v q)
     ∙ sym (get-insert versions_total (from_entries es) v w q ∙ ap (cond (is_at (version_cmp q) v) (Some w)) (get_version es q)))
 
-pub one_gone : (es fs : List (VersionKey × Version)) (v : VersionKey) → ((q : VersionKey) → found_at fs q ≡ cond (is_at (version_cmp v) q) None (found_at es q)) → from_entries {R = version_cmp} fs ≡ remove (from_entries es) v
+pub one_gone : (es fs : List Stored) (v : VersionKey) → ((q : VersionKey) → found_at fs q ≡ cond (is_at (version_cmp v) q) None (found_at es q))
+    → from_entries {R = version_cmp} fs ≡ remove (from_entries es) v
 one_gone es fs v h = same_map versions_total exact_versions _ _ (λ q.
     get_version fs q ∙ h q ∙ ap (λ b. cond b None (found_at es q)) ((eq_by_cmp_equiv versions_total).symm v q)
     ∙ sym (get-remove versions_total (from_entries es) v q ∙ ap (cond (is_at (version_cmp q) v) None) (get_version es q)))
 
 -- the entries that pass a test of their versions
-pub kept_where : (p : VersionKey → Bool) (es fs : List (VersionKey × Version)) → fs ≡ filter (λ e. p e.0) es → (q : VersionKey) → get (from_entries {R = version_cmp} fs) q ≡ cond (p q) (get (from_entries {R = version_cmp} es) q) None
+pub kept_where : (p : VersionKey → Bool) (es fs : List Stored) → fs ≡ filter (λ e. p e.0) es → (q : VersionKey)
+    → get (from_entries {R = version_cmp} fs) q ≡ cond (p q) (get (from_entries {R = version_cmp} es) q) None
 kept_where p es fs h q =
     get_version fs q ∙ ap (λ xs. found_at xs q) h
     ∙ lookup-filter-keys (is_at (version_cmp q)) p (p q) (λ k t. ap p (sym (tells_apart exact_versions q k t))) es

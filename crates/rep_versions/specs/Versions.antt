@@ -20,8 +20,10 @@ use Rattle.rep_versions.specs.declared.versions.At.TheVariants.{Found, Deleted, 
 abbrev pub version_cmp : VersionKey → VersionKey → Ordering
 version_cmp a b = ordering_then (key_cmp a.key b.key) (nat_cmp a.seqno b.seqno)
 
+-- as numbers
 abbrev pub coded_version_key : Coded VersionKey
-coded_version_key = code_by ((ℕ × ℕ) × ℕ) (coded× (coded× coded_ℕ coded_ℕ) coded_ℕ) (λ v. ((v.key.table, v.key.row), v.seqno)) (λ c. record { key = record { table = c.0.0; row = c.0.1 }; seqno = c.1 }) (λ _. refl)
+coded_version_key = code_by ((ℕ × ℕ) × ℕ) (coded× (coded× coded_ℕ coded_ℕ) coded_ℕ) (λ v. ((v.key.table, v.key.row), v.seqno))
+    (λ c. record { key = record { table = c.0.0; row = c.0.1 }; seqno = c.1 }) (λ _. refl)
 
 -- What an item made of a row: the bytes that it put, or None where it deleted the row.
 abbrev pub Version : Type 0

@@ -79,7 +79,9 @@ impl Versions {
         }
     }
 
-    /// Adds what these writes put at the seqno. Where one is refused, those before it are undone.
+    /// Adds what these writes put at the seqno. Where one is refused, those before it are undone: each
+    /// call keeps what stood at its own write until the later ones are in. A write set has at most 16
+    /// writes, so deep do the calls go.
     fn add_writes(&mut self, seqno: u64, writes: &[Write]) -> Result<(), Refusal>
         ensures added { OnOk result (IsAdded seqno writes.now self.old self.new) }
         ensures refused { IfErr result (λ e. (e ≡ OutOfMemory) × (self.new ≡ self.old)) }
@@ -124,7 +126,8 @@ impl Versions {
         self.kept.retain(|version, _| version.seqno > position);
     }
 
-    /// What the row is at this snapshot: what the newest of its versions at most at the seqno made it.
+    /// What the row is at the snapshot of this seqno: what the newest of its versions at most there made
+    /// it. It costs a look-up of both ends of the row's versions, however many there are.
     pub fn at(&self, key: Key, seqno: u64) -> At<'_>
         ensures { IsAnswer self.now key seqno result }
     {
