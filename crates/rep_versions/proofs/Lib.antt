@@ -1,0 +1,4 @@
+pub mod Places
+pub mod Changes
+pub mod Newest
+pub mod Pages

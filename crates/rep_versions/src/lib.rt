@@ -1,0 +1,9 @@
+//! What the committed items behind a checkpoint's base wrote, so that a read finds the newest value at
+//! most at its snapshot.
+#![tactic(auto)]
+
+mod laws;
+mod versions;
+
+pub use laws::add_is_taken_back;
+pub use versions::{At, VersionKey, Versions};
