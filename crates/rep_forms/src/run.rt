@@ -1,6 +1,6 @@
 //! Values one after another.
 
-ghost use Rattle.std.specs.Prelude.{◌≡◌, ◌+◌, ◌*◌, ◌≤◌, ◌++◌, [], ◌∷◌, ◌↔◌, ℕ, List, length, true, MatchOption, IfOk, IfErr, IsOkAnd, option_map};
+ghost use Rattle.std.specs.Prelude.{◌≡◌, ◌+◌, ◌*◌, ◌≤◌, ◌++◌, [], ◌∷◌, ◌↔◌, ℕ, List, length, true, MatchOption, IfSome, IfOk, IfErr, IsOkAnd, option_map};
 ghost use Rattle.std.specs.List.{flat_map, AllByRecursion};
 ghost use Rattle.rep_forms.specs.Forms.{many};
 ghost use Rattle.rep_forms.specs.Runs.{Follow, IsChain, EndsAt, StopsAt};
@@ -73,7 +73,8 @@ pub fn read_run<T: Form + Default, const M: usize>(
     bytes: &[u8],
     count: usize,
 ) -> Option<(ArrayVec<T, M>, &[u8])>
-    ensures { option_map (λ x. (x.0.items, x.1.now)) result ≡ (many M count T.form).read bytes.now }
+    ensures read { option_map (λ x. (x.0.items, x.1.now)) result ≡ (many M count T.form).read bytes.now }
+    ensures size { IfSome result (λ x. length x.0.items ≡ count) }
 {
     if count > M {
         return None;

@@ -1,11 +1,11 @@
 //! Where a row lies.
 
-ghost use Rattle.std.specs.Prelude.{◌≡◌, ◌+◌, ◌<◌, ◌≤◌, length, slice_index, if◌then◌else◌, Some, None, IfSome, IsNone};
+ghost use Rattle.std.specs.Prelude.{◌≡◌, ◌+◌, ◌<◌, ◌≤◌, length, slice_index, if◌then◌else◌, Some, None, IfSome, IsSome, IsNone};
 ghost use Rattle.rep_types.specs.Settings.{has_row, page_count, pages_of, IsRow};
 ghost use Rattle.rep_types.specs.declared.key.Key.{Key};
 ghost use Rattle.rep_layout.specs.Rows.{pages_before, row_place, RowPlacesAreTold};
 
-use rep_types::{Key, MAX_TABLES, ROWS_PER_PAGE, Schema};
+use rep_types::{Key, MAX_PAGES, MAX_TABLES, ROWS_PER_PAGE, Schema};
 
 /// Where a row lies: its page, and its place there, from 0 to 62.
 #[derive(Clone, Copy, Debug, PartialEq, Eq)]
@@ -60,11 +60,14 @@ fn table_of(rows: &[u32], page: u32) -> Option<(usize, u32)>
 
 /// The key of the row that lies at this place, or None where no row of the schema does: where there is
 /// no such page, or the place in it is past the table's last row or above 62. It undoes `page_of`.
+#[tactic(auto, using(crate::proofs::RowPlaces::row_within))]
 pub fn row_at(schema: &Schema, place: RowPlace) -> Option<Key>
     // The row that is found lies there.
     ensures found { IfSome result (λ key. IsRow schema.now key × (row_place schema.now key ≡ place)) }
     // The row that lies there is found.
     ensures only { (key : Key) → IsRow schema.now key → row_place schema.now key ≡ place → result ≡ Some key }
+    // A schema has no more pages than this.
+    ensures few { IsSome result → place.page < MAX_PAGES }
 {
     if place.index >= ROWS_PER_PAGE {
         return None;

@@ -66,6 +66,17 @@ IsAnswer kept key snapshot (Found value) = (m : ℕ) × IsNewest kept key snapsh
 IsAnswer kept key snapshot Deleted = (m : ℕ) × IsNewest kept key snapshot m None
 IsAnswer kept key snapshot Below = (m : ℕ) → m ≤ snapshot → version_at kept key m ≡ None
 
+-- what an answer makes of a row that was this below all versions
+abbrev pub told : At → Option (List ℕ) → Option (List ℕ)
+told (Found value) below = Some value.now
+told Deleted below = None
+told Below below = below
+
+-- What a row is at a snapshot that was `below` under all versions: what the newest version up to there made it.
+pub record IsRowAt (kept : Kept) (key : Key) (snapshot : ℕ) (below row : Option (List ℕ)) : Type 0 where
+  pub newest : (m : ℕ) (version : Version) → IsNewest kept key snapshot m version → row ≡ version
+  pub none : ((m : ℕ) → m ≤ snapshot → version_at kept key m ≡ None) → row ≡ below
+
 -- The version is above the base and at most at the position, and the schema has its row.
 pub record IsWithin (rows : List ℕ) (base position : ℕ) (version : VersionKey) : Type 0 where
   pub above : base < version.seqno

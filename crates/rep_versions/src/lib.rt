@@ -5,5 +5,5 @@
 mod laws;
 mod versions;
 
-pub use laws::add_is_taken_back;
+pub use laws::{add_is_taken_back, versions_follow_the_items};
 pub use versions::{At, VersionKey, Versions};

@@ -10,8 +10,8 @@ loop-init g c = record {
   count = ap length c.new-values.ensures;
 }
 
-pub returns-in_err-value : goal.returns-in_err-value
-returns-in_err-value g c =
+pub returns-in_err-value-clause-read : goal.returns-in_err-value-clause-read
+returns-in_err-value-clause-read g c =
     let few : ltb g.row.M c.args.count ≡ false = le-ltb g.row.M c.args.count (omega arith) in
     rw (c.from_residual.ensures, few)
     (ends g.T.Form.form.read c.loop.values.items c.args.count c.loop.counter c.loop.rest.now (each g.T.Form.form.read c.args.count c.args.bytes.now) c.loop-test.true c.in_err-value.ensures c.loop.invariant.read)
@@ -24,7 +24,7 @@ loop-preserved g c = record {
   count = omega (arith, c.push.ensures.len);
 }
 
-pub returns : goal.returns
-returns g c =
+pub returns-clause-read : goal.returns-clause-read
+returns-clause-read g c =
     let few : ltb g.row.M c.args.count ≡ false = le-ltb g.row.M c.args.count (omega arith) in
     rw few (is_done g.T.Form.form.read c.loop.values.items c.args.count c.loop.counter c.loop.rest.now (each g.T.Form.form.read c.args.count c.args.bytes.now) c.loop-test.false c.loop.invariant.read)

@@ -1,0 +1,4 @@
+pub mod Bodies
+pub mod Unchanged
+pub mod Following
+pub mod Imaging

@@ -1,0 +1,6 @@
+pub mod Rows
+pub mod RowsLaws
+pub mod Slots
+pub mod Pages
+pub mod PagesLaws
+pub mod Images

@@ -1,0 +1,215 @@
+//! A page as bytes.
+
+ghost use Rattle.std.specs.Prelude.{◌≡◌, ◌+◌, ◌<◌, ◌≤◌, ◌++◌, ◌^◌, ◌↔◌, length, replicate, true, IfOk, IfErr, IfSome, IsSome, Some, Ok, None};
+ghost use Rattle.rep_types.specs.declared.key.Key.{Key};
+ghost use Rattle.rep_types.specs.declared.refusal.Part.TheVariants.{Pages};
+ghost use Rattle.rep_pages.specs.Pages.{IsFirstRow, EndWithTheTable, IsPage, IsPageBody, front_bytes, head_form};
+
+use crate::page_rows::PageRows;
+use arrayvec::ArrayVec;
+use rep_forms::{
+    Exact, Form, Put, put_bytes, put_u8, put_u16, put_u32, put_u64, put_zeros, read_front,
+    read_part, read_u8, read_u16, read_u32, read_u64, strip_front,
+};
+use rep_layout::{PAGE_BODY, RowPlace, row_at, row_places_are_told};
+use rep_types::{Key, MAX_PAGES, Part, ROWS_PER_PAGE, Refusal, Schema};
+
+/// The first eight bytes of the format.
+const MARK: &[u8; 8] = b"REPPAGE1";
+
+/// The number of bytes before the rows.
+const HEAD: usize = 64;
+
+/// The number of zeros behind the fields of the head.
+const HEAD_ZEROS: usize = 40;
+
+/// What a page begins with: its number, its first row, and the position that it was written for.
+#[derive(Drop)]
+pub(crate) struct Head {
+    pub(crate) number: u16,
+    pub(crate) first: Key,
+    pub(crate) position: u64,
+}
+
+impl Form for Head {
+    ghost use Rattle.rep_pages.specs.PagesLaws.{head_is_form};
+
+    ghost form = { head_form };
+
+    ghost most = { 64 };
+
+    #[tactic(auto, unfolding(crate::specs::Pages::page_mark))]
+    fn read(bytes: &[u8]) -> Option<(Head, &[u8])> {
+        let (_, rest) = read_part(bytes, MARK.len())?;
+        let (number, rest) = read_u16(rest)?;
+        let (table, rest) = read_u8(rest)?;
+        let (_, rest) = read_part(rest, 1)?;
+        let (row, rest) = read_u32(rest)?;
+        let (position, rest) = read_u64(rest)?;
+        let (_, rest) = read_part(rest, HEAD_ZEROS)?;
+        let head = Head {
+            number,
+            first: Key { table, row },
+            position,
+        };
+        Some((head, rest))
+    }
+
+    ghost is_form = { head_is_form };
+}
+
+impl Head {
+    /// Puts the mark, the number, the table and a zero: 12 bytes.
+    #[tactic(auto, using(rep_forms::specs::FormLaws::sizes, rep_forms::specs::FormLaws::joined), unfolding(crate::specs::Pages::page_mark))]
+    fn put_front<const N: usize>(&self, out: &mut ArrayVec<u8, N>)
+        requires { length out.old.items + 12 ≤ N }
+        ensures bytes { out.new.items ≡ out.old.items ++ front_bytes self.now }
+        ensures size { length out.new.items ≡ length out.old.items + 12 }
+        ensures number { self.now.number < 2 ^ 16 }
+        ensures table { self.now.first.table < 2 ^ 8 }
+    {
+        put_bytes(out, MARK);
+        put_u16(out, self.number);
+        put_u8(out, self.first.table);
+        put_zeros(out, 1);
+    }
+}
+
+impl<const N: usize> Put<N> for Head {
+    #[tactic(auto, using(rep_forms::specs::FormLaws::sizes, rep_forms::specs::FormLaws::joined))]
+    fn put(&self, out: &mut ArrayVec<u8, N>) {
+        self.put_front(out);
+        put_u32(out, self.first.row);
+        put_u64(out, self.position);
+        put_zeros(out, HEAD_ZEROS);
+    }
+}
+
+impl Exact for Head {
+    fn strip<'a>(&self, bytes: &'a [u8]) -> Option<&'a [u8]> {
+        let mut spelling: ArrayVec<u8, HEAD> = ArrayVec::new();
+        self.put(&mut spelling);
+        strip_front(bytes, spelling.as_slice())
+    }
+}
+
+/// A page: 63 rows of a table, as they are at a position.
+#[derive(Debug, Drop, PartialEq, Eq)]
+pub struct Page {
+    /// Its number, counted from 0 over all tables.
+    pub number: u32,
+    /// The position that it was written for.
+    pub position: u64,
+    /// Its rows.
+    pub rows: PageRows,
+}
+
+/// The key of the page's first row, or None where the schema has no such page.
+fn first_row(schema: &Schema, page: u32) -> Option<Key>
+    ensures found { IfSome result (λ key. IsFirstRow schema.now page key) }
+    ensures only { (key : Key) → IsFirstRow schema.now page key → result ≡ Some key }
+    ensures few { IsSome result → page < MAX_PAGES }
+{
+    row_at(schema, RowPlace { page, index: 0 })
+}
+
+impl PageRows {
+    /// Whether no row is there that the schema does not have in the page of this number.
+    pub fn end_with_the_table(&self, schema: &Schema, page: u32) -> bool
+        ensures { (result ≡ true) ↔ EndWithTheTable schema.now page self.now }
+    {
+        for index in 0..ROWS_PER_PAGE {
+            if self.row(index).is_some() && row_at(schema, RowPlace { page, index }).is_none() {
+                return false;
+            }
+        }
+        true
+    }
+}
+
+impl Page {
+    /// The page of this number before anything was written: all its rows are absent.
+    pub fn absent(number: u32) -> Page
+        ensures number { result.number ≡ number }
+        ensures position { result.position ≡ 0 }
+        ensures rows { result.rows ≡ replicate 63 None }
+    {
+        Page {
+            number,
+            position: 0,
+            rows: PageRows::absent(),
+        }
+    }
+
+    /// The bytes of the page, 4,096; None where the schema has no page of its number, or a row is there
+    /// that its table does not have.
+    #[tactic(auto, using(rep_forms::specs::FormLaws::sizes, rep_forms::specs::FormLaws::joined))]
+    pub fn write_body(&self, schema: &Schema) -> Option<ArrayVec<u8, PAGE_BODY>>
+        ensures some { IsSome result ↔ ((first : Key) × IsPage schema.now first self.now) }
+        // What is written is of the form: so it is read again.
+        ensures bytes { IfSome result (λ b. IsPageBody schema.now self.now b.items) }
+        ensures size { IfSome result (λ b. length b.items ≡ PAGE_BODY) }
+    {
+        let first = first_row(schema, self.number)?;
+        if !self.rows.end_with_the_table(schema, self.number) {
+            return None;
+        }
+        let head = Head {
+            number: self.number as u16,
+            first,
+            position: self.position,
+        };
+        let mut out = ArrayVec::new();
+        head.put(&mut out);
+        self.rows.put(&mut out);
+        Some(out)
+    }
+
+    /// Reads the page of this number, which all of the bytes are, and which was written for a position
+    /// that is not above the latest one.
+    ///
+    /// Refuses with `Corrupt`, the part being the pages, what is not of the form: 4,096 bytes, which are
+    /// `REPPAGE1`; the number in 2 bytes; the table in 1; a zero; the table's row that is the first of
+    /// the page in 4; the position in 8; zeros up to 64; and 63 rows of 64 bytes, each 1 and the length
+    /// of its value in 1 byte each, the value and zeros, or 64 zeros where the row is absent or past the
+    /// end of the table. The highest byte of a number stands first.
+    pub fn read_body(
+        schema: &Schema,
+        number: u32,
+        latest: u64,
+        bytes: &[u8],
+    ) -> Result<Page, Refusal>
+        // What is read is spelled so.
+        ensures found { IfOk result (λ page. IsPageBody schema.now page bytes.now × (page.number ≡ number) × (page.position ≤ latest)) }
+        // What is spelled so is read.
+        ensures only { (page : Page) → IsPageBody schema.now page bytes.now → page.number ≡ number → page.position ≤ latest → result ≡ Ok page }
+        // Anything else is refused.
+        ensures refused { IfErr result (λ e. e ≡ Refusal.Corrupt Pages) }
+    {
+        match read_page(schema, number, latest, bytes) {
+            Some(page) => Ok(page),
+            None => Err(Refusal::Corrupt { part: Part::Pages }),
+        }
+    }
+}
+
+/// The page of this number that all of the bytes are.
+fn read_page(schema: &Schema, number: u32, latest: u64, bytes: &[u8]) -> Option<Page>
+    ensures found { IfSome result (λ page. IsPageBody schema.now page bytes.now × (page.number ≡ number) × (page.position ≤ latest)) }
+    ensures only { (page : Page) → IsPageBody schema.now page bytes.now → page.number ≡ number → page.position ≤ latest → result ≡ Some page }
+{
+    let (head, body) = read_front::<Head>(bytes)?;
+    let (rows, rest) = read_front::<PageRows>(body)?;
+    let first = first_row(schema, number)?;
+    if u32::from(head.number) != number || head.first != first || head.position > latest {
+        return None;
+    }
+    if !rest.is_empty() || !rows.end_with_the_table(schema, number) {
+        return None;
+    }
+    Some(Page {
+        number,
+        position: head.position,
+        rows,
+    })
+}
