@@ -2,9 +2,11 @@
 
 CRATES := rep_types rep_plain rep_record rep_replica replicad
 PROGRAM := crates/replicad/out/replicad
-# What `make bench` needs beside these: the certifier, and what times it against the plain node.
-COMPARED := rep_cert rep_compare
+# What `make bench` needs beside these: the certifier and what times it against the plain node, and the versions of rows and what
+# times them.
+TIMED := rep_cert rep_compare rep_forms rep_layout rep_versions rep_timed
 COMPARE := crates/rep_compare/out/rep_compare
+VERSIONS := crates/rep_timed/out/rep_timed
 
 .PHONY: run try test check bench toolchain
 
@@ -26,10 +28,10 @@ check: toolchain
 	@rt all check
 
 # Items judged in a second, for a short order and for one of ten times its length, and by the plain
-# node and the certifier.
+# node and the certifier; and what a version that is added and a look-up cost among few and among many.
 bench: toolchain
-	@scripts/build $(CRATES) $(COMPARED)
-	@scripts/bench $(PROGRAM) $(COMPARE)
+	@scripts/build $(CRATES) $(TIMED)
+	@scripts/bench $(PROGRAM) $(COMPARE) $(VERSIONS)
 
 toolchain:
 	@command -v rt >/dev/null || { echo "The Rattle toolchain is missing: no command 'rt' on the path." >&2; exit 1; }

@@ -8,6 +8,7 @@ mod items;
 mod locks;
 mod logs;
 mod replicas;
+mod versions;
 
 use anyhow::Result;
 
@@ -25,6 +26,8 @@ fn run<R: Print + AllocGlobal>(rt: &R) -> Result<()> {
     ))?;
     let (read, left) = devices::device(alloc)?;
     rt.println(format_args!("device: {read:?} read, {left:?} after a stop"))?;
+    let (found, pages) = versions::versions(alloc)?;
+    rt.println(format_args!("versions: {found} rows have one, {pages} pages a change"))?;
     let (next, records) = logs::log(alloc)?;
     rt.println(format_args!("log: {records} records found, the next block is {next}"))?;
     let (ticket, values) = locks::lock(alloc)?;

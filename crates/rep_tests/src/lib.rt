@@ -19,6 +19,8 @@ mod log_scan;
 #[cfg(test)]
 mod log_stops;
 #[cfg(test)]
+mod pages;
+#[cfg(test)]
 mod plain;
 #[cfg(test)]
 mod record;
@@ -26,3 +28,5 @@ mod record;
 mod replica;
 #[cfg(test)]
 mod types;
+#[cfg(test)]
+mod versions;
