@@ -1,10 +1,10 @@
 # `make run` is the first thing to try; `make test` is all that CI runs.
 
-CRATES := rep_types rep_plain rep_record rep_replica replicad
+CRATES := rep_types rep_plain rep_forms rep_record rep_disk rep_layout rep_cells rep_log rep_steps rep_replica replicad
 PROGRAM := crates/replicad/out/replicad
 # What `make bench` needs beside these: the certifier and what times it against the plain node, and the versions of rows and what
 # times them.
-TIMED := rep_cert rep_compare rep_forms rep_layout rep_versions rep_timed
+TIMED := rep_cert rep_compare rep_versions rep_timed
 COMPARE := crates/rep_compare/out/rep_compare
 VERSIONS := crates/rep_timed/out/rep_timed
 

@@ -1,7 +1,8 @@
 //! A replica in memory.
 
 use crate::items::{ROWS, item, params};
-use rep_replica::{Answer, Event, Replica};
+use rep_replica::Replica;
+use rep_steps::{Answer, Event};
 use rep_types::{Entry, Refusal};
 use std::alloc::Global;
 use uuid::Uuid;

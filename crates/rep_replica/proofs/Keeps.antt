@@ -1,8 +1,8 @@
 -- What holds of every node goes on holding after each event that is not refused.
-use Rattle.std.proofs.Common.{◌≡◌, ℕ, ◌+◌, ◌-◌, ◌<◌, ◌≤◌, Bool, true, false, cond, leb, ltb, eqb, List, [], ◌∷◌, ◌++◌, length, length-append, get_or, drop, Option, None, Some, refl, sym, ap, subst, ◌∙◌, arith, zero, suc, drop-cons}
+use Rattle.std.proofs.Common.{◌≡◌, ℕ, ◌+◌, ◌-◌, ◌<◌, ◌≤◌, Bool, true, false, cond, leb, eqb, List, [], ◌∷◌, ◌++◌, length, length-append, get_or, drop, Option, None, Some, refl, sym, ap, subst, ◌∙◌, arith, zero, suc, drop-cons}
 use Rattle.std.specs.Prelude.{◌&&◌, not, IsTrue}
 use Rattle.std.specs.List.{AllByRecursion}
-use Rattle.std.proofs.lemmas.Bool.{ltb-true, leb-true, leb-false, eqb-false, le-leb, lt-ltb}
+use Rattle.std.proofs.lemmas.Bool.{leb-true, leb-false, eqb-false, le-leb, lt-ltb}
 use Rattle.std.proofs.lemmas.List.{length-drop}
 use Rattle.uuid.specs.Parts.{is_nil_bytes}
 use Rattle.rep_types.specs.declared.judged.Judged.{Judged}
@@ -11,7 +11,7 @@ use Rattle.rep_types.specs.declared.refusal.Refusal.TheVariants.{OutOfOrder, Bac
 use Rattle.rep_types.specs.declared.limits.TheConstants.{MAX_SEQNO, MAX_AHEAD, MAX_CELLS}
 use Rattle.rep_types.specs.Settings.{Setting, is_setting, is_schema}
 use Rattle.rep_types.specs.Transactions.{Transaction, IsWithinLimits}
-use Rattle.rep_types.specs.Order.{Order, no_item, item, history, verdict}
+use Rattle.rep_types.specs.Order.{Order, no_item, history, verdict}
 use Rattle.rep_types.proofs.Histories.{length_history, history_at_index, judged}
 use Rattle.rep_types.specs.declared.verdict.Verdict.{Verdict}
 use Rattle.rep_types.specs.declared.verdict.Verdict.TheVariants.{Commit, Conflict, Stale, Future, BadKey}

@@ -13,10 +13,10 @@ use Rattle.rep_types.specs.Order.{Order, history, verdict}
 use Rattle.rep_types.proofs.Histories.{length_history, take_history, history_at_index, verdict_append, judged}
 use Rattle.rep_replica.specs.declared.phase.Phase.{Phase}
 use Rattle.rep_replica.specs.declared.phase.Phase.TheVariants.{Free, Filling, Filled, Opening}
-use Rattle.rep_replica.specs.declared.event.Event.{Event}
-use Rattle.rep_replica.specs.declared.event.Event.TheVariants.{Deliver, Log, Sync, Check, Flush, Read}
-use Rattle.rep_replica.specs.declared.answer.Answer.{Answer}
-use Rattle.rep_replica.specs.declared.answer.Answer.TheVariants.{Refused}
+use Rattle.rep_steps.specs.declared.event.Event.{Event}
+use Rattle.rep_steps.specs.declared.event.Event.TheVariants.{Deliver, Log, Sync, Check, Flush, Read}
+use Rattle.rep_steps.specs.declared.answer.Answer.{Answer}
+use Rattle.rep_steps.specs.declared.answer.Answer.TheVariants.{Refused}
 use Rattle.rep_replica.specs.Nodes.{Node, IsNode, IsEvent, Steps, AsksForMemory, refusal, answer, after, opening, underway}
 use Rattle.rep_replica.specs.Runs.{Runs, delivered, acknowledged, verdict_of, between, ComesTo, RunsComeTo}
 use Rattle.rep_replica.proofs.Keeps.{keeps_log, keeps_sync, keeps_delivery}

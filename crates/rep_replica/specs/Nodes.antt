@@ -16,10 +16,10 @@ use Rattle.rep_types.specs.Order.{Order, history, verdict, read}
 use Rattle.rep_record.specs.Fronts.{fitting}
 use Rattle.rep_replica.specs.declared.phase.Phase.{Phase}
 use Rattle.rep_replica.specs.declared.phase.Phase.TheVariants.{Free, Filling, Filled, Opening}
-use Rattle.rep_replica.specs.declared.event.Event.{Event}
-use Rattle.rep_replica.specs.declared.event.Event.TheVariants.{Deliver, Log, Sync, Check, Flush, Read}
-use Rattle.rep_replica.specs.declared.answer.Answer.{Answer}
-use Rattle.rep_replica.specs.declared.answer.Answer.TheVariants.{Gave, Wrote, Synced, Row, Refused}
+use Rattle.rep_steps.specs.declared.event.Event.{Event}
+use Rattle.rep_steps.specs.declared.event.Event.TheVariants.{Deliver, Log, Sync, Check, Flush, Read}
+use Rattle.rep_steps.specs.declared.answer.Answer.{Answer}
+use Rattle.rep_steps.specs.declared.answer.Answer.TheVariants.{Gave, Wrote, Synced, Row, Refused}
 
 -- What a node holds: its state UUID and parameters, the order that was delivered to it, how many of its items are durable,
 -- where the log is with its next cell and the block for it, the number of that cell, the number of the cell whose block begins

@@ -5,10 +5,10 @@ use Rattle.rep_types.specs.declared.reply.Reply.{Reply}
 use Rattle.rep_types.specs.declared.verdict.Verdict.{Verdict}
 use Rattle.rep_types.specs.Replies.{reply_of}
 use Rattle.rep_types.specs.Order.{Order, history}
-use Rattle.rep_replica.specs.declared.event.Event.{Event}
-use Rattle.rep_replica.specs.declared.event.Event.TheVariants.{Deliver}
-use Rattle.rep_replica.specs.declared.answer.Answer.{Answer}
-use Rattle.rep_replica.specs.declared.answer.Answer.TheVariants.{Gave, Synced}
+use Rattle.rep_steps.specs.declared.event.Event.{Event}
+use Rattle.rep_steps.specs.declared.event.Event.TheVariants.{Deliver}
+use Rattle.rep_steps.specs.declared.answer.Answer.{Answer}
+use Rattle.rep_steps.specs.declared.answer.Answer.TheVariants.{Gave, Synced}
 use Rattle.rep_replica.specs.Nodes.{Node, IsNode, Steps}
 
 -- the events at n one after another, the answer to each, and the node m after the last

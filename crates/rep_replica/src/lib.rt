@@ -1,13 +1,9 @@
 //! A replica: one node of the database, in one thread, as a state that events move.
 #![tactic(auto)]
 
-mod answer;
-mod event;
 mod laws;
 mod phase;
 mod replica;
 
-pub use answer::{Answer, Replies};
-pub use event::Event;
 pub use laws::runs_come_to;
 pub use replica::Replica;

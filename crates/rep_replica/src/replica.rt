@@ -5,15 +5,14 @@ ghost use Rattle.uuid.specs.Parts.{is_nil_bytes};
 ghost use Rattle.rep_types.specs.Replies.{reply_of};
 ghost use Rattle.rep_types.specs.Order.{window};
 ghost use Rattle.rep_record.specs.Fronts.{fitting};
-ghost use Rattle.rep_replica.specs.declared.event.Event.TheVariants.{Deliver, Log, Sync, Read};
+ghost use Rattle.rep_steps.specs.declared.event.Event.TheVariants.{Deliver, Log, Sync, Read};
 ghost use Rattle.rep_replica.specs.Nodes.{IsNode, Steps, after, gtid, gathered, pending, replies, logged, delivery_refusal, log_refusal, read_refusal};
 ghost use Rattle.rep_replica.specs.Runs.{Runs};
 
-use crate::answer::{Answer, Replies};
-use crate::event::Event;
 use crate::phase::Phase;
 use rep_plain::PlainNode;
 use rep_record::BlockBuilder;
+use rep_steps::{Answer, Event, Replies};
 use rep_types::{Entry, Gtid, Judged, Key, MAX_AHEAD, MAX_SEQNO, Params, Refusal, WriteSet};
 use std::alloc::Global;
 use std::marker::Model;

@@ -1,6 +1,7 @@
 //! The replica in memory: each call once.
 
-use rep_replica::{Answer, Event, Replica};
+use rep_replica::Replica;
+use rep_steps::{Answer, Event};
 use rep_types::{Key, Params, Refusal, Value, Verdict, Write, WriteSet};
 use std::alloc::Global;
 use std::test::Fail;

@@ -1,7 +1,7 @@
 //! The lines of a script.
 
 use rep_record::{Words, read_key, read_tail};
-use rep_replica::Event;
+use rep_steps::Event;
 use rep_types::{Refusal, read_number};
 
 /// What a line of a script asks for.

@@ -26,7 +26,7 @@ impl Model for Replies {
 
 impl Replies {
     /// No reply.
-    pub(crate) fn new() -> Replies
+    pub fn new() -> Replies
         ensures { result ≡ [] }
     {
         Replies {
@@ -35,7 +35,7 @@ impl Replies {
     }
 
     /// Puts a reply at the end.
-    pub(crate) fn push(&mut self, reply: Reply)
+    pub fn push(&mut self, reply: Reply)
         requires { length self.old < 64 }
         ensures { self.new ≡ self.old ++ reply ∷ [] }
     {

@@ -24,7 +24,7 @@ impl Event {
     ghost use Rattle.std.specs.Prelude.{◌≡◌};
 
     /// A copy of the event.
-    pub(crate) fn copied(&self) -> Event
+    pub fn copied(&self) -> Event
         ensures { result ≡ self.now }
     {
         match self {

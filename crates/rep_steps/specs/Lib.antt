@@ -1,0 +1,6 @@
+pub mod Standings
+pub mod Moves
+pub mod Nodes
+pub mod Orders
+pub mod Runs
+pub mod Images

@@ -1,0 +1,243 @@
+-- Steps of the facts, on any device.
+use Rattle.std.specs.Prelude.{◌≡◌, ◌⊎◌, ℕ, zero, suc, ◌+◌, ◌==◌, Bool, true, false, nat_le, nat_lt, not, ◌&&◌, if◌then◌else◌, List, [], ◌∷◌, ◌++◌, map, filter, take, drop, Option, IsTrue, MatchOption}
+use Rattle.std.specs.List.{list_any}
+use Rattle.rep_types.specs.declared.key.Key.{Key}
+use Rattle.rep_types.specs.declared.judged.Judged.{Judged}
+use Rattle.rep_types.specs.declared.reply.Reply.{Reply}
+use Rattle.rep_types.specs.declared.refusal.Refusal.TheVariants.{OutOfMemory, DiskFault, Corrupt}
+use Rattle.rep_types.specs.declared.refusal.Part.TheVariants.{Pages}
+use Rattle.rep_types.specs.declared.verdict.Verdict.{Verdict}
+use Rattle.rep_types.specs.Entries.{Entry}
+use Rattle.rep_types.specs.Settings.{pages_of}
+use Rattle.rep_types.specs.Replies.{reply_of}
+use Rattle.rep_types.specs.Transactions.{Transaction}
+use Rattle.rep_types.specs.Order.{counts, entry_of}
+use Rattle.rep_record.specs.Fronts.{fitting}
+use Rattle.rep_disk.specs.Calls.{Rises}
+use Rattle.rep_layout.specs.Rows.{row_place}
+use Rattle.rep_log.specs.declared.phase.Phase.{Phase}
+use Rattle.rep_log.specs.declared.phase.Phase.TheVariants.{Resting, Closing, Filling, Filled, Opening}
+use Rattle.rep_steps.specs.declared.event.Event.{Event}
+use Rattle.rep_steps.specs.declared.event.Event.TheVariants.{Deliver, Log, Sync, Check, Flush, Read}
+use Rattle.rep_steps.specs.declared.answer.Answer.{Answer}
+use Rattle.rep_steps.specs.declared.answer.Answer.TheVariants.{Gave, Wrote, Began, Synced, Row, Refused}
+use Rattle.rep_steps.specs.Standings.{Stage, Off, Flushing, Saving, Ready, SuperFilling, SuperFilled, SuperOpening, Retiring, Standing, delivered, refusal}
+
+-- What a step finds out beyond the facts: the verdict on the item, whether the next cell's gate stands open, the row.
+pub record Found : Type 0 where
+  pub verdict : Verdict
+  pub stale : Bool
+  pub row : Option (List ℕ)
+
+-- ---- the log
+
+-- how many of the items that are not durable the next block takes: the longest front that fits
+abbrev pub gathered : Standing → ℕ
+gathered s = fitting [] s.ahead
+
+-- how many items, and how many cells, the next sync makes durable
+abbrev pub opening : Phase → ℕ
+opening Resting = 0
+opening Closing = 0
+opening (Filling k) = 0
+opening (Filled k) = 0
+opening (Opening k) = k
+
+abbrev pub taken : Phase → ℕ
+taken Resting = 0
+taken Closing = 0
+taken (Filling k) = 0
+taken (Filled k) = 0
+taken (Opening k) = 1
+
+-- what the log writes next: the closed gate of a stale cell, the block, the open gate
+abbrev pub logged : ℕ → Bool → Phase → Phase
+logged k true Resting = Closing
+logged k false Resting = Filling k
+logged k stale Closing = Closing
+logged k stale (Filling m) = Filling m
+logged k stale (Filled m) = Opening m
+logged k stale (Opening m) = Opening m
+
+abbrev pub synced_phase : Phase → Phase
+synced_phase Resting = Resting
+synced_phase Closing = Resting
+synced_phase (Filling k) = Filled k
+synced_phase (Filled k) = Filled k
+synced_phase (Opening k) = Resting
+
+-- the replies to the origins of the items that the next sync makes durable
+abbrev pub replies : Standing → List Reply
+replies s = map reply_of (take (opening s.phase) s.ahead)
+
+-- ---- the checkpoint
+
+-- the numbers below this one
+abbrev pub below : ℕ → List ℕ
+below zero = []
+below (suc n) = below n ++ n ∷ []
+
+-- whether an item up to the position wrote a row of the page
+abbrev pub is_touched : List ℕ → ℕ → List Entry → ℕ → Bool
+is_touched rows position es page =
+    list_any (λ (e : Entry). nat_le e.seqno position && list_any (λ (key : Key). (row_place rows key).page == page) e.keys) es
+
+-- the pages with a version above the base and at most at the position
+abbrev pub touched : Standing → ℕ → List ℕ
+touched s position = filter (is_touched s.setting.rows position s.changed) (below (pages_of s.setting.rows))
+
+abbrev pub check_answer : Standing → Stage → Answer
+check_answer s Off = Began s.durable
+check_answer s (Flushing goal left) = Wrote
+check_answer s (Saving goal) = Wrote
+check_answer s (Ready goal) = Wrote
+check_answer s (SuperFilling goal) = Wrote
+check_answer s (SuperFilled goal) = Wrote
+check_answer s (SuperOpening goal) = Wrote
+check_answer s (Retiring written) = Wrote
+
+-- what a check makes of the stage, where it is due
+abbrev pub checked : Standing → Stage → Stage
+checked s Off = Flushing (record { position = s.durable; start = s.next }) (touched s s.durable)
+checked s (Flushing goal left) = Saving goal
+checked s (Saving goal) = Saving goal
+checked s (Ready goal) = SuperFilling goal
+checked s (SuperFilling goal) = SuperFilling goal
+checked s (SuperFilled goal) = SuperOpening goal
+checked s (SuperOpening goal) = SuperOpening goal
+checked s (Retiring written) = Retiring true
+
+abbrev pub flushed : ℕ → Stage → Stage
+flushed page Off = Off
+flushed page (Flushing goal left) = Flushing goal (filter (λ (p : ℕ). not (p == page)) left)
+flushed page (Saving goal) = Saving goal
+flushed page (Ready goal) = Ready goal
+flushed page (SuperFilling goal) = SuperFilling goal
+flushed page (SuperFilled goal) = SuperFilled goal
+flushed page (SuperOpening goal) = SuperOpening goal
+flushed page (Retiring written) = Retiring written
+
+abbrev pub synced_stage : Stage → Stage
+synced_stage Off = Off
+synced_stage (Flushing goal left) = Flushing goal left
+synced_stage (Saving goal) = Ready goal
+synced_stage (Ready goal) = Ready goal
+synced_stage (SuperFilling goal) = SuperFilled goal
+synced_stage (SuperFilled goal) = SuperFilled goal
+synced_stage (SuperOpening goal) = Retiring false
+synced_stage (Retiring true) = Off
+synced_stage (Retiring false) = Retiring false
+
+-- the base, and the first cell that is still needed, that the next sync leaves
+abbrev pub base_after : ℕ → Stage → ℕ
+base_after base Off = base
+base_after base (Flushing goal left) = base
+base_after base (Saving goal) = base
+base_after base (Ready goal) = base
+base_after base (SuperFilling goal) = base
+base_after base (SuperFilled goal) = base
+base_after base (SuperOpening goal) = goal.position
+base_after base (Retiring written) = base
+
+abbrev pub start_after : ℕ → Stage → ℕ
+start_after start Off = start
+start_after start (Flushing goal left) = start
+start_after start (Saving goal) = start
+start_after start (Ready goal) = start
+start_after start (SuperFilling goal) = start
+start_after start (SuperFilled goal) = start
+start_after start (SuperOpening goal) = goal.start
+start_after start (Retiring written) = start
+
+-- the entries behind a position
+abbrev pub behind : ℕ → List Entry → List Entry
+behind position es = filter (λ (e : Entry). nat_lt position e.seqno) es
+
+-- ---- a step
+
+-- the next item, with its verdict; its entry, where it takes effect
+abbrev pub next_item : Standing → Transaction → Verdict → Judged
+next_item s w v = record { seqno = delivered s + 1; item = w; verdict = v }
+
+abbrev pub entry_in : Judged → List Entry
+entry_in j = if counts j then entry_of j ∷ [] else []
+
+abbrev pub answer : Standing → Event → Found → Answer
+answer s (Deliver seqno w) found = Gave found.verdict
+answer s Log found = Wrote
+answer s Sync found = Synced (replies s)
+answer s Check found = check_answer s s.stage
+answer s (Flush page) found = Wrote
+answer s (Read key at) found = Row found.row
+
+abbrev pub after : Standing → Event → Found → Standing
+after s (Deliver seqno w) found = record s {
+  ahead = s.ahead ++ next_item s w found.verdict ∷ [];
+  changed = s.changed ++ entry_in (next_item s w found.verdict);
+}
+after s Log found = record s { phase = logged (gathered s) found.stale s.phase }
+after s Sync found = record s {
+  base = base_after s.base s.stage;
+  durable = s.durable + opening s.phase;
+  ahead = drop (opening s.phase) s.ahead;
+  changed = behind (base_after s.base s.stage) s.changed;
+  phase = synced_phase s.phase;
+  next = s.next + taken s.phase;
+  start = start_after s.start s.stage;
+  stage = synced_stage s.stage;
+}
+after s Check found = record s { stage = checked s s.stage }
+after s (Flush page) found = record s { stage = flushed page s.stage }
+after s (Read key at) found = s
+
+-- whether the event, where no refusal applies, may grow memory, and whether it calls the device: room for what is written is
+-- taken as items come, so that the log takes none
+abbrev pub is_off : Stage → Bool
+is_off Off = true
+is_off (Flushing goal left) = false
+is_off (Saving goal) = false
+is_off (Ready goal) = false
+is_off (SuperFilling goal) = false
+is_off (SuperFilled goal) = false
+is_off (SuperOpening goal) = false
+is_off (Retiring written) = false
+
+abbrev pub takes_memory : Standing → Event → Bool
+takes_memory s (Deliver seqno w) = true
+takes_memory s Log = false
+takes_memory s Sync = false
+takes_memory s Check = is_off s.stage
+takes_memory s (Flush page) = false
+takes_memory s (Read key at) = false
+
+abbrev pub takes_device : Standing → Event → Bool
+takes_device s (Deliver seqno w) = false
+takes_device s Log = true
+takes_device s Sync = true
+takes_device s Check = not (is_off s.stage)
+takes_device s (Flush page) = true
+takes_device s (Read key at) = true
+
+abbrev pub reads_a_page : Event → Bool
+reads_a_page (Deliver seqno w) = false
+reads_a_page Log = false
+reads_a_page Sync = false
+reads_a_page Check = false
+reads_a_page (Flush page) = true
+reads_a_page (Read key at) = true
+
+-- The step failed: memory was wanted and nothing changed, or the device failed, and the replica is stopped.
+abbrev pub Fails : Standing → Event → Answer → Standing → Type 0
+Fails s e a t =
+    (IsTrue (takes_memory s e) × (a ≡ Refused OutOfMemory) × (t ≡ s))
+    ⊎ (IsTrue (takes_device s e) × (a ≡ Refused DiskFault) × Rises s.failures t.failures × (t ≡ record s { failures = t.failures; stopped = true }))
+
+-- a page that it read is not of its form
+abbrev pub MeetsCorruption : Standing → Event → Answer → Standing → Type 0
+MeetsCorruption s e a t = IsTrue (reads_a_page e) × (a ≡ Refused (Corrupt Pages)) × (t ≡ s)
+
+-- An event at s, its answer, and the facts t after it, on any device.
+abbrev pub Moves : Standing → Event → Answer → Standing → Type 0
+Moves s e a t = MatchOption (refusal s e)
+    (((found : Found) × (a ≡ answer s e found) × (t ≡ after s e found)) ⊎ (Fails s e a t ⊎ MeetsCorruption s e a t))
+    (λ r. (a ≡ Refused r) × (t ≡ s))

@@ -1,0 +1,74 @@
+//! Laws of nodes, each as the contract of a function that does nothing.
+
+ghost use Rattle.rep_steps.specs.Nodes.{StepsAreMoves};
+ghost use Rattle.rep_steps.specs.Orders.{StepsFollowTheOrder, NodesHoldTheOrder};
+ghost use Rattle.rep_steps.specs.Runs.{RunsComeTo, ChangesAreKept, FedTheRest};
+ghost use Rattle.rep_steps.specs.Images.{FrontsStandForTheOrder, FrontsFromLayers, OpeningsOpenTheOrder};
+
+use rep_record::fronts_are_determined;
+use rep_types::state_is_enough;
+
+/// A step of a node moves its facts as on any device; and facts that moved so move a node, where the step
+/// found what the node finds.
+pub fn steps_are_moves()
+    ensures { StepsAreMoves }
+{}
+
+/// A node of an order holds it: as many items are delivered as it has, and the window at each position
+/// from the base on is the order's.
+pub fn nodes_hold_the_order()
+    ensures { NodesHoldTheOrder }
+{
+    state_is_enough();
+}
+
+/// A step at a node of an order leads to a node of the order with the item that was delivered, and is
+/// refused or answered what the order says.
+pub fn steps_follow_the_order()
+    ensures { StepsFollowTheOrder }
+{
+    state_is_enough();
+    fronts_are_determined();
+}
+
+/// Over a run the order grows by the write sets whose deliveries were answered by a verdict; those
+/// verdicts are those of the whole order; and the replies are those of the items that became durable,
+/// in their order, each once.
+pub fn runs_come_to()
+    ensures { RunsComeTo }
+{
+    state_is_enough();
+    fronts_are_determined();
+}
+
+/// What the committed items behind the base wrote is known after each step.
+pub fn changes_are_kept()
+    ensures { ChangesAreKept }
+{}
+
+/// A node that was opened on a front of an order and is fed the rest gives the verdicts and the replies
+/// of one that never stopped.
+pub fn fed_the_rest()
+    ensures { FedTheRest }
+{
+    state_is_enough();
+    fronts_are_determined();
+}
+
+/// A front of a node of an order stands for a front of the order.
+pub fn fronts_stand_for_the_order()
+    ensures { FrontsStandForTheOrder }
+{
+    state_is_enough();
+}
+
+/// What the log and the checkpoint tell of an image makes it a front of the node that has what is
+/// durable.
+pub fn fronts_from_layers()
+    ensures { FrontsFromLayers }
+{}
+
+/// What opening makes of an image is a node, of the order that the image stands for.
+pub fn openings_open_the_order()
+    ensures { OpeningsOpenTheOrder }
+{}

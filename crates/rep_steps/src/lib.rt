@@ -1,0 +1,15 @@
+//! The steps of a replica: what may happen to it, what it answers, and what it stands for. Each contract of a
+//! replica is said in these words, whatever its body is.
+#![tactic(auto)]
+
+mod answer;
+mod event;
+mod laws;
+
+pub use answer::{Answer, Replies};
+pub use event::Event;
+pub use laws::{
+    changes_are_kept, fed_the_rest, fronts_from_layers, fronts_stand_for_the_order,
+    nodes_hold_the_order, openings_open_the_order, runs_come_to, steps_are_moves,
+    steps_follow_the_order,
+};
