@@ -5,3 +5,4 @@ pub mod Moving
 pub mod Running
 pub mod Fronts
 pub mod Changing
+pub mod Driving

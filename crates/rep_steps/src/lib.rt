@@ -3,10 +3,12 @@
 #![tactic(auto)]
 
 mod answer;
+mod driver;
 mod event;
 mod laws;
 
 pub use answer::{Answer, Replies};
+pub use driver::{Core, Driver};
 pub use event::Event;
 pub use laws::{
     changes_are_kept, fed_the_rest, fronts_from_layers, fronts_stand_for_the_order,
