@@ -39,8 +39,8 @@ leaves_none h = record { later = omega arith; since = λ t image le since. inl s
 -- ---- fronts of longer orders
 
 module _ (means : List ℕ → Meaning → Type 0) where
-  front_longer : (p : Setting) (L M : Order) (d : ℕ) (image : List ℕ) → IsFrontOf means p L d image → IsFrontOf means p (L ++ M) d image
-  front_longer p L M d image f = record {
+  front_longer : (uuid : List ℕ) (p : Setting) (L M : Order) (d : ℕ) (image : List ℕ) → IsFrontOf means uuid p L d image → IsFrontOf means uuid p (L ++ M) d image
+  front_longer uuid p L M d image f = record {
     meaning = f.meaning;
     reads = f.reads;
     end = f.end;
@@ -50,7 +50,7 @@ module _ (means : List ℕ → Meaning → Type 0) where
   }
 
   -- what a node's images mean stands for a front of its order
-  front_of : StateIsEnough → (L : Order) (n : Node) (d : ℕ) (image : List ℕ) → IsNode n → IsOf L n → d ≤ n.facts.durable → IsFrontAt means n image → IsFrontOf means n.facts.setting L d image
+  front_of : StateIsEnough → (L : Order) (n : Node) (d : ℕ) (image : List ℕ) → IsNode n → IsOf L n → d ≤ n.facts.durable → IsFrontAt means n image → IsFrontOf means n.facts.uuid n.facts.setting L d image
   front_of enough L n d image h o le f = record {
     meaning = f.meaning;
     reads = f.reads;
@@ -84,9 +84,10 @@ run_more enough fronts means old mid new n k m events answers e a h node r s l =
       let M = L ++ accepted_by events answers in
       let whole : M ++ accepted e a ≡ L ++ accepted_by (events ++ e ∷ []) (answers ++ a ∷ []) =
       append_assoc L (accepted_by events answers) (accepted e a) ∙ ap (λ (K : Order). L ++ K) (sym (accepted_more Steps n k events answers e a r.runs)) in
-      let of : (image : List ℕ) → IsFrontAt means k image → IsFrontOf means n.facts.setting M n.facts.durable image =
-      λ image f. subst (λ (p : Setting). IsFrontOf means p M n.facts.durable image) c.setting (front_of means enough M k n.facts.durable image node c.order c.rises f) in
-      let longer : (image : List ℕ) → IsFrontOf means n.facts.setting M n.facts.durable image → IsFrontOf means n.facts.setting (L ++ accepted_by (events ++ e ∷ []) (answers ++ a ∷ [])) n.facts.durable image =
-      λ image f. subst (λ (K : Order). IsFrontOf means n.facts.setting K n.facts.durable image) whole (front_longer means n.facts.setting M (accepted e a) n.facts.durable image f) in
+      let of : (image : List ℕ) → IsFrontAt means k image → IsFrontOf means n.facts.uuid n.facts.setting M n.facts.durable image =
+      λ image f. subst (λ (uuid : List ℕ). IsFrontOf means uuid n.facts.setting M n.facts.durable image) c.uuid
+          (subst (λ (p : Setting). IsFrontOf means k.facts.uuid p M n.facts.durable image) c.setting (front_of means enough M k n.facts.durable image node c.order c.rises f)) in
+      let longer : (image : List ℕ) → IsFrontOf means n.facts.uuid n.facts.setting M n.facts.durable image → IsFrontOf means n.facts.uuid n.facts.setting (L ++ accepted_by (events ++ e ∷ []) (answers ++ a ∷ [])) n.facts.durable image =
+      λ image f. subst (λ (K : Order). IsFrontOf means n.facts.uuid n.facts.setting K n.facts.durable image) whole (front_longer means n.facts.uuid n.facts.setting M (accepted e a) n.facts.durable image f) in
       leaves_both old mid new (leaves_weaker old mid longer (r.leaves L o)) (leaves_weaker mid new (λ image f. longer image (of image f)) l);
 }

@@ -1,5 +1,5 @@
 -- What images mean.
-use Rattle.std.proofs.Common.{◌≡◌, ℕ, ◌+◌, ◌-◌, ◌≤◌, inl, inr, List, length, take, drop, sym, ap, subst, ◌∙◌, arith}
+use Rattle.std.proofs.Common.{◌≡◌, ℕ, ◌+◌, ◌-◌, ◌≤◌, inl, inr, List, length, take, drop, refl, sym, ap, subst, ◌∙◌, arith}
 use Rattle.std.proofs.lemmas.List.{length-take-le, take-take, drop-take, drop-drop}
 use Rattle.rep_types.specs.declared.judged.Judged.{Judged}
 use Rattle.rep_types.specs.Verdicts.{StateIsEnough}
@@ -26,6 +26,8 @@ fronts_stand enough L n end b h o f =
     let at : b.base.position ≡ c + f.past = ap (λ (S : State). S.position) base ∙ length-take-le (c + f.past) L far in
     let left : c + f.past + (end - (c + f.past)) ≡ end = omega (arith, f.order) in
     record {
+      uuid_is = f.uuid_is;
+      setting_is = f.setting_is;
       within = omega (arith, at, f.order, length-take-le end L most);
       base_is = base ∙ ap (state p) (sym (take-take (c + f.past) end L f.order)) ∙ ap (λ k. state p (take k (take end L))) (sym at);
       tail_is = f.tail_is
@@ -44,8 +46,10 @@ ends_within n end h (inr e) =
     (omega (arith, e.2), omega (arith, e.2, block, waiting n h, h.position))
 
 front_by : (n : Node) (at : ℕ → ℕ) (scan : ℕ → List Judged) (base : State) (start : ℕ) → IsNode n → Anchored n at → (t : LogTells n at scan) → CheckpointTells n base start
-    → n.facts.durable ≤ t.end → t.end ≤ n.base.position + length n.items → IsFront n t.end (record { base = base; tail = scan start })
+    → n.facts.durable ≤ t.end → t.end ≤ n.base.position + length n.items → IsFront n t.end (record { uuid = n.facts.uuid; setting = n.facts.setting; base = base; tail = scan start })
 front_by n at scan base start h a t (inl c) least most = record {
+  uuid_is = refl;
+  setting_is = refl;
   past = 0;
   order = omega (arith, h.facts.based, h.position, least);
   within = most;
@@ -62,6 +66,8 @@ front_by n at scan base start h a t (inr c) least most =
     let there : at goal.start ≡ goal.position = a.goal goal c.1 in
     let whole : goal.position ≡ n.base.position + (goal.position - n.base.position) = omega (arith, is.above, h.position) in
     record {
+      uuid_is = refl;
+      setting_is = refl;
       past = goal.position - n.base.position;
       order = omega (arith, whole, is.within, least);
       within = most;

@@ -15,20 +15,26 @@ use Rattle.rep_steps.specs.Nodes.{Node, IsNode, Steps, reached}
 use Rattle.rep_steps.specs.Orders.{IsOf}
 use Rattle.rep_steps.specs.Runs.{Runs, accepted_by}
 
--- What an image means: a base, and the tail behind it.
+-- What an image means: of which state UUID and under which parameters it is, a base, and the tail behind it.
 pub record Meaning : Type 0 where
+  pub uuid : List ℕ
+  pub setting : Setting
   pub base : State
   pub tail : List Judged
 
 -- The meaning stands for the order.
-pub record StandsFor (p : Setting) (L : Order) (b : Meaning) : Type 0 where
+pub record StandsFor (uuid : List ℕ) (p : Setting) (L : Order) (b : Meaning) : Type 0 where
+  pub uuid_is : b.uuid ≡ uuid
+  pub setting_is : b.setting ≡ p
   pub within : b.base.position ≤ length L
   pub base_is : b.base ≡ state p (take b.base.position L)
   pub tail_is : b.tail ≡ drop b.base.position (history p L)
 
 -- The meaning is a front, up to a position, of a base and the items behind it: its base is a state on the way, its tail the
 -- items from there.
-pub record IsFrontFrom (p : Setting) (first : State) (items : List Judged) (end : ℕ) (b : Meaning) : Type 0 where
+pub record IsFrontFrom (uuid : List ℕ) (p : Setting) (first : State) (items : List Judged) (end : ℕ) (b : Meaning) : Type 0 where
+  pub uuid_is : b.uuid ≡ uuid
+  pub setting_is : b.setting ≡ p
   pub past : ℕ
   pub order : first.position + past ≤ end
   pub within : end ≤ first.position + length items
@@ -37,10 +43,10 @@ pub record IsFrontFrom (p : Setting) (first : State) (items : List Judged) (end 
 
 -- a front of the node: the same for each node with its base and items
 abbrev pub IsFront : Node → ℕ → Meaning → Type 0
-IsFront n end b = IsFrontFrom n.facts.setting n.base n.items end b
+IsFront n end b = IsFrontFrom n.facts.uuid n.facts.setting n.base n.items end b
 
 abbrev pub FrontsStandForTheOrder : Type 0
-FrontsStandForTheOrder = (L : Order) (n : Node) (end : ℕ) (b : Meaning) → IsNode n → IsOf L n → IsFront n end b → StandsFor n.facts.setting (take end L) b
+FrontsStandForTheOrder = (L : Order) (n : Node) (end : ℕ) (b : Meaning) → IsNode n → IsOf L n → IsFront n end b → StandsFor n.facts.uuid n.facts.setting (take end L) b
 
 -- Where a log's gate is opening, the block may be there or not.
 abbrev pub Ends : Node → ℕ → Type 0
@@ -55,19 +61,19 @@ pub record IsFrontAt (means : List ℕ → Meaning → Type 0) (n : Node) (image
   pub front : IsFront n end meaning
 
 -- An image stands for a front of the order that has its first d items.
-pub record IsFrontOf (means : List ℕ → Meaning → Type 0) (p : Setting) (L : Order) (d : ℕ) (image : List ℕ) : Type 0 where
+pub record IsFrontOf (means : List ℕ → Meaning → Type 0) (uuid : List ℕ) (p : Setting) (L : Order) (d : ℕ) (image : List ℕ) : Type 0 where
   pub meaning : Meaning
   pub reads : means image meaning
   pub end : ℕ
   pub least : d ≤ end
   pub most : end ≤ length L
-  pub stands : StandsFor p (take end L) meaning
+  pub stands : StandsFor uuid p (take end L) meaning
 
 -- A run at n: the steps, and at each moment of it a stop leaves only images that stand for a front of the order that grew, with
 -- what was durable at its start.
 pub record RunsOn (means : List ℕ → Meaning → Type 0) (old new : History) (n : Node) (events : List Event) (answers : List Answer) (m : Node) : Type 0 where
   pub runs : Runs Steps n events answers m
-  pub leaves : (L : Order) → IsOf L n → LeavesOnly old new (IsFrontOf means n.facts.setting (L ++ accepted_by events answers) n.facts.durable)
+  pub leaves : (L : Order) → IsOf L n → LeavesOnly old new (IsFrontOf means n.facts.uuid n.facts.setting (L ++ accepted_by events answers) n.facts.durable)
 
 -- ---- what the log and the checkpoint tell
 
@@ -91,32 +97,32 @@ CheckpointTells n base start =
 -- So each image means a front that has what is durable, with no cases by pairs.
 abbrev pub FrontsFromLayers : Type 0
 FrontsFromLayers = (n : Node) (at : ℕ → ℕ) (scan : ℕ → List Judged) (base : State) (start : ℕ) → IsNode n → Anchored n at → LogTells n at scan → CheckpointTells n base start
-    → (end : ℕ) × (n.facts.durable ≤ end) × IsFront n end (record { base = base; tail = scan start })
+    → (end : ℕ) × (n.facts.durable ≤ end) × IsFront n end (record { uuid = n.facts.uuid; setting = n.facts.setting; base = base; tail = scan start })
 
 -- ---- opening
 
 -- the node that opening makes of an image's meaning
 abbrev pub opened : Standing → (ℕ → Bool) → Meaning → Node
 opened s gates b = record {
-  facts = record s { base = b.base.position; durable = b.base.position + length b.tail; ahead = []; changed = entries b.tail; phase = Resting };
+  facts = record s { uuid = b.uuid; setting = b.setting; base = b.base.position; durable = b.base.position + length b.tail; ahead = []; changed = entries b.tail; phase = Resting };
   base = b.base;
   items = b.tail;
   gates = gates;
 }
 
--- where the image says what the parameters, the cells and the stage are
+-- where the image says what the cells and the stage are
 pub record IsOpening (s : Standing) (b : Meaning) : Type 0 where
-  pub allowed : IsTrue (is_setting s.setting)
-  pub undefined : IsTrue (is_nil_bytes s.uuid) → b.base.position + length b.tail ≡ 0
+  pub allowed : IsTrue (is_setting b.setting)
+  pub undefined : IsTrue (is_nil_bytes b.uuid) → b.base.position + length b.tail ≡ 0
   pub limit : b.base.position + length b.tail ≤ MAX_SEQNO
   pub started : s.start ≤ s.next
-  pub room : s.next ≤ s.start + s.setting.cells
+  pub room : s.next ≤ s.start + b.setting.cells
   pub stage : (s.stage ≡ Off) ⊎ (s.stage ≡ Retiring false)
 
 -- It is a node, and of the order that the image stands for.
 pub record OpensTheOrder (s : Standing) (gates : ℕ → Bool) (b : Meaning) : Type 0 where
   pub node : IsNode (opened s gates b)
-  pub order : (L : Order) → StandsFor s.setting L b → IsOf L (opened s gates b)
+  pub order : (L : Order) → StandsFor b.uuid b.setting L b → IsOf L (opened s gates b)
 
 abbrev pub OpeningsOpenTheOrder : Type 0
 OpeningsOpenTheOrder = (s : Standing) (gates : ℕ → Bool) (b : Meaning) → IsOpening s b → OpensTheOrder s gates b
