@@ -86,7 +86,7 @@ run_more enough fronts means old mid new n k m events answers e a h node r s l =
       append_assoc L (accepted_by events answers) (accepted e a) ∙ ap (λ (K : Order). L ++ K) (sym (accepted_more Steps n k events answers e a r.runs)) in
       let of : (image : List ℕ) → IsFrontAt means k image → IsFrontOf means n.facts.uuid n.facts.setting M n.facts.durable image =
       λ image f. subst (λ (uuid : List ℕ). IsFrontOf means uuid n.facts.setting M n.facts.durable image) c.uuid
-          (subst (λ (p : Setting). IsFrontOf means k.facts.uuid p M n.facts.durable image) c.setting (front_of means enough M k n.facts.durable image node c.order c.rises f)) in
+      (subst (λ (p : Setting). IsFrontOf means k.facts.uuid p M n.facts.durable image) c.setting (front_of means enough M k n.facts.durable image node c.order c.rises f)) in
       let longer : (image : List ℕ) → IsFrontOf means n.facts.uuid n.facts.setting M n.facts.durable image → IsFrontOf means n.facts.uuid n.facts.setting (L ++ accepted_by (events ++ e ∷ []) (answers ++ a ∷ [])) n.facts.durable image =
       λ image f. subst (λ (K : Order). IsFrontOf means n.facts.uuid n.facts.setting K n.facts.durable image) whole (front_longer means n.facts.uuid n.facts.setting M (accepted e a) n.facts.durable image f) in
       leaves_both old mid new (leaves_weaker old mid longer (r.leaves L o)) (leaves_weaker mid new (λ image f. longer image (of image f)) l);

@@ -6,3 +6,4 @@ pub mod Running
 pub mod Fronts
 pub mod Changing
 pub mod Driving
+pub mod Judging

@@ -25,7 +25,7 @@ abbrev pub next_judged : Setting → State → Transaction → Judged
 next_judged p S w = record { seqno = S.position + 1; item = w; verdict = judge p S.position S.kept w }
 
 -- what an item makes of the state is what the order makes of it
-advanced_is : (p : Setting) (S : State) (w : Transaction) → advanced p S (next_judged p S w) ≡ after p S w
+pub advanced_is : (p : Setting) (S : State) (w : Transaction) → advanced p S (next_judged p S w) ≡ after p S w
 advanced_is p S w = refl
 
 -- a front of the order with the item behind it
@@ -34,7 +34,7 @@ next_item_is L k lt = take_more L k no_item lt ∙ ap (λ i. take k L ++ get_or 
 
 module _ (enough : StateIsEnough) (p : Setting) where
   -- behind a front of the order comes its next item, with its verdict
-  next_is : (L : Order) (k : ℕ) → k < length L → next_judged p (state p (take k L)) (item L (k + 1)) ≡ judged p L (k + 1)
+  pub next_is : (L : Order) (k : ℕ) → k < length L → next_judged p (state p (take k L)) (item L (k + 1)) ≡ judged p L (k + 1)
   next_is L k lt =
       let long : length (take k L) ≡ k = length-take-le k L (omega (arith, lt)) in
       let w = item L (k + 1) in
@@ -46,7 +46,7 @@ module _ (enough : StateIsEnough) (p : Setting) where
       ap (λ v. made (length (take k L)) v) own ∙ ap (λ n. made n (verdict p L (k + 1))) long
 
   -- one item more
-  state_next : (L : Order) (k : ℕ) → k < length L → advanced p (state p (take k L)) (judged p L (k + 1)) ≡ state p (take (k + 1) L)
+  pub state_next : (L : Order) (k : ℕ) → k < length L → advanced p (state p (take k L)) (judged p L (k + 1)) ≡ state p (take (k + 1) L)
   state_next L k lt =
       ap (advanced p (state p (take k L))) (sym (next_is L k lt)) ∙ advanced_is p (state p (take k L)) (item L (k + 1))
       ∙ enough.states p (take k L) (item L (k + 1)) ∙ ap (state p) (sym (next_item_is L k lt))

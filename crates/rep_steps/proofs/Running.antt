@@ -41,7 +41,7 @@ both_of : (p : Setting) (L M : Order) → history p (L ++ M) ≡ history p L ++ 
 both_of p L M = sym (take-append-drop (length L) (history p (L ++ M))) ∙ ap (λ js. js ++ drop (length L) (history p (L ++ M))) (front_of p L M)
 
 -- what stands behind a place in it, and then behind the front
-behind_of : (p : Setting) (L M : Order) (d : ℕ) → d ≤ length L → drop d (history p (L ++ M)) ≡ drop d (history p L) ++ drop (length L) (history p (L ++ M))
+pub behind_of : (p : Setting) (L M : Order) (d : ℕ) → d ≤ length L → drop d (history p (L ++ M)) ≡ drop d (history p L) ++ drop (length L) (history p (L ++ M))
 behind_of p L M d le = ap (drop d) (both_of p L M) ∙ drop-append-le d (history p L) (drop (length L) (history p (L ++ M))) (omega (arith, le, length_history p L))
 
 -- and the first k items there
@@ -72,7 +72,7 @@ record StepsTo (L : Order) (n : Node) (e : Event) (a : Answer) (m : Node) : Type
 no_replies : (k : ℕ) (js : List Judged) → k ≡ 0 → [] ≡ map reply_of (take k js)
 no_replies k js e = sym (ap (λ i. map reply_of (take i js)) e)
 
-none_behind : (p : Setting) (L : Order) → drop (length L) (history p L) ≡ []
+pub none_behind : (p : Setting) (L : Order) → drop (length L) (history p L) ≡ []
 none_behind p L = drop_all (length L) (history p L) (omega (arith, length_history p L))
 
 quiet_steps : (L : Order) (n m : Node) (e : Event) (a : Answer) → L ++ accepted e a ≡ L → IsQuiet n m a → StepsTo L n e a m

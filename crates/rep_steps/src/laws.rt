@@ -3,7 +3,7 @@
 ghost use Rattle.rep_steps.specs.Nodes.{StepsAreMoves};
 ghost use Rattle.rep_steps.specs.Orders.{StepsFollowTheOrder, NodesHoldTheOrder};
 ghost use Rattle.rep_steps.specs.Runs.{RunsComeTo, ChangesAreKept, FedTheRest};
-ghost use Rattle.rep_steps.specs.Images.{FrontsStandForTheOrder, FrontsFromLayers, OpeningsOpenTheOrder};
+ghost use Rattle.rep_steps.specs.Images.{JudgedItemsExtendTheOrder, FrontsStandForTheOrder, FrontsFromLayers, OpeningsOpenTheOrder};
 
 use rep_record::fronts_are_determined;
 use rep_types::state_is_enough;
@@ -53,6 +53,14 @@ pub fn fed_the_rest()
 {
     state_is_enough();
     fronts_are_determined();
+}
+
+/// Items that have each the next seqno and the verdict of judging it, from an order's state on, are those of
+/// the order with their write sets at its end; and what stands for an order has such items.
+pub fn judged_items_extend_the_order()
+    ensures { JudgedItemsExtendTheOrder }
+{
+    state_is_enough();
 }
 
 /// A front of a node of an order stands for a front of the order.

@@ -1,0 +1,27 @@
+//! Laws of images, each as the contract of a function that does nothing.
+
+ghost use Rattle.rep_image.specs.Meanings.{ImagesMeanOneThing, ImagesStandForOrders};
+
+use rep_layout::{superblocks_are_told, windows_are_told};
+use rep_log::the_log_is_told;
+use rep_pages::pages_are_told;
+use rep_steps::judged_items_extend_the_order;
+
+/// An image means one thing at most: a base and the items behind it, of one cluster and one set of
+/// parameters. So whatever opens it can find nothing else.
+pub fn images_mean_one_thing()
+    ensures { ImagesMeanOneThing }
+{
+    superblocks_are_told();
+    windows_are_told();
+    pages_are_told();
+    the_log_is_told();
+}
+
+/// Where the base of what an image means is an order's state, the image stands for the order with the write
+/// sets of its log at the end.
+pub fn images_stand_for_orders()
+    ensures { ImagesStandForOrders }
+{
+    judged_items_extend_the_order();
+}

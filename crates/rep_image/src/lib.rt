@@ -1,0 +1,6 @@
+//! What an image of a device means: the base that its superblock names, and the items of its log behind that.
+#![tactic(auto)]
+
+mod laws;
+
+pub use laws::{images_mean_one_thing, images_stand_for_orders};
