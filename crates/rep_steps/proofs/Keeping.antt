@@ -9,7 +9,7 @@ use Rattle.rep_log.specs.declared.phase.Phase.{Phase}
 use Rattle.rep_log.specs.declared.phase.Phase.TheVariants.{Resting, Closing, Filling, Filled, Opening}
 use Rattle.rep_steps.specs.declared.event.Event.{Event}
 use Rattle.rep_steps.specs.declared.event.Event.TheVariants.{Deliver, Log, Sync, Check, Flush, Read}
-use Rattle.rep_steps.specs.Standings.{Goal, Stage, Off, Flushing, Saving, Ready, SuperFilling, SuperFilled, SuperOpening, Retiring, Standing, IsGoal, HasGoal, IsStanding, underway, claimed, delivery_refusal, log_refusal, check_refusal, refusal_here}
+use Rattle.rep_steps.specs.Standings.{Goal, Flushing, Saving, Ready, SuperFilling, SuperFilled, SuperOpening, Stage, Off, Toward, Retiring, Standing, IsGoal, HasGoal, IsStanding, underway, claimed, delivery_refusal, log_refusal, check_refusal, refusal_here}
 use Rattle.rep_steps.specs.Moves.{Found, after, gathered, opening, taken, logged, synced_phase, checked, flushed, synced_stage, base_after, start_after, next_item}
 use Rattle.rep_steps.proofs.Reaching.{reached_position}
 use Rattle.rep_steps.specs.Nodes.{Node, IsNode, moved, found, passed}
@@ -101,12 +101,12 @@ pub record Bases (base durable start next : ℕ) (stage : Stage) : Type 0 where
 
 pub bases : (base durable start next : ℕ) (stage : Stage) → base ≤ durable → start ≤ next → HasGoal base durable start next stage → Bases base durable start next stage
 bases base durable start next Off le lt h = record { above = omega arith; within = le; started = omega arith; begun = lt }
-bases base durable start next (Flushing goal left) le lt h = record { above = omega arith; within = le; started = omega arith; begun = lt }
-bases base durable start next (Saving goal) le lt h = record { above = omega arith; within = le; started = omega arith; begun = lt }
-bases base durable start next (Ready goal) le lt h = record { above = omega arith; within = le; started = omega arith; begun = lt }
-bases base durable start next (SuperFilling goal) le lt h = record { above = omega arith; within = le; started = omega arith; begun = lt }
-bases base durable start next (SuperFilled goal) le lt h = record { above = omega arith; within = le; started = omega arith; begun = lt }
-bases base durable start next (SuperOpening goal) le lt h = record { above = omega (arith, h.above); within = h.within; started = h.started; begun = h.begun }
+bases base durable start next (Toward goal (Flushing left)) le lt h = record { above = omega arith; within = le; started = omega arith; begun = lt }
+bases base durable start next (Toward goal Saving) le lt h = record { above = omega arith; within = le; started = omega arith; begun = lt }
+bases base durable start next (Toward goal Ready) le lt h = record { above = omega arith; within = le; started = omega arith; begun = lt }
+bases base durable start next (Toward goal SuperFilling) le lt h = record { above = omega arith; within = le; started = omega arith; begun = lt }
+bases base durable start next (Toward goal SuperFilled) le lt h = record { above = omega arith; within = le; started = omega arith; begun = lt }
+bases base durable start next (Toward goal SuperOpening) le lt h = record { above = omega (arith, h.above); within = h.within; started = h.started; begun = h.begun }
 bases base durable start next (Retiring written) le lt h = record { above = omega arith; within = le; started = omega arith; begun = lt }
 
 -- a goal that lay within goes on doing so
@@ -116,12 +116,12 @@ later_goal base durable start next more cells goal h = record { above = h.above;
 goal_synced : (base durable start next more cells : ℕ) (stage : Stage) → HasGoal base durable start next stage
     → HasGoal (base_after base stage) (durable + more) (start_after start stage) (next + cells) (synced_stage stage)
 goal_synced base durable start next more cells Off h = tt
-goal_synced base durable start next more cells (Flushing goal left) h = later_goal base durable start next more cells goal h
-goal_synced base durable start next more cells (Saving goal) h = later_goal base durable start next more cells goal h
-goal_synced base durable start next more cells (Ready goal) h = later_goal base durable start next more cells goal h
-goal_synced base durable start next more cells (SuperFilling goal) h = later_goal base durable start next more cells goal h
-goal_synced base durable start next more cells (SuperFilled goal) h = later_goal base durable start next more cells goal h
-goal_synced base durable start next more cells (SuperOpening goal) h = tt
+goal_synced base durable start next more cells (Toward goal (Flushing left)) h = later_goal base durable start next more cells goal h
+goal_synced base durable start next more cells (Toward goal Saving) h = later_goal base durable start next more cells goal h
+goal_synced base durable start next more cells (Toward goal Ready) h = later_goal base durable start next more cells goal h
+goal_synced base durable start next more cells (Toward goal SuperFilling) h = later_goal base durable start next more cells goal h
+goal_synced base durable start next more cells (Toward goal SuperFilled) h = later_goal base durable start next more cells goal h
+goal_synced base durable start next more cells (Toward goal SuperOpening) h = tt
 goal_synced base durable start next more cells (Retiring true) h = tt
 goal_synced base durable start next more cells (Retiring false) h = tt
 
@@ -159,12 +159,7 @@ syncs s f h =
 
 goal_checked : (s : Standing) (stage : Stage) → IsStanding s → check_refusal s stage ≡ None → HasGoal s.base s.durable s.start s.next stage → HasGoal s.base s.durable s.start s.next (checked s stage)
 goal_checked s Off h none g = record { above = grind (arith, nat_tests); within = omega arith; started = h.started; begun = omega arith }
-goal_checked s (Flushing goal left) h none g = g
-goal_checked s (Saving goal) h none g = g
-goal_checked s (Ready goal) h none g = g
-goal_checked s (SuperFilling goal) h none g = g
-goal_checked s (SuperFilled goal) h none g = g
-goal_checked s (SuperOpening goal) h none g = g
+goal_checked s (Toward goal part) h none g = g
 goal_checked s (Retiring written) h none g = tt
 
 checks : (s : Standing) (f : Found) → IsStanding s → check_refusal s s.stage ≡ None → IsStanding (after s Check f)
@@ -183,12 +178,7 @@ checks s f h none = record {
 
 goal_flushed : (base durable start next page : ℕ) (stage : Stage) → HasGoal base durable start next stage → HasGoal base durable start next (flushed page stage)
 goal_flushed base durable start next page Off g = tt
-goal_flushed base durable start next page (Flushing goal left) g = g
-goal_flushed base durable start next page (Saving goal) g = g
-goal_flushed base durable start next page (Ready goal) g = g
-goal_flushed base durable start next page (SuperFilling goal) g = g
-goal_flushed base durable start next page (SuperFilled goal) g = g
-goal_flushed base durable start next page (SuperOpening goal) g = g
+goal_flushed base durable start next page (Toward goal part) g = g
 goal_flushed base durable start next page (Retiring written) g = tt
 
 flushes : (s : Standing) (page : ℕ) (f : Found) → IsStanding s → IsStanding (after s (Flush page) f)

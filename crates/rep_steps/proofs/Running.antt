@@ -15,7 +15,7 @@ use Rattle.rep_steps.specs.declared.event.Event.{Event}
 use Rattle.rep_steps.specs.declared.event.Event.TheVariants.{Deliver, Log, Sync, Check, Flush, Read}
 use Rattle.rep_steps.specs.declared.answer.Answer.{Answer}
 use Rattle.rep_steps.specs.declared.answer.Answer.TheVariants.{Wrote, Row, Refused}
-use Rattle.rep_steps.specs.Standings.{Stage, Off, Flushing, Saving, Ready, SuperFilling, SuperFilled, SuperOpening, Retiring, Standing}
+use Rattle.rep_steps.specs.Standings.{Stage, Off, Toward, Retiring, Standing}
 use Rattle.rep_steps.specs.Moves.{answer, check_answer, opening}
 use Rattle.rep_steps.specs.Nodes.{Node, IsNode, moved, found}
 use Rattle.rep_steps.specs.Orders.{IsOf, accepted}
@@ -86,22 +86,12 @@ quiet_steps L n m e a same q = record {
 
 check_verdict : (s : Standing) (stage : Stage) → verdict_in (check_answer s stage) ≡ []
 check_verdict s Off = refl
-check_verdict s (Flushing goal left) = refl
-check_verdict s (Saving goal) = refl
-check_verdict s (Ready goal) = refl
-check_verdict s (SuperFilling goal) = refl
-check_verdict s (SuperFilled goal) = refl
-check_verdict s (SuperOpening goal) = refl
+check_verdict s (Toward goal part) = refl
 check_verdict s (Retiring written) = refl
 
 check_reply : (s : Standing) (stage : Stage) → replies_in (check_answer s stage) ≡ []
 check_reply s Off = refl
-check_reply s (Flushing goal left) = refl
-check_reply s (Saving goal) = refl
-check_reply s (Ready goal) = refl
-check_reply s (SuperFilling goal) = refl
-check_reply s (SuperFilled goal) = refl
-check_reply s (SuperOpening goal) = refl
+check_reply s (Toward goal part) = refl
 check_reply s (Retiring written) = refl
 
 module _ (enough : StateIsEnough) (L : Order) (n : Node) (h : IsNode n) (o : IsOf L n) where

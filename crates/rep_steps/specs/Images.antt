@@ -11,7 +11,7 @@ use Rattle.rep_disk.specs.Moments.{LeavesOnly}
 use Rattle.rep_log.specs.declared.phase.Phase.TheVariants.{Resting, Opening}
 use Rattle.rep_steps.specs.declared.event.Event.{Event}
 use Rattle.rep_steps.specs.declared.answer.Answer.{Answer}
-use Rattle.rep_steps.specs.Standings.{Goal, Off, SuperOpening, Retiring, Standing}
+use Rattle.rep_steps.specs.Standings.{Goal, SuperOpening, Off, Toward, Retiring, Standing}
 use Rattle.rep_steps.specs.Nodes.{Node, IsNode, Steps, advanced, reached}
 use Rattle.rep_steps.specs.Orders.{IsOf}
 use Rattle.rep_steps.specs.Runs.{Runs, accepted_by}
@@ -97,7 +97,7 @@ pub record RunsOn (means : List ℕ → Meaning → Type 0) (old new : History) 
 -- The positions that cells begin at: the first cell at the base, the goal's at the goal.
 pub record Anchored (n : Node) (at : ℕ → ℕ) : Type 0 where
   pub first : at n.facts.start ≡ n.base.position
-  pub goal : (goal : Goal) → n.facts.stage ≡ SuperOpening goal → at goal.start ≡ goal.position
+  pub goal : (goal : Goal) → n.facts.stage ≡ Toward goal SuperOpening → at goal.start ≡ goal.position
 
 -- The log's: from each cell on, a scan takes the durable items, or those with the block whose gate is opening.
 pub record LogTells (n : Node) (at : ℕ → ℕ) (scan : ℕ → List Judged) : Type 0 where
@@ -109,7 +109,7 @@ pub record LogTells (n : Node) (at : ℕ → ℕ) (scan : ℕ → List Judged) :
 abbrev pub CheckpointTells : Node → State → ℕ → Type 0
 CheckpointTells n base start =
     ((base ≡ n.base) × (start ≡ n.facts.start))
-    ⊎ ((goal : Goal) × (n.facts.stage ≡ SuperOpening goal) × (base ≡ reached n.facts.setting n.base (take (goal.position - n.base.position) n.items)) × (start ≡ goal.start))
+    ⊎ ((goal : Goal) × (n.facts.stage ≡ Toward goal SuperOpening) × (base ≡ reached n.facts.setting n.base (take (goal.position - n.base.position) n.items)) × (start ≡ goal.start))
 
 -- So each image means a front that has what is durable, with no cases by pairs.
 abbrev pub FrontsFromLayers : Type 0

@@ -21,7 +21,7 @@ use Rattle.rep_steps.specs.declared.event.Event.{Event}
 use Rattle.rep_steps.specs.declared.event.Event.TheVariants.{Deliver, Log, Sync, Check, Flush, Read}
 use Rattle.rep_steps.specs.declared.answer.Answer.{Answer}
 use Rattle.rep_steps.specs.declared.answer.Answer.TheVariants.{Gave, Wrote, Began, Synced, Row, Refused}
-use Rattle.rep_steps.specs.Standings.{Stage, Off, Flushing, Saving, Ready, SuperFilling, SuperFilled, SuperOpening, Retiring, Standing, delivered, refusal}
+use Rattle.rep_steps.specs.Standings.{Part, Flushing, Saving, Ready, SuperFilling, SuperFilled, SuperOpening, Stage, Off, Toward, Retiring, Standing, delivered, refusal}
 
 -- What a step finds out beyond the facts: the verdict on the item, whether the next cell's gate stands open, the row.
 pub record Found : Type 0 where
@@ -37,18 +37,12 @@ gathered s = fitting [] s.ahead
 
 -- how many items, and how many cells, the next sync makes durable
 abbrev pub opening : Phase → ℕ
-opening Resting = 0
-opening Closing = 0
-opening (Filling k) = 0
-opening (Filled k) = 0
 opening (Opening k) = k
+opening phase = 0
 
 abbrev pub taken : Phase → ℕ
-taken Resting = 0
-taken Closing = 0
-taken (Filling k) = 0
-taken (Filled k) = 0
 taken (Opening k) = 1
+taken phase = 0
 
 -- what the log writes next: the closed gate of a stale cell, the block, the open gate
 abbrev pub logged : ℕ → Bool → Phase → Phase
@@ -88,66 +82,46 @@ touched s position = filter (is_touched s.setting.rows position s.changed) (belo
 
 abbrev pub check_answer : Standing → Stage → Answer
 check_answer s Off = Began s.durable
-check_answer s (Flushing goal left) = Wrote
-check_answer s (Saving goal) = Wrote
-check_answer s (Ready goal) = Wrote
-check_answer s (SuperFilling goal) = Wrote
-check_answer s (SuperFilled goal) = Wrote
-check_answer s (SuperOpening goal) = Wrote
-check_answer s (Retiring written) = Wrote
+check_answer s stage = Wrote
 
 -- what a check makes of the stage, where it is due
+abbrev pub next_part : Part → Part
+next_part (Flushing left) = Saving
+next_part Ready = SuperFilling
+next_part SuperFilled = SuperOpening
+next_part part = part
+
 abbrev pub checked : Standing → Stage → Stage
-checked s Off = Flushing (record { position = s.durable; start = s.next }) (touched s s.durable)
-checked s (Flushing goal left) = Saving goal
-checked s (Saving goal) = Saving goal
-checked s (Ready goal) = SuperFilling goal
-checked s (SuperFilling goal) = SuperFilling goal
-checked s (SuperFilled goal) = SuperOpening goal
-checked s (SuperOpening goal) = SuperOpening goal
+checked s Off = Toward (record { position = s.durable; start = s.next }) (Flushing (touched s s.durable))
+checked s (Toward goal part) = Toward goal (next_part part)
 checked s (Retiring written) = Retiring true
+
+-- a page is no longer left
+abbrev pub without : ℕ → Part → Part
+without page (Flushing left) = Flushing (filter (λ (p : ℕ). not (p == page)) left)
+without page part = part
 
 abbrev pub flushed : ℕ → Stage → Stage
 flushed page Off = Off
-flushed page (Flushing goal left) = Flushing goal (filter (λ (p : ℕ). not (p == page)) left)
-flushed page (Saving goal) = Saving goal
-flushed page (Ready goal) = Ready goal
-flushed page (SuperFilling goal) = SuperFilling goal
-flushed page (SuperFilled goal) = SuperFilled goal
-flushed page (SuperOpening goal) = SuperOpening goal
+flushed page (Toward goal part) = Toward goal (without page part)
 flushed page (Retiring written) = Retiring written
 
+-- what a sync makes of it
 abbrev pub synced_stage : Stage → Stage
-synced_stage Off = Off
-synced_stage (Flushing goal left) = Flushing goal left
-synced_stage (Saving goal) = Ready goal
-synced_stage (Ready goal) = Ready goal
-synced_stage (SuperFilling goal) = SuperFilled goal
-synced_stage (SuperFilled goal) = SuperFilled goal
-synced_stage (SuperOpening goal) = Retiring false
+synced_stage (Toward goal Saving) = Toward goal Ready
+synced_stage (Toward goal SuperFilling) = Toward goal SuperFilled
+synced_stage (Toward goal SuperOpening) = Retiring false
 synced_stage (Retiring true) = Off
-synced_stage (Retiring false) = Retiring false
+synced_stage stage = stage
 
 -- the base, and the first cell that is still needed, that the next sync leaves
 abbrev pub base_after : ℕ → Stage → ℕ
-base_after base Off = base
-base_after base (Flushing goal left) = base
-base_after base (Saving goal) = base
-base_after base (Ready goal) = base
-base_after base (SuperFilling goal) = base
-base_after base (SuperFilled goal) = base
-base_after base (SuperOpening goal) = goal.position
-base_after base (Retiring written) = base
+base_after base (Toward goal SuperOpening) = goal.position
+base_after base stage = base
 
 abbrev pub start_after : ℕ → Stage → ℕ
-start_after start Off = start
-start_after start (Flushing goal left) = start
-start_after start (Saving goal) = start
-start_after start (Ready goal) = start
-start_after start (SuperFilling goal) = start
-start_after start (SuperFilled goal) = start
-start_after start (SuperOpening goal) = goal.start
-start_after start (Retiring written) = start
+start_after start (Toward goal SuperOpening) = goal.start
+start_after start stage = start
 
 -- the entries behind a position
 abbrev pub behind : ℕ → List Entry → List Entry
@@ -194,37 +168,22 @@ after s (Read key at) found = s
 -- taken as items come, so that the log takes none
 abbrev pub is_off : Stage → Bool
 is_off Off = true
-is_off (Flushing goal left) = false
-is_off (Saving goal) = false
-is_off (Ready goal) = false
-is_off (SuperFilling goal) = false
-is_off (SuperFilled goal) = false
-is_off (SuperOpening goal) = false
-is_off (Retiring written) = false
+is_off stage = false
 
 abbrev pub takes_memory : Standing → Event → Bool
 takes_memory s (Deliver seqno w) = true
-takes_memory s Log = false
-takes_memory s Sync = false
 takes_memory s Check = is_off s.stage
-takes_memory s (Flush page) = false
-takes_memory s (Read key at) = false
+takes_memory s e = false
 
 abbrev pub takes_device : Standing → Event → Bool
 takes_device s (Deliver seqno w) = false
-takes_device s Log = true
-takes_device s Sync = true
 takes_device s Check = not (is_off s.stage)
-takes_device s (Flush page) = true
-takes_device s (Read key at) = true
+takes_device s e = true
 
 abbrev pub reads_a_page : Event → Bool
-reads_a_page (Deliver seqno w) = false
-reads_a_page Log = false
-reads_a_page Sync = false
-reads_a_page Check = false
 reads_a_page (Flush page) = true
 reads_a_page (Read key at) = true
+reads_a_page e = false
 
 -- The step failed: memory was wanted and nothing changed, or the device failed, and the replica is stopped.
 abbrev pub Fails : Standing → Event → Answer → Standing → Type 0

@@ -9,7 +9,7 @@ use Rattle.rep_types.specs.Entries.{Entry}
 use Rattle.rep_types.specs.Settings.{Setting}
 use Rattle.rep_types.specs.Order.{State, counts, content_after, floor, recent, judge}
 use Rattle.rep_log.specs.declared.phase.Phase.{Phase}
-use Rattle.rep_log.specs.declared.phase.Phase.TheVariants.{Resting, Closing, Filling, Filled, Opening}
+use Rattle.rep_log.specs.declared.phase.Phase.TheVariants.{Closing, Opening}
 use Rattle.rep_steps.specs.declared.event.Event.{Event}
 use Rattle.rep_steps.specs.declared.event.Event.TheVariants.{Deliver, Log, Sync, Check, Flush, Read}
 use Rattle.rep_steps.specs.declared.answer.Answer.{Answer}
@@ -54,19 +54,11 @@ pub record IsNode (n : Node) : Type 0 where
 
 abbrev pub verdict_on : Node → Event → Verdict
 verdict_on n (Deliver seqno w) = judge n.facts.setting (delivered n.facts) (window_at n (delivered n.facts)) w
-verdict_on n Log = Commit
-verdict_on n Sync = Commit
-verdict_on n Check = Commit
-verdict_on n (Flush page) = Commit
-verdict_on n (Read key at) = Commit
+verdict_on n e = Commit
 
 abbrev pub row_on : Node → Event → Option (List ℕ)
-row_on n (Deliver seqno w) = None
-row_on n Log = None
-row_on n Sync = None
-row_on n Check = None
-row_on n (Flush page) = None
 row_on n (Read key at) = (state_at n at).content key
+row_on n e = None
 
 -- the cell that the log comes to
 abbrev pub cell : Standing → ℕ
@@ -78,11 +70,9 @@ found n e = record { verdict = verdict_on n e; stale = n.gates (cell n.facts); r
 -- ---- the node after an event
 
 abbrev pub gate_at : Phase → ℕ → (ℕ → Bool) → ℕ → Bool
-gate_at Resting i gates j = gates j
 gate_at Closing i gates j = if j == i then false else gates j
-gate_at (Filling k) i gates j = gates j
-gate_at (Filled k) i gates j = gates j
 gate_at (Opening k) i gates j = if j == i then true else gates j
+gate_at phase i gates j = gates j
 
 -- how many items a sync leaves behind the base
 abbrev pub passed : Standing → ℕ

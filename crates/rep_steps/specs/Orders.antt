@@ -6,7 +6,7 @@ use Rattle.rep_types.specs.Order.{Order, verdict, history, read, window, state}
 use Rattle.rep_steps.specs.declared.event.Event.{Event}
 use Rattle.rep_steps.specs.declared.event.Event.TheVariants.{Deliver, Log, Sync, Check, Flush, Read}
 use Rattle.rep_steps.specs.declared.answer.Answer.{Answer}
-use Rattle.rep_steps.specs.declared.answer.Answer.TheVariants.{Gave, Wrote, Began, Synced, Row, Refused}
+use Rattle.rep_steps.specs.declared.answer.Answer.TheVariants.{Gave, Wrote, Synced, Row, Refused}
 use Rattle.rep_steps.specs.Standings.{Standing, delivered}
 use Rattle.rep_steps.specs.Moves.{opening, check_answer}
 use Rattle.rep_steps.specs.Nodes.{Node, IsNode, Steps, window_at}
@@ -20,16 +20,7 @@ pub record IsOf (L : Order) (n : Node) : Type 0 where
 -- the write set of a delivery that was answered by a verdict
 abbrev pub accepted : Event → Answer → Order
 accepted (Deliver seqno w) (Gave v) = w ∷ []
-accepted (Deliver seqno w) Wrote = []
-accepted (Deliver seqno w) (Began position) = []
-accepted (Deliver seqno w) (Synced replies) = []
-accepted (Deliver seqno w) (Row row) = []
-accepted (Deliver seqno w) (Refused r) = []
-accepted Log a = []
-accepted Sync a = []
-accepted Check a = []
-accepted (Flush page) a = []
-accepted (Read key at) a = []
+accepted e a = []
 
 -- What an event is answered where no refusal comes: what the order says.
 abbrev pub answer_of : Order → Standing → Event → Answer

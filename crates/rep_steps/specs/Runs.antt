@@ -7,7 +7,7 @@ use Rattle.rep_types.specs.Replies.{reply_of}
 use Rattle.rep_types.specs.Order.{Order, history, entries}
 use Rattle.rep_steps.specs.declared.event.Event.{Event}
 use Rattle.rep_steps.specs.declared.answer.Answer.{Answer}
-use Rattle.rep_steps.specs.declared.answer.Answer.TheVariants.{Gave, Wrote, Began, Synced, Row, Refused}
+use Rattle.rep_steps.specs.declared.answer.Answer.TheVariants.{Gave, Synced}
 use Rattle.rep_steps.specs.Nodes.{Node, IsNode, Steps}
 use Rattle.rep_steps.specs.Orders.{IsOf, accepted}
 
@@ -27,11 +27,7 @@ accepted_by (e ∷ events) (a ∷ answers) = accepted e a ++ accepted_by events 
 -- the verdicts that it answered
 abbrev pub verdict_in : Answer → List Verdict
 verdict_in (Gave v) = v ∷ []
-verdict_in Wrote = []
-verdict_in (Began position) = []
-verdict_in (Synced replies) = []
-verdict_in (Row row) = []
-verdict_in (Refused r) = []
+verdict_in a = []
 
 abbrev pub verdicts : List Answer → List Verdict
 verdicts [] = []
@@ -39,12 +35,8 @@ verdicts (a ∷ answers) = verdict_in a ++ verdicts answers
 
 -- the replies that it gave
 abbrev pub replies_in : Answer → List Reply
-replies_in (Gave v) = []
-replies_in Wrote = []
-replies_in (Began position) = []
 replies_in (Synced replies) = replies
-replies_in (Row row) = []
-replies_in (Refused r) = []
+replies_in a = []
 
 abbrev pub acknowledged : List Answer → List Reply
 acknowledged [] = []

@@ -1,5 +1,5 @@
 -- The facts of a replica that decide each refusal, on any device.
-use Rattle.std.specs.Prelude.{◌≡◌, ℕ, ◌+◌, ◌<◌, ◌≤◌, ◌==◌, Bool, true, false, nat_le, nat_lt, not, if◌then◌else◌, List, [], ◌∷◌, length, Option, None, Some, IsTrue}
+use Rattle.std.specs.Prelude.{◌≡◌, ℕ, ◌+◌, ◌<◌, ◌≤◌, ◌==◌, Bool, nat_le, nat_lt, not, if◌then◌else◌, List, [], ◌∷◌, length, Option, None, Some, IsTrue}
 use Rattle.std.specs.List.{list_any}
 use Rattle.uuid.specs.Parts.{is_nil_bytes}
 use Rattle.rep_types.specs.declared.key.Key.{Key}
@@ -19,16 +19,20 @@ pub record Goal : Type 0 where
   pub position : ℕ
   pub start : ℕ
 
--- Where the checkpoint is. While it flushes, some pages are left. While it retires the old superblock, it has written that
--- one's closed gate or not.
+-- How far a checkpoint is on its way to a goal: some pages are left to be flushed, the window is being saved, pages and window
+-- are stable, the superblock is being written, it is stable, and its gate is being opened.
+pub data Part : Type 0 where
+  Flushing : List ℕ → Part
+  Saving : Part
+  Ready : Part
+  SuperFilling : Part
+  SuperFilled : Part
+  SuperOpening : Part
+
+-- Where the checkpoint is. While it retires the old superblock, it has written that one's closed gate or not.
 pub data Stage : Type 0 where
   Off : Stage
-  Flushing : Goal → List ℕ → Stage
-  Saving : Goal → Stage
-  Ready : Goal → Stage
-  SuperFilling : Goal → Stage
-  SuperFilled : Goal → Stage
-  SuperOpening : Goal → Stage
+  Toward : Goal → Part → Stage
   Retiring : Bool → Stage
 
 -- The facts: state UUID and parameters, the positions of the base and of what is durable, the delivered items that are not
@@ -75,27 +79,23 @@ log_refusal s (Filling k) = Some NotDue
 log_refusal s (Filled k) = None
 log_refusal s (Opening k) = Some NotDue
 
+abbrev pub part_refusal : Part → Option Refusal
+part_refusal (Flushing []) = None
+part_refusal (Flushing (page ∷ left)) = Some NotDue
+part_refusal Saving = Some NotDue
+part_refusal Ready = None
+part_refusal SuperFilling = Some NotDue
+part_refusal SuperFilled = None
+part_refusal SuperOpening = Some NotDue
+
 abbrev pub check_refusal : Standing → Stage → Option Refusal
 check_refusal s Off = if nat_le s.durable s.base then Some NotDue else None
-check_refusal s (Flushing goal []) = None
-check_refusal s (Flushing goal (page ∷ left)) = Some NotDue
-check_refusal s (Saving goal) = Some NotDue
-check_refusal s (Ready goal) = None
-check_refusal s (SuperFilling goal) = Some NotDue
-check_refusal s (SuperFilled goal) = None
-check_refusal s (SuperOpening goal) = Some NotDue
-check_refusal s (Retiring true) = Some NotDue
-check_refusal s (Retiring false) = None
+check_refusal s (Toward goal part) = part_refusal part
+check_refusal s (Retiring written) = if written then Some NotDue else None
 
 abbrev pub flush_refusal : Stage → ℕ → Option Refusal
-flush_refusal Off page = Some NotDue
-flush_refusal (Flushing goal left) page = if list_any (λ (p : ℕ). p == page) left then None else Some NotDue
-flush_refusal (Saving goal) page = Some NotDue
-flush_refusal (Ready goal) page = Some NotDue
-flush_refusal (SuperFilling goal) page = Some NotDue
-flush_refusal (SuperFilled goal) page = Some NotDue
-flush_refusal (SuperOpening goal) page = Some NotDue
-flush_refusal (Retiring written) page = Some NotDue
+flush_refusal (Toward goal (Flushing left)) page = if list_any (λ (p : ℕ). p == page) left then None else Some NotDue
+flush_refusal stage page = Some NotDue
 
 abbrev pub read_refusal : Standing → Key → ℕ → Option Refusal
 read_refusal s key at =
@@ -119,18 +119,16 @@ refusal s e = if s.stopped then Some Stopped else refusal_here s e
 
 -- how many records the block has that is on its way to the disk, and how many cells it goes into
 abbrev pub underway : Phase → ℕ
-underway Resting = 0
-underway Closing = 0
 underway (Filling k) = k
 underway (Filled k) = k
 underway (Opening k) = k
+underway phase = 0
 
 abbrev pub claimed : Phase → ℕ
-claimed Resting = 0
-claimed Closing = 0
 claimed (Filling k) = 1
 claimed (Filled k) = 1
 claimed (Opening k) = 1
+claimed phase = 0
 
 -- the goal lies between the base and what is durable, and its cell between the first and the next
 pub record IsGoal (base durable start next : ℕ) (goal : Goal) : Type 0 where
@@ -141,12 +139,7 @@ pub record IsGoal (base durable start next : ℕ) (goal : Goal) : Type 0 where
 
 abbrev pub HasGoal : ℕ → ℕ → ℕ → ℕ → Stage → Type 0
 HasGoal base durable start next Off = Unit {0}
-HasGoal base durable start next (Flushing goal left) = IsGoal base durable start next goal
-HasGoal base durable start next (Saving goal) = IsGoal base durable start next goal
-HasGoal base durable start next (Ready goal) = IsGoal base durable start next goal
-HasGoal base durable start next (SuperFilling goal) = IsGoal base durable start next goal
-HasGoal base durable start next (SuperFilled goal) = IsGoal base durable start next goal
-HasGoal base durable start next (SuperOpening goal) = IsGoal base durable start next goal
+HasGoal base durable start next (Toward goal part) = IsGoal base durable start next goal
 HasGoal base durable start next (Retiring written) = Unit {0}
 
 pub record IsStanding (s : Standing) : Type 0 where
