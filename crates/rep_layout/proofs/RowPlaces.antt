@@ -1,5 +1,5 @@
 -- Rows lie in their pages, each at a place of its own.
-use Rattle.std.proofs.Common.{◌≡◌, ℕ, zero, suc, ◌+◌, ◌*◌, ◌<◌, ◌≤◌, List, [], ◌∷◌, take, arith}
+use Rattle.std.proofs.Common.{◌≡◌, ℕ, zero, suc, ◌+◌, ◌*◌, ◌<◌, ◌≤◌, ◌⊎◌, inl, inr, List, [], ◌∷◌, take, arith}
 use Rattle.std.specs.Prelude.{slice_index}
 use Rattle.std.proofs.lemmas.List.Sums.{sum_by-cons, sum_by-take-le}
 use Rattle.rep_types.specs.declared.key.Key.{Key}
@@ -22,6 +22,11 @@ row_within rows key h = grind (arith, before_more key.table (key.table + 1) rows
 -- rows at one place
 pub row_told : (rows : List ℕ) (a b : Key) → IsRow rows a → IsRow rows b → row_place rows a ≡ row_place rows b → a ≡ b
 row_told rows a b h k e = grind (arith, before_more a.table b.table rows, before_more b.table a.table rows)
+
+-- pages rise with the rows
+pub row_rises : (rows : List ℕ) (a b : Key) → IsRow rows a → (a.table < b.table) ⊎ ((a.table ≡ b.table) × (a.row ≤ b.row)) → (row_place rows a).page ≤ (row_place rows b).page
+row_rises rows a b row (inl lt) = omega (arith, before_more a.table b.table rows lt, row)
+row_rises rows a b row (inr h) = grind (arith, h.0, h.1)
 
 -- the key that is made of a place is that of the row there
 pub row_again : (rows : List ℕ) (place : RowPlace) (t page : ℕ) (key : Key) → page < page_count (slice_index rows t) → pages_before t rows + page ≡ place.page → IsRow rows key → row_place rows key ≡ place

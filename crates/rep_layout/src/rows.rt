@@ -83,8 +83,9 @@ pub fn row_at(schema: &Schema, place: RowPlace) -> Option<Key>
     Some(key)
 }
 
-/// Rows of the schema lie in its pages, and two rows do not lie at one place.
-#[tactic(auto, using(crate::proofs::RowPlaces::row_within, crate::proofs::RowPlaces::row_told))]
+/// Rows of the schema lie in its pages, two rows do not lie at one place, and the page of a later row is not
+/// below that of an earlier one.
+#[tactic(auto, using(crate::proofs::RowPlaces::row_within, crate::proofs::RowPlaces::row_told, crate::proofs::RowPlaces::row_rises))]
 pub fn row_places_are_told()
     ensures { RowPlacesAreTold }
 {}

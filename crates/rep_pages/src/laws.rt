@@ -6,7 +6,6 @@ ghost use Rattle.rep_pages.specs.Images.{UnchangedPagesStay, ImagesFollowTheOrde
 use crate::page::Head;
 use crate::page_rows::PageRows;
 use rep_forms::spellings_are_told;
-use rep_layout::row_places_are_told;
 use rep_versions::versions_follow_the_items;
 
 /// The bytes of a page tell what it says: no two pages have one spelling.

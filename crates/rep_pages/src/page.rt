@@ -11,7 +11,7 @@ use rep_forms::{
     Exact, Form, Put, put_bytes, put_u8, put_u16, put_u32, put_u64, put_zeros, read_front,
     read_part, read_u8, read_u16, read_u32, read_u64, strip_front,
 };
-use rep_layout::{PAGE_BODY, RowPlace, row_at, row_places_are_told};
+use rep_layout::{PAGE_BODY, RowPlace, row_at};
 use rep_types::{Key, MAX_PAGES, Part, ROWS_PER_PAGE, Refusal, Schema};
 
 /// The first eight bytes of the format.

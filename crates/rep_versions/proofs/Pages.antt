@@ -1,5 +1,5 @@
 -- The pages with a change, gathered in the order of the versions.
-use Rattle.std.proofs.Common.{◌≡◌, refl, sym, ap, subst, zero, suc, ℕ, ◌+◌, ◌<◌, ◌≤◌, ◌⊎◌, inl, inr, Bool, true, false, true≢false, cond, List, [], ◌∷◌, ◌++◌, length, take, Option, Some, None, IsSome, IsNone, IfSome, arith, ◌≢◌}
+use Rattle.std.proofs.Common.{◌≡◌, refl, sym, ap, subst, ℕ, ◌+◌, ◌<◌, ◌≤◌, ◌⊎◌, inl, inr, Bool, true, false, true≢false, cond, List, [], ◌∷◌, ◌++◌, length, Option, Some, None, IsSome, IsNone, IfSome, arith, ◌≢◌}
 use Rattle.std.specs.Prelude.{slice_index, Contains}
 use Rattle.std.specs.declared.cmp.Ordering.{Ordering}
 use Rattle.std.specs.declared.cmp.Ordering.TheVariants.{Less, Equal, Greater}
@@ -8,7 +8,6 @@ use Rattle.std.proofs.lemmas.Bool.Decides.{nat_tests}
 use Rattle.std.specs.List.Sorted.{IsStrictlySortedBy, IsStrictlyIncreasing}
 use Rattle.std.specs.Map.{keys_of}
 use Rattle.std.specs.BTreeMap.{is_at}
-use Rattle.std.proofs.lemmas.List.Sums.{sum_by-cons}
 use Rattle.std.proofs.lemmas.List.Elements.{All-contains, Contains-get_or, Contains-append_left, Contains-push, Contains-push_cases}
 use Rattle.std.proofs.lemmas.Map.Views.{tells_apart, All-after_first, Contains-keys_from_lookup}
 use Rattle.std.proofs.lemmas.Grind.{common_steps}
@@ -16,19 +15,11 @@ use Rattle.std.proofs.lemmas.Cmp.{tied_itself}
 use Rattle.std.specs.FinMap.{get, from_entries}
 use Rattle.rep_types.specs.declared.key.Key.{Key}
 use Rattle.rep_types.specs.Keys.{key_cmp}
-use Rattle.rep_types.specs.Settings.{page_count, IsRow}
-use Rattle.rep_layout.specs.Rows.{pages_before, row_place}
+use Rattle.rep_types.specs.Settings.{IsRow}
+use Rattle.rep_layout.specs.Rows.{row_place, RowPlacesAreTold}
 use Rattle.rep_versions.specs.declared.versions.VersionKey.{VersionKey}
 use Rattle.rep_versions.specs.Versions.{version_cmp, Version, Kept, HasChange, IsWithin, NotesPage}
 use Rattle.rep_versions.proofs.Places.{versions_total, exact_versions, Stored, found_at, get_version}
-
--- a table's pages lie before those of a later one
-before_more : (t u : ℕ) (rows : List ℕ) → t < u → pages_before t rows + page_count (slice_index rows t) ≤ pages_before u rows
-before_more t zero rows lt = absurd (omega (arith, lt))
-before_more zero (suc u) [] lt = omega arith
-before_more (suc t) (suc u) [] lt = omega arith
-before_more zero (suc u) (x ∷ rows) lt = omega (arith, sum_by-cons page_count x (take u rows))
-before_more (suc t) (suc u) (x ∷ rows) lt = omega (arith, sum_by-cons page_count x (take t rows), sum_by-cons page_count x (take u rows), before_more t u rows (omega (arith, lt)))
 
 -- the page of a row
 abbrev pub page : List ℕ → VersionKey → ℕ
@@ -42,12 +33,8 @@ not_greater Greater p h = absurd (true≢false (sym (ap is_gt (sym h))))
 by_table : (a b : Key) → is_gt (key_cmp a b) ≡ false → (a.table < b.table) ⊎ ((a.table ≡ b.table) × (a.row ≤ b.row))
 by_table a b h = grind (arith, nat_tests)
 
-page_up : (rows : List ℕ) (a b : Key) → IsRow rows a → (a.table < b.table) ⊎ ((a.table ≡ b.table) × (a.row ≤ b.row)) → (row_place rows a).page ≤ (row_place rows b).page
-page_up rows a b row (inl lt) = omega (arith, before_more a.table b.table rows lt, row)
-page_up rows a b row (inr h) = grind (arith, h.0, h.1)
-
-pages_rise : (rows : List ℕ) (v w : VersionKey) → IsRow rows v.key → version_cmp v w ≡ Less → page rows v ≤ page rows w
-pages_rise rows v w row h = page_up rows v.key w.key row (by_table v.key w.key (not_greater (key_cmp v.key w.key) (nat_cmp v.seqno w.seqno) h))
+pages_rise : RowPlacesAreTold → (rows : List ℕ) (v w : VersionKey) → IsRow rows v.key → version_cmp v w ≡ Less → page rows v ≤ page rows w
+pages_rise places rows v w row h = places.rise rows v.key w.key row (by_table v.key w.key (not_greater (key_cmp v.key w.key) (nat_cmp v.seqno w.seqno) h))
 
 rest_sorted : (e : Stored) (es : List Stored) → IsStrictlySortedBy version_cmp (keys_of (e ∷ es)) → IsStrictlySortedBy version_cmp (keys_of es)
 unfolding IsStrictlySortedBy
@@ -104,11 +91,11 @@ module _ (kept : Kept) (rows : List ℕ) (base position : ℕ) where
     within = λ q some. g.within q (found_more _ e.1 _ some);
   }
 
-  more_below : (pages : List ℕ) (e : Stored) (es : List Stored) → Gathers pages (e ∷ es) → IsWithin rows base position e.0
+  more_below : RowPlacesAreTold → (pages : List ℕ) (e : Stored) (es : List Stored) → Gathers pages (e ∷ es) → IsWithin rows base position e.0
       → (p : ℕ) (q : VersionKey) → IsSome (found_at es q) → IsRow rows q.key
       → Contains pages p ⊎ (page rows e.0 ≡ p) → p ≤ page rows q
-  more_below pages e es g counts p q some row (inl there) = g.below p q there (found_more _ e.1 _ some) row
-  more_below pages e es g counts p q some row (inr same) = subst (λ n. n ≤ page rows q) same (pages_rise rows e.0 q counts.row (after_first e es q g.sorted some))
+  more_below places pages e es g counts p q some row (inl there) = g.below p q there (found_more _ e.1 _ some) row
+  more_below places pages e es g counts p q some row (inr same) = subst (λ n. n ≤ page rows q) same (pages_rise places rows e.0 q counts.row (after_first e es q g.sorted some))
 
   more_only : (pages : List ℕ) (e : Stored) (es : List Stored) → Gathers pages (e ∷ es) → IsWithin rows base position e.0
       → (p : ℕ) → Contains pages p ⊎ (page rows e.0 ≡ p) → HasChange kept rows base position p
@@ -130,29 +117,29 @@ module _ (kept : Kept) (rows : List ℕ) (base position : ℕ) where
   more_all pages e es q (inr h) = inr h
 
   -- a version whose page is behind the last
-  added : (pages : List ℕ) (e : Stored) (es : List Stored) → IsWithin rows base position e.0
+  added : RowPlacesAreTold → (pages : List ℕ) (e : Stored) (es : List Stored) → IsWithin rows base position e.0
       → ((k : ℕ) → k + 1 ≡ length pages → slice_index pages k ≢ page rows e.0)
       → Gathers pages (e ∷ es) → Gathers (pages ++ page rows e.0 ∷ []) es
-  added pages e es counts apart g = record {
+  added places pages e es counts apart g = record {
     sorted = rest_sorted e es g.sorted;
     ascend = rises pages (page rows e.0) g.ascend (λ p there. g.below p e.0 there (found_first e es) counts.row) apart;
-    below = λ p q there some row. more_below pages e es g counts p q some row (Contains-push_cases pages _ p there);
+    below = λ p q there some row. more_below places pages e es g counts p q some row (Contains-push_cases pages _ p there);
     only = λ p there. more_only pages e es g counts p (Contains-push_cases pages _ p there);
     all = λ q some c. left_on (pages ++ page rows e.0 ∷ []) e es q (λ _. Contains-push pages (page rows e.0)) c (more_all pages e es q (g.all q some c));
     within = λ q some. g.within q (found_more _ e.1 _ some);
   }
 
-  noted_page : (pages more : List ℕ) (e : Stored) (es : List Stored) → IsWithin rows base position e.0
+  noted_page : RowPlacesAreTold → (pages more : List ℕ) (e : Stored) (es : List Stored) → IsWithin rows base position e.0
       → NotesPage (Some (page rows e.0)) pages more → Gathers pages (e ∷ es) → Gathers more es
-  noted_page pages more e es counts (inl h) g = subst (λ xs. Gathers xs es) (sym h.0) (passed pages e es (λ _. h.1) g)
-  noted_page pages more e es counts (inr h) g = subst (λ xs. Gathers xs es) (sym h.0) (added pages e es counts h.1 g)
+  noted_page places pages more e es counts (inl h) g = subst (λ xs. Gathers xs es) (sym h.0) (passed pages e es (λ _. h.1) g)
+  noted_page places pages more e es counts (inr h) g = subst (λ xs. Gathers xs es) (sym h.0) (added places pages e es counts h.1 g)
 
   -- a version with the page that it counts by, if it does
-  pub noted : (p : Option ℕ) (pages more : List ℕ) (e : Stored) (es : List Stored)
+  pub noted : RowPlacesAreTold → (p : Option ℕ) (pages more : List ℕ) (e : Stored) (es : List Stored)
       → IfSome p (λ n. IsWithin rows base position e.0 × (page rows e.0 ≡ n)) → (IsNone p → IsWithin rows base position e.0 → ⊥)
       → NotesPage p pages more → Gathers pages (e ∷ es) → Gathers more es
-  noted None pages more e es some none h g = subst (λ xs. Gathers xs es) (sym h) (passed pages e es (λ w. absurd (none refl w)) g)
-  noted (Some p) pages more e es some none h g = noted_page pages more e es some.0 (subst (λ n. NotesPage (Some n) pages more) (sym some.1) h) g
+  noted places None pages more e es some none h g = subst (λ xs. Gathers xs es) (sym h) (passed pages e es (λ w. absurd (none refl w)) g)
+  noted places (Some p) pages more e es some none h g = noted_page places pages more e es some.0 (subst (λ n. NotesPage (Some n) pages more) (sym some.1) h) g
 
 -- in the beginning
 pub begun : (es : List Stored) (rows : List ℕ) (base position : ℕ) → IsStrictlySortedBy version_cmp (keys_of es) → Gathers (from_entries es) rows base position [] es

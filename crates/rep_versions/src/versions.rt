@@ -6,7 +6,7 @@ ghost use Rattle.rep_types.specs.declared.refusal.Refusal.TheVariants.{OutOfMemo
 ghost use Rattle.rep_layout.specs.Rows.{row_place};
 ghost use Rattle.rep_versions.specs.Versions.{IsAdded, IsTakenBack, IsPruned, IsAnswer, ArePages, IsWithin, NotesPage, restored};
 
-use rep_layout::page_of;
+use rep_layout::{page_of, row_places_are_told};
 use rep_types::{Key, Refusal, Schema, Value, Write, WriteSet};
 use std::alloc::Global;
 use std::collections::BTreeMap;
@@ -154,6 +154,7 @@ impl Versions {
         ensures pages { IfOk result (λ pages. ArePages self.now schema.now base position pages.items) }
         ensures refused { IfErr result (λ e. e ≡ OutOfMemory) }
     {
+        row_places_are_told();
         let mut pages = Vec::new(alloc);
         for (version, _) in &self.kept {
             let page = page_within(*version, schema, base, position);

@@ -13,5 +13,5 @@ loop-version-init c =
 pub loop-version-preserved : goal.loop-version-preserved
 loop-version-preserved c =
     let before = subst (Gathers c.args.self.now c.args.schema.now c.args.base c.args.position c.loop-version.pages.items) c.in-Some.ensures.steps c.loop-version.invariant in
-    noted c.args.self.now c.args.schema.now c.args.base c.args.position _ _ _ _ _
+    noted c.args.self.now c.args.schema.now c.args.base c.args.position c.row_places_are_told.ensures _ _ _ _ _
     c.page_within-page.ensures.some c.page_within-page.ensures.none c.in_ok-note_page.ensures.noted before
