@@ -79,9 +79,9 @@ module _ (told : PagesAreTold) (r : Reading) (b : SuperBody) (f g : Key → Opti
       let number = (row_place b.params.rows key).page in
       let one = h.pages number slot there in
       let two = k.pages number slot there in
-      let body : one.body ≡ two.body = same_Some _ _ (sym one.stands ∙ two.stands) in
-      let page : one.page ≡ two.page = told b.params.rows one.page two.page two.body (subst (IsPageBody b.params.rows one.page) body one.is_page) two.is_page in
-      one.rows key row refl ∙ ap (λ (p : PageBody). row_of b.params.rows p.rows key) page ∙ sym (two.rows key row refl)
+      let body : one.0 ≡ two.0 = same_Some _ _ (sym one.1 ∙ two.1) in
+      let page : one.2.page ≡ two.2.page = told b.params.rows one.2.page two.2.page two.0 (subst (IsPageBody b.params.rows one.2.page) body one.2.is_page) two.2.is_page in
+      one.2.rows key row refl ∙ ap (λ (p : PageBody). row_of b.params.rows p.rows key) page ∙ sym (two.2.rows key row refl)
 
   one_row : (key : Key) → IsRow b.params.rows key → (state : PageState) → state_of_page b (row_place b.params.rows key).page ≡ state → f key ≡ g key
   one_row key row Nowhere e = h.absent key row e ∙ sym (k.absent key row e)

@@ -45,18 +45,21 @@ pub record HasWindow (r : Reading) (b : SuperBody) (entries : List Entry) : Type
   pub stands : r (Window (side_of b.number)) ≡ Some (window_bytes (window b.number b.position entries))
   pub is_window : IsWindowBody b.params (window b.number b.position entries)
 
--- A page of its number in a slot, of a position not above its own, whose rows are of this content.
-pub record HasPage (r : Reading) (b : SuperBody) (number : ℕ) (slot : Slot) (content : Key → Option (List ℕ)) : Type 0 where
-  pub body : List ℕ
-  pub stands : r (Page number slot) ≡ Some body
+-- The body is its page of this number, of a position not above its own, whose rows are of this content.
+pub record IsPageOf (b : SuperBody) (number : ℕ) (content : Key → Option (List ℕ)) (body : List ℕ) : Type 0 where
   pub page : PageBody
   pub is_page : IsPageBody b.params.rows page body
   pub is_it : page.number ≡ number
   pub earlier : page.position ≤ b.position
   pub rows : (key : Key) → IsRow b.params.rows key → (row_place b.params.rows key).page ≡ number → content key ≡ row_of b.params.rows page.rows key
 
--- Its pages have this content: a row of a page in no slot is absent, and so is what is no row.
-pub record HasContent (r : Reading) (b : SuperBody) (content : Key → Option (List ℕ)) : Type 0 where
-  pub pages : (number : ℕ) (slot : Slot) → state_of_page b number ≡ In slot → HasPage r b number slot content
+-- Pages with these bodies, by page and slot, have this content: that of each page in the slot in which it stands. A row of a page
+-- in no slot is absent, and so is what is no row.
+pub record HaveContent (b : SuperBody) (Has : ℕ → Slot → List ℕ → Type 0) (content : Key → Option (List ℕ)) : Type 0 where
+  pub pages : (number : ℕ) (slot : Slot) → state_of_page b number ≡ In slot → (body : List ℕ) × Has number slot body × IsPageOf b number content body
   pub absent : (key : Key) → IsRow b.params.rows key → state_of_page b (row_place b.params.rows key).page ≡ Nowhere → content key ≡ None
   pub outside : (key : Key) → (IsRow b.params.rows key → ⊥) → content key ≡ None
+
+-- the pages of a reading have it
+abbrev pub HasContent : Reading → SuperBody → (Key → Option (List ℕ)) → Type 0
+HasContent r b content = HaveContent b (λ number slot body. r (Page number slot) ≡ Some body) content

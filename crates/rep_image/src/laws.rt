@@ -1,9 +1,10 @@
 //! Laws of images, each as the contract of a function that does nothing.
 
 ghost use Rattle.rep_image.specs.Meanings.{ImagesMeanOneThing, ImagesStandForOrders};
+ghost use Rattle.rep_image.specs.Standing.{ImagesMeanWhatStands};
 
 use rep_layout::{superblocks_are_told, windows_are_told};
-use rep_log::the_log_is_told;
+use rep_log::{the_log_in_every_image, the_log_is_told};
 use rep_pages::pages_are_told;
 use rep_steps::judged_items_extend_the_order;
 
@@ -24,4 +25,12 @@ pub fn images_stand_for_orders()
     ensures { ImagesStandForOrders }
 {
     judged_items_extend_the_order();
+}
+
+/// Where a base and a log stand on a device, every image means the base with the durable items behind it,
+/// or, while a gate opens, those with the block behind it too.
+pub fn images_mean_what_stands()
+    ensures { ImagesMeanWhatStands }
+{
+    the_log_in_every_image();
 }
