@@ -1,3 +1,4 @@
 pub mod Telling
 pub mod Standing
 pub mod WhatStands
+pub mod Leaving

@@ -1,7 +1,7 @@
 //! Laws of images, each as the contract of a function that does nothing.
 
 ghost use Rattle.rep_image.specs.Meanings.{ImagesMeanOneThing, ImagesStandForOrders};
-ghost use Rattle.rep_image.specs.Standing.{ImagesMeanWhatStands};
+ghost use Rattle.rep_image.specs.Standing.{ImagesMeanWhatStands, NodesLeaveTheirFronts};
 
 use rep_layout::{superblocks_are_told, windows_are_told};
 use rep_log::{the_log_in_every_image, the_log_is_told};
@@ -33,4 +33,12 @@ pub fn images_mean_what_stands()
     ensures { ImagesMeanWhatStands }
 {
     the_log_in_every_image();
+}
+
+/// Where a node stands on a device, every image means a front of it that has what is durable. So does what a
+/// stop leaves at any moment at which it stands there.
+pub fn nodes_leave_their_fronts()
+    ensures { NodesLeaveTheirFronts }
+{
+    images_mean_what_stands();
 }
