@@ -67,7 +67,8 @@ impl Certifier {
     /// those above the position, and those whose seqno and the size of the window come to no more
     /// than the position. The others are held as they are, in the order given, out of order or
     /// doubled as they may be: a conflict is with the greatest seqno among those that stand against
-    /// the item, and `window_at` gives each of them, in that order and as often as it was given.
+    /// the item, and `window_at` gives each of them, in that order and as often as it was given. Keys
+    /// that are no rows of the schema stay in them, and no item meets such a key.
     ///
     /// Refuses with `OutOfMemory` where there is no room for the entries that it may come to keep.
     pub fn new(

@@ -30,6 +30,13 @@ pub(crate) struct LastWriters {
     former: ArrayVec<Former, MAX_WRITES>,
 }
 
+/// The later of two writers.
+fn later(one: u64, other: u64) -> u64
+    ensures { result ≡ max one other }
+{
+    one.max(other)
+}
+
 /// Where the rows of each table begin, and how many rows there are.
 fn starts_of(rows: &[u32]) -> (ArrayVec<usize, MAX_TABLES>, usize)
     requires { length rows.now ≤ MAX_TABLES }
@@ -87,7 +94,7 @@ impl LastWriters {
     {
         let mut last = 0;
         for key in keys {
-            last = self.of(*key).max(last);
+            last = later(self.of(*key), last);
         }
         last
     }
@@ -99,7 +106,7 @@ impl LastWriters {
     {
         let mut last = 0;
         for write in writes {
-            last = self.of(write.key).max(last);
+            last = later(self.of(write.key), last);
         }
         last
     }
@@ -109,8 +116,10 @@ impl LastWriters {
         requires { All (HasPlace self.now.starts.items self.now.seqnos.items) (named item.now) }
         ensures { result ≡ greatest_of (writer self.now.starts.items self.now.seqnos.items) (named item.now) }
     {
-        self.last_of_keys(item.reads())
-            .max(self.last_of_writes(item.writes()))
+        later(
+            self.last_of_keys(item.reads()),
+            self.last_of_writes(item.writes()),
+        )
     }
 
     /// Takes note of a committed item that may stand at any place of the order: each row of the
@@ -125,7 +134,7 @@ impl LastWriters {
         for key in entry.keys() {
             if schema.contains(*key) {
                 let place = self.place(*key);
-                self.seqnos[place] = entry.seqno().max(self.seqnos[place]);
+                self.seqnos[place] = later(entry.seqno(), self.seqnos[place]);
             }
         }
     }

@@ -15,6 +15,6 @@ returns c =
     let reads : c.last_of_keys.result ≡ greatest_of number c.args.item.now.reads = c.last_of_keys.ensures ∙ ap (greatest_of number) c.reads.ensures.reads in
     let writes : c.last_of_writes.result ≡ greatest_of number (written c.args.item.now) =
     c.last_of_writes.ensures ∙ ap (λ (ws : List Write). greatest_of number (map key_of ws)) c.writes.ensures.writes in
-    c.max.ensures
+    c.later.ensures
     ∙ (ap (λ (n : ℕ). max n c.last_of_writes.result) reads
     ∙ (ap (max (greatest_of number c.args.item.now.reads)) writes ∙ sym (greatest_of-append number c.args.item.now.reads (written c.args.item.now))))

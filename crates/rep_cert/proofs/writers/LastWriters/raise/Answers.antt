@@ -64,15 +64,15 @@ loop-key-preserved c =
           let here : at ≡ place old.starts.items key = w.place-place.ensures ∙ ap (λ (v : ArrayVec ℕ). place v.items key) same in
           let inside : at < length self.seqnos.items = omega (arith, (HasPlace-row rows old.starts.items self.seqnos.items key laid (ltb-true _ _ has)).row) in
           let read : w.index.result.now ≡ get_or self.seqnos.items at 0 = read_at self.seqnos.items at w.index.result.now inside w.index.ensures in
-          let is : w.max.result ≡ max n (get_or self.seqnos.items at 0) = omega (arith, w.max.ensures, w.seqno.ensures) in
+          let is : w.later.result ≡ max n (get_or self.seqnos.items at 0) = omega (arith, w.later.ensures, w.seqno.ensures) in
           rw w.self-is
           (record {
             starts = same;
             former = c.loop-key.invariant.former;
-            size = length-set self.seqnos.items at w.max.result ∙ c.loop-key.invariant.size;
+            size = length-set self.seqnos.items at w.later.result ∙ c.loop-key.invariant.size;
             raised = λ k row.
-                ap (λ (v : ArrayVec ℕ). writer v.items (set self.seqnos.items at w.max.result) k) same
-                ∙ (raised_in rows old.starts.items self.seqnos.items old.seqnos.items key (take i keys) n at w.max.result laid has here is so_far k row ∙ end k);
+                ap (λ (v : ArrayVec ℕ). writer v.items (set self.seqnos.items at w.later.result) k) same
+                ∙ (raised_in rows old.starts.items self.seqnos.items old.seqnos.items key (take i keys) n at w.later.result laid has here is so_far k row ∙ end k);
           })
       | else-contains w ↦
           let none : has_row rows key ≡ false = sym c.contains.ensures ∙ w.if-contains.false in
