@@ -3,8 +3,9 @@
 use crate::drawn::{Draws, Shape, TABLES, delete_of};
 use crate::judging::{certifier_commits, drawn_items, plain_commits};
 use crate::side_by_side::SideBySide;
+use rep_cert::Certifier;
 use rep_plain::PlainNode;
-use rep_types::{Key, Params, Refusal, Verdict, WriteSet};
+use rep_types::{Entry, Key, Params, Refusal, Verdict, WriteSet};
 use std::alloc::Global;
 use std::process::Abort;
 use std::test::Fail;
@@ -236,6 +237,48 @@ fn agree_from_a_full_window(rt: HostRuntime) -> Result<(), Fail> {
         let tally = compare(&rt, alloc, &mut pair, &shape, 700)?;
         assert!(rt; tally.at_the_ends > 0, "{tally:?} at {shape:?}");
     }
+    Ok(())
+}
+
+/// The entries from the last to the first, each twice, behind one that wrote no row of the schema.
+fn disordered(alloc: Global, entries: &[Entry]) -> Result<Vec<Entry>, Fail> {
+    let mut all = Vec::new(alloc);
+    let no_row = delete_of(Key {
+        table: TABLES,
+        row: 0,
+    });
+    for entry in entries.iter().rev() {
+        let stray = WriteSet::new(1, 1, 0, &[], &[no_row.copied()])?;
+        all.push(Entry::new(entry.seqno(), stray.written()))?;
+        all.push(entry.copied())?;
+        all.push(entry.copied())?;
+    }
+    Ok(all)
+}
+
+#[test]
+fn agree_whatever_the_order_of_the_first_entries(rt: HostRuntime) -> Result<(), Fail> {
+    let alloc = rt.alloc();
+    let shape = shape_of(64);
+    let mut plain = PlainNode::new(alloc, shape.params()?);
+    let mut draws = Draws::new(5);
+    for seqno in 1..201 {
+        plain.deliver(draws.item(&shape, seqno)?)?;
+    }
+    let window = plain.window(alloc)?;
+    let mixed = disordered(alloc, window.as_slice())?;
+    let mut one = Certifier::new(alloc, shape.params()?, 200, window)?;
+    let mut other = Certifier::new(alloc, shape.params()?, 200, mixed)?;
+    let mut tally = Tally::default();
+    for seqno in 201..601 {
+        let item = drawn_item(&mut draws, &shape, seqno)?;
+        other.admit(&item)?;
+        other.undo_last();
+        let admitted = one.admit(&item)?;
+        assert_eq!(rt; admitted, other.admit(&item)?);
+        tally.undone[kind_of(admitted.1)] += 1;
+    }
+    assert!(rt; tally.undone.iter().all(|count| *count > 0), "{tally:?}");
     Ok(())
 }
 
