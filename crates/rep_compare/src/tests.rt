@@ -1,5 +1,7 @@
 //! Verdicts and windows of the certifier, compared with those of the plain node.
 
+ghost use Rattle.std.specs.Prelude.{◌<◌};
+
 use crate::drawn::{Draws, Shape, TABLES, delete_of};
 use crate::judging::{certifier_commits, drawn_items, plain_commits};
 use crate::side_by_side::SideBySide;
@@ -34,13 +36,29 @@ struct Tally {
 }
 
 /// The place of the verdict's kind.
-fn kind_of(verdict: Verdict) -> usize {
+fn kind_of(verdict: Verdict) -> usize
+    ensures { result < 5 }
+{
     match verdict {
         Verdict::Commit => 0,
         Verdict::Conflict(_) => 1,
         Verdict::Stale => 2,
         Verdict::Future => 3,
         Verdict::BadKey => 4,
+    }
+}
+
+impl Tally {
+    /// Counts an item that was taken back after this verdict.
+    fn undone(&mut self, verdict: Verdict) {
+        let kind = kind_of(verdict);
+        self.undone[kind] = self.undone[kind].saturating_add(1);
+    }
+
+    /// Counts a committed item.
+    fn committed(&mut self, is_at_the_ends: bool) {
+        self.committed = self.committed.saturating_add(1);
+        self.at_the_ends = self.at_the_ends.saturating_add(u64::from(is_at_the_ends));
     }
 }
 
@@ -102,16 +120,16 @@ fn compare(
         let seqno = pair.position().saturating_add(1);
         if step % 7 == 3 {
             let undone = pair.take_back(rt, alloc, &drawn_item(&mut draws, shape, seqno)?)?;
-            tally.undone[kind_of(undone)] += 1;
+            tally.undone(undone);
         }
         let item = drawn_item(&mut draws, shape, seqno)?;
         if step % 7 == 5 {
             let undone = pair.take_back(rt, alloc, &item)?;
-            tally.undone[kind_of(undone)] += 1;
+            tally.undone(undone);
         }
-        let commits = u64::from(pair.take(rt, alloc, &item)?.is_commit());
-        tally.committed += commits;
-        tally.at_the_ends += commits * u64::from(item.written().as_slice().contains(&last));
+        if pair.take(rt, alloc, &item)?.is_commit() {
+            tally.committed(item.written().as_slice().contains(&last));
+        }
         if step % 128 == 0 {
             pair.compare_windows(rt, alloc)?;
         }
@@ -276,7 +294,7 @@ fn agree_whatever_the_order_of_the_first_entries(rt: HostRuntime) -> Result<(), 
         other.undo_last();
         let admitted = one.admit(&item)?;
         assert_eq!(rt; admitted, other.admit(&item)?);
-        tally.undone[kind_of(admitted.1)] += 1;
+        tally.undone(admitted.1);
     }
     assert!(rt; tally.undone.iter().all(|count| *count > 0), "{tally:?}");
     Ok(())
