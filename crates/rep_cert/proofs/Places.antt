@@ -16,7 +16,9 @@ use Rattle.rep_types.proofs.Touches.{key_eq-true, key_eq_refl}
 use Rattle.rep_types.specs.declared.value.Write.{Write}
 use Rattle.rep_types.specs.Transactions.{key_of}
 use Rattle.rep_cert.proofs.LastWriters.{last_writer_push, key_at}
+use Rattle.arrayvec.specs.ArrayVec.{ArrayVec}
 use Rattle.rep_cert.specs.declared.writers.Former.{Former}
+use Rattle.rep_cert.specs.declared.writers.LastWriters.{LastWriters}
 use Rattle.rep_cert.specs.Writers.{IsLaidOut, HasPlace, place, is_placed, writer, last_writer, restored, starts_from}
 
 -- how many rows all tables have
@@ -179,11 +181,13 @@ raised_out rows starts seqnos old k keys n none so_far key row =
     omega (arith, last_writer_push key k n keys, so_far key row)
 
 -- the row of each write has a place, also where numbers were changed
-pub HasPlace-write : (starts seqnos now_starts now_seqnos : List ℕ) (writes read : List Write) (i : ℕ) (write : Write) → now_starts ≡ starts → length now_seqnos ≡ length seqnos →
-    read ≡ writes → All (HasPlace starts seqnos) (map key_of writes) → i < length read → write ≡ get_or read i write → HasPlace now_starts now_seqnos write.key
-HasPlace-write starts seqnos now_starts now_seqnos writes read i write same size is places inside read_is =
-    let all : All (HasPlace starts seqnos) (map key_of read) = subst (λ (ws : List Write). All (HasPlace starts seqnos) (map key_of ws)) (sym is) places in
-    let has : HasPlace starts seqnos write.key = key_at (HasPlace starts seqnos) read i write all inside read_is in
+pub HasPlace-write : (old self : LastWriters) (writes read : List Write) (i : ℕ) (write : Write) → self.starts ≡ old.starts → length self.seqnos.items ≡ length old.seqnos.items →
+    read ≡ writes → All (HasPlace old.starts.items old.seqnos.items) (map key_of writes) → i < length read → write ≡ get_or read i write →
+    HasPlace self.starts.items self.seqnos.items write.key
+HasPlace-write old self writes read i write same size is places inside read_is =
+    let all : All (HasPlace old.starts.items old.seqnos.items) (map key_of read) =
+    subst (λ (ws : List Write). All (HasPlace old.starts.items old.seqnos.items) (map key_of ws)) (sym is) places in
+    let has : HasPlace old.starts.items old.seqnos.items write.key = key_at (HasPlace old.starts.items old.seqnos.items) read i write all inside read_is in
     rw same (record { table = has.table; row = omega (arith, has.row) })
 
 -- the numbers stay laid out where they are as many
@@ -196,3 +200,10 @@ pub read_at : (xs : List ℕ) (i n : ℕ) → i < length xs → n ≡ get_or xs 
 read_at [] i n inside is = absurd (omega arith)
 read_at (x ∷ xs) zero n inside is = is
 read_at (x ∷ xs) (suc i) n inside is = read_at xs i n (omega arith) is
+
+-- a key that is a row has a place, also where numbers were changed
+pub HasPlace-key : (rows : List ℕ) (old self : LastWriters) (key : Key) → IsLaidOut rows old.starts.items old.seqnos.items → self.starts ≡ old.starts →
+    length self.seqnos.items ≡ length old.seqnos.items → has_row rows key ≡ true → HasPlace self.starts.items self.seqnos.items key
+HasPlace-key rows old self key laid same size has =
+    HasPlace-row rows self.starts.items self.seqnos.items key
+    (IsLaidOut-same rows old.starts.items old.seqnos.items self.starts.items self.seqnos.items (ap (λ (v : ArrayVec ℕ). v.items) same) size laid) (ltb-true _ _ has)

@@ -13,24 +13,21 @@ use Rattle.rep_cert.proofs.writers.LastWriters.note.Goals as goal
 
 pub place-place-requires : goal.place-place-requires
 place-place-requires c =
-    HasPlace-write c.args.self.now.starts.items c.args.self.now.seqnos.items c.loop-write.self.starts.items c.loop-write.self.seqnos.items c.args.item.now.writes
-    c.writes-write-items.result.now c.loop-write.write-index c.write-item.result (ap (λ (v : ArrayVec ℕ). v.items) c.loop-write.invariant.starts) c.loop-write.invariant.size
-    c.writes-write-items.ensures.writes c.requires.places c.loop-write-test.true c.write-item.is
+    HasPlace-write c.args.self.now c.loop-write.self c.args.item.now.writes c.writes-write-items.result.now c.loop-write.write-index c.write-item.result c.loop-write.invariant.starts
+    c.loop-write.invariant.size c.writes-write-items.ensures.writes c.requires.places c.loop-write-test.true c.write-item.is
 
 pub index-requires : goal.index-requires
 index-requires c =
     let has : HasPlace c.loop-write.self.starts.items c.loop-write.self.seqnos.items c.write-item.result.key =
-    HasPlace-write c.args.self.now.starts.items c.args.self.now.seqnos.items c.loop-write.self.starts.items c.loop-write.self.seqnos.items c.args.item.now.writes
-    c.writes-write-items.result.now c.loop-write.write-index c.write-item.result (ap (λ (v : ArrayVec ℕ). v.items) c.loop-write.invariant.starts) c.loop-write.invariant.size
-    c.writes-write-items.ensures.writes c.requires.places c.loop-write-test.true c.write-item.is in
+    HasPlace-write c.args.self.now c.loop-write.self c.args.item.now.writes c.writes-write-items.result.now c.loop-write.write-index c.write-item.result c.loop-write.invariant.starts
+    c.loop-write.invariant.size c.writes-write-items.ensures.writes c.requires.places c.loop-write-test.true c.write-item.is in
     omega (arith, has.row)
 
 pub index_mut-requires : goal.index_mut-requires
 index_mut-requires c =
     let has : HasPlace c.loop-write.self.starts.items c.loop-write.self.seqnos.items c.write-item.result.key =
-    HasPlace-write c.args.self.now.starts.items c.args.self.now.seqnos.items c.loop-write.self.starts.items c.loop-write.self.seqnos.items c.args.item.now.writes
-    c.writes-write-items.result.now c.loop-write.write-index c.write-item.result (ap (λ (v : ArrayVec ℕ). v.items) c.loop-write.invariant.starts) c.loop-write.invariant.size
-    c.writes-write-items.ensures.writes c.requires.places c.loop-write-test.true c.write-item.is in
+    HasPlace-write c.args.self.now c.loop-write.self c.args.item.now.writes c.writes-write-items.result.now c.loop-write.write-index c.write-item.result c.loop-write.invariant.starts
+    c.loop-write.invariant.size c.writes-write-items.ensures.writes c.requires.places c.loop-write-test.true c.write-item.is in
     omega (arith, has.row)
 
 pub loop-write-preserved : goal.loop-write-preserved
@@ -42,8 +39,8 @@ loop-write-preserved c =
     let at : ℕ = c.place-place.result in
     let key : Key = c.write-item.result.key in
     let has : HasPlace self.starts.items self.seqnos.items key =
-    HasPlace-write old.starts.items old.seqnos.items self.starts.items self.seqnos.items writes c.writes-write-items.result.now i c.write-item.result
-    (ap (λ (v : ArrayVec ℕ). v.items) c.loop-write.invariant.starts) c.loop-write.invariant.size c.writes-write-items.ensures.writes c.requires.places c.loop-write-test.true c.write-item.is in
+    HasPlace-write c.args.self.now c.loop-write.self c.args.item.now.writes c.writes-write-items.result.now c.loop-write.write-index c.write-item.result c.loop-write.invariant.starts
+    c.loop-write.invariant.size c.writes-write-items.ensures.writes c.requires.places c.loop-write-test.true c.write-item.is in
     let here : at ≡ place old.starts.items key = c.place-place.ensures ∙ ap (λ (v : ArrayVec ℕ). place v.items key) c.loop-write.invariant.starts in
     let inside : at < length self.seqnos.items = omega (arith, has.row) in
     let read : c.index.result.now ≡ get_or self.seqnos.items at 0 = read_at self.seqnos.items at c.index.result.now inside c.index.ensures in

@@ -6,35 +6,23 @@ use Rattle.arrayvec.specs.ArrayVec.{ArrayVec}
 use Rattle.rep_types.specs.declared.key.Key.{Key}
 use Rattle.rep_types.specs.Settings.{has_row, IsRow}
 use Rattle.rep_cert.specs.Writers.{IsLaidOut, HasPlace, place, writer, last_writer}
-use Rattle.rep_cert.proofs.Places.{HasPlace-row, IsLaidOut-same, raised_in, raised_out, read_at}
+use Rattle.rep_cert.proofs.Places.{HasPlace-row, HasPlace-key, raised_in, raised_out, read_at}
 use Rattle.rep_cert.proofs.writers.LastWriters.raise.Goals as goal
 use Rattle.rep_cert.proofs.writers.LastWriters.raise.Goals.{then-contains, else-contains}
 
 pub place-place-requires : goal.place-place-requires
-place-place-requires c =
-    let laid : IsLaidOut c.args.schema.now c.loop-key.self.starts.items c.loop-key.self.seqnos.items =
-    IsLaidOut-same c.args.schema.now c.args.self.now.starts.items c.args.self.now.seqnos.items c.loop-key.self.starts.items c.loop-key.self.seqnos.items
-    (ap (λ (v : ArrayVec ℕ). v.items) c.loop-key.invariant.starts) c.loop-key.invariant.size c.requires in
-    HasPlace-row c.args.schema.now c.loop-key.self.starts.items c.loop-key.self.seqnos.items _ laid (ltb-true _ _ (sym c.contains.ensures ∙ c.if-contains.true))
+place-place-requires c = HasPlace-key c.args.schema.now c.args.self.now c.loop-key.self _ c.requires c.loop-key.invariant.starts c.loop-key.invariant.size (sym c.contains.ensures ∙ c.if-contains.true)
 
 pub index-requires : goal.index-requires
 index-requires c =
-    let laid : IsLaidOut c.args.schema.now c.loop-key.self.starts.items c.loop-key.self.seqnos.items =
-    IsLaidOut-same c.args.schema.now c.args.self.now.starts.items c.args.self.now.seqnos.items c.loop-key.self.starts.items c.loop-key.self.seqnos.items
-    (ap (λ (v : ArrayVec ℕ). v.items) c.loop-key.invariant.starts) c.loop-key.invariant.size c.requires in
-    let key : Key = get_or c.keys-key-items.result.now c.loop-key.key-index (record { table = 0; row = 0 }) in
-    let has : HasPlace c.loop-key.self.starts.items c.loop-key.self.seqnos.items key =
-    HasPlace-row c.args.schema.now c.loop-key.self.starts.items c.loop-key.self.seqnos.items key laid (ltb-true _ _ (sym c.contains.ensures ∙ c.if-contains.true)) in
+    let has : HasPlace c.loop-key.self.starts.items c.loop-key.self.seqnos.items (get_or c.keys-key-items.result.now c.loop-key.key-index (record { table = 0; row = 0 })) =
+    HasPlace-key c.args.schema.now c.args.self.now c.loop-key.self _ c.requires c.loop-key.invariant.starts c.loop-key.invariant.size (sym c.contains.ensures ∙ c.if-contains.true) in
     omega (arith, has.row)
 
 pub index_mut-requires : goal.index_mut-requires
 index_mut-requires c =
-    let laid : IsLaidOut c.args.schema.now c.loop-key.self.starts.items c.loop-key.self.seqnos.items =
-    IsLaidOut-same c.args.schema.now c.args.self.now.starts.items c.args.self.now.seqnos.items c.loop-key.self.starts.items c.loop-key.self.seqnos.items
-    (ap (λ (v : ArrayVec ℕ). v.items) c.loop-key.invariant.starts) c.loop-key.invariant.size c.requires in
-    let key : Key = get_or c.keys-key-items.result.now c.loop-key.key-index (record { table = 0; row = 0 }) in
-    let has : HasPlace c.loop-key.self.starts.items c.loop-key.self.seqnos.items key =
-    HasPlace-row c.args.schema.now c.loop-key.self.starts.items c.loop-key.self.seqnos.items key laid (ltb-true _ _ (sym c.contains.ensures ∙ c.if-contains.true)) in
+    let has : HasPlace c.loop-key.self.starts.items c.loop-key.self.seqnos.items (get_or c.keys-key-items.result.now c.loop-key.key-index (record { table = 0; row = 0 })) =
+    HasPlace-key c.args.schema.now c.args.self.now c.loop-key.self _ c.requires c.loop-key.invariant.starts c.loop-key.invariant.size (sym c.contains.ensures ∙ c.if-contains.true) in
     omega (arith, has.row)
 
 pub loop-key-preserved : goal.loop-key-preserved
