@@ -27,8 +27,8 @@ test: toolchain
 check: toolchain
 	@rt all check
 
-# Items judged in a second, for a short order and for one of ten times its length, and by the plain
-# node and the certifier; and what a version that is added and a look-up cost among few and among many.
+# Items judged in a second, for orders of 1,000, 10,000 and 100,000 items; what an item costs the certifier and the plain
+# node; and what a version that is added and a look-up cost among few and among many.
 bench: toolchain
 	@scripts/build $(CRATES) $(TIMED)
 	@scripts/bench $(PROGRAM) $(COMPARE) $(VERSIONS)

@@ -12,7 +12,6 @@ use Rattle.rep_types.specs.Entries.{Entry}
 use Rattle.rep_types.specs.Transactions.{Transaction}
 use Rattle.rep_types.specs.Settings.{Setting, is_setting}
 use Rattle.rep_types.specs.Order.{in_schema, greatest, seqnos_against, conflict_with, recent, floor, verdict_among, is_commit}
-use Rattle.rep_types.proofs.Greatest.{greater, greater_assoc, greatest_against-append}
 use Rattle.rep_types.proofs.Windows.{recent-recent, recent-append, verdict_among-recent}
 use Rattle.rep_cert.specs.declared.ring.TheConstants.{KEPT_ENTRIES}
 use Rattle.rep_cert.specs.Holdings.{made_at, Holding, IsAskable, Admits, upto, window_of, verdict_of}
@@ -142,16 +141,6 @@ pub verdict_found : (p : Setting) (made d : ℕ) (es : List Entry) (w : Transact
     conflict_with found ≡ verdict_of (holding p made d es) w
 verdict_found p made d es w found start whole past keys near is =
     ap conflict_with is ∙ (sym (certified p d es w past keys near) ∙ sym (verdict_of_holding p made d es w start whole))
-
--- the greatest seqno of three parts, of which the second and the third are in a ring
-pub greatest_of_three : (w : Transaction) (given older newer : List Entry) (g o n : Option ℕ) → g ≡ greatest (seqnos_against w given) →
-    o ≡ greatest (seqnos_against w older) → n ≡ greatest (seqnos_against w newer) → greater (greater g o) n ≡ greatest (seqnos_against w (given ++ (older ++ newer)))
-greatest_of_three w given older newer g o n is_g is_o is_n =
-    rw (is_g, is_o, is_n)
-    (sym
-    (greatest_against-append w given (older ++ newer)
-    ∙ (ap (greater (greatest (seqnos_against w given))) (greatest_against-append w older newer)
-    ∙ sym (greater_assoc (greatest (seqnos_against w given)) (greatest (seqnos_against w older)) (greatest (seqnos_against w newer))))))
 
 -- no more than n entries are kept
 pub length-keep_last : (n : ℕ) (es : List Entry) → length (keep_last n es) ≤ n

@@ -6,7 +6,9 @@ use Rattle.rep_types.specs.Entries.{Entry}
 use Rattle.rep_types.specs.Order.{floor, recent}
 use Rattle.rep_types.specs.declared.limits.TheConstants.{MAX_SEQNO, MAX_AHEAD, MAX_WINDOW}
 use Rattle.rep_cert.specs.declared.ring.TheConstants.{KEPT_ENTRIES}
+use Rattle.rep_cert.specs.declared.writers.Former.{Former}
 use Rattle.rep_cert.specs.Holdings.{Holding, Holdings, upto}
+use Rattle.rep_cert.specs.Writers.{IsLaidOut, Agrees, restored}
 
 -- the oldest position whose window can be asked for
 abbrev pub oldest : ℕ → ℕ → ℕ
@@ -44,3 +46,15 @@ pub record IsKept (p : Setting) (made delivered : ℕ) (undoable : Bool) (given 
   pub start : made ≤ delivered
   pub undo : undoable ≡ true → made < delivered
   pub limit : delivered ≤ max made MAX_SEQNO
+
+-- the seqnos that no certifiable item conflicts with: a window spans at most MAX_WINDOW of them
+abbrev pub level : ℕ → ℕ
+level delivered = delivered - MAX_WINDOW
+
+-- What holds of the numbers of the rows: they agree with the entries that are kept, and, where the last item can be undone, those
+-- before it agree with the entries before it.
+pub record KeepsWriters (p : Setting) (delivered : ℕ) (undoable : Bool) (es : List Entry) (starts seqnos : List ℕ) (former : List Former) : Type 0 where
+  pub laid_out : IsLaidOut p.rows starts seqnos
+  pub inside : All (λ (f : Former). f.place < length seqnos) former
+  pub now : Agrees p.rows starts seqnos (level delivered) es
+  pub before : undoable ≡ true → Agrees p.rows starts (restored former seqnos) (level (delivered - 1)) (upto (delivered - 1) es)

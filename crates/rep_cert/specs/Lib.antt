@@ -1,3 +1,4 @@
 pub mod Holdings
+pub mod Writers
 pub mod Kept
 pub mod Following

@@ -1,10 +1,13 @@
 //! The certifier.
 
 ghost use Rattle.std.specs.Prelude.{◌≡◌, ◌+◌, ◌≤◌, ◌↔◌, max, IfOk, IfErr, OnOk, OnErr, IsErr, IsSome, Some, None};
+ghost use Rattle.rep_types.specs.Order.{conflict_with};
+ghost use Rattle.rep_cert.specs.Writers.{above};
 ghost use Rattle.rep_cert.specs.Holdings.{IsAskable, Admits, made_at, window_of, verdict_of};
 
-use crate::ring::{KEPT_ENTRIES, entries_between, forget, greatest_kept_conflict, keep};
+use crate::ring::{KEPT_ENTRIES, entries_between, forget, keep};
 use crate::scan::is_of_window;
+use crate::writers::LastWriters;
 use circular_buffer::HeapCircularBuffer;
 use rep_types::{Entry, MAX_SEQNO, Params, Refusal, Verdict, WriteSet};
 use std::alloc::Global;
@@ -12,7 +15,8 @@ use std::marker::Model;
 
 /// Judges each item of the delivered order from the window alone (certification: Pedone,
 /// Guerraoui and Schiper, 2003). It keeps the last committed items, each as its seqno and the keys
-/// that it wrote, and compares an item with each of them.
+/// that it wrote, and beside them the last committed writer of each row, so that an item is judged
+/// by one look-up for each of its keys.
 #[derive(Debug, Drop)]
 pub struct Certifier {
     params: Params,
@@ -26,18 +30,33 @@ pub struct Certifier {
     given: Vec<Entry>,
     /// The entries of the items that committed since, the last of them.
     admitted: HeapCircularBuffer<Entry>,
+    /// The last committed writer of each row, and the former ones of the rows that the last item
+    /// wrote.
+    writers: LastWriters,
 }
 
 impl Model for Certifier {
     ghost use Rattle.std.specs.Prelude.{◌++◌};
     ghost use Rattle.rep_cert.specs.Holdings.{Holdings};
-    ghost use Rattle.rep_cert.specs.Kept.{IsKept, holdings};
+    ghost use Rattle.rep_cert.specs.Kept.{IsKept, KeepsWriters, holdings};
 
     ghost Value = { Holdings };
 
     ghost view = { λ c. holdings c.params c.made_at c.delivered c.undoable (c.given.items ++ c.admitted.items) };
 
-    ghost invariant = { λ c. IsKept c.params c.made_at c.delivered c.undoable c.given.items c.admitted.items c.admitted.capacity };
+    ghost invariant = { λ c. IsKept c.params c.made_at c.delivered c.undoable c.given.items c.admitted.items c.admitted.capacity × KeepsWriters c.params c.delivered c.undoable (c.given.items ++ c.admitted.items) c.writers.starts.items c.writers.seqnos.items c.writers.former.items };
+}
+
+/// The verdict on an item of the schema that is not stale, by the last writer of its keys: one that
+/// its transaction had not seen.
+fn verdict_above(seen: u64, last: u64) -> Verdict
+    ensures { result ≡ conflict_with (above seen last) }
+{
+    if last > seen {
+        Verdict::Conflict(last)
+    } else {
+        Verdict::Commit
+    }
 }
 
 impl Certifier {
@@ -48,7 +67,8 @@ impl Certifier {
     /// those above the position, and those whose seqno and the size of the window come to no more
     /// than the position. The others are held as they are, in the order given, out of order or
     /// doubled as they may be: a conflict is with the greatest seqno among those that stand against
-    /// the item, and `window_at` gives each of them, in that order and as often as it was given.
+    /// the item, and `window_at` gives each of them, in that order and as often as it was given. Keys
+    /// that are no rows of the schema stay in them, and no item meets such a key.
     ///
     /// Refuses with `OutOfMemory` where there is no room for the entries that it may come to keep.
     pub fn new(
@@ -62,7 +82,9 @@ impl Certifier {
     {
         let floor = position.saturating_sub(u64::from(params.window()) - 1);
         let admitted = HeapCircularBuffer::with_capacity(alloc, KEPT_ENTRIES)?;
+        let mut writers = LastWriters::new(alloc, params.schema())?;
         window.retain(|entry| is_of_window(entry.seqno(), floor, position));
+        writers.raise_all(params.schema(), &window);
         Ok(Certifier {
             params,
             made_at: position,
@@ -70,6 +92,7 @@ impl Certifier {
             undoable: false,
             given: window,
             admitted,
+            writers,
         })
     }
 
@@ -88,10 +111,7 @@ impl Certifier {
         if self.delivered - seen > u64::from(self.params.window()) {
             return Verdict::Stale;
         }
-        match greatest_kept_conflict(&self.given, &self.admitted, item) {
-            Some(seqno) => Verdict::Conflict(seqno),
-            None => Verdict::Commit,
-        }
+        verdict_above(seen, self.writers.last_of(item))
     }
 
     /// Takes the next item of the order, and says its seqno and its verdict. Whatever that is, the
@@ -116,6 +136,7 @@ impl Certifier {
         let verdict = self.judge(item);
         let seqno = self.delivered + 1;
         keep(&mut self.admitted, seqno, item, verdict);
+        self.writers.note_judged(seqno, item, verdict);
         self.delivered = seqno;
         self.undoable = true;
         Ok((seqno, verdict))
@@ -129,6 +150,7 @@ impl Certifier {
         ensures before { self.new.before ≡ None }
     {
         forget(&mut self.admitted, self.delivered);
+        self.writers.restore();
         self.delivered -= 1;
         self.undoable = false;
     }

@@ -5,6 +5,7 @@ mod certifier;
 mod laws;
 mod ring;
 mod scan;
+mod writers;
 
 pub use certifier::Certifier;
 pub use laws::{follows_from_the_start, follows_on, judges_as_the_order, limits_are_these};

@@ -3,11 +3,11 @@
 
 ghost use Rattle.std.specs.Prelude.{◌≡◌, ◌+◌, ◌-◌, ◌<◌, ◌≤◌, ◌++◌, length, IfOk, IfErr};
 ghost use Rattle.circular_buffer.specs.Buffer.{buffer, keep_last};
-ghost use Rattle.rep_types.specs.Order.{seqnos_against, greatest, is_commit, recent};
+ghost use Rattle.rep_types.specs.Order.{is_commit, recent};
 ghost use Rattle.rep_cert.specs.Holdings.{upto};
 ghost use Rattle.rep_cert.specs.Kept.{Ascends, own_entry};
 
-use crate::scan::{greatest_conflict, push_window};
+use crate::scan::push_window;
 use circular_buffer::HeapCircularBuffer;
 use rep_types::{Entry, MAX_AHEAD, MAX_WINDOW, Refusal, Verdict, WriteSet};
 use std::alloc::Global;
@@ -16,20 +16,6 @@ use std::alloc::Global;
 /// asked for lies at most `MAX_AHEAD` positions back and spans at most `MAX_WINDOW` seqnos, so such
 /// windows hold entries of so many last seqnos together. Undoing the last item asks for one more.
 pub const KEPT_ENTRIES: usize = MAX_WINDOW as usize + MAX_AHEAD as usize + 1;
-
-/// The greatest seqno among these entries and those of the ring that stand against the item.
-pub(crate) fn greatest_kept_conflict(
-    given: &[Entry],
-    admitted: &HeapCircularBuffer<Entry>,
-    item: &WriteSet,
-) -> Option<u64>
-    ensures { result ≡ greatest (seqnos_against item.now (given.now ++ admitted.now.items)) }
-{
-    let (older, newer) = admitted.as_slices();
-    greatest_conflict(given, item)
-        .max(greatest_conflict(older, item))
-        .max(greatest_conflict(newer, item))
-}
 
 /// Keeps the entry of the item with this seqno, if it commits; the oldest entry goes where there is
 /// no room.

@@ -1,11 +1,15 @@
 //! Orders that are drawn: the same order for the same seed.
 
-ghost use Rattle.std.specs.Prelude.{◌≤◌};
+ghost use Rattle.std.specs.Prelude.{◌≡◌, ◌≤◌, length};
 
-use rep_types::{Key, Params, Refusal, Write, WriteSet};
+use arrayvec::ArrayVec;
+use rep_types::{Key, MAX_READS, MAX_WRITES, Params, Refusal, Write, WriteSet};
 
 /// How many tables there are.
-const TABLES: u8 = 4;
+pub(crate) const TABLES: u8 = 4;
+
+/// The greatest number of keys that a drawn item names, half of them written.
+pub(crate) const MAX_KEYS: u32 = 16;
 
 /// What an order is drawn from.
 #[derive(Debug, Drop)]
@@ -16,6 +20,9 @@ pub(crate) struct Shape {
     pub(crate) rows: u32,
     /// How many of the positions before it a transaction may have seen as the last.
     pub(crate) behind: u32,
+    /// How many keys an item names, at most `MAX_KEYS`. It writes half of them, and the odd one.
+    pub(crate) keys: u32,
+    ghost few: { keys ≤ 16 },
 }
 
 impl Shape {
@@ -31,6 +38,11 @@ impl Shape {
 #[derive(Debug, Drop)]
 pub(crate) struct Draws {
     state: u64,
+}
+
+/// The write that deletes the row of the key.
+pub(crate) fn delete_of(key: Key) -> Write {
+    Write { key, value: None }
 }
 
 impl Draws {
@@ -50,35 +62,38 @@ impl Draws {
         ((self.state >> 33) % u64::from(bound.max(1))) as u32
     }
 
-    /// Two keys of one table, in ascending order where it has two rows or more.
-    fn keys(&mut self, rows: u32) -> [Key; 2] {
+    /// So many keys of one table, in ascending order where it has as many rows: each is drawn from a
+    /// part of the table of its own.
+    fn keys(&mut self, rows: u32, count: u32) -> ArrayVec<Key, MAX_READS>
+        requires { count ≤ 16 }
+        ensures { length result.items ≡ count }
+    {
         let table = self.below(u32::from(TABLES)) as u8;
-        let half = rows / 2;
-        let low = self.below(half);
-        let high = half + self.below(half);
-        [Key { table, row: low }, Key { table, row: high }]
+        let part = rows / count.max(1);
+        let mut keys = ArrayVec::new();
+        for i in 0..count {
+            let row = part.saturating_mul(i).saturating_add(self.below(part));
+            keys.push(Key { table, row });
+        }
+        keys
     }
 
-    /// A transaction of this number that had seen so much, and reads and deletes two rows.
+    /// A transaction of this number that had seen so much, and reads rows and deletes others.
     pub(crate) fn item_at(
         &mut self,
         shape: &Shape,
         trx: u64,
         last_seen: u64,
     ) -> Result<WriteSet, Refusal> {
-        let reads = self.keys(shape.rows);
-        let [low, high] = self.keys(shape.rows);
-        let writes = [
-            Write {
-                key: low,
-                value: None,
-            },
-            Write {
-                key: high,
-                value: None,
-            },
-        ];
-        WriteSet::new(1, trx, last_seen, &reads, &writes)
+        let reads = self.keys(shape.rows, shape.keys / 2);
+        let mut writes: ArrayVec<Write, MAX_WRITES> = ArrayVec::new();
+        for key in self
+            .keys(shape.rows, shape.keys - shape.keys / 2)
+            .as_slice()
+        {
+            writes.push(delete_of(*key));
+        }
+        WriteSet::new(1, trx, last_seen, reads.as_slice(), writes.as_slice())
     }
 
     /// The item with this seqno.

@@ -1,4 +1,4 @@
-//! The two that judge, each by itself over a drawn order.
+//! Those that judge, each by itself over a drawn order.
 
 ghost use Rattle.std.specs.Prelude.{◌≤◌, IfOk};
 
@@ -39,4 +39,20 @@ pub(crate) fn certifier_commits(alloc: Global, shape: &Shape, count: u64) -> Res
         }
     }
     Ok(committed)
+}
+
+/// How many of the first `count` items are of the schema: what drawing the order takes.
+pub(crate) fn drawn_items(shape: &Shape, count: u64) -> Result<u64, Refusal>
+    ensures { IfOk result (λ drawn. drawn ≤ count) }
+{
+    let params = shape.params()?;
+    let mut draws = Draws::new(1);
+    let mut drawn = 0;
+    for before in 0..count {
+        let item = draws.item(shape, before + 1)?;
+        if item.last_seen() <= before && params.window() > 0 {
+            drawn += 1;
+        }
+    }
+    Ok(drawn)
 }

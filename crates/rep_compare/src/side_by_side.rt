@@ -58,18 +58,26 @@ impl SideBySide {
         Ok(verdict)
     }
 
-    /// Hands the item to the certifier alone, and takes it back: the windows are then as before.
+    /// Hands the item to the certifier alone, and takes it back: the windows are then as before, and
+    /// so is the verdict on it. Says that verdict.
     pub(crate) fn take_back(
         &mut self,
         rt: &impl Abort,
         alloc: Global,
         item: &WriteSet,
-    ) -> Result<(), Fail> {
-        self.certifier.admit(item)?;
+    ) -> Result<Verdict, Fail> {
+        let (_, verdict) = self.certifier.admit(item)?;
         self.certifier.undo_last();
         assert_eq!(rt; self.certifier.delivered(), self.plain.position());
+        assert_eq!(rt; self.certifier.judge(item), verdict);
         self.compare_window(rt, alloc, 0)?;
-        self.compare_window(rt, alloc, MAX_AHEAD)
+        self.compare_window(rt, alloc, MAX_AHEAD)?;
+        Ok(verdict)
+    }
+
+    /// How many entries the window has that the certifier was made with.
+    pub(crate) fn entries_at_first(&self) -> usize {
+        self.windows.first().map_or(0, |window| window.len())
     }
 
     /// Compares the windows of so many positions back, or where the certifier was made.

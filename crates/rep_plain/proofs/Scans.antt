@@ -1,7 +1,10 @@
 -- One more item under a scan of the order from its front.
-use Rattle.std.proofs.Common.{◌≡◌, ℕ, ◌+◌, ◌-◌, ◌<◌, Bool, true, false, cond, Some, List, [], ◌∷◌, ◌++◌, length, get_or, take, refl, ap, sym, ◌∙◌, append-nil}
+use Rattle.std.proofs.Common.{◌≡◌, ℕ, ◌+◌, ◌-◌, ◌<◌, Bool, true, false, cond, Some, List, [], ◌∷◌, ◌++◌, length, get_or, take, drop, nat_lt, ◌≤◌, All, arith, refl, ap, sym, ◌∙◌, append-nil}
 use Rattle.std.specs.Prelude.{◌&&◌}
-use Rattle.std.proofs.lemmas.List.{take_more}
+use Rattle.std.proofs.lemmas.List.{take_more, length-take, take-append-drop}
+use Rattle.std.proofs.lemmas.List.Elements.{All-head, All-tail}
+use Rattle.std.proofs.lemmas.Bool.{le-ltb}
+use Rattle.rep_types.specs.Entries.{Entry}
 use Rattle.rep_types.specs.declared.key.Key.{Key}
 use Rattle.rep_types.specs.declared.value.Write.{Write}
 use Rattle.rep_types.specs.declared.judged.Judged.{Judged}
@@ -9,9 +12,9 @@ use Rattle.rep_types.specs.Keys.{key_eq}
 use Rattle.rep_types.specs.Transactions.{Transaction}
 use Rattle.rep_types.specs.Settings.{Setting}
 use Rattle.rep_types.specs.Order.{Order, counts, against, seqnos_against, greatest, entries, entry_of, latest, effects, row_in, overwritten, floor, recent, history, window}
-use Rattle.rep_types.proofs.Histories.{length_history}
-use Rattle.rep_types.proofs.Greatest.{greater, greatest_against_push}
-use Rattle.rep_types.proofs.Windows.{entries_push}
+use Rattle.rep_types.proofs.Histories.{length_history, take_history}
+use Rattle.rep_types.proofs.Greatest.{greater, greatest_against-append, greatest_against_push}
+use Rattle.rep_types.proofs.Windows.{entries-append, entries_push, seqnos_entries}
 use Rattle.rep_types.proofs.Rows.{effects_push, row_in-append}
 
 -- the items up to and with the one that is read
@@ -46,3 +49,27 @@ pub window_from : (p : Setting) (L : Order) (items : List Judged) (lowest span :
 window_from p L items lowest span same e f =
     let long : length items ≡ length L = ap length same ∙ length_history p L in
     ap (λ k. recent k (entries items)) (e ∙ ap (λ n. n + 1 - span) long ∙ ap (λ n. length L + 1 - n) f) ∙ ap (λ h. recent (floor p (length L)) (entries h)) same
+
+-- items that a transaction had seen do not stand against it
+none_of_seen : (w : Transaction) (s : ℕ) (es : List Entry) → s ≤ w.last_seen → All (λ (e : Entry). (0 < e.seqno) × (e.seqno ≤ s)) es → seqnos_against w es ≡ []
+none_of_seen w s [] low seen = refl
+none_of_seen w s (e ∷ es) low seen =
+    let below : (0 < e.seqno) × (e.seqno ≤ s) = All-head (λ (f : Entry). (0 < f.seqno) × (f.seqno ≤ s)) e es seen in
+    let rest : seqnos_against w es ≡ [] = none_of_seen w s es low (All-tail (λ (f : Entry). (0 < f.seqno) × (f.seqno ≤ s)) e es seen) in
+    let not : nat_lt w.last_seen e.seqno ≡ false = le-ltb w.last_seen e.seqno (omega arith) in
+    grind arith
+
+-- so the greatest seqno against an item is that among the items which its transaction had not seen
+pub greatest_unseen : (p : Setting) (L : Order) (w : Transaction) →
+    greatest (seqnos_against w (entries (drop w.last_seen (history p L)))) ≡ greatest (seqnos_against w (entries (history p L)))
+greatest_unseen p L w =
+    let s : ℕ = w.last_seen in
+    let front : List Judged = take s (history p L) in
+    let back : List Judged = drop s (history p L) in
+    let few : length (take s L) ≤ s = omega (arith, length-take s L) in
+    let none : seqnos_against w (entries front) ≡ [] =
+    ap (λ (h : List Judged). seqnos_against w (entries h)) (take_history p L s) ∙ none_of_seen w (length (take s L)) (entries (history p (take s L))) few (seqnos_entries p (take s L)) in
+    sym
+    (ap (λ (h : List Judged). greatest (seqnos_against w (entries h))) (sym (take-append-drop s (history p L)))
+    ∙ (ap (λ (es : List Entry). greatest (seqnos_against w es)) (entries-append front back)
+    ∙ (greatest_against-append w (entries front) (entries back) ∙ ap (λ (ns : List ℕ). greater (greatest ns) (greatest (seqnos_against w (entries back)))) none)))

@@ -2,7 +2,7 @@
 
 ghost use Rattle.std.specs.Prelude.{◌≡◌, ◌+◌, ◌≤◌, [], ◌∷◌, ◌++◌, length, take, IfOk, IfErr, OnOk, OnErr};
 ghost use Rattle.std.specs.Option.{option_copied};
-ghost use Rattle.rep_types.specs.Order.{verdict, read, window, history};
+ghost use Rattle.rep_types.specs.Order.{verdict, read, window, history, entries, seqnos_against, greatest};
 
 use crate::scan::{greatest_conflict, recent_entries, row_of};
 use rep_types::{Entry, Judged, Key, Params, Refusal, Value, Verdict, WriteSet};
@@ -10,7 +10,7 @@ use std::alloc::Global;
 use std::marker::Model;
 
 /// A node that keeps every delivered item with its verdict, and judges the next by comparing it
-/// with each of them. Its contracts are the definitions themselves; other nodes are compared with it.
+/// with each that its transaction had not seen. Its contracts are the definitions themselves; other nodes are compared with it.
 #[derive(Debug, Drop)]
 pub struct PlainNode {
     params: Params,
@@ -40,6 +40,15 @@ impl PlainNode {
         }
     }
 
+    /// The greatest seqno among the items that stand against this one. Those that its transaction had
+    /// seen do not, so that no more are looked at than a window spans.
+    fn greatest_conflict(&self, item: &WriteSet) -> Option<u64>
+        requires { item.now.last_seen ≤ length self.now.order }
+        ensures { result ≡ greatest (seqnos_against item.now (entries (history self.now.setting self.now.order))) }
+    {
+        greatest_conflict(&self.items[item.last_seen() as usize..], item)
+    }
+
     /// The verdict on the item, were it the next.
     fn judge(&self, item: &WriteSet) -> Verdict
         ensures { result ≡ verdict self.now.setting (self.now.order ++ item.now ∷ []) (length self.now.order + 1) }
@@ -55,7 +64,7 @@ impl PlainNode {
         if seen + u64::from(self.params.window()) + 1 < seqno {
             return Verdict::Stale;
         }
-        match greatest_conflict(&self.items, item) {
+        match self.greatest_conflict(item) {
             Some(seqno) => Verdict::Conflict(seqno),
             None => Verdict::Commit,
         }
