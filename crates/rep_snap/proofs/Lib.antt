@@ -1,0 +1,5 @@
+pub mod Prefixes
+pub mod Adding
+pub mod Lists
+pub mod Changing
+pub mod Ruling
