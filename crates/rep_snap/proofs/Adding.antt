@@ -7,7 +7,7 @@ use prog.Atomic.{either}
 use Rattle.logbook.specs.Pages.{Cell, cell, keeps, no_nib, step, Moves, Goes}
 use Rattle.rep_snap.specs.declared.change.Change.{Change}
 use Rattle.rep_snap.specs.Book.{IsKept, Adds}
-use Rattle.rep_snap.proofs.Prefixes.{prefix_whole, prefix_trans, prefix_self}
+use Rattle.rep_snap.proofs.Prefixes.{prefix_whole}
 
 abbrev pub shown : List Change → List Change
 shown log = []

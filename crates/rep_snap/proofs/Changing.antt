@@ -1,6 +1,6 @@
 -- What a change does to the versions that are kept, and that the shelf then shows its history.
-use Rattle.std.proofs.Common.{◌≡◌, ◌∙◌, refl, sym, ap, subst, ℕ, ◌+◌, ◌<◌, ◌≤◌, max, Bool, true, false, cond, not, ◌==◌, nat_le, nat_lt, if◌then◌else◌, List, [], ◌∷◌, ◌++◌, length, length-append, Option, None, Some, arith}
-use Rattle.std.specs.FinMap.{insert, get-retain_keys}
+use Rattle.std.proofs.Common.{◌≡◌, ◌∙◌, refl, sym, ap, subst, ℕ, ◌+◌, ◌<◌, ◌≤◌, max, Bool, true, false, not, ◌==◌, nat_le, nat_lt, if◌then◌else◌, List, [], ◌∷◌, ◌++◌, length, length-append, Option, None, arith}
+use Rattle.std.specs.FinMap.{empty, insert, get-empty, get-retain_keys}
 use Rattle.std.proofs.lemmas.Bool.Decides.{nat_tests}
 use Rattle.rep_types.specs.declared.key.Key.{Key}
 use Rattle.rep_types.specs.declared.value.Write.{Write}
@@ -37,7 +37,7 @@ only_added seqno writes before after h = same_kept after (added seqno writes bef
 pub is_pruned : (position : ℕ) (kept : Kept) → IsPruned position kept (pruned position kept)
 is_pruned position kept key s =
     get-retain_keys kept (λ v. not (nat_le v.seqno position)) (record { key = key; seqno = s })
-        (λ v tied. ap (λ (w : VersionKey). not (nat_le w.seqno position)) (sym (exact_versions (record { key = key; seqno = s }) v tied)))
+    (λ v tied. ap (λ (w : VersionKey). not (nat_le w.seqno position)) (sym (exact_versions (record { key = key; seqno = s }) v tied)))
     ∙ unless (nat_le s position) _
 
 pub only_pruned : (position : ℕ) (before after : Kept) → IsPruned position before after → after ≡ pruned position before
@@ -86,6 +86,9 @@ module _ (kept : Kept) (oldest : ℕ) (pairs : List Pair) (h : (key : Key) (s : 
   kept_prune : (c : ℕ) (key : Key) (s : ℕ) → version_at (pruned c kept) key s ≡ left (max oldest c) pairs key s
   kept_prune c key s = is_pruned c kept key s ∙ ap (λ o. if nat_le s c then None else o) (h key s) ∙ both s oldest c (written pairs key s) _ _ _ refl refl refl
 
+none_kept : (key : Key) (s oldest : ℕ) → version_at empty key s ≡ left oldest [] key s
+none_kept key s oldest = get-empty version_cmp (record { key = key; seqno = s }) ∙ either_way (nat_le s oldest) None
+
 module _ {A : Type 0} (allows : A → ℕ → List Pair → Type 0) where
   sound_more : (x : Shelf A) (step : Step) (change : Change) → Sound allows x → step.seen.log ≡ x.sight.seen.log ++ change ∷ []
       → Follows allows x.sight.basis x.sight.start x.sight.seen.log change → Sound allows (changed x (record step { change = change }))
@@ -119,3 +122,15 @@ module _ {A : Type 0} (allows : A → ℕ → List Pair → Type 0) where
   pub sound_changed : (x : Shelf A) (step : Step) → Sound allows x → step.seen.log ≡ x.sight.seen.log ++ step.change ∷ []
       → Follows allows x.sight.basis x.sight.start x.sight.seen.log step.change → Sound allows (changed x step)
   sound_changed x step = sound_more x step step.change
+
+  -- an empty list
+  pub sound_first : (x : Shelf A) → x.sight.seen.log ≡ [] → x.front ≡ x.sight.start → x.oldest ≡ x.sight.start → x.count ≡ 0 → x.kept ≡ empty
+      → allows x.sight.basis x.sight.start [] → Sound allows x
+  sound_first x none front oldest count kept allowed = let list : published x.sight.seen.log ≡ [] = ap published none in record {
+    count = count ∙ sym (ap length none);
+    front = front ∙ sym (ap (front_of x.sight.start) list);
+    oldest = oldest ∙ sym (ap (oldest_of x.sight.start) none);
+    kept = λ key s. ap (λ k. version_at k key s) kept ∙ none_kept key s x.oldest ∙ ap (λ pairs. left x.oldest pairs key s) (sym list);
+    ascends = subst (Ascends x.sight.start) (sym list) tt;
+    allowed = subst (allows x.sight.basis x.sight.start) (sym list) allowed;
+  }

@@ -3,3 +3,4 @@ pub mod Adding
 pub mod Lists
 pub mod Changing
 pub mod Ruling
+pub mod Looking

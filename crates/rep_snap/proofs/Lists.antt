@@ -1,17 +1,15 @@
 -- Published lists with one more change.
-use Rattle.std.proofs.Common.{◌≡◌, ◌∙◌, refl, sym, ap, subst, ℕ, ◌<◌, ◌≤◌, Bool, true, false, true≢false, ◌==◌, nat_le, nat_lt, if◌then◌else◌, List, [], ◌∷◌, ◌++◌, fold, Option, None, Some, arith}
+use Rattle.std.proofs.Common.{◌≡◌, ◌∙◌, refl, ap, ℕ, ◌<◌, ◌≤◌, Bool, true, false, ◌==◌, if◌then◌else◌, List, [], ◌∷◌, ◌++◌, Option, None, Some, arith}
 use Rattle.std.specs.Option.{option_or}
 use Rattle.std.proofs.lemmas.Bool.Decides.{nat_tests}
-use Rattle.std.proofs.lemmas.List.{append-nil}
 use Rattle.rep_types.specs.declared.key.Key.{Key}
 use Rattle.rep_types.specs.Order.{latest}
 use Rattle.rep_types.proofs.Latest.{latest-append}
-use Rattle.rep_versions.specs.Versions.{Version}
 use Rattle.rep_versions.specs.Following.{made_by}
 use Rattle.rep_snap.specs.declared.change.Pair.{Pair}
 use Rattle.rep_snap.specs.declared.change.Change.{Change}
 use Rattle.rep_snap.specs.declared.change.Change.TheVariants.{Publish, Prune}
-use Rattle.rep_snap.specs.Lists.{published, front_of, oldest_of, oldest_after, Ascends, written, written_by, left}
+use Rattle.rep_snap.specs.Lists.{published, front_of, oldest_of, oldest_after, Ascends, written, written_by}
 
 pub published-publish : (changes : List Change) (pair : Pair) → published (changes ++ Publish pair ∷ []) ≡ published changes ++ pair ∷ []
 published-publish [] pair = refl

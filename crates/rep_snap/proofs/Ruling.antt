@@ -1,5 +1,5 @@
 -- The steps keep the rule of the two copies.
-use Rattle.std.proofs.Common.{◌≡◌, ◌≢◌, ◌∙◌, refl, sym, ap, subst, ℕ, List, [], ◌∷◌, ◌++◌, Option, None, Some, set, ⊎_elim}
+use Rattle.std.proofs.Common.{◌≡◌, ◌≢◌, ◌∙◌, refl, sym, subst, ℕ, List, [], ◌∷◌, ◌++◌, Option, None, Some, set, ⊎_elim}
 use mathlib.Core.Option.{some}
 use lib.ListN.{get_elem?}
 use Rattle.crossbeam_utils.specs.Register.{Admits, TurnsAt, Forks, Merges}
@@ -10,7 +10,7 @@ use Rattle.rep_snap.specs.declared.change.Change.TheVariants.{Publish, Prune}
 use Rattle.rep_snap.specs.declared.shelf.Sight.{Sight}
 use Rattle.rep_snap.specs.declared.shelf.Shelf.{Shelf}
 use Rattle.rep_snap.specs.Views.{Later}
-use Rattle.rep_snap.specs.Rule.{Sound, Precedes, Knows, Keeps, Shown}
+use Rattle.rep_snap.specs.Rule.{Sound, Precedes, Keeps, Shown}
 use Rattle.rep_snap.specs.declared.shelf.Step.{Step}
 use Rattle.rep_snap.specs.Lists.{Follows}
 use Rattle.rep_snap.specs.Shelves.{changed}

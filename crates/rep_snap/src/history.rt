@@ -73,13 +73,7 @@ pub(crate) fn extend(
 {
     let mut offer: Offer<Change, u64, Law, Nothing> = seen.plain::<Nothing, Change, Add>(change);
     let mut pen = seen.no_pen();
-    let found = head.compare_exchange::<Add, Nothing>(
-        count,
-        count + 1,
-        seen,
-        &mut offer,
-        &mut pen,
-    );
+    let found = head.compare_exchange::<Add, Nothing>(count, count + 1, seen, &mut offer, &mut pen);
     found == count
 }
 
@@ -102,6 +96,8 @@ impl Model for Told {
 }
 
 impl Told {
+    ghost use Rattle.rep_snap.specs.Views.{longer};
+
     /// A copy.
     pub fn again(&self) -> Told
         ensures { result ≡ self.now }
@@ -109,6 +105,22 @@ impl Told {
         Told {
             count: self.count,
             seen: self.seen.again(),
+        }
+    }
+
+    /// The longer of two histories of one publisher, which the other begins.
+    pub fn longer(&self, other: &Told) -> Told
+        requires own { other.now.book ≡ self.now.book }
+        ensures longer { result ≡ record self.now { list = longer self.now.list other.now.list } }
+        ensures this { IsPrefix self.now.list result.list }
+        ensures that { IsPrefix other.now.list result.list }
+    {
+        let mut both = self.seen.again();
+        both.learn(&other.seen);
+        if self.count < other.count {
+            other.again()
+        } else {
+            self.again()
         }
     }
 }

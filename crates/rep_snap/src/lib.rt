@@ -12,8 +12,8 @@ mod shelf;
 
 pub use change::{Change, Pair};
 pub use history::{Law, Told};
-pub use publisher::Publisher;
 pub use peek::Peek;
+pub use publisher::Publisher;
 pub use reader::Reader;
 pub use rule::{Admits, Published};
 pub use shelf::{Shelf, Sight, Step};

@@ -52,7 +52,12 @@ where
     ghost invariant = { λ p. (p.head ≡ head_of p.writer.desk.shown.value.sight.seen.book) × Sound A.allows p.writer.desk.shown.value × (p.writer.desk.place.me.0.client ≡ Some p.writer.desk.shown.value.sight) × (p.failed ≡ false → drop p.writer.behind p.writer.log.items ≡ []) };
 }
 
-fn first_shelf<A: Copy>(alloc: Global, basis: A, start: u64, seen: &Seen<Change, u64, Law>) -> Shelf<A>
+fn first_shelf<A: Copy>(
+    alloc: Global,
+    basis: A,
+    start: u64,
+    seen: &Seen<Change, u64, Law>,
+) -> Shelf<A>
     ensures { result ≡ record { sight = record { basis = basis; start = start; seen = seen.now }; front = start; oldest = start; count = 0; kept = map.empty } }
 {
     Shelf {

@@ -99,36 +99,8 @@ impl<A: Admits + Copy + Drop> Reader<A> {
     pub fn front(self) -> (Reader<A>, u64)
         ensures { IsFront A.allows self result.0 result.1 }
     {
-        let Reader {
-            place,
-            sight,
-            front,
-            told,
-        } = self;
-        let reading = match place.enter_as::<Sees<A>>() {
-            Ok(reading) => reading,
-            Err(place) => {
-                let reader = Reader {
-                    place,
-                    sight,
-                    front,
-                    told,
-                };
-                return (reader, front);
-            }
-        };
-        let shelf = reading.get();
-        let (sight, front) = if shelf.begins_with(&told) {
-            (shelf.sight.again(), shelf.front)
-        } else {
-            (sight, front)
-        };
-        let reader = Reader {
-            place: reading.leave(),
-            sight,
-            front,
-            told,
-        };
+        let (reader, _row) = self.peek(Key::default(), 0);
+        let front = reader.front;
         (reader, front)
     }
 
@@ -140,10 +112,6 @@ impl<A: Admits + Copy + Drop> Reader<A> {
         ensures before { IsPrefix self.old.told self.new.told }
         ensures told { IsPrefix told.now.list self.new.told }
     {
-        let mut both = self.told.seen.again();
-        both.learn(&told.seen);
-        if self.told.count < told.count {
-            self.told = told.again();
-        }
+        self.told = self.told.longer(told);
     }
 }
