@@ -1,0 +1,10 @@
+//! A publisher and readers that look beside it, proved from their contracts alone.
+#![tactic(auto)]
+
+mod beside;
+mod steady;
+#[cfg(test)]
+mod tests;
+
+pub use beside::{Count, watched_beside};
+pub use steady::{Free, Steady};
