@@ -65,10 +65,16 @@ fn watch(reader: Reader<Free>, times: u64) -> Count {
     count
 }
 
-/// Publishes so many seqnos, each with one write, and prunes behind them.
-fn publish_many<R: Wait>(rt: &R, steady: Steady, count: u64) -> (Steady, Result<(), Refusal>) {
+/// Publishes the seqnos above one up to another, each with one write, and prunes behind them.
+fn publish_many<R: Wait>(
+    rt: &R,
+    steady: Steady,
+    from: u64,
+    to: u64,
+) -> (Steady, Result<(), Refusal>) {
     let mut steady = steady;
-    for seqno in 1..=count {
+    for seqno in from..to {
+        let seqno = seqno + 1;
         let Ok(value) = Value::new(seqno.to_be_bytes().as_slice()) else {
             return (steady, Err(Refusal::ValueTooLong));
         };
@@ -111,15 +117,17 @@ pub fn watched_beside<R: Threads + Wait>(
     count: u64,
     times: u64,
 ) -> Result<Count, Refusal> {
-    let mut steady = Steady::start(alloc, rt, 0, 4)?;
+    let steady = Steady::start(alloc, rt, 0, 4)?;
+    let (mut steady, begun) = publish_many(rt, steady, 0, 100);
     let first = started(rt, steady.reader(), times);
     let second = started(rt, steady.reader(), times);
     let third = started(rt, steady.reader(), times);
     let fourth = started(rt, steady.reader(), times);
-    let (steady, done) = publish_many(rt, steady, count);
+    let (steady, done) = publish_many(rt, steady, 100, count);
     let early = ended(rt, first).plus(ended(rt, second));
     let late = ended(rt, third).plus(ended(rt, fourth));
     steady.close(rt);
+    begun?;
     done?;
     Ok(early.plus(late))
 }

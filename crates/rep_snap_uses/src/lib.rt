@@ -2,9 +2,11 @@
 #![tactic(auto)]
 
 mod beside;
+mod counted;
 mod steady;
 #[cfg(test)]
 mod tests;
 
 pub use beside::{Count, watched_beside};
+pub use counted::{Numbers, number_at, publish_next};
 pub use steady::{Free, Steady};
