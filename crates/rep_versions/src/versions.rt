@@ -79,10 +79,10 @@ impl Versions {
         }
     }
 
-    /// Adds what these writes put at the seqno. Where one is refused, those before it are undone: each
+    /// Adds what these writes put at the seqno, as `add` does. Where one is refused, those before it are undone: each
     /// call keeps what stood at its own write until the later ones are in. A write set has at most 16
     /// writes, so deep do the calls go.
-    fn add_writes(&mut self, seqno: u64, writes: &[Write]) -> Result<(), Refusal>
+    pub fn add_writes(&mut self, seqno: u64, writes: &[Write]) -> Result<(), Refusal>
         ensures added { OnOk result (IsAdded seqno writes.now self.old self.new) }
         ensures refused { IfErr result (λ e. (e ≡ OutOfMemory) × (self.new ≡ self.old)) }
     {

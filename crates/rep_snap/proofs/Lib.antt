@@ -1,0 +1,6 @@
+pub mod Prefixes
+pub mod Adding
+pub mod Lists
+pub mod Changing
+pub mod Ruling
+pub mod Looking

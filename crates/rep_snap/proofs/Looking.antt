@@ -1,0 +1,62 @@
+-- What a look finds, and that the answer is of the list that it finds.
+use Rattle.std.proofs.Common.{◌≡◌, ◌∙◌, sym, subst, ℕ, List, Option, None, Some, Result, Ok, Err, inr}
+use mathlib.Core.List.{IsPrefix}
+use Rattle.rep_types.specs.declared.key.Key.{Key}
+use Rattle.rep_types.specs.declared.refusal.Refusal.{Refusal}
+use Rattle.rep_versions.specs.Versions.{Version, version_at}
+use Rattle.rep_snap.specs.declared.change.Pair.{Pair}
+use Rattle.rep_snap.specs.declared.peek.Peek.{Peek}
+use Rattle.rep_snap.specs.declared.peek.Peek.TheVariants.{Value, Absent, Cold}
+use Rattle.rep_snap.specs.declared.shelf.Sight.{Sight}
+use Rattle.rep_snap.specs.declared.shelf.Shelf.{Shelf}
+use Rattle.rep_snap.specs.Lists.{published, front_of, oldest_of, left, IsNewestWrite, IsFound, Answers}
+use Rattle.rep_snap.specs.Views.{Later, Telling, Watching, watched}
+use Rattle.rep_snap.specs.Rule.{Sound, Precedes, Knows, Shown}
+use Rattle.rep_snap.specs.Looks.{Looked, IsPeek}
+use Rattle.rep_snap.proofs.Ruling.{later_trans}
+
+module _ (f g : ℕ → Option Version) (e : (m : ℕ) → f m ≡ g m) (s : ℕ) where
+  newest_alike : (m : ℕ) (v : Version) → IsNewestWrite f s m v → IsNewestWrite g s m v
+  newest_alike m v h = record { stands = sym (e m) ∙ h.stands; within = h.within; none_above = λ n lt le. sym (e n) ∙ h.none_above n lt le }
+
+  found_alike : (peek : Peek) → IsFound f s peek → IsFound g s peek
+  found_alike (Value v) h = (h.0, newest_alike h.0 _ h.1)
+  found_alike Absent h = (h.0, newest_alike h.0 _ h.1)
+  found_alike Cold h = λ m le. sym (e m) ∙ h m le
+
+  answers_alike : (front oldest : ℕ) (answer : Result Peek Refusal) → Answers front oldest f s answer → Answers front oldest g s answer
+  answers_alike front oldest (Ok peek) h = (h.0, found_alike peek h.1)
+  answers_alike front oldest (Err refusal) h = h
+
+module _ {A : Type 0} (allows : A → ℕ → List Pair → Type 0) where
+  -- a reader that knew s, and has seen t
+  pub knew : (v : Option (Sight A)) (s t : Sight A) → Knows allows v s → Precedes allows v t → Later s t
+  knew None s t h k = absurd h
+  knew (Some u) s t h k = later_trans s u t h k
+
+  pub knows_now : (v w : Option (Sight A)) (s : Sight A) (x : Shelf A) → Knows allows v s → Shown allows v x x w → Knows allows w s
+  knows_now v w s x h shown = subst (λ u. Knows allows u s) (sym shown.now) (knew v s x.sight h shown.later)
+
+  looked : (s : Sight A) (told : Telling) (x : Shelf A) → Sound allows x → Later s x.sight → IsPrefix told.list x.sight.seen.log → Looked allows (watched s told) (watched x.sight told)
+  looked s told x sound later prefix = record {
+    same = λ i. record { book = later.book i; basis = later.basis i; start = later.start i; seen = x.sight.seen.log; told = told.list };
+    seen = later.seen;
+    told = prefix;
+    ascends = sound.ascends;
+    allowed = sound.allowed;
+  }
+
+  answered : (x : Shelf A) (key : Key) (snapshot : ℕ) (answer : Result Peek Refusal) → Sound allows x → Answers x.front x.oldest (version_at x.kept key) snapshot answer
+      → Answers (front_of x.sight.start (published x.sight.seen.log)) (oldest_of x.sight.start x.sight.seen.log) (left (oldest_of x.sight.start x.sight.seen.log) (published x.sight.seen.log) key) snapshot answer
+  answered x key snapshot answer sound h =
+      let list = published x.sight.seen.log in
+      let alike = answers_alike (version_at x.kept key) (left x.oldest list key) (sound.kept key) snapshot x.front x.oldest answer h in
+      let at_front = subst (λ n. Answers n x.oldest (left x.oldest list key) snapshot answer) sound.front alike in
+      subst (λ n. Answers (front_of x.sight.start list) n (left n list key) snapshot answer) sound.oldest at_front
+
+  pub peeks : (s new : Sight A) (told : Telling) (x : Shelf A) (v : Watching A) (key : Key) (snapshot : ℕ) (answer : Result Peek Refusal) → watched s told ≡ v → Sound allows x → Later s x.sight
+      → IsPrefix told.list x.sight.seen.log → new ≡ x.sight → Answers x.front x.oldest (version_at x.kept key) snapshot answer → IsPeek allows v key snapshot (watched new told) answer
+  peeks s new told x v key snapshot answer is sound later prefix same h =
+      subst (λ u. IsPeek allows u key snapshot (watched new told) answer) is
+      (subst (λ (t : Sight A). IsPeek allows (watched s told) key snapshot (watched t told) answer) (sym same)
+      (inr (looked s told x sound later prefix, answered x key snapshot answer sound h)))

@@ -1,0 +1,6 @@
+pub mod Lists
+pub mod Book
+pub mod Views
+pub mod Shelves
+pub mod Rule
+pub mod Looks

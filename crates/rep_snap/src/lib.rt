@@ -1,0 +1,19 @@
+//! Readers that look up a row at a snapshot and never wait, beside one publisher: [`Publisher`] and
+//! [`Reader`] say how.
+#![tactic(auto)]
+
+mod change;
+mod history;
+mod peek;
+mod publisher;
+mod reader;
+mod rule;
+mod shelf;
+
+pub use change::{Change, Pair};
+pub use history::{Law, Told};
+pub use peek::Peek;
+pub use publisher::Publisher;
+pub use reader::Reader;
+pub use rule::{Admits, Published};
+pub use shelf::{Shelf, Sight, Step};

@@ -1,0 +1,137 @@
+//! The value of which there are two copies: the versions that a published list has, and its numbers.
+
+ghost use Rattle.std.specs.Prelude.{◌≡◌, nat_lt, if◌then◌else◌, length, IsTrue, MatchResult};
+ghost use mathlib.Core.List.{IsPrefix};
+ghost use Rattle.rep_versions.specs.Versions.{version_at};
+ghost use Rattle.rep_snap.specs.Lists.{Answers};
+ghost use Rattle.rep_snap.specs.Shelves.{added, taken, changed};
+
+use crate::change::{Change, Pair};
+use crate::history::{Law, Told};
+use crate::peek::Peek;
+use left_right::Absorb;
+use logbook::Seen;
+use rep_types::{Key, Refusal};
+use rep_versions::{At, Versions};
+use std::alloc::AllocError;
+
+/// What a reader knows of a publisher: with what it was started, and a history that was seen.
+#[derive(Drop)]
+pub struct Sight<A> {
+    pub basis: A,
+    pub start: u64,
+    pub seen: Seen<Change, u64, Law>,
+}
+
+impl<A: Copy> Sight<A> {
+    /// A copy.
+    pub(crate) fn again(&self) -> Sight<A>
+        ensures { result ≡ self.now }
+    {
+        Sight {
+            basis: self.basis,
+            start: self.start,
+            seen: self.seen.again(),
+        }
+    }
+}
+
+/// What readers look at.
+#[derive(Drop)]
+pub struct Shelf<A> {
+    pub sight: Sight<A>,
+    pub front: u64,
+    pub oldest: u64,
+    pub count: u64,
+    pub kept: Versions,
+}
+
+/// A change, and the history that ends with it.
+#[derive(Drop)]
+pub struct Step {
+    pub change: Change,
+    pub seen: Seen<Change, u64, Law>,
+}
+
+/// Keeps what the pair wrote, unless the pair is at or below the oldest snapshot: no snapshot finds that.
+fn keep(kept: &mut Versions, oldest: u64, pair: &Pair) -> Result<(), AllocError>
+    ensures { MatchResult result (λ _. kept.new ≡ (if nat_lt oldest pair.now.seqno then added pair.now.seqno pair.now.writes.items kept.old else kept.old)) (λ _. kept.new ≡ kept.old) }
+{
+    if pair.seqno <= oldest {
+        return Ok(());
+    }
+    match kept.add_writes(pair.seqno, pair.writes.as_slice()) {
+        Ok(()) => Ok(()),
+        Err(_) => Err(AllocError),
+    }
+}
+
+impl<A> Shelf<A> {
+    /// Takes the change in, but for the history and its length. Where a growth is refused it is as it
+    /// was.
+    fn take_in(&mut self, change: &Change) -> Result<(), AllocError>
+        ensures { MatchResult result (λ _. self.new ≡ taken change.now self.old) (λ _. self.new ≡ self.old) }
+    {
+        match change {
+            Change::Publish(pair) => {
+                keep(&mut self.kept, self.oldest, pair)?;
+                self.front = pair.seqno;
+            }
+            Change::Prune(position) => {
+                self.kept.prune(*position);
+                self.oldest = self.oldest.max(*position);
+            }
+        }
+        Ok(())
+    }
+
+    /// Whether its history is as long as the one that was told, which is then a beginning of it.
+    pub(crate) fn begins_with(&self, told: &Told) -> bool
+        requires book { told.now.book ≡ self.now.sight.seen.book }
+        requires count { self.now.count ≡ length self.now.sight.seen.log }
+        ensures { IsTrue result → IsPrefix told.now.list self.now.sight.seen.log }
+    {
+        let mut both = self.sight.seen.again();
+        both.learn(&told.seen);
+        told.count <= self.count
+    }
+
+    /// What the row is at the snapshot, of the versions that are kept.
+    pub(crate) fn look_up(&self, key: Key, snapshot: u64) -> Result<Peek, Refusal>
+        ensures { Answers self.now.front self.now.oldest (version_at self.now.kept key) snapshot result }
+    {
+        if self.front < snapshot {
+            return Err(Refusal::NotYet {
+                durable: self.front,
+            });
+        }
+        if snapshot < self.oldest {
+            return Err(Refusal::TooOld {
+                oldest: self.oldest,
+            });
+        }
+        match self.kept.at(key, snapshot) {
+            At::Found(value) => Ok(Peek::Value(value.copied())),
+            At::Deleted => Ok(Peek::Absent),
+            At::Below => Ok(Peek::Cold),
+        }
+    }
+}
+
+impl<A> Absorb<Step> for Shelf<A> {
+    type State = Shelf<A>;
+
+    ghost state = { λ shelf. shelf };
+
+    ghost applied = { changed };
+
+    fn absorb_first(&mut self, step: &Step, _other: &Shelf<A>) -> Result<(), AllocError> {
+        let Some(count) = self.count.checked_add(1) else {
+            return Err(AllocError);
+        };
+        self.take_in(&step.change)?;
+        self.count = count;
+        self.sight.seen = step.seen.again();
+        Ok(())
+    }
+}

@@ -1,0 +1,12 @@
+//! A publisher and readers that look beside it, proved from their contracts alone.
+#![tactic(auto)]
+
+mod beside;
+mod counted;
+mod steady;
+#[cfg(test)]
+mod tests;
+
+pub use beside::{Count, watched_beside};
+pub use counted::{Numbers, number_at, publish_next};
+pub use steady::{Free, Steady};

@@ -1,0 +1,123 @@
+//! A publisher of any lists, which looks at the front itself before it publishes.
+
+ghost use Rattle.std.specs.Prelude.{◌≡◌, ◌<◌, ◌^◌, [], MatchResult, IfOk, IfErr};
+ghost use Rattle.rep_snap.specs.declared.change.Change.TheVariants.{Publish, Prune};
+ghost use Rattle.rep_snap.specs.Lists.{published, front_of};
+ghost use Rattle.rep_snap.specs.Views.{with_change, telling, watching};
+
+use arrayvec::ArrayVec;
+use rep_snap::{Admits, Publisher, Reader, Told};
+use rep_types::{Key, MAX_WRITES, Refusal, Value, Write};
+use std::alloc::Global;
+use std::sync::Wait;
+
+/// Allows every list.
+#[derive(Clone, Copy)]
+pub struct Free;
+
+impl Admits for Free {
+    ghost allows = { λ basis start pairs. Unit {0} };
+
+    ghost empty = { λ basis start. tt };
+}
+
+/// A publisher with its front.
+pub struct Steady {
+    pub publisher: Publisher<Free>,
+    pub front: u64,
+    ghost front_is: { front ≡ front_of publisher.start (published publisher.list) },
+}
+
+impl Steady {
+    /// One that starts at this position.
+    pub fn start<R: Wait>(
+        alloc: Global,
+        rt: &R,
+        position: u64,
+        readers: usize,
+    ) -> Result<Steady, Refusal>
+        requires { (0 < readers) × (readers < 2 ^ 32) }
+        ensures { IfOk result (λ s. (s.publisher.start ≡ position) × (s.publisher.list ≡ [])) }
+    {
+        let publisher = Publisher::start(alloc, rt, Free, position, readers)?;
+        Ok(Steady {
+            publisher,
+            front: position,
+        })
+    }
+
+    /// Publishes, where the seqno is above the front, and else refuses with `NotDue`.
+    pub fn publish<R: Wait>(
+        self,
+        rt: &R,
+        seqno: u64,
+        writes: ArrayVec<Write, MAX_WRITES>,
+    ) -> (Steady, Result<(), Refusal>)
+        ensures { MatchResult result.1 (λ _. result.0.publisher ≡ with_change (Publish (record { seqno = seqno; writes = writes })) self.publisher) (λ _. result.0.publisher ≡ self.publisher) }
+    {
+        let Steady { publisher, front } = self;
+        if seqno <= front {
+            return (Steady { publisher, front }, Err(Refusal::NotDue));
+        }
+        let (publisher, done) = publisher.publish(rt, seqno, writes);
+        match done {
+            Ok(()) => {
+                let steady = Steady {
+                    publisher,
+                    front: seqno,
+                };
+                (steady, Ok(()))
+            }
+            Err(refusal) => (Steady { publisher, front }, Err(refusal)),
+        }
+    }
+
+    /// Publishes one write of one row.
+    pub fn put<R: Wait>(
+        self,
+        rt: &R,
+        seqno: u64,
+        key: Key,
+        value: Option<Value>,
+    ) -> (Steady, Result<(), Refusal>) {
+        let mut writes = ArrayVec::new();
+        writes.push(Write { key, value });
+        self.publish(rt, seqno, writes)
+    }
+
+    /// Prunes.
+    pub fn prune<R: Wait>(self, rt: &R, position: u64) -> (Steady, Result<(), Refusal>)
+        ensures { MatchResult result.1 (λ _. result.0.publisher ≡ with_change (Prune position) self.publisher) (λ _. result.0.publisher ≡ self.publisher) }
+    {
+        let Steady { publisher, front } = self;
+        let (publisher, done) = publisher.prune(rt, position);
+        match done {
+            Ok(()) => (Steady { publisher, front }, Ok(())),
+            Err(refusal) => (Steady { publisher, front }, Err(refusal)),
+        }
+    }
+
+    /// What readers may be told.
+    pub fn tell(&self) -> Told
+        ensures { result ≡ telling self.now.publisher }
+    {
+        self.publisher.tell()
+    }
+
+    /// A reader.
+    pub fn reader(&mut self) -> Result<Reader<Free>, Refusal>
+        ensures same { self.new.publisher ≡ self.old.publisher }
+        ensures reader { IfOk result (λ r. r ≡ watching self.old.publisher) }
+    {
+        self.publisher.reader()
+    }
+
+    /// Ends it.
+    pub fn close<R: Wait>(self, rt: &R) {
+        let Steady {
+            publisher,
+            front: _,
+        } = self;
+        publisher.close(rt);
+    }
+}
