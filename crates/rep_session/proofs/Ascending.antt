@@ -1,6 +1,6 @@
 -- Lists that ascend by the keys of their elements, and one more among them.
-use Rattle.std.proofs.Common.{◌≡◌, ℕ, ◌+◌, ◌<◌, ◌≤◌, Bool, true, false, cond, List, [], ◌∷◌, ◌++◌, length, map, filter, take, drop, None, Some, refl, sym, ap, ◌∙◌, subst, append_assoc, arith, length-append, inl, inr}
-use Rattle.std.specs.Prelude.{count_by, ◌⊎◌}
+use Rattle.std.proofs.Common.{◌≡◌, ℕ, ◌+◌, ◌<◌, Bool, true, false, cond, List, [], ◌∷◌, ◌++◌, length, map, filter, take, drop, None, Some, refl, sym, ap, ◌∙◌, subst, arith, length-append}
+use Rattle.std.specs.Prelude.{count_by}
 use Rattle.std.specs.List.{AllByRecursion, list_any, insert}
 use Rattle.std.proofs.Math.ListN.{set}
 use Rattle.std.proofs.Math.Seq.{take-append_seam, drop-append_seam, set-append_seam}
@@ -10,7 +10,7 @@ use Rattle.rep_types.specs.declared.value.Write.{Write}
 use Rattle.rep_types.specs.Keys.{key_eq, key_lt, disorder, disorder_after}
 use Rattle.rep_types.specs.Transactions.{key_of}
 use Rattle.rep_session.specs.Sessions.{placed, itself}
-use Rattle.rep_session.proofs.Keys.{lt_trans, lt_not_gt, lt_not_eq, gt_not_eq, eq_not_lt, eq_not_gt, between, same_key}
+use Rattle.rep_session.proofs.Keys.{lt_trans, lt_not_gt, lt_not_eq, gt_not_eq, eq_not_gt, between, same_key}
 
 -- the keys as themselves
 pub map_itself : (keys : List Key) → map itself keys ≡ keys

@@ -1,6 +1,5 @@
 -- The order of keys, by what its tests say.
 use Rattle.std.proofs.Common.{◌≡◌, true, false, arith}
-use Rattle.std.specs.Prelude.{◌⊎◌}
 use Rattle.std.proofs.lemmas.Bool.Decides.{nat_tests}
 use Rattle.rep_types.specs.declared.key.Key.{Key}
 use Rattle.rep_types.specs.Keys.{key_eq, key_lt}

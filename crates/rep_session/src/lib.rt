@@ -3,10 +3,12 @@
 #![tactic(auto)]
 
 mod finished;
+mod laws;
 mod places;
 mod rows;
 mod session;
 
 pub use finished::Finished;
+pub use laws::{sessions_are_serial, sessions_come_to};
 pub use rows::Rows;
 pub use session::Session;

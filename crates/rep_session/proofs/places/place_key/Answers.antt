@@ -1,5 +1,4 @@
-use Rattle.std.proofs.Common.{◌≡◌, true, false, sym, ap, ◌∙◌}
-use Rattle.rep_session.specs.Sessions.{placed, itself}
+use Rattle.std.proofs.Common.{sym, ap, ◌∙◌}
 use Rattle.rep_session.proofs.Ascending.{key_inserted, key_there, keys_ascend}
 use Rattle.rep_types.specs.Keys.{disorder}
 use Rattle.rep_session.proofs.places.place_key.Goals as goal

@@ -1,4 +1,4 @@
-use Rattle.std.proofs.Common.{◌≡◌, ◌<◌, ℕ, Bool, true, false, List, ◌++◌, length, map, take, drop, sym, ap, ◌∙◌, cond, lit<, arith, length-set}
+use Rattle.std.proofs.Common.{◌≡◌, ℕ, Bool, true, false, List, ◌++◌, length, map, take, drop, sym, ap, ◌∙◌, lit<, length-set}
 use Rattle.std.specs.Prelude.{◌||◌, IsTrue, nat_lt, count_by}
 use Rattle.std.proofs.Math.ListN.{set}
 use Rattle.std.proofs.Math.Seq.{take-append_seam}
@@ -9,7 +9,6 @@ use Rattle.rep_types.specs.declared.limits.TheConstants.{MAX_WRITES}
 use Rattle.rep_types.specs.declared.value.Write.{Write}
 use Rattle.rep_types.specs.Keys.{disorder, key_eq, key_lt}
 use Rattle.rep_types.specs.Transactions.{key_of}
-use Rattle.rep_session.specs.Sessions.{placed}
 use Rattle.rep_session.proofs.Ascending.{write_inserted, write_replaced, write_within, writes_ascend}
 use Rattle.rep_session.proofs.places.place_write.Goals as goal
 
@@ -29,11 +28,14 @@ bounds-deref_mut-place c =
     rw (c.deref_mut.ensures.value, c.writes_before-place.ensures, c.as_slice.ensures.value) there
 
 pub insert-requires : goal.insert-requires
-insert-requires c =
-    (lit< tt,
-    (rw (c.writes_before-place.ensures, c.as_slice.ensures.value) (count_by-le-length (λ (other : Write). key_lt other.key c.args.write.key) c.args.writes.now.items),
+insert-requires c = (
+  lit< tt,
+  (
+    rw (c.writes_before-place.ensures, c.as_slice.ensures.value) (count_by-le-length (λ (other : Write). key_lt other.key c.args.write.key) c.args.writes.now.items),
     ltb-true _ _ (first_of_two (nat_lt (length c.args.writes.now.items) MAX_WRITES) (list_any (λ (other : Write). key_eq other.key c.args.write.key) c.args.writes.now.items)
-    c.requires.room (rw c.as_slice-2.ensures.value at (sym c.is_written.ensures ∙ c.if-is_written.false)))))
+        c.requires.room (rw c.as_slice-2.ensures.value at (sym c.is_written.ensures ∙ c.if-is_written.false))),
+  ),
+)
 
 new_key : goal.returns-else-is_written-clause-placed
 new_key c =
