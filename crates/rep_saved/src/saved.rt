@@ -2,12 +2,16 @@
 
 ghost use Rattle.std.specs.Prelude.{◌≡◌, ◌<◌, ◌≤◌, ℕ, length, take, IfSome, IfErr, OnOk, OnErr, IsTrue};
 ghost use Rattle.std.specs.Io.KnownBytes.{Appends};
+ghost use Rattle.std.specs.Fmt.{signed_decimal};
+ghost use Rattle.arrayvec.specs.ArrayString.{array_string_len};
 ghost use Rattle.rep_types.specs.Gtids.{is_seqno};
-ghost use Rattle.rep_saved.specs.Saved.{saved_text, saved_in, IsWithin, found_with, whole};
+ghost use Rattle.rep_saved.specs.Saved.{saved_text, bit_text, saved_in, IsWithin, found_with, whole};
 
 use crate::line::{Said, read_line, without_return};
-use rep_record::cut_at;
+use arrayvec::ArrayString;
+use rep_record::{cut_at, push_decimal, put_all};
 use rep_types::{Gtid, Refusal};
+use std::io::Write;
 use uuid::Uuid;
 
 /// What a node was at when it stopped, as a text that operators and tools read: its GTID, and whether it
@@ -76,6 +80,45 @@ impl Found {
     }
 }
 
+/// The seqno as a text.
+#[tactic(auto, using(std::proofs::lemmas::Fmt::decimal_digit, rep_record::proofs::Writing::decimal_fits))]
+fn seqno_text(gtid: Gtid) -> ArrayString<64>
+    ensures text { result.bytes ≡ signed_decimal gtid.seqno }
+    ensures short { array_string_len result ≤ 20 }
+{
+    let mut text = ArrayString::new();
+    let seqno = gtid.seqno();
+    match u64::try_from(seqno) {
+        Ok(number) => push_decimal(&mut text, number),
+        Err(_) => text.push_str("-1"),
+    }
+    text
+}
+
+/// The digit for yes or no.
+fn bit_text(yes: bool) -> &'static str
+    ensures { result.now ≡ bit_text yes }
+{
+    if yes { "1" } else { "0" }
+}
+
+/// The state as a text.
+fn text_of(saved: SavedState) -> ArrayString<160>
+    ensures { result.bytes ≡ saved_text saved }
+{
+    let mut room = [0; 36];
+    let hyphenated = saved.gtid.uuid().hyphenated();
+    let mut text = ArrayString::new();
+    text.push_str("# GALERA saved state\nversion: 2.1\nuuid:    ");
+    text.push_str(hyphenated.encode_lower(&mut room));
+    text.push_str("\nseqno:   ");
+    text.push_str(seqno_text(saved.gtid).as_str());
+    text.push_str("\nsafe_to_bootstrap: ");
+    text.push_str(bit_text(saved.safe_to_bootstrap));
+    text.push_str("\n");
+    text
+}
+
 impl SavedState {
     /// The saved state that the text is. It is read line by line, a carriage return before a line feed
     /// and spaces and tabs at either end of a line left out. What stands before a line's first colon is
@@ -116,5 +159,16 @@ impl SavedState {
                 at: (text.len() - rest.len()) as u64,
             }),
         }
+    }
+
+    /// Writes the state as a text, which reads back as it.
+    ///
+    /// Refuses with `StreamFault` where the writer fails; it has then taken a front of the text.
+    pub fn write_to<W: Write>(&self, writer: &mut W) -> Result<(), Refusal>
+        ensures ok { OnOk result (Appends (W.contents writer.old) (W.contents writer.new) (saved_text self.now)) }
+        ensures cut { OnErr result ((k : ℕ) × Appends (W.contents writer.old) (W.contents writer.new) (take k (saved_text self.now))) }
+        ensures err { IfErr result (λ e. e ≡ Refusal.StreamFault) }
+    {
+        put_all(writer, text_of(*self).as_bytes())
     }
 }
