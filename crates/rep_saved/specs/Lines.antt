@@ -47,7 +47,7 @@ said_by key value =
     if bytes_eq key (codes "uuid") then (if length value == 36 then uuid_said (uuid_in value) else Bad)
     else if bytes_eq key (codes "seqno") then seqno_said (seqno_in value)
     else if bytes_eq key (codes "safe_to_bootstrap") then
-        (if bytes_eq value (codes "0") then Safe false else if bytes_eq value (codes "1") then Safe true else Bad)
+    (if bytes_eq value (codes "0") then Safe false else if bytes_eq value (codes "1") then Safe true else Bad)
     else Nothing
 
 -- the key stands before the first colon, the value behind it and the blanks there

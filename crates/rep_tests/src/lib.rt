@@ -27,6 +27,8 @@ mod record;
 #[cfg(test)]
 mod replica;
 #[cfg(test)]
+mod saved;
+#[cfg(test)]
 mod session;
 #[cfg(test)]
 mod types;

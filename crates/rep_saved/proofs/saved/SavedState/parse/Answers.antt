@@ -25,9 +25,9 @@ loop-line-preserved c =
     let at : length c.args.text.now - length c.loop-line.rest.now + length c.in-Some.line.now + 1 ≡ length c.args.text.now - length c.in-Some.behind.now = omega (arith, size, inside) in
     record {
       told = told_more (length c.args.text.now) (length c.args.text.now - length c.loop-line.rest.now) c.loop-line.found c.in-Some-with.more c.loop-line.rest.now c.in-Some.line.now c.in-Some.behind.now
-        (saved_in c.args.text.now) c.in-Some.ensures
-        (ap (found_with c.loop-line.found) (sym (c.read_line.ensures.value ∙ ap said c.without_return.ensures)) ∙ sym c.with.ensures.value ∙ c.in-Some-with.is) c.loop-line.invariant.told
-        ∙ ap (λ k. rest_of (length c.args.text.now) c.in-Some-with.more (sayings k (slice_split (λ b. b == 10) c.in-Some.behind.now))) at;
+          (saved_in c.args.text.now) c.in-Some.ensures
+          (ap (found_with c.loop-line.found) (sym (c.read_line.ensures.value ∙ ap said c.without_return.ensures)) ∙ sym c.with.ensures.value ∙ c.in-Some-with.is) c.loop-line.invariant.told
+          ∙ ap (λ k. rest_of (length c.args.text.now) c.in-Some-with.more (sayings k (slice_split (λ b. b == 10) c.in-Some.behind.now))) at;
       inside = omega (arith, size, inside);
       limit = c.in-Some-with.ensures.limit;
     }
