@@ -20,7 +20,8 @@ fn state(text: &[u8], safe_to_bootstrap: bool) -> Result<SavedState, Refusal> {
 
 #[test]
 fn a_stopped_node_left_its_position(rt: HostRuntime) -> Result<(), Fail> {
-    let text = b"# GALERA saved state\nversion: 2.1\nuuid:    dcab5c4f-e6b0-11f1-a8e5-33654dfaf8d0\nseqno:   5\nsafe_to_bootstrap: 1\n";
+    let text =
+        b"# GALERA saved state\nversion: 2.1\nuuid:    dcab5c4f-e6b0-11f1-a8e5-33654dfaf8d0\nseqno:   5\nsafe_to_bootstrap: 1\n";
     let wanted = state(b"dcab5c4f-e6b0-11f1-a8e5-33654dfaf8d0:5", true)?;
     assert_eq!(rt; SavedState::parse(text), Ok(wanted));
     Ok(())
@@ -28,7 +29,8 @@ fn a_stopped_node_left_its_position(rt: HostRuntime) -> Result<(), Fail> {
 
 #[test]
 fn a_node_that_runs_or_was_killed_left_no_position(rt: HostRuntime) -> Result<(), Fail> {
-    let text = b"# GALERA saved state\nversion: 2.1\nuuid:    dcab5c4f-e6b0-11f1-a8e5-33654dfaf8d0\nseqno:   -1\nsafe_to_bootstrap: 1\n";
+    let text =
+        b"# GALERA saved state\nversion: 2.1\nuuid:    dcab5c4f-e6b0-11f1-a8e5-33654dfaf8d0\nseqno:   -1\nsafe_to_bootstrap: 1\n";
     let wanted = state(b"dcab5c4f-e6b0-11f1-a8e5-33654dfaf8d0:-1", true)?;
     assert_eq!(rt; SavedState::parse(text), Ok(wanted));
     Ok(())
@@ -36,7 +38,8 @@ fn a_node_that_runs_or_was_killed_left_no_position(rt: HostRuntime) -> Result<()
 
 #[test]
 fn other_keys_say_nothing_and_safe_may_be_missing(rt: HostRuntime) -> Result<(), Fail> {
-    let text = b"# GALERA saved state\nversion: 2.1\nuuid:    5ee99582-bb8d-11e2-b8e3-23de375c1d30\nseqno:   8204503945773\ncert_index:\n";
+    let text =
+        b"# GALERA saved state\nversion: 2.1\nuuid:    5ee99582-bb8d-11e2-b8e3-23de375c1d30\nseqno:   8204503945773\ncert_index:\n";
     let wanted = state(b"5ee99582-bb8d-11e2-b8e3-23de375c1d30:8204503945773", false)?;
     assert_eq!(rt; SavedState::parse(text), Ok(wanted));
     Ok(())
@@ -45,11 +48,14 @@ fn other_keys_say_nothing_and_safe_may_be_missing(rt: HostRuntime) -> Result<(),
 #[test]
 fn blanks_returns_and_repeats_are_read(rt: HostRuntime) -> Result<(), Fail> {
     let wanted = state(b"5ee99582-bb8d-11e2-b8e3-23de375c1d30:7", true)?;
-    let returns = b"uuid: 5EE99582-bb8d-11e2-b8e3-23DE375C1D30\r\nseqno: 7\r\nsafe_to_bootstrap: 1\r\n";
+    let returns =
+        b"uuid: 5EE99582-bb8d-11e2-b8e3-23DE375C1D30\r\nseqno: 7\r\nsafe_to_bootstrap: 1\r\n";
     assert_eq!(rt; SavedState::parse(returns), Ok(wanted));
-    let tabs = b"\t uuid:\t\t5ee99582-bb8d-11e2-b8e3-23de375c1d30 \t\n\nseqno:7\n #seqno:x\nsafe_to_bootstrap:1";
+    let tabs =
+        b"\t uuid:\t\t5ee99582-bb8d-11e2-b8e3-23de375c1d30 \t\n\nseqno:7\n #seqno:x\nsafe_to_bootstrap:1";
     assert_eq!(rt; SavedState::parse(tabs), Ok(wanted));
-    let repeats = b"seqno: 3\nuuid: 00000000-0000-0000-0000-000000000000\nsafe_to_bootstrap: 0\nseqno: 0007\nuuid: 5ee99582-bb8d-11e2-b8e3-23de375c1d30\nsafe_to_bootstrap: 1\n";
+    let repeats =
+        b"seqno: 3\nuuid: 00000000-0000-0000-0000-000000000000\nsafe_to_bootstrap: 0\nseqno: 0007\nuuid: 5ee99582-bb8d-11e2-b8e3-23de375c1d30\nsafe_to_bootstrap: 1\n";
     assert_eq!(rt; SavedState::parse(repeats), Ok(wanted));
     Ok(())
 }
@@ -74,11 +80,20 @@ fn a_bad_value_is_named_by_its_line(rt: HostRuntime) -> Result<(), Fail> {
 #[test]
 fn a_missing_value_is_named_by_the_end(rt: HostRuntime) -> Result<(), Fail> {
     assert_eq!(rt; SavedState::parse(b""), Err(Refusal::Malformed { at: 0 }));
-    assert_eq!(rt; SavedState::parse(b"seqno: 7\n"), Err(Refusal::Malformed { at: 9 }));
+    assert_eq!(rt;
+        SavedState::parse(b"seqno: 7\n"),
+        Err(Refusal::Malformed { at: 9 })
+    );
     let blank = b"uuid : 5ee99582-bb8d-11e2-b8e3-23de375c1d30\nseqno: 7\n";
-    assert_eq!(rt; SavedState::parse(blank), Err(Refusal::Malformed { at: 53 }));
+    assert_eq!(rt;
+        SavedState::parse(blank),
+        Err(Refusal::Malformed { at: 53 })
+    );
     let alone = b"uuid: 5ee99582-bb8d-11e2-b8e3-23de375c1d30";
-    assert_eq!(rt; SavedState::parse(alone), Err(Refusal::Malformed { at: 42 }));
+    assert_eq!(rt;
+        SavedState::parse(alone),
+        Err(Refusal::Malformed { at: 42 })
+    );
     Ok(())
 }
 
@@ -87,7 +102,8 @@ fn what_is_written_has_112_bytes_and_reads_back(rt: HostRuntime) -> Result<(), F
     let saved = state(b"11111111-1111-4111-8111-111111111111:4", false)?;
     let mut text: Vec<u8> = Vec::new(rt.alloc());
     saved.write_to(&mut text)?;
-    let wanted = b"# GALERA saved state\nversion: 2.1\nuuid:    11111111-1111-4111-8111-111111111111\nseqno:   4\nsafe_to_bootstrap: 0\n";
+    let wanted =
+        b"# GALERA saved state\nversion: 2.1\nuuid:    11111111-1111-4111-8111-111111111111\nseqno:   4\nsafe_to_bootstrap: 0\n";
     assert_eq!(rt; text.len(), 112);
     assert_eq!(rt; text.as_slice(), wanted.as_slice());
     assert_eq!(rt; SavedState::parse(&text), Ok(saved));
@@ -99,7 +115,8 @@ fn an_undefined_node_writes_the_nil_uuid(rt: HostRuntime) -> Result<(), Fail> {
     let saved = state(b"00000000-0000-0000-0000-000000000000:-1", true)?;
     let mut text: Vec<u8> = Vec::new(rt.alloc());
     saved.write_to(&mut text)?;
-    let wanted = b"# GALERA saved state\nversion: 2.1\nuuid:    00000000-0000-0000-0000-000000000000\nseqno:   -1\nsafe_to_bootstrap: 1\n";
+    let wanted =
+        b"# GALERA saved state\nversion: 2.1\nuuid:    00000000-0000-0000-0000-000000000000\nseqno:   -1\nsafe_to_bootstrap: 1\n";
     assert_eq!(rt; text.as_slice(), wanted.as_slice());
     assert_eq!(rt; SavedState::parse(&text), Ok(saved));
     Ok(())

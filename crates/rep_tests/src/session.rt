@@ -126,7 +126,10 @@ fn the_17th_key_is_refused(rt: HostRuntime) -> Result<(), Fail> {
     }
     assert_eq!(rt; session.get(&mut rows, row(26)), Err(Refusal::TooManyReads));
     assert_eq!(rt; session.get(&mut rows, row(25)), Ok(None));
-    assert_eq!(rt; session.get(&mut rows, row(115)), Ok(Some(Value::new(b"x")?)));
+    assert_eq!(rt;
+        session.get(&mut rows, row(115)),
+        Ok(Some(Value::new(b"x")?))
+    );
     assert_eq!(rt; session.put(row(1), b"x"), Err(Refusal::TooManyWrites));
     assert_eq!(rt; session.delete(row(1)), Err(Refusal::TooManyWrites));
     assert_eq!(rt; session.delete(row(100)), Ok(()));
@@ -135,7 +138,10 @@ fn the_17th_key_is_refused(rt: HostRuntime) -> Result<(), Fail> {
     };
     assert_eq!(rt; item.reads().len(), 16);
     assert_eq!(rt; item.writes().len(), 16);
-    assert_eq!(rt; item.writes()[0].value, None);
+    let Some(first) = item.writes().first() else {
+        return Err(Fail::new("nothing is written"));
+    };
+    assert_eq!(rt; first.value, None);
     Ok(())
 }
 
@@ -146,7 +152,10 @@ fn refusals_come_in_their_order(rt: HostRuntime) -> Result<(), Fail> {
     let long = [0; 63];
     assert_eq!(rt; session.get(&mut rows, row(126)), Err(Refusal::BadKey));
     assert_eq!(rt; session.put(row(126), &long), Err(Refusal::BadKey));
-    assert_eq!(rt; session.put(Key { table: 1, row: 0 }, b""), Err(Refusal::BadKey));
+    assert_eq!(rt;
+        session.put(Key { table: 1, row: 0 }, b""),
+        Err(Refusal::BadKey)
+    );
     assert_eq!(rt; session.put(row(125), &long), Err(Refusal::ValueTooLong));
     assert_eq!(rt; session.put(row(125), &long[..62]), Ok(()));
     assert_eq!(rt; session.delete(row(126)), Err(Refusal::BadKey));
@@ -163,7 +172,10 @@ fn a_refused_read_is_no_read(rt: HostRuntime) -> Result<(), Fail> {
     let mut rows = with_one_item(rt.alloc())?;
     let mut behind = fresh(rt.alloc())?;
     let mut session = Session::begin(&mut rows, 0, 0);
-    assert_eq!(rt; session.get(&mut behind, row(1)), Err(Refusal::NotYet { durable: 0 }));
+    assert_eq!(rt;
+        session.get(&mut behind, row(1)),
+        Err(Refusal::NotYet { durable: 0 })
+    );
     assert_eq!(rt; session.put(row(2), b"b"), Ok(()));
     let wanted = WriteSet::new(0, 0, 1, &[], &[put(row(2), b'b')?])?;
     assert_eq!(rt; session.finish(), Ok(Finished::WriteSet(wanted)));
