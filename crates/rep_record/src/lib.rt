@@ -23,8 +23,8 @@ pub use laws::{
 };
 pub use limits::{BLOCK, MAX_BLOCK, MAX_RECORD, MAX_RECORDS, block_limits_are_these};
 pub use params_line::read_params_line;
-pub use pieces::read_key;
+pub use pieces::{cut_at, read_key};
 pub use record::{is_placed, put_record, read_record, records_are_told};
 pub use text_reader::{MAX_LINE, MAX_TEXT, TextReader};
-pub use verdict_line::{put_all, write_verdict};
+pub use verdict_line::{push_decimal, put_all, write_verdict};
 pub use words::{Words, is_blank};

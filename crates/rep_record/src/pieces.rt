@@ -29,7 +29,7 @@ fn read_u8(word: &[u8]) -> Option<u8>
 
 /// What stands before the first byte that is the mark, and what stands behind it.
 #[tactic(auto, using(std::proofs::lemmas::List::take_rest), unfolding(crate::specs::Words::cut))]
-fn cut_at(word: &[u8], mark: u8) -> Option<(&[u8], &[u8])>
+pub fn cut_at(word: &[u8], mark: u8) -> Option<(&[u8], &[u8])>
     ensures { option_map (λ parts. (parts.0.now, parts.1.now)) result ≡ cut mark word.now }
 {
     let at = place_of(mark, word)?;

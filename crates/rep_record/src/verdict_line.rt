@@ -46,9 +46,9 @@ fn push_digit(text: &mut ArrayString<64>, digit: u8)
     text.push((b'0' + digit) as char);
 }
 
-/// Puts the number in decimal behind the text.
+/// Puts the number in decimal behind the text, where there is room for it.
 #[tactic(auto, using(crate::proofs::Writing::decimal_longer, crate::proofs::Writing::digits_pushed, rep_forms::specs::FormLaws::sizes, std::proofs::lemmas::Fmt::decimal_digit))]
-fn push_decimal(text: &mut ArrayString<64>, number: u64)
+pub fn push_decimal(text: &mut ArrayString<64>, number: u64)
     requires { array_string_len text.old + length (decimal number) ≤ 64 }
     ensures bytes { text.new.bytes ≡ text.old.bytes ++ decimal number }
     ensures len { array_string_len text.new ≡ array_string_len text.old + length (decimal number) }

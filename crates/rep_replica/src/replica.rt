@@ -271,6 +271,13 @@ impl Replica {
         Ok(answers)
     }
 
+    /// The parameters.
+    pub fn params(&self) -> &Params
+        ensures { result.now ≡ self.now.setting }
+    {
+        self.node.params()
+    }
+
     /// How many items were delivered.
     pub fn delivered(&self) -> u64
         ensures delivered { result ≡ length self.now.order }

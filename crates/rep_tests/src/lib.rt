@@ -27,6 +27,10 @@ mod record;
 #[cfg(test)]
 mod replica;
 #[cfg(test)]
+mod saved;
+#[cfg(test)]
+mod session;
+#[cfg(test)]
 mod types;
 #[cfg(test)]
 mod versions;

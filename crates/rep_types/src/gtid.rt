@@ -38,9 +38,9 @@ const UUID_LEN: usize = 36;
 /// The greatest number of digits of a seqno: as many as the numbers below 2^63 have.
 const SEQNO_DIGITS: usize = 19;
 
-/// The seqno that the text is.
+/// The seqno of a GTID that the text is: `-1`, or 1 to 19 digits of a number below 2^63.
 #[tactic(auto, unfolding(crate::specs::Gtids::seqno_in))]
-fn read_seqno(text: &[u8]) -> Option<i64>
+pub fn read_seqno(text: &[u8]) -> Option<i64>
     ensures value { result ≡ seqno_in text.now }
     ensures limit { IfSome result (λ n. IsTrue (is_seqno n)) }
 {
@@ -53,8 +53,8 @@ fn read_seqno(text: &[u8]) -> Option<i64>
     i64::try_from(read_number(text)?).ok()
 }
 
-/// The UUID in the first 36 characters of the text.
-fn read_uuid(text: &[u8]) -> Option<Uuid>
+/// The UUID in the first 36 characters of the text (RFC 9562: hexadecimal digits in either case or mixed).
+pub fn read_uuid(text: &[u8]) -> Option<Uuid>
     ensures { result ≡ uuid_in text.now }
 {
     let head = text.get(..UUID_LEN)?;

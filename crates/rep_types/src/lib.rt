@@ -17,7 +17,7 @@ mod verdict;
 mod write_set;
 
 pub use entry::Entry;
-pub use gtid::{Gtid, gtids_read_back};
+pub use gtid::{Gtid, gtids_read_back, read_seqno, read_uuid};
 pub use judged::Judged;
 pub use key::Key;
 pub use laws::{

@@ -1,0 +1,7 @@
+//! The saved state: the text by which operators and tools know the position of a node.
+#![tactic(auto)]
+
+mod line;
+mod saved;
+
+pub use saved::SavedState;

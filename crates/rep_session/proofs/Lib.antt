@@ -1,0 +1,4 @@
+pub mod Keys
+pub mod Ascending
+pub mod Stepping
+pub mod Coming

@@ -1,0 +1,81 @@
+//! What a session reads.
+
+ghost use Rattle.std.specs.Prelude.{◌≡◌, ℕ, List, Option, Result, Ok};
+ghost use Rattle.rep_types.specs.declared.key.Key.{Key};
+ghost use Rattle.rep_types.specs.declared.refusal.Refusal.{Refusal};
+ghost use Rattle.rep_types.specs.Settings.{Setting};
+ghost use Rattle.rep_types.specs.Order.{Order, read};
+
+use rep_replica::Replica;
+use rep_steps::{Answer, Event};
+use rep_types::{Key, Refusal, Schema, Value};
+
+/// The rows of a database at each position of its order, as far as they are known to who has them: a
+/// replica, or a reader beside one that runs.
+///
+/// What a call answers and what it leaves is said by each kind of rows, so that it has refusals of its
+/// own. What holds of each kind: a row that is answered is that of the order.
+pub trait Rows {
+    /// The number of rows of each table.
+    ghost tables: { Self → List ℕ };
+
+    /// What `front` answers, and what it leaves.
+    ghost front_gives: { Self → ℕ → Self → Type 0 };
+
+    /// What `read_at` answers for a key and a position, and what it leaves.
+    ghost read_gives: { Self → Key → ℕ → Result (Option (List ℕ)) Refusal → Self → Type 0 };
+
+    /// The rows are those of this order, under these parameters: it begins with the items that are
+    /// known here.
+    ghost are_of: { Self → Setting → Order → Type 0 };
+
+    /// The tables.
+    fn schema(&self) -> &Schema
+        ensures { result.now ≡ tables self.now };
+
+    /// The newest position at which rows can be read.
+    fn front(&mut self) -> u64
+        ensures { front_gives self.old result self.new };
+
+    /// What stands under the key in the state after the first `s` items of the order, if anything
+    /// does, or why it is not read.
+    fn read_at(&mut self, key: Key, s: u64) -> Result<Option<Value>, Refusal>
+        ensures { read_gives self.old key s result self.new };
+
+    /// A row that is answered is the row of the order at that position.
+    ghost reads_the_order: { (a b : Self) (key : Key) (s : ℕ) (row : Option (List ℕ)) (p : Setting) (L : Order) → read_gives a key s (Ok row) b → are_of b p L → row ≡ read p L key s };
+}
+
+/// The rows of a replica, up to what is durable. It is refused, in this order, with `BadKey` outside the
+/// schema, `NotYet` above what is durable, and `TooOld` below the base.
+impl Rows for Replica {
+    ghost use Rattle.rep_session.specs.Rows.{tables_of, IsFront, IsRead, AreOf, read_is_of_the_order};
+
+    ghost tables = { tables_of };
+
+    ghost front_gives = { IsFront };
+
+    ghost read_gives = { IsRead };
+
+    ghost are_of = { AreOf };
+
+    ghost reads_the_order = { read_is_of_the_order };
+
+    fn schema(&self) -> &Schema {
+        self.params().schema()
+    }
+
+    fn front(&mut self) -> u64 {
+        self.durable()
+    }
+
+    fn read_at(&mut self, key: Key, s: u64) -> Result<Option<Value>, Refusal> {
+        match self.step(Event::Read(key, s)) {
+            Answer::Row(row) => Ok(row),
+            Answer::Refused(refusal) => Err(refusal),
+            Answer::Gave(_) | Answer::Wrote | Answer::Began(_) | Answer::Synced(_) => {
+                unreachable!()
+            }
+        }
+    }
+}
