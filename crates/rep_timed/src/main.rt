@@ -70,7 +70,10 @@ fn run<R: Env + Print + AllocGlobal>(rt: &R) -> Result<()> {
     let mut words = env::args(rt)?.skip(1);
     let rounds = words.next().context("no number of rounds")?.parse::<u64>()?;
     let items = words.next().context("no number of items")?.parse::<u64>()?;
-    let reads = words.next().context("no number of look-ups")?.parse::<u64>()?;
+    let reads = words
+        .next()
+        .context("no number of look-ups")?
+        .parse::<u64>()?;
     let mut all = 0u64;
     for _ in 0..rounds {
         let versions = versions(alloc, items)?;
