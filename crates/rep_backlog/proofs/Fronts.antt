@@ -1,5 +1,5 @@
 -- A front of a list while it is moved into a block.
-use Rattle.std.proofs.Common.{◌≡◌, ℕ, ◌+◌, ◌<◌, true, false, List, [], ◌∷◌, ◌++◌, length, take, drop, get_or, slice_get, Option, Some, None, refl, sym, ap, ◌∙◌, append_assoc, arith, length-drop}
+use Rattle.std.proofs.Common.{◌≡◌, ℕ, zero, suc, ◌+◌, ◌<◌, true, false, List, [], ◌∷◌, ◌++◌, length, take, drop, get_or, slice_get, Option, Some, None, refl, sym, ap, ◌∙◌, append_assoc, arith, length-drop}
 use Rattle.std.proofs.lemmas.List.{take_more, drop_more}
 use Rattle.rep_types.specs.declared.judged.Judged.{Judged}
 use Rattle.rep_record.specs.Blocks.{has_room}
@@ -41,3 +41,9 @@ fitting_first block js j is room = ap (fitting block) (first_and_rest js j is) �
 -- and where it doesn't
 pub fitting_no_first : (block js : List Judged) (j : Judged) → slice_get js 0 ≡ Some j → has_room block j ≡ false → fitting block js ≡ 0
 fitting_no_first block js j is full = ap (fitting block) (first_and_rest js j is) ∙ rw full refl
+
+-- what comes first behind the first m is what is at m
+pub get_behind : (js : List Judged) (m : ℕ) → slice_get (drop m js) 0 ≡ slice_get js m
+get_behind js zero = refl
+get_behind [] (suc m) = refl
+get_behind (j ∷ js) (suc m) = get_behind js m

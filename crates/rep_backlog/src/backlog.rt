@@ -60,6 +60,23 @@ impl Backlog {
         Ok(())
     }
 
+    /// How many items `drain` moves into the block: the longest front that the block takes. It takes no
+    /// memory.
+    pub fn fitting(&self, builder: &BlockBuilder) -> u16
+        ensures count { result ≡ fitting builder.now self.now }
+        ensures within { result ≤ length self.now }
+    {
+        let mut trial = builder.copied();
+        let mut count = 0;
+        while let Some(judged) = self.items.get(usize::from(count)) {
+            if !trial.push(judged) {
+                break;
+            }
+            count += 1;
+        }
+        count
+    }
+
     /// Moves the longest front that the block takes into the block, each item once and in order, and
     /// says how many. The first item that it does not take stays, and all behind it. It takes no
     /// memory.

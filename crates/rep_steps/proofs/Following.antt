@@ -21,7 +21,7 @@ use Rattle.rep_steps.specs.declared.answer.Answer.{Answer}
 use Rattle.rep_steps.specs.declared.answer.Answer.TheVariants.{Gave, Synced, Row, Refused}
 use Rattle.rep_steps.specs.Standings.{Standing, IsStanding, delivered, refusal, refusal_here, read_refusal}
 use Rattle.rep_steps.specs.Moves.{answer, opening, next_item, Fails}
-use Rattle.rep_steps.specs.Nodes.{Node, IsNode, Steps, moved, found, passed, state_at, window_at, verdict_on, reached}
+use Rattle.rep_steps.specs.Nodes.{Node, IsNode, Steps, NodesStayNodes, moved, found, passed, state_at, window_at, verdict_on, reached}
 use Rattle.rep_steps.specs.Orders.{IsOf, HoldsOf, FollowsTheOrder, accepted, answer_of}
 use Rattle.rep_steps.proofs.Reaching.{reached_is, judged_next}
 use Rattle.rep_steps.proofs.Keeping.{node_after, waiting, passed_within}
@@ -199,3 +199,12 @@ follows enough fronts L n m e a h o (Stops failures answered same) =
     subst (λ k. FollowsTheOrder L n e a k) (sym same) (subst (λ b. FollowsTheOrder L n e b (stopped_node failures n)) (sym answered) (stopped_of failures L n e DiskFault h o))
 follows enough fronts L n m e a h o (Does none answered same) =
     subst (λ k. FollowsTheOrder L n e a k) (sym same) (subst (λ b. FollowsTheOrder L n e b (moved n e)) (sym answered) (done_of enough fronts L n e h o none))
+
+-- whatever it leads to is a node
+stays : FrontsAreDetermined → (n m : Node) (e : Event) (a : Answer) → IsNode n → Comes n e a m → IsNode m
+stays fronts n m e a h (Refuses r answered same) = subst IsNode (sym same) h
+stays fronts n m e a h (Stops failures answered same) = subst IsNode (sym same) (stopped_is failures n h)
+stays fronts n m e a h (Does none answered same) = subst IsNode (sym same) (node_after fronts n e h none)
+
+pub nodes_stay : FrontsAreDetermined → NodesStayNodes
+nodes_stay fronts n m e a h s = stays fronts n m e a h (comes n m e a s)

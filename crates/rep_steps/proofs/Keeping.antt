@@ -9,8 +9,8 @@ use Rattle.rep_log.specs.declared.phase.Phase.{Phase}
 use Rattle.rep_log.specs.declared.phase.Phase.TheVariants.{Resting, Closing, Filling, Filled, Opening}
 use Rattle.rep_steps.specs.declared.event.Event.{Event}
 use Rattle.rep_steps.specs.declared.event.Event.TheVariants.{Deliver, Log, Sync, Check, Flush, Read}
-use Rattle.rep_steps.specs.Standings.{Goal, Flushing, Saving, Ready, SuperFilling, SuperFilled, SuperOpening, Stage, Off, Toward, Retiring, Standing, IsGoal, HasGoal, IsStanding, underway, claimed, delivery_refusal, log_refusal, check_refusal, refusal_here}
-use Rattle.rep_steps.specs.Moves.{Found, after, gathered, opening, taken, logged, synced_phase, checked, flushed, synced_stage, base_after, start_after, next_item}
+use Rattle.rep_steps.specs.Standings.{Goal, Flushing, Saving, Ready, SuperFilling, SuperFilled, SuperOpening, Stage, Off, Toward, Retiring, Standing, IsGoal, HasGoal, IsStanding, underway, claimed, gathered, delivery_refusal, log_refusal, check_refusal, refusal_here}
+use Rattle.rep_steps.specs.Moves.{Found, after, opening, taken, logged, synced_phase, checked, flushed, synced_stage, base_after, start_after, next_item}
 use Rattle.rep_steps.proofs.Reaching.{reached_position}
 use Rattle.rep_steps.specs.Nodes.{Node, IsNode, moved, found, passed}
 
@@ -157,10 +157,10 @@ syncs s f h =
 
 -- ---- the checkpoint
 
-goal_checked : (s : Standing) (stage : Stage) → IsStanding s → check_refusal s stage ≡ None → HasGoal s.base s.durable s.start s.next stage → HasGoal s.base s.durable s.start s.next (checked s stage)
-goal_checked s Off h none g = record { above = grind (arith, nat_tests); within = omega arith; started = h.started; begun = omega arith }
-goal_checked s (Toward goal part) h none g = g
-goal_checked s (Retiring written) h none g = tt
+goal_checked : (s : Standing) (left : List ℕ) (stage : Stage) → IsStanding s → check_refusal s stage ≡ None → HasGoal s.base s.durable s.start s.next stage → HasGoal s.base s.durable s.start s.next (checked s left stage)
+goal_checked s left Off h none g = record { above = grind (arith, nat_tests); within = omega arith; started = h.started; begun = omega arith }
+goal_checked s left (Toward goal part) h none g = g
+goal_checked s left (Retiring written) h none g = tt
 
 checks : (s : Standing) (f : Found) → IsStanding s → check_refusal s s.stage ≡ None → IsStanding (after s Check f)
 checks s f h none = record {
@@ -173,7 +173,7 @@ checks s f h none = record {
   few = h.few;
   started = h.started;
   room = h.room;
-  goal = goal_checked s s.stage h none h.goal;
+  goal = goal_checked s f.left s.stage h none h.goal;
 }
 
 goal_flushed : (base durable start next page : ℕ) (stage : Stage) → HasGoal base durable start next stage → HasGoal base durable start next (flushed page stage)

@@ -4,6 +4,5 @@ pub mod Following
 pub mod Moving
 pub mod Running
 pub mod Fronts
-pub mod Changing
 pub mod Driving
 pub mod Judging

@@ -5,7 +5,7 @@ use Rattle.rep_types.specs.declared.judged.Judged.{Judged}
 use Rattle.rep_types.specs.declared.limits.TheConstants.{MAX_SEQNO}
 use Rattle.rep_types.specs.Settings.{Setting, is_setting}
 use Rattle.rep_types.specs.Transactions.{Transaction}
-use Rattle.rep_types.specs.Order.{Order, State, state, history, entries, judge}
+use Rattle.rep_types.specs.Order.{Order, State, state, history, judge}
 use Rattle.rep_disk.specs.History.{History}
 use Rattle.rep_disk.specs.Moments.{LeavesOnly}
 use Rattle.rep_log.specs.declared.phase.Phase.TheVariants.{Resting, Opening}
@@ -121,7 +121,7 @@ FrontsFromLayers = (n : Node) (at : ℕ → ℕ) (scan : ℕ → List Judged) (b
 -- the node that opening makes of an image's meaning
 abbrev pub opened : Standing → (ℕ → Bool) → Meaning → Node
 opened s gates b = record {
-  facts = record s { uuid = b.uuid; setting = b.setting; base = b.base.position; durable = b.base.position + length b.tail; ahead = []; changed = entries b.tail; phase = Resting };
+  facts = record s { uuid = b.uuid; setting = b.setting; base = b.base.position; durable = b.base.position + length b.tail; ahead = []; phase = Resting };
   base = b.base;
   items = b.tail;
   gates = gates;

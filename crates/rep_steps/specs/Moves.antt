@@ -1,18 +1,17 @@
 -- Steps of the facts, on any device.
 use Rattle.std.specs.Prelude.{◌≡◌, ◌⊎◌, ℕ, zero, suc, ◌+◌, ◌==◌, Bool, true, false, nat_le, nat_lt, not, ◌&&◌, if◌then◌else◌, List, [], ◌∷◌, ◌++◌, map, filter, take, drop, Option, IsTrue, MatchOption}
 use Rattle.std.specs.List.{list_any}
-use Rattle.rep_types.specs.declared.key.Key.{Key}
 use Rattle.rep_types.specs.declared.judged.Judged.{Judged}
 use Rattle.rep_types.specs.declared.reply.Reply.{Reply}
 use Rattle.rep_types.specs.declared.refusal.Refusal.TheVariants.{OutOfMemory, DiskFault, Corrupt}
 use Rattle.rep_types.specs.declared.refusal.Part.TheVariants.{Pages}
 use Rattle.rep_types.specs.declared.verdict.Verdict.{Verdict}
 use Rattle.rep_types.specs.Entries.{Entry}
+use Rattle.rep_types.specs.declared.value.Write.{Write}
 use Rattle.rep_types.specs.Settings.{pages_of}
 use Rattle.rep_types.specs.Replies.{reply_of}
 use Rattle.rep_types.specs.Transactions.{Transaction}
 use Rattle.rep_types.specs.Order.{counts, entry_of}
-use Rattle.rep_record.specs.Fronts.{fitting}
 use Rattle.rep_disk.specs.Calls.{Rises}
 use Rattle.rep_layout.specs.Rows.{row_place}
 use Rattle.rep_log.specs.declared.phase.Phase.{Phase}
@@ -21,19 +20,17 @@ use Rattle.rep_steps.specs.declared.event.Event.{Event}
 use Rattle.rep_steps.specs.declared.event.Event.TheVariants.{Deliver, Log, Sync, Check, Flush, Read}
 use Rattle.rep_steps.specs.declared.answer.Answer.{Answer}
 use Rattle.rep_steps.specs.declared.answer.Answer.TheVariants.{Gave, Wrote, Began, Synced, Row, Refused}
-use Rattle.rep_steps.specs.Standings.{Part, Flushing, Saving, Ready, SuperFilling, SuperFilled, SuperOpening, Stage, Off, Toward, Retiring, Standing, delivered, refusal}
+use Rattle.rep_steps.specs.Standings.{Part, Flushing, Saving, Ready, SuperFilling, SuperFilled, SuperOpening, Stage, Off, Toward, Retiring, Standing, delivered, gathered, refusal}
 
--- What a step finds out beyond the facts: the verdict on the item, whether the next cell's gate stands open, the row.
+-- What a step finds out beyond the facts: the verdict on the item, whether the next cell's gate stands open, the pages that a
+-- checkpoint has to write, the row.
 pub record Found : Type 0 where
   pub verdict : Verdict
   pub stale : Bool
+  pub left : List ℕ
   pub row : Option (List ℕ)
 
 -- ---- the log
-
--- how many of the items that are not durable the next block takes: the longest front that fits
-abbrev pub gathered : Standing → ℕ
-gathered s = fitting [] s.ahead
 
 -- how many items, and how many cells, the next sync makes durable
 abbrev pub opening : Phase → ℕ
@@ -71,14 +68,14 @@ abbrev pub below : ℕ → List ℕ
 below zero = []
 below (suc n) = below n ++ n ∷ []
 
--- whether an item up to the position wrote a row of the page
-abbrev pub is_touched : List ℕ → ℕ → List Entry → ℕ → Bool
-is_touched rows position es page =
-    list_any (λ (e : Entry). nat_le e.seqno position && list_any (λ (key : Key). (row_place rows key).page == page) e.keys) es
+-- whether an item that took effect wrote a row of the page
+abbrev pub is_touched : List ℕ → List Judged → ℕ → Bool
+is_touched rows items page =
+    list_any (λ (j : Judged). counts j && list_any (λ (write : Write). (row_place rows write.key).page == page) j.item.writes) items
 
--- the pages with a version above the base and at most at the position
-abbrev pub touched : Standing → ℕ → List ℕ
-touched s position = filter (is_touched s.setting.rows position s.changed) (below (pages_of s.setting.rows))
+-- the pages that these items changed, each once and in ascending order
+abbrev pub touched : List ℕ → List Judged → List ℕ
+touched rows items = filter (is_touched rows items) (below (pages_of rows))
 
 abbrev pub check_answer : Standing → Stage → Answer
 check_answer s Off = Began s.durable
@@ -91,10 +88,10 @@ next_part Ready = SuperFilling
 next_part SuperFilled = SuperOpening
 next_part part = part
 
-abbrev pub checked : Standing → Stage → Stage
-checked s Off = Toward (record { position = s.durable; start = s.next }) (Flushing (touched s s.durable))
-checked s (Toward goal part) = Toward goal (next_part part)
-checked s (Retiring written) = Retiring true
+abbrev pub checked : Standing → List ℕ → Stage → Stage
+checked s left Off = Toward (record { position = s.durable; start = s.next }) (Flushing left)
+checked s left (Toward goal part) = Toward goal (next_part part)
+checked s left (Retiring written) = Retiring true
 
 -- a page is no longer left
 abbrev pub without : ℕ → Part → Part
@@ -123,10 +120,6 @@ abbrev pub start_after : ℕ → Stage → ℕ
 start_after start (Toward goal SuperOpening) = goal.start
 start_after start stage = start
 
--- the entries behind a position
-abbrev pub behind : ℕ → List Entry → List Entry
-behind position es = filter (λ (e : Entry). nat_lt position e.seqno) es
-
 -- ---- a step
 
 -- the next item, with its verdict; its entry, where it takes effect
@@ -145,22 +138,18 @@ answer s (Flush page) found = Wrote
 answer s (Read key at) found = Row found.row
 
 abbrev pub after : Standing → Event → Found → Standing
-after s (Deliver seqno w) found = record s {
-  ahead = s.ahead ++ next_item s w found.verdict ∷ [];
-  changed = s.changed ++ entry_in (next_item s w found.verdict);
-}
+after s (Deliver seqno w) found = record s { ahead = s.ahead ++ next_item s w found.verdict ∷ [] }
 after s Log found = record s { phase = logged (gathered s) found.stale s.phase }
 after s Sync found = record s {
   base = base_after s.base s.stage;
   durable = s.durable + opening s.phase;
   ahead = drop (opening s.phase) s.ahead;
-  changed = behind (base_after s.base s.stage) s.changed;
   phase = synced_phase s.phase;
   next = s.next + taken s.phase;
   start = start_after s.start s.stage;
   stage = synced_stage s.stage;
 }
-after s Check found = record s { stage = checked s s.stage }
+after s Check found = record s { stage = checked s found.left s.stage }
 after s (Flush page) found = record s { stage = flushed page s.stage }
 after s (Read key at) found = s
 

@@ -15,7 +15,7 @@ use Rattle.rep_steps.specs.declared.event.Event.TheVariants.{Deliver, Log, Sync,
 use Rattle.rep_steps.specs.declared.answer.Answer.{Answer}
 use Rattle.rep_steps.specs.declared.answer.Answer.TheVariants.{Refused}
 use Rattle.rep_steps.specs.Standings.{Standing, delivered, refusal, IsStanding}
-use Rattle.rep_steps.specs.Moves.{Found, answer, after, Moves, Fails, next_item, entry_in, base_after}
+use Rattle.rep_steps.specs.Moves.{Found, answer, after, Moves, Fails, next_item, entry_in, touched, base_after}
 
 -- the state after one more judged item, and after some of them
 abbrev pub advanced : Setting → State → Judged → State
@@ -65,7 +65,12 @@ abbrev pub cell : Standing → ℕ
 cell s = s.next % s.setting.cells
 
 abbrev pub found : Node → Event → Found
-found n e = record { verdict = verdict_on n e; stale = n.gates (cell n.facts); row = row_on n e }
+found n e = record {
+  verdict = verdict_on n e;
+  stale = n.gates (cell n.facts);
+  left = touched n.facts.setting.rows (take (n.facts.durable - n.facts.base) n.items);
+  row = row_on n e;
+}
 
 -- ---- the node after an event
 
@@ -113,3 +118,7 @@ pub record Finds (n : Node) (e : Event) (a : Answer) (t : Standing) : Type 0 whe
 pub record StepsAreMoves : Type 0 where
   pub moves : (n m : Node) (e : Event) (a : Answer) → Steps n e a m → Moves n.facts e a m.facts
   pub steps : (n : Node) (e : Event) (a : Answer) (t : Standing) → Moves n.facts e a t → Finds n e a t → (m : Node) × Steps n e a m × (m.facts ≡ t)
+
+-- What a step of a node leads to is a node.
+abbrev pub NodesStayNodes : Type 0
+NodesStayNodes = (n m : Node) (e : Event) (a : Answer) → IsNode n → Steps n e a m → IsNode m

@@ -4,7 +4,7 @@ use Rattle.rep_types.specs.declared.judged.Judged.{Judged}
 use Rattle.rep_types.specs.declared.reply.Reply.{Reply}
 use Rattle.rep_types.specs.declared.verdict.Verdict.{Verdict}
 use Rattle.rep_types.specs.Replies.{reply_of}
-use Rattle.rep_types.specs.Order.{Order, history, entries}
+use Rattle.rep_types.specs.Order.{Order, history}
 use Rattle.rep_steps.specs.declared.event.Event.{Event}
 use Rattle.rep_steps.specs.declared.answer.Answer.{Answer}
 use Rattle.rep_steps.specs.declared.answer.Answer.TheVariants.{Gave, Synced}
@@ -59,10 +59,6 @@ pub record ComesTo (L : Order) (n : Node) (events : List Event) (answers : List 
 abbrev pub RunsComeTo : Type 0
 RunsComeTo = (L : Order) (n m : Node) (events : List Event) (answers : List Answer) → IsNode n → IsOf L n → Runs Steps n events answers m
     → ComesTo L n events answers m
-
--- What the committed items behind the base wrote is known after each step.
-abbrev pub ChangesAreKept : Type 0
-ChangesAreKept = (L : Order) (n m : Node) (e : Event) (a : Answer) → IsNode n → IsOf L n → n.facts.changed ≡ entries n.items → Steps n e a m → m.facts.changed ≡ entries m.items
 
 -- A node that was opened on a front of an order and is fed the rest gives the verdicts and replies of one that never stopped.
 pub record GoesOn (L : Order) (end : ℕ) (n : Node) (answers : List Answer) (m : Node) : Type 0 where

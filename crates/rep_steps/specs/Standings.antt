@@ -7,8 +7,8 @@ use Rattle.rep_types.specs.declared.judged.Judged.{Judged}
 use Rattle.rep_types.specs.declared.refusal.Refusal.{Refusal}
 use Rattle.rep_types.specs.declared.refusal.Refusal.TheVariants.{Stopped, OutOfOrder, Backlogged, LogFull, NotDue, TooOld, NotYet, BadKey, Undefined, Exhausted}
 use Rattle.rep_types.specs.declared.limits.TheConstants.{MAX_SEQNO, MAX_AHEAD}
-use Rattle.rep_types.specs.Entries.{Entry}
 use Rattle.rep_types.specs.Settings.{Setting, is_setting, has_row}
+use Rattle.rep_record.specs.Fronts.{fitting}
 use Rattle.rep_log.specs.declared.phase.Phase.{Phase}
 use Rattle.rep_log.specs.declared.phase.Phase.TheVariants.{Resting, Closing, Filling, Filled, Opening}
 use Rattle.rep_steps.specs.declared.event.Event.{Event}
@@ -36,15 +36,14 @@ pub data Stage : Type 0 where
   Retiring : Bool → Stage
 
 -- The facts: state UUID and parameters, the positions of the base and of what is durable, the delivered items that are not
--- durable, what the committed items behind the base wrote, how far the log's next block is, the numbers of its cell and of the
--- first cell that is still needed, the checkpoint's stage, the device's count of failures, and whether the replica is stopped.
+-- durable, how far the log's next block is, the numbers of its cell and of the first cell that is still needed, the checkpoint's
+-- stage, the device's count of failures, and whether the replica is stopped.
 pub record Standing : Type 0 where
   pub uuid : List ℕ
   pub setting : Setting
   pub base : ℕ
   pub durable : ℕ
   pub ahead : List Judged
-  pub changed : List Entry
   pub phase : Phase
   pub next : ℕ
   pub start : ℕ
@@ -65,10 +64,14 @@ delivery_refusal s seqno =
     else if nat_le MAX_AHEAD (length s.ahead) then Some Backlogged
     else None
 
+-- how many of the items that are not durable the next block takes: the longest front that fits
+abbrev pub gathered : Standing → ℕ
+gathered s = fitting [] s.ahead
+
 -- the log waits for items, or for the checkpoint that frees its next cell
 abbrev pub block_refusal : Standing → Option Refusal
 block_refusal s =
-    if length s.ahead == 0 then Some NotDue
+    if gathered s == 0 then Some NotDue
     else if nat_le (s.start + s.setting.cells) s.next then Some LogFull
     else None
 

@@ -1,8 +1,8 @@
 //! Laws of nodes, each as the contract of a function that does nothing.
 
-ghost use Rattle.rep_steps.specs.Nodes.{StepsAreMoves};
+ghost use Rattle.rep_steps.specs.Nodes.{StepsAreMoves, NodesStayNodes};
 ghost use Rattle.rep_steps.specs.Orders.{StepsFollowTheOrder, NodesHoldTheOrder};
-ghost use Rattle.rep_steps.specs.Runs.{RunsComeTo, ChangesAreKept, FedTheRest};
+ghost use Rattle.rep_steps.specs.Runs.{RunsComeTo, FedTheRest};
 ghost use Rattle.rep_steps.specs.Images.{JudgedItemsExtendTheOrder, FrontsStandForTheOrder, FrontsFromLayers, OpeningsOpenTheOrder};
 
 use rep_record::fronts_are_determined;
@@ -13,6 +13,13 @@ use rep_types::state_is_enough;
 pub fn steps_are_moves()
     ensures { StepsAreMoves }
 {}
+
+/// What a step of a node leads to is a node.
+pub fn nodes_stay_nodes()
+    ensures { NodesStayNodes }
+{
+    fronts_are_determined();
+}
 
 /// A node of an order holds it: as many items are delivered as it has, and the window at each position
 /// from the base on is the order's.
@@ -40,11 +47,6 @@ pub fn runs_come_to()
     state_is_enough();
     fronts_are_determined();
 }
-
-/// What the committed items behind the base wrote is known after each step.
-pub fn changes_are_kept()
-    ensures { ChangesAreKept }
-{}
 
 /// A node that was opened on a front of an order and is fed the rest gives the verdicts and the replies
 /// of one that never stopped.
