@@ -1,0 +1,12 @@
+pub mod Steps
+pub mod Due
+pub mod Logging
+pub mod Standing
+pub mod Logs
+pub mod Answering
+pub mod Syncing
+pub mod Syncs
+pub mod Reading
+pub mod Replying
+pub mod Accepting
+pub mod Accepts

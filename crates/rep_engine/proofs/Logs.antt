@@ -1,0 +1,212 @@
+-- A log step of an engine that stands for a node.
+use Rattle.std.proofs.Common.{◌≡◌, ℕ, ◌+◌, ◌%◌, false, List, [], length, take, map, Option, None, Some, Result, Ok, Err, refl, sym, ap, subst, ◌∙◌}
+use Rattle.std.specs.Prelude.{is_some}
+use Rattle.std.specs.Result.{is_err}
+use Rattle.rep_types.specs.declared.judged.Judged.{Judged}
+use Rattle.rep_types.specs.declared.refusal.Refusal.{Refusal}
+use Rattle.rep_types.specs.declared.refusal.Refusal.TheVariants.{DiskFault}
+use Rattle.rep_record.specs.Fronts.{fitting}
+use Rattle.rep_disk.specs.Calls.{IsCall, Rises}
+use Rattle.rep_disk.specs.History.{History, stable, IsImage}
+use Rattle.rep_disk.specs.Moments.{LeavesOnly}
+use Rattle.rep_layout.specs.declared.place.Layout.{Layout}
+use Rattle.rep_layout.specs.Places.{layout_of}
+use Rattle.rep_layout.specs.declared.super_body.SuperBody.{SuperBody}
+use Rattle.rep_versions.specs.Following.{AreVersionsOf, effect_of}
+use Rattle.rep_cells.specs.Known.{Assigns}
+use Rattle.rep_log.specs.declared.phase.Phase.{Phase}
+use Rattle.rep_log.specs.Standing.{Standing as Log, stands_at, due_of}
+use Rattle.rep_log.specs.Moves.{fault_of, Steps as Log_steps}
+use Rattle.rep_steps.specs.declared.event.Event.TheVariants.{Log as to_log}
+use Rattle.rep_steps.specs.declared.answer.Answer.TheVariants.{Wrote, Refused}
+use Rattle.rep_steps.specs.Standings.{Standing, gathered, log_refusal, refusal_here, underway}
+use Rattle.rep_types.specs.declared.verdict.Verdict.TheVariants.{Commit}
+use Rattle.rep_steps.specs.Moves.{Moves, after, logged}
+use Rattle.rep_steps.specs.Nodes.{Node, IsNode, Steps, cell, found, moved, NodesStayNodes}
+use Rattle.rep_steps.specs.Images.{IsFrontAt}
+use Rattle.rep_image.specs.Meanings.{Means}
+use Rattle.rep_image.specs.Standing.{StandsAs, NodesLeaveTheirFronts}
+use Rattle.rep_engine.specs.Engines.{Engine, IsEngine, IsWhole, facts_of, phase_at}
+use Rattle.rep_engine.specs.Writing.{IsWrite, coming_in, WritesNext}
+use Rattle.rep_engine.specs.Holding.{Stands, Holds, wrote}
+use Rattle.rep_engine.proofs.Steps.{done_moves, halted_node, done_steps, fault_steps, leaves_weaker}
+use Rattle.rep_engine.proofs.Logging.{is_stale, at_phase, written_is, coming_is, is_write, engine_logged, facts_logged}
+use Rattle.rep_engine.proofs.Standing.{same_front, stands_beside, nil_bytes, none_held, fronts_of}
+
+module _ {D : Type 0} (honest : D → Type 0) (history : D → History) (size failures : D → ℕ) (sized : (disk : D) → honest disk → length (stable (history disk)) ≡ size disk)
+    (old : Engine D) (n : Node) (engine : IsEngine old.layout old.superblock old.log old.kept old.block) (holds : Holds honest history failures n old) (runs : old.halted ≡ None) where
+  pub there : Stands history n old
+  there = holds.runs runs
+
+  pub phase_is : n.facts.phase ≡ old.log.phase
+  phase_is = ap (λ (s : Standing). s.phase) holds.facts ∙ ap (phase_at old.log.phase) runs
+
+  pub ahead_is : n.facts.ahead ≡ old.block
+  ahead_is = ap (λ (s : Standing). s.ahead) holds.facts
+
+  pub runs_on : n.facts.stopped ≡ false
+  runs_on = ap (λ (s : Standing). s.stopped) holds.facts ∙ ap is_some runs
+
+  stale_is : n.gates (cell n.facts) ≡ is_stale old.log
+  stale_is =
+      there.gates (cell n.facts)
+      ∙ ap (stands_at old.log) (ap (λ k. k % n.facts.setting.cells) (ap (λ (s : Standing). s.next) holds.facts) ∙ ap (λ k. old.log.next % k) (ap (λ (s : Standing). s.setting.cells) holds.facts ∙ sym engine.cells))
+
+  count : gathered n.facts ≡ length old.block
+  count = ap (fitting []) ahead_is ∙ engine.fits
+
+  -- the log's next phase is the node's
+  phase_logged : (moved n to_log).facts.phase ≡ logged (length old.block) (is_stale old.log) old.log.phase
+  phase_logged = ap (λ k. logged k (n.gates (cell n.facts)) n.facts.phase) count ∙ ap (λ b. logged (length old.block) b n.facts.phase) stale_is ∙ ap (logged (length old.block) (is_stale old.log)) phase_is
+
+  -- the step of the node, where it is due
+  module _ (none : log_refusal (facts_of failures old) old.log.phase ≡ None) where
+    not_refused : refusal_here n.facts to_log ≡ None
+    not_refused = ap (λ (s : Standing). log_refusal s s.phase) holds.facts ∙ ap (λ halted. log_refusal (facts_of failures old) (phase_at old.log.phase halted)) runs ∙ none
+
+    pub steps_done : Steps n to_log Wrote (moved n to_log)
+    steps_done = done_steps n to_log runs_on not_refused
+
+    pub steps_fault : (failed : ℕ) → Rises (failures old.disk) failed → Steps n to_log (Refused DiskFault) (halted_node failed n)
+    steps_fault failed rises = fault_steps n to_log failed runs_on not_refused refl (subst (λ k. Rises k failed) (sym (ap (λ (s : Standing). s.failures) holds.facts)) rises)
+
+  module _ (none : log_refusal (facts_of failures old) old.log.phase ≡ None) (new : Engine D) (result : Result (Unit {0}) Refusal)
+      (call : IsCall size failures honest old.disk new.disk (fault_of result)) (writes : WritesNext honest history old.layout (due_of old.log) old.block old.log new.log old.disk new.disk result)
+      (layout : new.layout ≡ old.layout) (same_super : new.superblock ≡ old.superblock) (same_both : new.both ≡ old.both) (same_kept : new.kept ≡ old.kept) (same_block : new.block ≡ old.block) where
+    due : IsWrite (due_of old.log)
+    due = is_write failures old engine none
+
+    pub log_is : new.log ≡ at_phase (logged (length old.block) (is_stale old.log) old.log.phase) old.log
+    log_is = writes.stands ∙ written_is old.log (length old.block) due
+
+    abbrev l : Layout
+    l = layout_of old.superblock.params
+
+    abbrev to : List Judged
+    to = coming_in (due_of old.log) old.block there.sealed
+
+    -- the log's cells move, and nothing else
+    pub steps : Log_steps l (history old.disk) (history new.disk) there.states new.log (old.superblock.position + 1) there.blocks to result
+    steps =
+        let on : WritesNext honest history l (due_of old.log) old.block old.log new.log old.disk new.disk result = subst (λ k. WritesNext honest history k (due_of old.log) old.block old.log new.log old.disk new.disk result) engine.layout writes in
+        on.steps holds.is_honest there.states (old.superblock.position + 1) there.blocks there.sealed (subst (λ k. Assigns k (history old.disk) there.states) engine.layout there.assigns) there.stands.stands.log_is
+
+    whole : IsWhole new.log.phase old.block
+    whole = subst (λ (k : Log). IsWhole k.phase old.block) (sym log_is) (engine_logged failures old engine (is_stale old.log) none).whole
+
+    new_phase : new.log.phase ≡ (moved n to_log).facts.phase
+    new_phase = ap (λ (k : Log). k.phase) log_is ∙ sym phase_logged
+
+    stands_so : StandsAs (moved n to_log) (length (stable (history old.disk))) old.superblock new.log there.blocks to steps.states
+    stands_so =
+        let h = there.stands in record {
+          stands = stands_beside (length (stable (history old.disk))) old.superblock _ old.log new.log there.blocks there.blocks there.sealed to there.states steps.states (ap (λ (k : Log). k.start) log_is) steps.elsewhere steps.log_is h.stands;
+          phase = new_phase;
+          durable = h.durable;
+          coming =
+              coming_is old.log old.block there.sealed old.log.phase due (h.coming ∙ ap (λ p. take (underway p) n.facts.ahead) phase_is ∙ ap (take (underway old.log.phase)) ahead_is)
+              ∙ ap (λ p. take (underway p) old.block) (sym phase_logged) ∙ ap (take (underway (moved n to_log).facts.phase)) (sym ahead_is);
+          judged = h.judged;
+          undefined = λ nil held may.
+              none_held old.log.phase new.log.phase there.blocks held there.sealed to old.block (h.undefined nil) (engine.undefined (nil_bytes old.superblock.uuid nil)).1 whole may;
+        }
+
+    size_stays : length (stable (history new.disk)) ≡ length (stable (history old.disk))
+    size_stays = sized new.disk (call.stays_honest holds.is_honest) ∙ call.same_size ∙ sym (sized old.disk holds.is_honest)
+
+    module _ (nodes : NodesStayNodes) (law : NodesLeaveTheirFronts) where
+      is_node : IsNode (moved n to_log)
+      is_node = nodes n (moved n to_log) to_log Wrote holds.node (steps_done none)
+
+      images : (image : List ℕ) → IsImage (history new.disk) image → IsFrontAt Means (moved n to_log) image
+      images = fronts_of law (moved n to_log) (history new.disk) (length (stable (history old.disk))) old.superblock new.log there.blocks to steps.states is_node stands_so size_stays steps.reaches.images
+
+      -- at each moment
+      pub log_leaves : LeavesOnly (history old.disk) (history new.disk) (IsFrontAt Means n)
+      log_leaves = leaves_weaker (history old.disk) (history new.disk) (λ image here. same_front (moved n to_log) n image refl refl refl refl refl (images image here)) steps.reaches.moments
+
+      -- where it succeeds
+      pub log_holds : Assigns l (history new.disk) steps.states → new.halted ≡ None → failures new.disk ≡ failures old.disk → Holds honest history failures (moved n to_log) new
+      log_holds assigns still rose = record {
+        is_honest = call.stays_honest holds.is_honest;
+        facts =
+            ap (λ (s : Standing). after s to_log (found n to_log)) holds.facts
+            ∙ sym (facts_logged failures old new (found n to_log) runs still engine.fits rose same_super same_both same_block (log_is ∙ ap (λ b. at_phase (logged (length old.block) b old.log.phase) old.log) (sym stale_is)));
+        node = is_node;
+        runs = λ on. record {
+          states = steps.states;
+          assigns = subst (λ (k : Layout). Assigns k (history new.disk) steps.states) (sym (layout ∙ engine.layout)) assigns;
+          blocks = there.blocks;
+          sealed = to;
+          stands =
+              subst (λ (b : SuperBody). StandsAs (moved n to_log) (length (stable (history new.disk))) b new.log there.blocks to steps.states) (sym same_super)
+              (subst (λ k. StandsAs (moved n to_log) k old.superblock new.log there.blocks to steps.states) (sym size_stays) stands_so);
+          versions = subst (AreVersionsOf n.base.position (map effect_of n.items)) (sym same_kept) there.versions;
+          gates = λ i. there.gates i ∙ ap (λ (k : Log). stands_at k i) (sym log_is);
+        };
+        images = images;
+      }
+
+      -- where the device failed
+      pub log_halts : Rises (failures old.disk) (failures new.disk) → new.halted ≡ Some old.log.phase → Holds honest history failures (halted_node (failures new.disk) n) new
+      log_halts rises halted = record {
+        is_honest = call.stays_honest holds.is_honest;
+        facts = rw holds.facts (rw halted (rw same_super (rw same_both (rw same_block (rw log_is (rw runs refl))))));
+        node = nodes n (halted_node (failures new.disk) n) to_log (Refused DiskFault) holds.node (steps_fault none (failures new.disk) rises);
+        runs = λ on. let never : Some old.log.phase ≡ None = sym halted ∙ on in absurd cc;
+        images = λ image here. same_front (moved n to_log) (halted_node (failures new.disk) n) image refl refl refl refl refl (images image here);
+      }
+
+-- ---- how a log step comes out
+
+-- the phase in which the device stopped the engine, if it did
+abbrev pub halted_after : {T : Type 0} → Result T Refusal → Phase → Option Phase
+halted_after (Ok x) phase = None
+halted_after (Err e) phase = Some phase
+
+-- A log step that was due.
+pub record IsLogged {D : Type 0} (honest : D → Type 0) (history : D → History) (size failures : D → ℕ) (old new : Engine D) (result : Result (Unit {0}) Refusal) : Type 0 where
+  pub engine : IsEngine old.layout old.superblock old.log old.kept old.block
+  pub runs : old.halted ≡ None
+  pub none : log_refusal (facts_of failures old) old.log.phase ≡ None
+  pub call : IsCall size failures honest old.disk new.disk (fault_of result)
+  pub writes : WritesNext honest history old.layout (due_of old.log) old.block old.log new.log old.disk new.disk result
+  pub layout : new.layout ≡ old.layout
+  pub same_super : new.superblock ≡ old.superblock
+  pub same_both : new.both ≡ old.both
+  pub same_kept : new.kept ≡ old.kept
+  pub same_block : new.block ≡ old.block
+  pub halted : new.halted ≡ halted_after result old.log.phase
+
+pub rises_by : (T : Type 0) {D : Type 0} {honest : D → Type 0} {size failures : D → ℕ} {old new : D} (e : Refusal) → e ≡ DiskFault → IsCall size failures honest old new (fault_of {T = T} (Err e)) → Rises (failures old) (failures new)
+rises_by T {D} {honest} {size} {failures} {old} {new} e is call =
+    (subst (λ (f : Refusal). IsCall size failures honest old new (fault_of {T = T} (Err f))) is call).cause refl
+
+module _ {D : Type 0} (honest : D → Type 0) (history : D → History) (size failures : D → ℕ) (old new : Engine D) where
+  pub logged_moves : (result : Result (Unit {0}) Refusal) → false ≡ is_err result → IsLogged honest history size failures old new result → Moves (facts_of failures old) to_log (wrote result) (facts_of failures new)
+  logged_moves (Err e) ok h = absurd cc
+  logged_moves (Ok x) ok h =
+      let stale = is_stale old.log in
+      let due : IsWrite (due_of old.log) = is_write failures old h.engine h.none in
+      done_moves (facts_of failures old) to_log (record { verdict = Commit; stale = stale; left = []; row = None }) (facts_of failures new) (ap is_some h.runs) (rw h.runs h.none)
+      (facts_logged failures old new (record { verdict = Commit; stale = stale; left = []; row = None }) h.runs h.halted h.engine.fits (h.call.no_cause refl) h.same_super h.same_both h.same_block (h.writes.stands ∙ written_is old.log (length old.block) due))
+
+  pub logged_steps : ((disk : D) → honest disk → length (stable (history disk)) ≡ size disk) → NodesStayNodes → NodesLeaveTheirFronts → (result : Result (Unit {0}) Refusal) → IsLogged honest history size failures old new result
+      → (n : Node) → Holds honest history failures n old → (m : Node) × Steps n to_log (wrote result) m × Holds honest history failures m new
+  logged_steps sized nodes law (Ok x) h n holds =
+      let go = steps honest history size failures sized old n h.engine holds h.runs h.none new (Ok x) h.call h.writes h.layout h.same_super h.same_both h.same_kept h.same_block in (
+        moved n to_log,
+        steps_done honest history size failures sized old n h.engine holds h.runs h.none,
+        log_holds honest history size failures sized old n h.engine holds h.runs h.none new (Ok x) h.call h.writes h.layout h.same_super h.same_both h.same_kept h.same_block nodes law go.reaches.ok h.halted (h.call.no_cause refl),
+      )
+  logged_steps sized nodes law (Err e) h n holds =
+      let rises : Rises (failures old.disk) (failures new.disk) = rises_by (Unit {0}) e h.writes.fault h.call in (
+        halted_node (failures new.disk) n,
+        subst (λ (f : Refusal). Steps n to_log (Refused f) (halted_node (failures new.disk) n)) (sym h.writes.fault) (steps_fault honest history size failures sized old n h.engine holds h.runs h.none (failures new.disk) rises),
+        log_halts honest history size failures sized old n h.engine holds h.runs h.none new (Err e) h.call h.writes h.layout h.same_super h.same_both h.same_kept h.same_block nodes law rises h.halted,
+      )
+
+  pub logged_leaves : ((disk : D) → honest disk → length (stable (history disk)) ≡ size disk) → NodesStayNodes → NodesLeaveTheirFronts → (result : Result (Unit {0}) Refusal) → IsLogged honest history size failures old new result
+      → (n : Node) → Holds honest history failures n old → LeavesOnly (history old.disk) (history new.disk) (IsFrontAt Means n)
+  logged_leaves sized nodes law result h n holds =
+      log_leaves honest history size failures sized old n h.engine holds h.runs h.none new result h.call h.writes h.layout h.same_super h.same_both h.same_kept h.same_block nodes law

@@ -1,0 +1,202 @@
+-- Reads of rows.
+use Rattle.std.proofs.Common.{◌≡◌, ◌⊎◌, inl, inr, ℕ, zero, suc, ◌-◌, ◌≤◌, Bool, true, false, List, [], ◌∷◌, length, take, map, Option, None, Some, Result, Ok, Err, refl, sym, ap, subst, ◌∙◌, arith, IfOk, IfErr, IsOk}
+use Rattle.std.proofs.lemmas.Bool.Decides.{nat_tests}
+use Rattle.std.specs.Prelude.{is_some, if◌then◌else◌, not, nat_lt}
+use Rattle.rep_types.specs.declared.key.Key.{Key}
+use Rattle.rep_types.specs.declared.judged.Judged.{Judged}
+use Rattle.rep_types.specs.declared.refusal.Refusal.{Refusal}
+use Rattle.rep_types.specs.declared.refusal.Refusal.TheVariants.{DiskFault, Corrupt, BadKey, NotYet, TooOld}
+use Rattle.rep_types.specs.declared.refusal.Part.TheVariants.{Pages}
+use Rattle.rep_types.specs.declared.verdict.Verdict.TheVariants.{Commit}
+use Rattle.rep_types.specs.Settings.{Setting, has_row, IsRow}
+use Rattle.rep_types.specs.Order.{State as State_at, counts, content_after}
+use Rattle.rep_disk.specs.Calls.{IsCall, Rises}
+use Rattle.rep_disk.specs.History.{History, stable, IsImage}
+use Rattle.rep_layout.specs.declared.rows.RowPlace.{RowPlace}
+use Rattle.rep_layout.specs.Rows.{row_place}
+use Rattle.rep_layout.specs.declared.place.Slot.{Slot}
+use Rattle.rep_layout.specs.declared.place.Place.TheVariants.{Page}
+use Rattle.rep_layout.specs.declared.page_state.PageState.TheVariants.{In}
+use Rattle.rep_layout.specs.declared.super_body.SuperBody.{SuperBody}
+use Rattle.rep_cells.specs.States.{States, State, Stable, Shows, IsSure}
+use Rattle.rep_cells.specs.Known.{Assigns}
+use Rattle.rep_pages.specs.Slots.{state_of_page}
+use Rattle.rep_versions.specs.declared.versions.At.{At}
+use Rattle.rep_versions.specs.Versions.{Kept, IsAnswer, told}
+use Rattle.rep_versions.specs.Following.{AreVersionsOf, VersionsFollowTheItems, effect_of, rows_after}
+use Rattle.rep_log.specs.Moves.{fault_of}
+use Rattle.rep_steps.specs.declared.event.Event.TheVariants.{Read}
+use Rattle.rep_steps.specs.declared.answer.Answer.TheVariants.{Row, Refused}
+use Rattle.rep_steps.specs.Standings.{Standing, read_refusal}
+use Rattle.rep_steps.specs.Moves.{Moves}
+use Rattle.rep_steps.specs.Nodes.{Node, Steps, NodesStayNodes, advanced, reached, state_at}
+use Rattle.rep_image.specs.Bases.{HaveContent, IsPageOf}
+use Rattle.rep_image.specs.Standing.{StandsAs}
+use Rattle.rep_engine.specs.Engines.{Engine, facts_of}
+use Rattle.rep_engine.specs.Holding.{Stands, Holds, row}
+use Rattle.rep_engine.specs.Reading.{ReadsRow, halted_by}
+use Rattle.rep_engine.proofs.Steps.{done_moves, fault_moves, corrupt_moves, done_steps, fault_steps, halted_at, halted_node}
+use Rattle.rep_engine.proofs.Logs.{rises_by}
+use Rattle.rep_engine.proofs.Standing.{same_front}
+
+-- ---- a page of the base
+
+-- what is read of a page's place is that page
+pub read_page : (b : SuperBody) (s : States) (content : Key → Option (List ℕ)) (number : ℕ) (slot : Slot) (bytes : List ℕ)
+    → HaveContent b (λ number slot body. s (Page number slot) ≡ Stable body) content → state_of_page b number ≡ In slot
+    → (IsSure (s (Page number slot)) → Shows (s (Page number slot)) (Some bytes)) → IsPageOf b number content bytes
+read_page b s content number slot bytes have is shown =
+    let page = have.pages number slot is in
+    let sure : IsSure (s (Page number slot)) = subst IsSure (sym page.1) tt in
+    let shows : Some bytes ≡ Some page.0 = subst (λ (state : State). Shows state (Some bytes)) page.1 (shown sure) in
+    let same : bytes ≡ page.0 = cc in
+    subst (IsPageOf b number content) (sym same) page.2
+
+-- where the row lies
+pub place_of : (rows : List ℕ) (key : Key) (place : RowPlace) → (if has_row rows key then Some (row_place rows key) else None) ≡ Some place → IsRow rows key × (place ≡ row_place rows key)
+place_of rows key place is = by (has_row rows key) refl is
+  where
+    by : (b : Bool) → has_row rows key ≡ b → (if b then Some (row_place rows key) else None) ≡ Some place → IsRow rows key × (place ≡ row_place rows key)
+    by true has e = (grind (arith, nat_tests), cc)
+    by false has e = absurd cc
+
+-- what is said of an answer that came
+pub if_ok : {T E : Type 0} (result : Result T E) (P : Type 0) → IsOk result → IfOk result (λ _. P) → P
+if_ok (Ok x) P ok h = h
+if_ok (Err e) P ok h = absurd cc
+
+-- ---- what the items made of a row
+
+effect_is : (content : Key → Option (List ℕ)) (j : Judged) (b : Bool) → counts j ≡ b → (if b then content_after content j.item.writes else content) ≡ content_after content (effect_of j)
+effect_is content j true is = rw is refl
+effect_is content j false is = rw is refl
+
+content_reached : (p : Setting) (S : State_at) (js : List Judged) → (reached p S js).content ≡ rows_after S.content (map effect_of js)
+content_reached p S [] = refl
+content_reached p S (j ∷ js) = content_reached p (advanced p S j) js ∙ ap (λ c. rows_after c (map effect_of js)) (effect_is S.content j (counts j) refl)
+
+take_effects : (k : ℕ) (js : List Judged) → map effect_of (take k js) ≡ take k (map effect_of js)
+take_effects zero js = refl
+take_effects (suc k) [] = refl
+take_effects (suc k) (j ∷ js) = ap (λ rest. effect_of j ∷ rest) (take_effects k js)
+
+-- the row at a position from the base on
+pub row_is : VersionsFollowTheItems → (n : Node) (kept : Kept) (key : Key) (at : ℕ) (answer : At) → n.base.position ≤ at → AreVersionsOf n.base.position (map effect_of n.items) kept → IsAnswer kept key at answer
+    → told answer (n.base.content key) ≡ (state_at n at).content key
+row_is law n kept key at answer le versions is =
+    law.row n.base.position at (map effect_of n.items) kept n.base.content key (told answer (n.base.content key)) le versions (law.answers kept key at answer (n.base.content key) is)
+    ∙ ap (λ changes. rows_after n.base.content changes key) (sym (take_effects (at - n.base.position) n.items))
+    ∙ ap (λ (c : Key → Option (List ℕ)). c key) (sym (content_reached n.facts.setting n.base (take (at - n.base.position) n.items)))
+
+-- ---- a read that isn't refused
+
+-- it lies at the base or behind it
+at_base : (base durable at : ℕ) (row late early : Bool) → (if not row then Some BadKey else if late then Some (NotYet durable) else if early then Some (TooOld base) else None) ≡ None → early ≡ false
+at_base base durable at false late early e = absurd cc
+at_base base durable at true true early e = absurd cc
+at_base base durable at true false true e = absurd cc
+at_base base durable at true false false e = refl
+
+pub not_early : (s : Standing) (key : Key) (at : ℕ) → read_refusal s key at ≡ None → s.base ≤ at
+not_early s key at none =
+    let early : nat_lt at s.base ≡ false = at_base s.base s.durable at (has_row s.setting.rows key) (nat_lt s.durable at) (nat_lt at s.base) none in
+    grind (arith, nat_tests)
+
+module _ {D : Type 0} (honest : D → Type 0) (history : D → History) (size failures : D → ℕ) (sized : (disk : D) → honest disk → length (stable (history disk)) ≡ size disk)
+    (old : Engine D) (key : Key) (at : ℕ) (runs : old.halted ≡ None) (none : read_refusal (facts_of failures old) key at ≡ None) where
+  -- on any device
+  pub row_moves : (value : Option (List ℕ)) (new : Engine D) → facts_of failures new ≡ facts_of failures old → Moves (facts_of failures old) (Read key at) (Row value) (facts_of failures new)
+  row_moves value new same = done_moves (facts_of failures old) (Read key at) (record { verdict = Commit; stale = false; left = []; row = value }) (facts_of failures new) (ap is_some runs) none same
+
+  facts_stay : (disk : D) → failures disk ≡ failures old.disk → facts_of failures (record old { disk = disk; halted = None }) ≡ facts_of failures old
+  facts_stay disk same = rw same (rw runs refl)
+
+  facts_halt : (disk : D) → facts_of failures (record old { disk = disk; halted = Some old.log.phase }) ≡ halted_at (failures disk) (facts_of failures old)
+  facts_halt disk = rw runs refl
+
+  base_moves : (result : Result (Option (List ℕ)) Refusal) (disk : D) → IsCall size failures honest old.disk disk (fault_of result) → IfErr result (λ e. (e ≡ DiskFault) ⊎ (e ≡ Corrupt Pages))
+      → Moves (facts_of failures old) (Read key at) (row result) (facts_of failures (record old { disk = disk; halted = halted_by old.log.phase result }))
+  base_moves (Ok value) disk call refused = row_moves value (record old { disk = disk; halted = None }) (facts_stay disk (call.no_cause refl))
+  base_moves (Err e) disk call (inl fault) =
+      let rises : Rises (failures old.disk) (failures disk) = rises_by (Option (List ℕ)) e fault call in
+      subst (λ (f : Refusal). Moves (facts_of failures old) (Read key at) (Refused f) (facts_of failures (record old { disk = disk; halted = halted_by {T = Option (List ℕ)} old.log.phase (Err f) }))) (sym fault)
+      (fault_moves (facts_of failures old) (Read key at) _ (ap is_some runs) none refl rises (facts_halt disk))
+  base_moves (Err e) disk call (inr corrupt) =
+      let same : failures disk ≡ failures old.disk = (subst (λ (f : Refusal). IsCall size failures honest old.disk disk (fault_of {T = Option (List ℕ)} (Err f))) corrupt call).no_cause refl in
+      subst (λ (f : Refusal). Moves (facts_of failures old) (Read key at) (Refused f) (facts_of failures (record old { disk = disk; halted = halted_by {T = Option (List ℕ)} old.log.phase (Err f) }))) (sym corrupt)
+      (corrupt_moves (facts_of failures old) (Read key at) _ (ap is_some runs) none refl (facts_stay disk same))
+
+  pub reads_moves : (result : Result (Option (List ℕ)) Refusal) (new : Engine D) → ReadsRow size failures honest history key old new result → Moves (facts_of failures old) (Read key at) (row result) (facts_of failures new)
+  reads_moves result new h = subst (λ e. Moves (facts_of failures old) (Read key at) (row result) (facts_of failures e)) (sym h.after) (base_moves result new.disk h.call h.refused)
+
+  -- of a node
+  module _ (law : VersionsFollowTheItems) (n : Node) (holds : Holds honest history failures n old) where
+    there : Stands history n old
+    there = holds.runs runs
+
+    runs_on : n.facts.stopped ≡ false
+    runs_on = ap (λ (s : Standing). s.stopped) holds.facts ∙ ap is_some runs
+
+    none_here : read_refusal n.facts key at ≡ None
+    none_here = ap (λ (s : Standing). read_refusal s key at) holds.facts ∙ none
+
+    behind : n.base.position ≤ at
+    behind = omega (arith, not_early n.facts key at none_here, holds.node.position)
+
+    -- the row is the node's
+    pub row_steps : (answer : At) (value : Option (List ℕ)) → IsAnswer old.kept key at answer → value ≡ told answer (n.base.content key) → Steps n (Read key at) (Row value) n
+    row_steps answer value is value_is =
+        subst (λ v. Steps n (Read key at) (Row v) n) (sym (value_is ∙ row_is law n old.kept key at answer behind there.versions is)) (done_steps n (Read key at) runs_on none_here)
+
+    -- the engine after a read of the device
+    held_after : (disk : D) → honest disk → failures disk ≡ failures old.disk → history disk ≡ history old.disk → Holds honest history failures n (record old { disk = disk; halted = None })
+    held_after disk is_honest same past = record {
+      is_honest = is_honest;
+      facts = holds.facts ∙ sym (facts_stay disk same);
+      node = holds.node;
+      runs = λ on. record {
+        states = there.states;
+        assigns = subst (λ h. Assigns old.layout h there.states) (sym past) there.assigns;
+        blocks = there.blocks;
+        sealed = there.sealed;
+        stands = subst (λ h. StandsAs n (length (stable h)) old.superblock old.log there.blocks there.sealed there.states) (sym past) there.stands;
+        versions = there.versions;
+        gates = there.gates;
+      };
+      images = λ image here. holds.images image (subst (λ h. IsImage h image) past here);
+    }
+
+    halted_then : NodesStayNodes → (disk : D) → honest disk → Rises (failures old.disk) (failures disk) → history disk ≡ history old.disk
+        → Steps n (Read key at) (Refused DiskFault) (halted_node (failures disk) n) × Holds honest history failures (halted_node (failures disk) n) (record old { disk = disk; halted = Some old.log.phase })
+    halted_then nodes disk is_honest rises past =
+        let steps = fault_steps n (Read key at) (failures disk) runs_on none_here refl (subst (λ k. Rises k (failures disk)) (sym (ap (λ (s : Standing). s.failures) holds.facts)) rises) in (
+          steps,
+          record {
+            is_honest = is_honest;
+            facts = ap (halted_at (failures disk)) holds.facts ∙ sym (facts_halt disk);
+            node = nodes n (halted_node (failures disk) n) (Read key at) (Refused DiskFault) holds.node steps;
+            runs = λ on. let never : Some old.log.phase ≡ None = on in absurd cc;
+            images = λ image here. same_front n (halted_node (failures disk) n) image refl refl refl refl refl (holds.images image (subst (λ h. IsImage h image) past here));
+          },
+        )
+
+    base_steps : NodesStayNodes → (answer : At) → IsAnswer old.kept key at answer → told answer (n.base.content key) ≡ n.base.content key → (result : Result (Option (List ℕ)) Refusal) (disk : D)
+        → IsCall size failures honest old.disk disk (fault_of result) → history disk ≡ history old.disk → IfErr result (λ e. (e ≡ DiskFault) ⊎ (e ≡ Corrupt Pages))
+        → IfOk result (λ value. value ≡ n.base.content key) × (result ≡ Err (Corrupt Pages) → ⊥)
+        → (m : Node) × Steps n (Read key at) (row result) m × Holds honest history failures m (record old { disk = disk; halted = halted_by old.log.phase result })
+    base_steps nodes answer is below (Ok value) disk call past refused read =
+        (n, row_steps answer value is (read.0 ∙ sym below), held_after disk (call.stays_honest holds.is_honest) (call.no_cause refl) past)
+    base_steps nodes answer is below (Err e) disk call past (inl fault) read =
+        let rises : Rises (failures old.disk) (failures disk) = rises_by (Option (List ℕ)) e fault call in
+        let stops = halted_then nodes disk (call.stays_honest holds.is_honest) rises past in (
+          halted_node (failures disk) n,
+          subst (λ (f : Refusal). Steps n (Read key at) (Refused f) (halted_node (failures disk) n)) (sym fault) stops.0,
+          subst (λ (f : Refusal). Holds honest history failures (halted_node (failures disk) n) (record old { disk = disk; halted = halted_by {T = Option (List ℕ)} old.log.phase (Err f) })) (sym fault) stops.1,
+        )
+    base_steps nodes answer is below (Err e) disk call past (inr corrupt) read = absurd (read.1 (ap Err corrupt))
+
+    pub reads_steps : NodesStayNodes → (answer : At) → IsAnswer old.kept key at answer → told answer (n.base.content key) ≡ n.base.content key → (result : Result (Option (List ℕ)) Refusal) (new : Engine D)
+        → ReadsRow size failures honest history key old new result → (m : Node) × Steps n (Read key at) (row result) m × Holds honest history failures m new
+    reads_steps nodes answer is below result new h =
+        subst (λ e. (m : Node) × Steps n (Read key at) (row result) m × Holds honest history failures m e) (sym h.after)
+        (base_steps nodes answer is below result new.disk h.call (h.same holds.is_honest) h.refused (h.read holds.is_honest there.states n.base.content there.assigns there.stands.stands.content))

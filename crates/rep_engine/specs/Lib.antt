@@ -1,0 +1,5 @@
+pub mod Engines
+pub mod Writing
+pub mod Holding
+pub mod Accepting
+pub mod Reading

@@ -1,0 +1,26 @@
+-- How a row is read of the base.
+use Rattle.std.specs.Prelude.{◌≡◌, ◌⊎◌, ℕ, List, Option, None, Some, Result, Ok, Err, IfErr}
+use Rattle.rep_types.specs.declared.key.Key.{Key}
+use Rattle.rep_types.specs.declared.refusal.Refusal.{Refusal}
+use Rattle.rep_types.specs.declared.refusal.Refusal.TheVariants.{DiskFault, Corrupt}
+use Rattle.rep_types.specs.declared.refusal.Part.TheVariants.{Pages}
+use Rattle.rep_disk.specs.History.{History}
+use Rattle.rep_disk.specs.Calls.{IsCall}
+use Rattle.rep_log.specs.declared.phase.Phase.{Phase}
+use Rattle.rep_log.specs.Moves.{fault_of}
+use Rattle.rep_engine.specs.Engines.{Engine}
+use Rattle.rep_engine.specs.Writing.{ReadsBase}
+
+-- the phase in which the device stopped the engine, if it failed
+abbrev pub halted_by : {T : Type 0} → Phase → Result T Refusal → Option Phase
+halted_by phase (Ok x) = None
+halted_by phase (Err DiskFault) = Some phase
+halted_by phase (Err e) = None
+
+-- A row is read of the base: the device is asked, and nothing else changes, but that a failure stops the engine.
+pub record ReadsRow {D : Type 0} (size failures : D → ℕ) (honest : D → Type 0) (history : D → History) (key : Key) (old new : Engine D) (result : Result (Option (List ℕ)) Refusal) : Type 0 where
+  pub call : IsCall size failures honest old.disk new.disk (fault_of result)
+  pub same : honest old.disk → history new.disk ≡ history old.disk
+  pub read : ReadsBase honest history old.layout old.superblock key old.disk result
+  pub refused : IfErr result (λ e. (e ≡ DiskFault) ⊎ (e ≡ Corrupt Pages))
+  pub after : new ≡ record old { disk = new.disk; halted = halted_by old.log.phase result }

@@ -1,0 +1,157 @@
+//! How items come from the backlog.
+
+ghost use Rattle.std.specs.Prelude.{◌≡◌, ℕ, None, ◌⊎◌, ◌+◌, ◌-◌, ◌≤◌, ◌==◌, ◌++◌, [], length, take, drop, map, is_some, true, Ok, Err, IfOk, IfErr, OnOk, OnErr, MatchOption};
+ghost use Rattle.rep_types.specs.declared.refusal.Refusal.TheVariants.{OutOfMemory};
+ghost use Rattle.rep_types.specs.Replies.{reply_of};
+ghost use Rattle.rep_types.specs.Order.{counts};
+ghost use Rattle.rep_types.specs.declared.refusal.Refusal.TheVariants.{NotDue, LogFull, Stopped as is_stopped};
+ghost use Rattle.rep_record.specs.Blocks.{SeqnosFrom};
+ghost use Rattle.rep_steps.specs.declared.event.Event.TheVariants.{Log as to_log};
+ghost use Rattle.rep_steps.specs.Standings.{delivered, block_refusal, refusal};
+ghost use Rattle.rep_record.specs.Fronts.{fitting};
+ghost use Rattle.rep_steps.specs.Nodes.{Node, reached};
+ghost use Rattle.rep_steps.specs.Images.{AreJudgedFrom};
+ghost use Rattle.rep_engine.specs.Engines.{AreWithin, facts_of, phase_at};
+ghost use Rattle.rep_engine.specs.Accepting.{ComeNext, AddsWhere, AddsItems, accepted_in, is_gathering};
+ghost use Rattle.rep_engine.specs.Holding.{Holds, with_items};
+
+use crate::engine::Engine;
+use rep_backlog::Backlog;
+use rep_disk::Disk;
+use rep_log::{Phase, Step};
+use rep_record::fronts_are_determined;
+use rep_steps::Replies;
+use rep_types::{Judged, Refusal};
+use rep_versions::{Versions, add_is_taken_back, versions_follow_the_items};
+
+/// Adds what the item wrote, where it takes effect.
+fn add_item(versions: &mut Versions, judged: &Judged) -> Result<(), Refusal>
+    ensures added { OnOk result (AddsWhere (counts judged.now) judged.now versions.old versions.new) }
+    ensures refused { IfErr result (λ e. (e ≡ OutOfMemory) × (versions.new ≡ versions.old)) }
+{
+    if !judged.verdict.is_commit() {
+        return Ok(());
+    }
+    versions.add(judged.seqno, &judged.item)
+}
+
+/// Adds what the next so many items of the backlog wrote, from the one at `from` on. Where one is refused, those
+/// before it are undone: each call takes its own back. A block has at most 64 items, so deep do the
+/// calls go.
+fn add_items(
+    versions: &mut Versions,
+    backlog: &Backlog,
+    from: usize,
+    count: u16,
+) -> Result<(), Refusal>
+    requires within { from + count ≤ length backlog.now }
+    requires few { from + count ≤ 64 }
+    ensures added { OnOk result (AddsItems (take count (drop from backlog.now)) versions.old versions.new) }
+    ensures refused { IfErr result (λ e. e ≡ OutOfMemory) }
+    ensures unchanged { (base last : ℕ) → base ≤ last → SeqnosFrom (last + 1) (drop from backlog.now) → AreWithin base last versions.old → OnErr result (versions.new ≡ versions.old) }
+{
+    add_is_taken_back();
+    if count == 0 {
+        return Ok(());
+    }
+    let Some(judged) = backlog.get(from) else {
+        return Ok(());
+    };
+    add_item(versions, judged)?;
+    if let Err(refusal) = add_items(versions, backlog, from + 1, count - 1) {
+        versions.take_back(judged.seqno);
+        return Err(refusal);
+    }
+    Ok(())
+}
+
+/// Adds the replies to the origins of the first so many items.
+fn add_replies(replies: &mut Replies, backlog: &Backlog, count: u16)
+    requires within { count ≤ length backlog.now }
+    requires room { length replies.old + count ≤ 64 }
+    ensures { replies.new ≡ replies.old ++ map reply_of (take count backlog.now) }
+{
+    for i in 0..usize::from(count) {
+        if let Some(judged) = backlog.get(i) {
+            replies.push(judged.reply());
+        }
+    }
+}
+
+impl<D: Disk> Engine<D> {
+    /// How many items of the backlog come next.
+    fn next_items(&self, backlog: &Backlog) -> u16
+        ensures count { result ≡ accepted_in self.now.log.phase self.now.block backlog.now }
+        ensures within { result ≤ length backlog.now }
+    {
+        match self.log.phase() {
+            Phase::Resting | Phase::Closing => backlog.fitting(&self.block),
+            Phase::Filling(_) | Phase::Filled(_) | Phase::Opening(_) => 0,
+        }
+    }
+
+    /// Takes items from the backlog for the log's next block, the longest front that fits, and says how many:
+    /// none while the block is on its way to the disk. Room for what they wrote is taken here.
+    ///
+    /// Refuses with `Stopped` where the device has failed before, and with `OutOfMemory`; engine and backlog
+    /// are then as they were.
+    pub fn accept(&mut self, backlog: &mut Backlog) -> Result<u16, Refusal>
+        requires { ComeNext (facts_of D.failures self.old) backlog.old }
+        ensures count { IfOk result (λ count. count ≡ accepted_in self.old.log.phase self.old.block backlog.old) }
+        ensures facts { IfOk result (λ count. facts_of D.failures self.new ≡ record (facts_of D.failures self.old) { ahead = self.old.block ++ take count backlog.old }) }
+        ensures backlog { IfOk result (λ count. backlog.new ≡ drop count backlog.old) }
+        ensures disk { self.new.disk ≡ self.old.disk }
+        ensures running { OnOk result (self.old.halted ≡ None) }
+        ensures refused { IfErr result (λ e. ((e ≡ is_stopped) × (is_some self.old.halted ≡ true)) ⊎ ((e ≡ OutOfMemory) × (self.old.halted ≡ None))) }
+        ensures unchanged { OnErr result ((self.new ≡ self.old) × (backlog.new ≡ backlog.old)) }
+        ensures holds { IfOk result (λ count. (n : Node) → Holds D.honest D.history D.failures n self.old → AreJudgedFrom n.facts.setting (reached n.facts.setting n.base n.items) (take count backlog.old) → Holds D.honest D.history D.failures (with_items (take count backlog.old) n) self.new) }
+    {
+        add_is_taken_back();
+        versions_follow_the_items();
+        fronts_are_determined();
+        if self.halted.is_some() {
+            return Err(Refusal::Stopped);
+        }
+        let count = self.next_items(backlog);
+        add_items(&mut self.versions, backlog, 0, count)?;
+        add_replies(&mut self.replies, backlog, count);
+        if count > 0 {
+            backlog.drain(&mut self.block);
+        }
+        Ok(count)
+    }
+
+    /// Whether the next block would have nothing, with these items behind what was gathered.
+    #[tactic(auto, using(crate::proofs::Accepting::gathers_more))]
+    fn has_nothing(&self, backlog: &Backlog) -> bool
+        ensures { result ≡ (fitting [] (self.now.block ++ take (fitting self.now.block backlog.now) backlog.now) == 0) }
+    {
+        self.block.is_empty() && backlog.fitting(&self.block) == 0
+    }
+
+    /// Why the next block would not begin with these items.
+    fn due_at_rest(&self, backlog: &Backlog) -> Option<Refusal>
+        requires { self.now.log.phase ≡ Phase.Resting }
+        ensures { result ≡ block_refusal (record (facts_of D.failures self.now) { ahead = self.now.block ++ take (fitting self.now.block backlog.now) backlog.now }) }
+    {
+        if self.has_nothing(backlog) {
+            return Some(Refusal::NotDue);
+        }
+        self.live_refusal()
+    }
+
+    /// What `log` would refuse once `accept` had run, without want of memory.
+    pub fn due(&self, backlog: &Backlog) -> Option<Refusal>
+        ensures { result ≡ refusal (record (facts_of D.failures self.now) { ahead = self.now.block ++ take (accepted_in self.now.log.phase self.now.block backlog.now) backlog.now }) to_log }
+    {
+        fronts_are_determined();
+        if self.halted.is_some() {
+            return Some(Refusal::Stopped);
+        }
+        match self.log.phase() {
+            Phase::Resting => self.due_at_rest(backlog),
+            Phase::Filled(_) => None,
+            Phase::Closing | Phase::Filling(_) | Phase::Opening(_) => Some(Refusal::NotDue),
+        }
+    }
+}

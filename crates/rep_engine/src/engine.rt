@@ -1,0 +1,283 @@
+//! What an engine holds, and the steps that write.
+
+ghost use Rattle.std.specs.Prelude.{◌≡◌, ◌+◌, ◌-◌, ◌<◌, ◌==◌, [], nat_le, if◌then◌else◌, true, false, length, map, is_some, Some, None, Err, IsErr, IfSome, IfErr, OnOk, OnErr, MatchOption};
+ghost use Rattle.rep_types.specs.declared.refusal.Refusal.TheVariants.{DiskFault, LogFull};
+ghost use Rattle.rep_types.specs.Replies.{reply_of};
+ghost use Rattle.rep_disk.specs.Moments.{LeavesOnly};
+ghost use Rattle.rep_cells.specs.Device.{disk_of, layout_of};
+ghost use Rattle.rep_steps.specs.declared.event.Event.TheVariants.{Log as to_log, Sync as to_sync};
+ghost use Rattle.rep_steps.specs.Standings.{gathered, block_refusal, log_refusal};
+ghost use Rattle.rep_steps.specs.Moves.{Moves};
+ghost use Rattle.rep_steps.specs.Nodes.{Node, Steps};
+ghost use Rattle.rep_steps.specs.Images.{IsFrontAt};
+ghost use Rattle.rep_image.specs.Meanings.{Means};
+ghost use Rattle.rep_engine.specs.Engines.{IsEngine, facts_of, phase_at, durable_of, gtid_of};
+ghost use Rattle.rep_log.specs.Moves.{after_sync, SyncsLog};
+ghost use Rattle.rep_engine.specs.Writing.{left_of, told_of, no_checkpoint};
+ghost use Rattle.rep_engine.specs.Holding.{Holds, wrote, synced};
+
+use crate::write::write_next;
+use rep_cells::{Cells, images_read_as_allowed};
+use rep_cert::Certifier;
+use rep_disk::Disk;
+use rep_image::nodes_leave_their_fronts;
+use rep_layout::SuperBody;
+use rep_log::{Log, Phase, Step};
+use rep_record::BlockBuilder;
+use rep_steps::{Replies, nodes_stay_nodes};
+use rep_types::{Gtid, Params, Refusal};
+use rep_versions::Versions;
+use std::marker::Model;
+use uuid::Uuid;
+
+/// The engine of a node on a disk: a base that its superblock names, the log behind it, and the versions
+/// of what the log's items wrote.
+///
+/// It takes judged items from a backlog, writes them into the log a block at a time, makes them durable, and
+/// reads rows from the base on. Each call makes at most one write or sync, and one read. Where the
+/// device fails, the engine is stopped, and refuses everything.
+#[derive(Drop)]
+pub struct Engine<D: Disk> {
+    pub(crate) cells: Cells<D>,
+    pub(crate) superblock: SuperBody,
+    /// Whether the other superblock's gate stands open too.
+    pub(crate) both: bool,
+    pub(crate) log: Log,
+    pub(crate) versions: Versions,
+    /// The items that were accepted and are not durable.
+    pub(crate) block: BlockBuilder,
+    /// The replies to their origins.
+    pub(crate) replies: Replies,
+    /// Where the device failed: how far the next block was before the call that met the failure.
+    pub(crate) halted: Option<Phase>,
+}
+
+impl<D: Disk> Model for Engine<D> {
+    ghost use Rattle.std.specs.Prelude.{◌≡◌, map};
+    ghost use Rattle.rep_types.specs.Replies.{reply_of};
+    ghost use Rattle.rep_cells.specs.Device.{disk_of, layout_of};
+    ghost use Rattle.rep_engine.specs.Engines.{Engine as Contents, IsEngine, engine_code};
+
+    ghost Value = { Contents D };
+
+    ghost coded = { engine_code D.code };
+
+    ghost view = { λ e. record { disk = disk_of e.cells; layout = layout_of e.cells; superblock = e.superblock; both = e.both; log = e.log; kept = e.versions; block = e.block; halted = e.halted } };
+
+    ghost invariant = { λ e. IsEngine (layout_of e.cells) e.superblock e.log e.versions e.block × (e.replies ≡ map reply_of e.block) };
+}
+
+impl<D: Disk> Engine<D> {
+    /// The engine over what an opening found on a device: the superblock of the base, whether the other one
+    /// stands open too, the log behind the base, and the versions of what its items wrote.
+    pub fn open(
+        cells: Cells<D>,
+        superblock: SuperBody,
+        both: bool,
+        log: Log,
+        versions: Versions,
+    ) -> Engine<D>
+        requires { IsEngine (layout_of cells) superblock log versions [] }
+        ensures { result ≡ record { disk = disk_of cells; layout = layout_of cells; superblock = superblock; both = both; log = log; kept = versions; block = []; halted = None } }
+    {
+        Engine {
+            cells,
+            superblock,
+            both,
+            log,
+            versions,
+            block: BlockBuilder::new(),
+            replies: Replies::new(),
+            halted: None,
+        }
+    }
+
+    /// Why the log's next block does not begin: its cell is live.
+    pub(crate) fn live_refusal(&self) -> Option<Refusal>
+        requires { self.now.log.phase ≡ Phase.Resting }
+        ensures { result ≡ (if nat_le (self.now.log.start + self.now.superblock.params.cells) self.now.log.next then Some LogFull else None) }
+    {
+        match self.log.step_due() {
+            Step::Full => Some(Refusal::LogFull),
+            Step::Recycle | Step::Seal | Step::Gate | Step::Sync => None,
+        }
+    }
+
+    /// Why the log's next block does not begin: nothing was gathered for it, or its cell is live.
+    fn block_refusal(&self) -> Option<Refusal>
+        requires { self.now.log.phase ≡ Phase.Resting }
+        ensures { result ≡ block_refusal (facts_of D.failures self.now) }
+    {
+        if self.block.is_empty() {
+            return Some(Refusal::NotDue);
+        }
+        self.live_refusal()
+    }
+
+    /// Why the log writes nothing.
+    fn log_refusal(&self) -> Option<Refusal>
+        requires { self.now.halted ≡ None }
+        ensures { result ≡ log_refusal (facts_of D.failures self.now) self.now.log.phase }
+    {
+        match self.log.phase() {
+            Phase::Resting => self.block_refusal(),
+            Phase::Filled(_) => None,
+            Phase::Closing | Phase::Filling(_) | Phase::Opening(_) => Some(Refusal::NotDue),
+        }
+    }
+
+    /// Writes what the log has to write next, of what was accepted: the closed gate of a stale cell, then the
+    /// block, and, once that is stable, its open gate. It takes no memory.
+    ///
+    /// Refuses with `Stopped` where the device has failed before; with `NotDue` where nothing was gathered
+    /// or a write awaits its sync; with `LogFull` where the next cell is live, its block still needed; and with
+    /// `DiskFault` where the device failed: the engine is then stopped, and otherwise as it was.
+    pub fn log(&mut self) -> Result<(), Refusal>
+        ensures moves { Moves (facts_of D.failures self.old) to_log (wrote result) (facts_of D.failures self.new) }
+        ensures steps { (n : Node) → Holds D.honest D.history D.failures n self.old → (m : Node) × Steps n to_log (wrote result) m × Holds D.honest D.history D.failures m self.new }
+        ensures leaves { (n : Node) → Holds D.honest D.history D.failures n self.old → LeavesOnly (D.history self.old.disk) (D.history self.new.disk) (IsFrontAt Means n) }
+    {
+        nodes_stay_nodes();
+        nodes_leave_their_fronts();
+        if self.halted.is_some() {
+            return Err(Refusal::Stopped);
+        }
+        if let Some(refusal) = self.log_refusal() {
+            return Err(refusal);
+        }
+        let before = self.log.phase();
+        let written = write_next(&mut self.log, &mut self.cells, &self.block);
+        if written.is_err() {
+            self.halted = Some(before);
+        }
+        written
+    }
+
+    /// Moves on by a sync that succeeded, and gives the replies of what it made durable.
+    #[tactic(auto, using(crate::proofs::Syncing::engine_synced, crate::proofs::Syncing::none_synced, crate::proofs::Syncing::some_synced))]
+    fn settle(&mut self) -> Replies
+        ensures after { self.new ≡ record (self.old) { log = after_sync self.old.log; block = left_of self.old.log.phase self.old.block } }
+        ensures log { SyncsLog self.old.log self.new.log }
+        ensures replies { result ≡ map reply_of (told_of self.old.log.phase self.old.block) }
+    {
+        if self.log.synced() == 0 {
+            return Replies::new();
+        }
+        self.block = BlockBuilder::new();
+        std::mem::replace(&mut self.replies, Replies::new())
+    }
+
+    /// Makes stable what was written: one sync. Where a block's gate was opened, its items are durable then, and
+    /// their replies are given, in order. It takes no memory.
+    ///
+    /// Refuses with `Stopped` where the device has failed before, and with `DiskFault` where it failed: the
+    /// engine is then stopped, and otherwise as it was.
+    pub fn sync(&mut self) -> Result<Replies, Refusal>
+        ensures moves { Moves (facts_of D.failures self.old) to_sync (synced result) (facts_of D.failures self.new) }
+        ensures steps { (n : Node) → Holds D.honest D.history D.failures n self.old → (m : Node) × Steps n to_sync (synced result) m × Holds D.honest D.history D.failures m self.new }
+        ensures leaves { (n : Node) → Holds D.honest D.history D.failures n self.old → LeavesOnly (D.history self.old.disk) (D.history self.new.disk) (IsFrontAt Means n) }
+    {
+        nodes_stay_nodes();
+        images_read_as_allowed();
+        nodes_leave_their_fronts();
+        if self.halted.is_some() {
+            return Err(Refusal::Stopped);
+        }
+        if self.cells.sync().is_err() {
+            self.halted = Some(self.log.phase());
+            return Err(Refusal::DiskFault);
+        }
+        Ok(self.settle())
+    }
+
+    /// Takes the checkpoint's next step. No checkpoint begins yet, and none goes on.
+    ///
+    /// Refuses with `Stopped` where the device has failed before, and else with `NotDue`.
+    pub fn check(&mut self, _certifier: &Certifier) -> Result<Option<u64>, Refusal>
+        ensures refused { result ≡ Err (no_checkpoint self.old.halted) }
+        ensures same { self.new ≡ self.old }
+    {
+        Err(self.no_checkpoint())
+    }
+
+    /// Writes a page of the checkpoint. No checkpoint is under way.
+    ///
+    /// Refuses with `Stopped` where the device has failed before, and else with `NotDue`.
+    pub fn flush(&mut self, _page: u64) -> Result<(), Refusal>
+        ensures refused { result ≡ Err (no_checkpoint self.old.halted) }
+        ensures same { self.new ≡ self.old }
+    {
+        Err(self.no_checkpoint())
+    }
+
+    /// What a checkpoint's step answers while there is none.
+    fn no_checkpoint(&self) -> Refusal
+        ensures { result ≡ no_checkpoint self.now.halted }
+    {
+        if self.is_stopped() {
+            Refusal::Stopped
+        } else {
+            Refusal::NotDue
+        }
+    }
+
+    /// Whether the device has failed: the engine then refuses everything.
+    pub fn is_stopped(&self) -> bool
+        ensures { result ≡ is_some self.now.halted }
+    {
+        self.halted.is_some()
+    }
+
+    /// The state UUID; nil where the node belongs to no cluster yet.
+    pub fn uuid(&self) -> Uuid
+        ensures { result ≡ self.now.superblock.uuid }
+    {
+        self.superblock.uuid
+    }
+
+    /// The seqno of the last durable item.
+    pub fn durable(&self) -> u64
+        ensures { result ≡ durable_of self.now.log }
+    {
+        self.log.durable()
+    }
+
+    /// The GTID of what is durable: the state UUID and the seqno of the last durable item; that of a node without
+    /// a cluster is undefined, the nil UUID and -1.
+    pub fn gtid(&self) -> Gtid
+        ensures { result ≡ gtid_of self.now }
+    {
+        let uuid = self.superblock.uuid;
+        let seqno = if uuid.is_nil() {
+            -1
+        } else {
+            self.log.durable() as i64
+        };
+        match Gtid::new(uuid, seqno) {
+            Some(gtid) => gtid,
+            None => unreachable!(),
+        }
+    }
+
+    /// The position of the base: of the oldest state that can be read.
+    pub fn base(&self) -> u64
+        ensures { result ≡ self.now.superblock.position }
+    {
+        self.superblock.position
+    }
+
+    /// The parameters.
+    pub fn params(&self) -> &Params
+        ensures { result.now ≡ self.now.superblock.params }
+    {
+        &self.superblock.params
+    }
+
+    /// Gives the device back.
+    pub fn into_disk(self) -> D
+        ensures { result ≡ self.disk }
+    {
+        let Engine { cells, .. } = self;
+        cells.into_disk()
+    }
+}

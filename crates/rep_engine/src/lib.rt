@@ -1,0 +1,10 @@
+//! The engine of a node on a disk: what was accepted goes into the log, becomes durable, and is read, over
+//! a base that stands still.
+#![tactic(auto)]
+
+mod accept;
+mod engine;
+mod read;
+mod write;
+
+pub use engine::Engine;

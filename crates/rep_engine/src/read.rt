@@ -1,0 +1,78 @@
+//! Reads of rows.
+
+ghost use Rattle.std.specs.Prelude.{◌≡◌, None};
+ghost use Rattle.rep_disk.specs.Moments.{LeavesOnly};
+ghost use Rattle.rep_steps.specs.declared.event.Event.TheVariants.{Read};
+ghost use Rattle.rep_steps.specs.Standings.{read_refusal};
+ghost use Rattle.rep_steps.specs.Moves.{Moves};
+ghost use Rattle.rep_steps.specs.Nodes.{Node, Steps};
+ghost use Rattle.rep_engine.specs.Engines.{facts_of};
+ghost use Rattle.rep_engine.specs.Reading.{ReadsRow};
+ghost use Rattle.rep_engine.specs.Holding.{Holds, row};
+
+use crate::engine::Engine;
+use crate::write::base_row;
+use rep_disk::Disk;
+use rep_steps::nodes_stay_nodes;
+use rep_types::{Key, Refusal, Value};
+use rep_versions::{At, versions_follow_the_items};
+
+impl<D: Disk> Engine<D> {
+    /// Why a read is refused.
+    fn read_refusal(&self, key: Key, s: u64) -> Option<Refusal>
+        ensures { result ≡ read_refusal (facts_of D.failures self.now) key s }
+    {
+        if !self.superblock.params.schema().contains(key) {
+            return Some(Refusal::BadKey);
+        }
+        let durable = self.log.durable();
+        if s > durable {
+            return Some(Refusal::NotYet { durable });
+        }
+        if s < self.superblock.position {
+            return Some(Refusal::TooOld {
+                oldest: self.superblock.position,
+            });
+        }
+        None
+    }
+
+    /// What the row is at the base. Where the device fails, the engine is stopped.
+    fn read_base(&mut self, key: Key) -> Result<Option<Value>, Refusal>
+        requires { self.old.halted ≡ None }
+        ensures read { ReadsRow D.size D.failures D.honest D.history key self.old self.new result }
+    {
+        let row = base_row(&mut self.cells, &self.superblock, key);
+        if row == Err(Refusal::DiskFault) {
+            self.halted = Some(self.log.phase());
+        }
+        row
+    }
+
+    /// What stands under the key in the state after so many items, if anything does: of the versions behind
+    /// the base the newest up to there, and below them all what the base's page has, by one read of the
+    /// device. It takes no memory.
+    ///
+    /// Refuses with `Stopped` where the device has failed before; with `BadKey` outside the schema; with `NotYet`
+    /// above what is durable; with `TooOld` below the base; with `DiskFault` where the device failed, and
+    /// then the engine is stopped; and with `Corrupt` of the pages where the page is not of its form.
+    pub fn read(&mut self, key: Key, s: u64) -> Result<Option<Value>, Refusal>
+        ensures moves { Moves (facts_of D.failures self.old) (Read key s) (row result) (facts_of D.failures self.new) }
+        ensures steps { (n : Node) → Holds D.honest D.history D.failures n self.old → (m : Node) × Steps n (Read key s) (row result) m × Holds D.honest D.history D.failures m self.new }
+        ensures same { D.honest self.old.disk → D.history self.new.disk ≡ D.history self.old.disk }
+    {
+        nodes_stay_nodes();
+        versions_follow_the_items();
+        if self.halted.is_some() {
+            return Err(Refusal::Stopped);
+        }
+        if let Some(refusal) = self.read_refusal(key, s) {
+            return Err(refusal);
+        }
+        match self.versions.at(key, s) {
+            At::Found(value) => Ok(Some(value.copied())),
+            At::Deleted => Ok(None),
+            At::Below => self.read_base(key),
+        }
+    }
+}

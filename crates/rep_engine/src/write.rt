@@ -1,0 +1,85 @@
+//! The log's next write, and what is read of the base: work on the engine's parts.
+
+ghost use Rattle.std.specs.Prelude.{◌≡◌, ◌≢◌, ◌⊎◌, length, IfErr};
+ghost use Rattle.rep_types.specs.declared.refusal.Refusal.TheVariants.{DiskFault, Corrupt};
+ghost use Rattle.rep_types.specs.declared.refusal.Part.TheVariants.{Pages};
+ghost use Rattle.rep_record.specs.Blocks.{first_seqno};
+ghost use Rattle.rep_disk.specs.Calls.{IsCall};
+ghost use Rattle.rep_layout.specs.Places.{layout_of as places_of};
+ghost use Rattle.rep_layout.specs.Supers.{IsSuper};
+ghost use Rattle.rep_cells.specs.Device.{disk_of, layout_of};
+ghost use Rattle.rep_log.specs.Standing.{due_of};
+ghost use Rattle.rep_log.specs.Moves.{fault_of};
+ghost use Rattle.rep_log.specs.declared.phase.Step.TheVariants.{Seal};
+ghost use Rattle.rep_pages.specs.Rows.{row_at};
+ghost use Rattle.rep_engine.specs.Writing.{IsWrite, WritesNext, ReadsBase};
+
+use rep_cells::Cells;
+use rep_disk::Disk;
+use rep_layout::{PAGE_BODY, PageState, Place, SuperBody, page_of};
+use rep_log::{Log, Step};
+use rep_pages::{Page, slot_of};
+use rep_record::BlockBuilder;
+use rep_types::{Key, Refusal, Value};
+
+/// Writes what the log has to write next: the closed gate of a stale cell, the block, or its open gate.
+#[tactic(auto, using(crate::proofs::Due::recycle_due, crate::proofs::Due::seal_due, crate::proofs::Due::gate_due))]
+pub(crate) fn write_next<D: Disk>(
+    log: &mut Log,
+    cells: &mut Cells<D>,
+    block: &BlockBuilder,
+) -> Result<(), Refusal>
+    requires cells { (layout_of cells.old).cells ≡ log.old.cells }
+    requires block { first_seqno block.now ≡ log.old.seqno }
+    requires due { IsWrite (due_of log.old) }
+    ensures call { IsCall D.size D.failures D.honest (disk_of cells.old) (disk_of cells.new) (fault_of result) }
+    ensures layout { layout_of cells.new ≡ layout_of cells.old }
+    ensures written { WritesNext D.honest D.history (layout_of cells.old) (due_of log.old) block.now log.old log.new (disk_of cells.old) (disk_of cells.new) result }
+{
+    match log.step_due() {
+        Step::Recycle => log.recycle(cells),
+        Step::Seal => log.seal(cells, block),
+        Step::Gate => log.gate(cells),
+        Step::Sync | Step::Full => Ok(()),
+    }
+}
+
+/// A copy of the page's row at this place.
+fn row_in(page: &Page, index: u32) -> Option<Value>
+    ensures { result ≡ row_at page.now.rows index }
+{
+    match page.rows.row(index) {
+        Some(value) => Some(value.copied()),
+        None => None,
+    }
+}
+
+/// What the row is at the base: what its page has, in the slot in which it stands.
+pub(crate) fn base_row<D: Disk>(
+    cells: &mut Cells<D>,
+    superblock: &SuperBody,
+    key: Key,
+) -> Result<Option<Value>, Refusal>
+    requires super_body { IsSuper superblock.now }
+    requires layout { layout_of cells.old ≡ places_of superblock.now.params }
+    ensures call { IsCall D.size D.failures D.honest (disk_of cells.old) (disk_of cells.new) (fault_of result) }
+    ensures layout { layout_of cells.new ≡ layout_of cells.old }
+    ensures same { D.honest (disk_of cells.old) → D.history (disk_of cells.new) ≡ D.history (disk_of cells.old) }
+    ensures read { ReadsBase D.honest D.history (layout_of cells.old) superblock.now key (disk_of cells.old) result }
+    ensures refused { IfErr result (λ e. (e ≡ DiskFault) ⊎ (e ≡ Corrupt Pages)) }
+{
+    let Some(place) = page_of(superblock.params.schema(), key) else {
+        return Ok(None);
+    };
+    let PageState::In(slot) = slot_of(superblock, place.page) else {
+        return Ok(None);
+    };
+    let mut room = [0; PAGE_BODY];
+    let area = Place::Page(place.page, slot);
+    if cells.read_area(area, &mut room).is_err() {
+        return Err(Refusal::DiskFault);
+    }
+    let schema = superblock.params.schema();
+    let page = Page::read_body(schema, place.page, superblock.position, &room)?;
+    Ok(row_in(&page, place.index))
+}
