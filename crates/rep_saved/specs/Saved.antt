@@ -4,7 +4,7 @@ use Rattle.std.specs.List.{slice_split}
 use Rattle.std.specs.Option.{option_or}
 use Rattle.std.specs.Fmt.{signed_decimal}
 use Rattle.uuid.specs.Text.{lower, hyphenated_text}
-use Rattle.rep_types.specs.Gtids.{Gtid, is_seqno}
+use Rattle.rep_types.specs.Gtids.{is_seqno}
 use Rattle.rep_types.specs.declared.refusal.Refusal.{Refusal}
 use Rattle.rep_types.specs.declared.refusal.Refusal.TheVariants.{Malformed}
 use Rattle.rep_saved.specs.declared.line.Said.{Said}
