@@ -1,0 +1,102 @@
+-- A row is moved by a get, a delete and a put.
+use Rattle.std.proofs.Common.{◌≡◌, ℕ, ◌-◌, ◌<◌, Bool, true, false, List, [], ◌∷◌, length, length-append, filter, Option, None, Some, Result, Ok, Err, refl, sym, ap, subst, ◌∙◌, arith}
+use Rattle.std.specs.Prelude.{nat_lt, if◌then◌else◌, ⊤, MatchOption, IsOk}
+use Rattle.std.specs.Option.{option_or}
+use Rattle.std.proofs.lemmas.Bool.{lt-ltb}
+use Rattle.rep_types.specs.declared.key.Key.{Key}
+use Rattle.rep_types.specs.declared.value.Write.{Write}
+use Rattle.rep_types.specs.declared.refusal.Refusal.{Refusal}
+use Rattle.rep_types.specs.declared.refusal.Refusal.TheVariants.{Closed}
+use Rattle.rep_types.specs.Keys.{key_eq, key_lt}
+use Rattle.rep_types.specs.Settings.{Setting}
+use Rattle.rep_types.specs.Transactions.{Transaction, transaction}
+use Rattle.rep_types.specs.Order.{Order, item, read, overwritten}
+use Rattle.rep_session.specs.declared.finished.Finished.{Finished}
+use Rattle.rep_session.specs.declared.finished.Finished.TheVariants.{ReadOnly, WriteSet}
+use Rattle.rep_session.specs.Sessions.{Progress, begun, known, Gets, Writes, after_read, with_write, write_refusal, finished, put, delete}
+use Rattle.rep_session.specs.Runs.{Call, Got, Wrote, Runs}
+use Rattle.rep_session_uses.specs.Alone.{SessionsRunAlone}
+use Rattle.rep_session_uses.specs.Moving.{Moves}
+
+-- what an open session ended with
+ended_with : (ended : Bool) (f x : Finished) → (if ended then Err Closed else Ok f) ≡ Ok x → f ≡ x
+ended_with true f x e = absurd cc
+ended_with false f x e = cc
+
+-- a delete and a put, by whether the key is that of either
+moved_by : (from to : Key) (v : List ℕ) (onto out : Bool) (there here : Option (List ℕ)) → Some v ≡ there →
+    overwritten here (option_or (option_or None (if onto then Some (put to v) else None)) (if out then Some (delete from) else None)) ≡ (if onto then there else if out then None else here)
+moved_by from to v true out there here e = e
+moved_by from to v false true there here e = refl
+moved_by from to v false false there here e = refl
+
+-- a get writes nothing
+same_writes : (t u : Progress) (key : Key) (answer : Result (Option (List ℕ)) Refusal) → u ≡ after_read t key answer → u.writes ≡ t.writes
+same_writes t u key (Ok row) e = ap (λ (v : Progress). v.writes) e
+same_writes t u key (Err r) e = ap (λ (v : Progress). v.writes) e
+
+got_writes : {S : Type 0} (gives : S → Key → ℕ → Result (Option (List ℕ)) Refusal → S → Type 0) (t u : Progress) (key : Key) (a b : S) (answer : Result (Option (List ℕ)) Refusal)
+    (o : Option (Result (Option (List ℕ)) Refusal)) → MatchOption o (gives a key t.snapshot answer b × (u ≡ after_read t key answer)) (λ r. (answer ≡ r) × (u ≡ t) × (b ≡ a)) → u.writes ≡ t.writes
+got_writes gives t u key a b answer None h = same_writes t u key answer h.1
+got_writes gives t u key a b answer (Some r) h = ap (λ (v : Progress). v.writes) h.1
+
+-- a session that wrote nothing has no write set
+no_set : (writes : List Write) (w x : Transaction) → writes ≡ [] → (if nat_lt 0 (length writes) then WriteSet w else ReadOnly) ≡ WriteSet x → ⊥
+no_set writes w x none e =
+    absurd (let q : ReadOnly ≡ WriteSet x = ap (λ (ws : List Write). if nat_lt 0 (length ws) then WriteSet w else ReadOnly) (sym none) ∙ e in cc)
+
+-- one that wrote has one
+set_there : (writes : List Write) (w : Transaction) → 0 < length writes → (if nat_lt 0 (length writes) then WriteSet w else ReadOnly) ≡ ReadOnly → ⊥
+set_there writes w some e =
+    absurd (let q : WriteSet w ≡ ReadOnly = sym (ap (λ (b : Bool). if b then WriteSet w else ReadOnly) (lt-ltb 0 (length writes) some)) ∙ e in cc)
+
+wrote_some : (t u : Progress) (write : Write) (nothing : ⊤) (o : Option Refusal) → MatchOption o (IsOk {E = Refusal} (Ok nothing) × (u ≡ with_write t write)) (λ r. (◌≡◌ {A = Result ⊤ Refusal} (Ok nothing) (Err r)) × (u ≡ t)) → 0 < length u.writes
+wrote_some t u write nothing (Some r) h = absurd (let q : Ok nothing ≡ Err r = h.0 in cc)
+wrote_some t u write nothing None h =
+    let below = filter (λ (w : Write). key_lt w.key write.key) t.writes in
+    let above = filter (λ (w : Write). key_lt write.key w.key) t.writes in
+    let size = ap (λ (v : Progress). length v.writes) h.1 ∙ length-append below (write ∷ above) in
+    omega (arith, size)
+
+module _ {S : Type 0} (gives : S → Key → ℕ → Result (Option (List ℕ)) Refusal → S → Type 0) (are_of : S → Setting → Order → Type 0) (law : SessionsRunAlone gives are_of)
+    (source trx snapshot : ℕ) (tables : List ℕ) (from to : Key) (a b : S) (t : Progress) (began : t ≡ begun source trx tables snapshot) (found : Option (List ℕ)) where
+  -- the row was there: it was deleted and put
+  module _ (v : List ℕ) (is_there : found ≡ Some v) (none nothing : ⊤) (t1 t2 u : Progress) (got : Gets gives t from a (Ok found) t1 b)
+      (out : Writes t1 (delete from) (Ok none) t2) (onto : Writes t2 (put to v) (Ok nothing) u) where
+    abbrev calls : List Call
+    calls = Got from (Ok (Some v)) ∷ Wrote (delete from) (Ok none) ∷ Wrote (put to v) (Ok nothing) ∷ []
+
+    runs : (p : Setting) (L : Order) → are_of b p L → Runs gives are_of p L (begun source trx tables snapshot) calls u
+    runs p L of =
+        let was = subst (λ (o : Option (List ℕ)). Gets gives t from a (Ok o) t1 b) is_there got in
+        subst (λ (s : Progress). Runs gives are_of p L s calls u) began (t1, ((a, (b, (was, of))), (t2, (out, (u, (onto, refl))))))
+
+    pub moves : (ends : Result Finished Refusal) → ends ≡ (if u.ended then Err Closed else Ok (finished u)) → Moves (are_of b) from to ends
+    moves ends answer = record {
+      committed = λ p L n of is committed key.
+          let own = ended_with u.ended (finished u) (WriteSet (item L n)) (sym answer ∙ is) in
+          let alone = law.committed p L source trx snapshot tables calls u n (runs p L of) own committed in
+          alone.leaves key
+          ∙ moved_by from to v (key_eq to key) (key_eq from key) (read p L from (n - 1)) (read p L key (n - 1))
+          (alone.gets from (Some v) (record { before = []; behind = Wrote (delete from) (Ok none) ∷ Wrote (put to v) (Ok nothing) ∷ []; whole = refl }));
+      nothing = λ p L of is.
+          absurd (set_there u.writes (transaction u.source u.trx u.snapshot u.reads u.writes) (wrote_some t2 u (put to v) nothing (write_refusal t2 (put to v)) onto)
+          (ended_with u.ended (finished u) ReadOnly (sym answer ∙ is)));
+    }
+
+  -- it was not there
+  module _ (is_none : found ≡ None) (u : Progress) (got : Gets gives t from a (Ok found) u b) where
+    pub moves_none : (ends : Result Finished Refusal) → ends ≡ (if u.ended then Err Closed else Ok (finished u)) → Moves (are_of b) from to ends
+    moves_none ends answer =
+        let was : Gets gives (begun source trx tables snapshot) from a (Ok None) u b =
+        subst (λ (s : Progress). Gets gives s from a (Ok None) u b) began (subst (λ (o : Option (List ℕ)). Gets gives t from a (Ok o) u b) is_none got) in
+        record {
+          committed = λ p L n of is committed key.
+              absurd (no_set u.writes (transaction u.source u.trx u.snapshot u.reads u.writes) (item L n)
+              (got_writes gives (begun source trx tables snapshot) u from a b (Ok None) (known (begun source trx tables snapshot) from) was)
+              (ended_with u.ended (finished u) (WriteSet (item L n)) (sym answer ∙ is)));
+          nothing = λ p L of is.
+              let own = ended_with u.ended (finished u) ReadOnly (sym answer ∙ is) in
+              let alone = law.read_only p L source trx snapshot tables (Got from (Ok None) ∷ []) u (u, ((a, (b, (was, of))), refl)) own in
+              (snapshot, sym (alone.gets from None (record { before = []; behind = []; whole = refl })));
+        }

@@ -1,0 +1,114 @@
+//! A row is moved in the replica in memory, beside a transaction that changes it.
+
+use crate::{move_row, sessions_run_alone};
+use rep_replica::Replica;
+use rep_session::Finished;
+use rep_steps::{Answer, Event};
+use rep_types::{Key, Params, Refusal, Value, Verdict, Write, WriteSet};
+use std::alloc::Global;
+use std::test::Fail;
+use uuid::Uuid;
+
+/// The row with this number of the one table.
+fn row(row: u32) -> Key {
+    Key { table: 0, row }
+}
+
+/// A write set that puts one byte under the row, and had seen so many items.
+fn put(key: Key, byte: u8, seen: u64) -> Result<WriteSet, Refusal> {
+    let value = Some(Value::new(&[byte])?);
+    WriteSet::new(0, 0, seen, &[], &[Write { key, value }])
+}
+
+/// A replica with a table of 126 rows, before any delivery.
+fn fresh(alloc: Global) -> Result<Replica, Fail> {
+    let Ok(uuid) = Uuid::try_parse_ascii(b"11111111-1111-4111-8111-111111111111") else {
+        return Err(Fail::new("the UUID is no UUID"));
+    };
+    if uuid.is_nil() {
+        return Err(Fail::new("the UUID is nil"));
+    }
+    Ok(Replica::fresh(alloc, Params::new(4, 4, &[126])?, uuid))
+}
+
+/// Delivers the item, and makes all durable that was delivered.
+fn deliver(replica: &mut Replica, item: WriteSet) -> Answer {
+    let seqno = replica.delivered().saturating_add(1);
+    let verdict = replica.step(Event::Deliver(seqno, item));
+    for event in [Event::Log, Event::Sync, Event::Log, Event::Sync] {
+        let _done = replica.step(event);
+    }
+    verdict
+}
+
+/// The write set of a move of the row 1 to the row 2.
+fn moved(rows: &mut Replica) -> Result<WriteSet, Fail> {
+    sessions_run_alone::<Replica>();
+    match move_row(rows, 7, 9, row(1), row(2))? {
+        Finished::WriteSet(item) => Ok(item),
+        Finished::ReadOnly => Err(Fail::new("there is no row")),
+    }
+}
+
+#[test]
+fn a_row_is_moved(rt: HostRuntime) -> Result<(), Fail> {
+    let mut rows = fresh(rt.alloc())?;
+    assert_eq!(rt;
+        move_row(&mut rows, 7, 9, row(1), row(2)),
+        Ok(Finished::ReadOnly)
+    );
+    assert_eq!(rt;
+        deliver(&mut rows, put(row(1), b'a', 0)?),
+        Answer::Gave(Verdict::Commit)
+    );
+    let item = moved(&mut rows)?;
+    assert_eq!(rt; deliver(&mut rows, item), Answer::Gave(Verdict::Commit));
+    assert_eq!(rt; rows.step(Event::Read(row(1), 2)), Answer::Row(None));
+    assert_eq!(rt;
+        rows.step(Event::Read(row(2), 2)),
+        Answer::Row(Some(Value::new(b"a")?))
+    );
+    Ok(())
+}
+
+#[test]
+fn a_row_that_changed_meanwhile_is_not_moved(rt: HostRuntime) -> Result<(), Fail> {
+    let mut rows = fresh(rt.alloc())?;
+    assert_eq!(rt;
+        deliver(&mut rows, put(row(1), b'a', 0)?),
+        Answer::Gave(Verdict::Commit)
+    );
+    let item = moved(&mut rows)?;
+    assert_eq!(rt;
+        deliver(&mut rows, put(row(1), b'b', 1)?),
+        Answer::Gave(Verdict::Commit)
+    );
+    assert_eq!(rt;
+        deliver(&mut rows, item),
+        Answer::Gave(Verdict::Conflict(2))
+    );
+    assert_eq!(rt;
+        rows.step(Event::Read(row(1), 3)),
+        Answer::Row(Some(Value::new(b"b")?))
+    );
+    assert_eq!(rt; rows.step(Event::Read(row(2), 3)), Answer::Row(None));
+    Ok(())
+}
+
+#[test]
+fn a_row_outside_the_schema_is_refused(rt: HostRuntime) -> Result<(), Fail> {
+    let mut rows = fresh(rt.alloc())?;
+    assert_eq!(rt;
+        move_row(&mut rows, 7, 9, row(126), row(2)),
+        Err(Refusal::BadKey)
+    );
+    assert_eq!(rt;
+        deliver(&mut rows, put(row(1), b'a', 0)?),
+        Answer::Gave(Verdict::Commit)
+    );
+    assert_eq!(rt;
+        move_row(&mut rows, 7, 9, row(1), row(126)),
+        Err(Refusal::BadKey)
+    );
+    Ok(())
+}
