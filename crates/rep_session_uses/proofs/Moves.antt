@@ -1,34 +1,21 @@
 -- A row is moved by a get, a delete and a put.
-use Rattle.std.proofs.Common.{◌≡◌, ℕ, ◌-◌, ◌<◌, Bool, true, false, List, [], ◌∷◌, length, length-append, filter, Option, None, Some, Result, Ok, Err, refl, sym, ap, subst, ◌∙◌, arith}
-use Rattle.std.specs.Prelude.{nat_lt, if◌then◌else◌, ⊤, MatchOption, IsOk}
-use Rattle.std.specs.Option.{option_or}
-use Rattle.std.proofs.lemmas.Bool.{lt-ltb}
+use Rattle.std.proofs.Common.{◌≡◌, ℕ, ◌-◌, List, [], ◌∷◌, length, Option, None, Some, Result, Ok, Err, refl, sym, ap, subst, ◌∙◌}
+use Rattle.std.specs.Prelude.{nat_lt, if◌then◌else◌, ⊤, MatchOption}
 use Rattle.rep_types.specs.declared.key.Key.{Key}
 use Rattle.rep_types.specs.declared.value.Write.{Write}
 use Rattle.rep_types.specs.declared.refusal.Refusal.{Refusal}
 use Rattle.rep_types.specs.declared.refusal.Refusal.TheVariants.{Closed}
-use Rattle.rep_types.specs.Keys.{key_eq, key_lt}
+use Rattle.rep_types.specs.Keys.{key_eq}
 use Rattle.rep_types.specs.Settings.{Setting}
 use Rattle.rep_types.specs.Transactions.{Transaction, transaction}
-use Rattle.rep_types.specs.Order.{Order, item, read, overwritten}
+use Rattle.rep_types.specs.Order.{Order, item, read}
 use Rattle.rep_session.specs.declared.finished.Finished.{Finished}
 use Rattle.rep_session.specs.declared.finished.Finished.TheVariants.{ReadOnly, WriteSet}
-use Rattle.rep_session.specs.Sessions.{Progress, begun, known, Gets, Writes, after_read, with_write, write_refusal, finished, put, delete}
+use Rattle.rep_session.specs.Sessions.{Progress, begun, known, Gets, Writes, after_read, write_refusal, finished, put, delete}
 use Rattle.rep_session.specs.Runs.{Call, Got, Wrote, Runs}
 use Rattle.rep_session_uses.specs.Alone.{SessionsRunAlone}
 use Rattle.rep_session_uses.specs.Moving.{Moves}
-
--- what an open session ended with
-ended_with : (ended : Bool) (f x : Finished) → (if ended then Err Closed else Ok f) ≡ Ok x → f ≡ x
-ended_with true f x e = absurd cc
-ended_with false f x e = cc
-
--- a delete and a put, by whether the key is that of either
-moved_by : (from to : Key) (v : List ℕ) (onto out : Bool) (there here : Option (List ℕ)) → Some v ≡ there →
-    overwritten here (option_or (option_or None (if onto then Some (put to v) else None)) (if out then Some (delete from) else None)) ≡ (if onto then there else if out then None else here)
-moved_by from to v true out there here e = e
-moved_by from to v false true there here e = refl
-moved_by from to v false false there here e = refl
+use Rattle.rep_session_uses.proofs.Ends.{ended_with, two_written, set_there, wrote_some}
 
 -- a get writes nothing
 same_writes : (t u : Progress) (key : Key) (answer : Result (Option (List ℕ)) Refusal) → u ≡ after_read t key answer → u.writes ≡ t.writes
@@ -44,19 +31,6 @@ got_writes gives t u key a b answer (Some r) h = ap (λ (v : Progress). v.writes
 no_set : (writes : List Write) (w x : Transaction) → writes ≡ [] → (if nat_lt 0 (length writes) then WriteSet w else ReadOnly) ≡ WriteSet x → ⊥
 no_set writes w x none e =
     absurd (let q : ReadOnly ≡ WriteSet x = ap (λ (ws : List Write). if nat_lt 0 (length ws) then WriteSet w else ReadOnly) (sym none) ∙ e in cc)
-
--- one that wrote has one
-set_there : (writes : List Write) (w : Transaction) → 0 < length writes → (if nat_lt 0 (length writes) then WriteSet w else ReadOnly) ≡ ReadOnly → ⊥
-set_there writes w some e =
-    absurd (let q : WriteSet w ≡ ReadOnly = sym (ap (λ (b : Bool). if b then WriteSet w else ReadOnly) (lt-ltb 0 (length writes) some)) ∙ e in cc)
-
-wrote_some : (t u : Progress) (write : Write) (nothing : ⊤) (o : Option Refusal) → MatchOption o (IsOk {E = Refusal} (Ok nothing) × (u ≡ with_write t write)) (λ r. (◌≡◌ {A = Result ⊤ Refusal} (Ok nothing) (Err r)) × (u ≡ t)) → 0 < length u.writes
-wrote_some t u write nothing (Some r) h = absurd (let q : Ok nothing ≡ Err r = h.0 in cc)
-wrote_some t u write nothing None h =
-    let below = filter (λ (w : Write). key_lt w.key write.key) t.writes in
-    let above = filter (λ (w : Write). key_lt write.key w.key) t.writes in
-    let size = ap (λ (v : Progress). length v.writes) h.1 ∙ length-append below (write ∷ above) in
-    omega (arith, size)
 
 module _ {S : Type 0} (gives : S → Key → ℕ → Result (Option (List ℕ)) Refusal → S → Type 0) (are_of : S → Setting → Order → Type 0) (law : SessionsRunAlone gives are_of)
     (source trx snapshot : ℕ) (tables : List ℕ) (from to : Key) (a b : S) (t : Progress) (began : t ≡ begun source trx tables snapshot) (found : Option (List ℕ)) where
@@ -77,7 +51,8 @@ module _ {S : Type 0} (gives : S → Key → ℕ → Result (Option (List ℕ)) 
           let own = ended_with u.ended (finished u) (WriteSet (item L n)) (sym answer ∙ is) in
           let alone = law.committed p L source trx snapshot tables calls u n (runs p L of) own committed in
           alone.leaves key
-          ∙ moved_by from to v (key_eq to key) (key_eq from key) (read p L from (n - 1)) (read p L key (n - 1))
+          ∙ two_written (delete from) (put to v) (key_eq from key) (key_eq to key) (read p L key (n - 1))
+          ∙ ap (λ (row : Option (List ℕ)). if key_eq to key then row else if key_eq from key then None else read p L key (n - 1))
           (alone.gets from (Some v) (record { before = []; behind = Wrote (delete from) (Ok none) ∷ Wrote (put to v) (Ok nothing) ∷ []; whole = refl }));
       nothing = λ p L of is.
           absurd (set_there u.writes (transaction u.source u.trx u.snapshot u.reads u.writes) (wrote_some t2 u (put to v) nothing (write_refusal t2 (put to v)) onto)

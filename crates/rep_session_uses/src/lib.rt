@@ -3,8 +3,10 @@
 
 mod laws;
 mod moving;
+mod swapping;
 #[cfg(test)]
 mod tests;
 
 pub use laws::sessions_run_alone;
 pub use moving::move_row;
+pub use swapping::swap_rows;

@@ -1,6 +1,6 @@
-//! A row is moved in the replica in memory, beside a transaction that changes it.
+//! Rows are moved and swapped in the replica in memory, and beside an item that changes one of them.
 
-use crate::{move_row, sessions_run_alone};
+use crate::{move_row, sessions_run_alone, swap_rows};
 use rep_replica::Replica;
 use rep_session::Finished;
 use rep_steps::{Answer, Event};
@@ -109,6 +109,54 @@ fn a_row_outside_the_schema_is_refused(rt: HostRuntime) -> Result<(), Fail> {
     assert_eq!(rt;
         move_row(&mut rows, 7, 9, row(1), row(126)),
         Err(Refusal::BadKey)
+    );
+    Ok(())
+}
+
+#[test]
+fn two_rows_are_swapped(rt: HostRuntime) -> Result<(), Fail> {
+    let mut rows = fresh(rt.alloc())?;
+    assert_eq!(rt;
+        deliver(&mut rows, put(row(1), b'a', 0)?),
+        Answer::Gave(Verdict::Commit)
+    );
+    let Finished::WriteSet(item) = swap_rows(&mut rows, 7, 9, row(2), row(1))? else {
+        return Err(Fail::new("nothing is written"));
+    };
+    assert_eq!(rt; deliver(&mut rows, item), Answer::Gave(Verdict::Commit));
+    assert_eq!(rt; rows.step(Event::Read(row(1), 2)), Answer::Row(None));
+    assert_eq!(rt;
+        rows.step(Event::Read(row(2), 2)),
+        Answer::Row(Some(Value::new(b"a")?))
+    );
+    Ok(())
+}
+
+#[test]
+fn rows_that_changed_meanwhile_are_not_swapped(rt: HostRuntime) -> Result<(), Fail> {
+    let mut rows = fresh(rt.alloc())?;
+    assert_eq!(rt;
+        deliver(&mut rows, put(row(1), b'a', 0)?),
+        Answer::Gave(Verdict::Commit)
+    );
+    let Finished::WriteSet(item) = swap_rows(&mut rows, 7, 9, row(1), row(2))? else {
+        return Err(Fail::new("nothing is written"));
+    };
+    assert_eq!(rt;
+        deliver(&mut rows, put(row(2), b'b', 1)?),
+        Answer::Gave(Verdict::Commit)
+    );
+    assert_eq!(rt;
+        deliver(&mut rows, item),
+        Answer::Gave(Verdict::Conflict(2))
+    );
+    assert_eq!(rt;
+        rows.step(Event::Read(row(1), 3)),
+        Answer::Row(Some(Value::new(b"a")?))
+    );
+    assert_eq!(rt;
+        rows.step(Event::Read(row(2), 3)),
+        Answer::Row(Some(Value::new(b"b")?))
     );
     Ok(())
 }
