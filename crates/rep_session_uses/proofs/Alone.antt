@@ -1,5 +1,5 @@
 -- Sessions run as alone.
-use Rattle.std.proofs.Common.{◌≡◌, ℕ, ◌-◌, Bool, true, false, List, [], ◌∷◌, length, Option, None, Some, Result, refl, sym, ap, ◌∙◌, arith}
+use Rattle.std.proofs.Common.{◌≡◌, ℕ, ◌-◌, Bool, true, List, [], ◌∷◌, length, Option, None, Some, Result, refl, sym, ap, ◌∙◌, arith}
 use Rattle.std.specs.Prelude.{nat_lt, if◌then◌else◌}
 use Rattle.std.proofs.lemmas.Bool.{lt-ltb}
 use Rattle.rep_types.specs.declared.key.Key.{Key}
@@ -14,12 +14,9 @@ use Rattle.rep_session.specs.Sessions.{Progress, begun, finished, write_of}
 use Rattle.rep_session.specs.Runs.{Call, WasGot, WasRead, ComesTo, done, last_write, SessionsComeTo, SessionsAreSerial}
 use Rattle.rep_session_uses.specs.Alone.{RunsAlone, SessionsRunAlone, rows_at}
 use Rattle.rep_session_uses.proofs.Places.{after_commit}
+use Rattle.rep_session_uses.proofs.Ends.{set_of}
 
--- how a transaction ended, by whether it wrote
-set_of : (some : Bool) (w x : Transaction) → (if some then WriteSet w else ReadOnly) ≡ WriteSet x → w ≡ x
-set_of true w x e = cc
-set_of false w x e = absurd cc
-
+-- a transaction that ended with no write set wrote nothing
 unwritten_of : (ws : List Write) (key : Key) (w : Transaction) → (if nat_lt 0 (length ws) then WriteSet w else ReadOnly) ≡ ReadOnly → write_of ws key ≡ None
 unwritten_of [] key w e = refl
 unwritten_of (x ∷ ws) key w e =

@@ -14,7 +14,7 @@ use Rattle.rep_session.specs.Sessions.{Progress, begun, known, Gets, Writes, aft
 use Rattle.rep_session.specs.Runs.{Call, Got, Wrote, Runs}
 use Rattle.rep_session_uses.specs.Alone.{SessionsRunAlone}
 use Rattle.rep_session_uses.specs.Swapping.{written_as, Swaps}
-use Rattle.rep_session_uses.proofs.Ends.{ended_with, two_written, set_there, wrote_some}
+use Rattle.rep_session_uses.proofs.Ends.{ended_with, two_written, set_there, wrote_some, got_labels, wrote_labels, then_labels, labelled}
 
 module _ {S : Type 0} (gives : S → Key → ℕ → Result (Option (List ℕ)) Refusal → S → Type 0) (are_of : S → Setting → Order → Type 0) (law : SessionsRunAlone gives are_of)
     (forgets : (a b : S) (key : Key) (s : ℕ) (answer : Result (Option (List ℕ)) Refusal) (p : Setting) (L : Order) → gives a key s answer b → are_of b p L → are_of a p L) where
@@ -39,8 +39,12 @@ module _ {S : Type 0} (gives : S → Key → ℕ → Result (Option (List ℕ)) 
         subst (λ (s : Progress). Runs gives are_of p L s calls u) began
         (t1, ((a, (b, (got, before))), (t2, ((b, (c, (got_other, of))), (t3, (wrote, (u, (wrote_other, refl))))))))
 
-    pub swaps : (ends : Result Finished Refusal) → ends ≡ (if u.ended then Err Closed else Ok (finished u)) → Swaps (are_of c) one other ends
+    pub swaps : (ends : Result Finished Refusal) → ends ≡ (if u.ended then Err Closed else Ok (finished u)) → Swaps (are_of c) source trx one other ends
     swaps ends answer = record {
+      labels = labelled source trx snapshot tables t u ends began
+          (then_labels t t2 u (then_labels t t1 t2 (got_labels gives t t1 one a b (Ok first) (known t one) got) (got_labels gives t1 t2 other b c (Ok second) (known t1 other) got_other))
+          (then_labels t2 t3 u (wrote_labels t2 t3 (written_as one second) (Ok none) (write_refusal t2 (written_as one second)) wrote)
+          (wrote_labels t3 u (written_as other first) (Ok nothing) (write_refusal t3 (written_as other first)) wrote_other))) answer;
       committed = λ p L n of is committed key.
           let own = ended_with u.ended (finished u) (WriteSet (item L n)) (sym answer ∙ is) in
           let alone = law.committed p L source trx snapshot tables calls u n (runs p L of) own committed in

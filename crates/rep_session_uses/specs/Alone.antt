@@ -1,10 +1,12 @@
 -- Transactions that run alone, and what sessions come to beside them.
-use Rattle.std.specs.Prelude.{◌≡◌, ℕ, ◌-◌, List, Option, Result}
+use Rattle.std.specs.Prelude.{◌≡◌, ℕ, ◌-◌, List, Option, Result, Ok}
 use Rattle.rep_types.specs.declared.key.Key.{Key}
 use Rattle.rep_types.specs.declared.refusal.Refusal.{Refusal}
 use Rattle.rep_types.specs.Settings.{Setting}
+use Rattle.rep_types.specs.Transactions.{Transaction}
 use Rattle.rep_types.specs.Order.{Order, item, read, content_after}
 use Rattle.rep_types.specs.ByItems.{IsCommitted}
+use Rattle.rep_session.specs.declared.finished.Finished.{Finished}
 use Rattle.rep_session.specs.declared.finished.Finished.TheVariants.{ReadOnly, WriteSet}
 use Rattle.rep_session.specs.Sessions.{Progress, begun, finished}
 use Rattle.rep_session.specs.Runs.{Call, Runs, WasGot, done}
@@ -28,3 +30,7 @@ pub record SessionsRunAlone {S : Type 0} (gives : S → Key → ℕ → Result (
   pub read_only : (p : Setting) (L : Order) (source trx snapshot : ℕ) (tables : List ℕ) (calls : List Call) (u : Progress) →
       Runs gives are_of p L (begun source trx tables snapshot) calls u → finished u ≡ ReadOnly →
       RunsAlone (rows_at p L snapshot) calls (rows_at p L snapshot)
+
+-- a write set that a session ended with has these labels
+abbrev pub AreLabelled : ℕ → ℕ → Result Finished Refusal → Type 0
+AreLabelled source trx ends = (w : Transaction) → ends ≡ Ok (WriteSet w) → (w.source ≡ source) × (w.trx ≡ trx)

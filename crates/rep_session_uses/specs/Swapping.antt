@@ -7,6 +7,7 @@ use Rattle.rep_types.specs.Keys.{key_eq}
 use Rattle.rep_types.specs.Settings.{Setting}
 use Rattle.rep_types.specs.Order.{Order, item, read}
 use Rattle.rep_types.specs.ByItems.{IsCommitted}
+use Rattle.rep_session_uses.specs.Alone.{AreLabelled}
 use Rattle.rep_session.specs.declared.finished.Finished.{Finished}
 use Rattle.rep_session.specs.declared.finished.Finished.TheVariants.{ReadOnly, WriteSet}
 
@@ -18,9 +19,10 @@ written_as key row = record { key = key; value = row }
 abbrev pub swapped : (Key → Option (List ℕ)) → Key → Key → Key → Option (List ℕ)
 swapped rows one other key = if key_eq other key then rows one else if key_eq one key then rows other else rows key
 
--- What a swap ended with says of each order that the rows are of: it is a write set, and where that is an item of the order and commits,
--- the item swaps both rows, from what stood there before it.
-pub record Swaps (are_of : Setting → Order → Type 0) (one other : Key) (ends : Result Finished Refusal) : Type 0 where
+-- What a swap under these labels ended with: a write set with the labels. Where that is an item of an order that the rows are of, and
+-- commits, the item swaps both rows, from what stood there before it.
+pub record Swaps (are_of : Setting → Order → Type 0) (source trx : ℕ) (one other : Key) (ends : Result Finished Refusal) : Type 0 where
+  pub labels : AreLabelled source trx ends
   pub committed : (p : Setting) (L : Order) (n : ℕ) → are_of p L → ends ≡ Ok (WriteSet (item L n)) → IsCommitted p L n →
       (key : Key) → read p L key n ≡ swapped (λ k. read p L k (n - 1)) one other key
   pub written : ends ≡ Ok ReadOnly → ⊥

@@ -18,7 +18,7 @@ pub fn move_row<R: Rows>(
     from: Key,
     to: Key,
 ) -> Result<Finished, Refusal>
-    ensures { Moves (R.are_of rows.new) from to result }
+    ensures { Moves R.front_gives (R.are_of rows.new) rows.old source trx from to result }
 {
     sessions_run_alone::<R>();
     let mut session = Session::begin(rows, source, trx);

@@ -28,7 +28,7 @@ pub fn swap_rows<R: Rows>(
     one: Key,
     other: Key,
 ) -> Result<Finished, Refusal>
-    ensures { Swaps (R.are_of rows.new) one other result }
+    ensures { Swaps (R.are_of rows.new) source trx one other result }
 {
     sessions_run_alone::<R>();
     let mut session = Session::begin(rows, source, trx);
