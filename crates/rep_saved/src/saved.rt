@@ -171,6 +171,7 @@ impl SavedState {
         // What is written reads back.
         ensures back { saved_in (saved_text self.now) ≡ Ok self.now }
     {
+        // Brings the law that what is written here reads back.
         saved_states_read_back(*self);
         put_all(writer, text_of(*self).as_bytes())
     }

@@ -41,44 +41,65 @@ fn deliver(replica: &mut Replica, item: WriteSet) -> Answer {
     verdict
 }
 
-/// The write set of a move of the row 1 to the row 2.
-fn moved(rows: &mut Replica) -> Result<WriteSet, Fail> {
-    sessions_run_alone::<Replica>();
-    match move_row(rows, 7, 9, row(1), row(2))? {
-        Finished::WriteSet(item) => Ok(item),
-        Finished::ReadOnly => Err(Fail::new("there is no row")),
+/// A replica with one durable item, which put `a` under the row 1.
+fn with_a_row(alloc: Global) -> Result<Replica, Fail> {
+    let mut rows = fresh(alloc)?;
+    if deliver(&mut rows, put(row(1), b'a', 0)?) != Answer::Gave(Verdict::Commit) {
+        return Err(Fail::new("the first item does not commit"));
     }
+    Ok(rows)
+}
+
+/// The write set that a transaction ended with.
+fn written(ends: Result<Finished, Refusal>) -> Result<WriteSet, Fail> {
+    match ends? {
+        Finished::WriteSet(item) => Ok(item),
+        Finished::ReadOnly => Err(Fail::new("nothing is written")),
+    }
+}
+
+/// Whether the rows 1 and 2 are these bytes in the state after so many items.
+fn stand(
+    rows: &mut Replica,
+    s: u64,
+    first: Option<&[u8]>,
+    second: Option<&[u8]>,
+) -> Result<bool, Fail> {
+    let mut right = true;
+    for (key, bytes) in [(row(1), first), (row(2), second)] {
+        let wanted = match bytes {
+            Some(bytes) => Some(Value::new(bytes)?),
+            None => None,
+        };
+        right = right && rows.step(Event::Read(key, s)) == Answer::Row(wanted);
+    }
+    Ok(right)
 }
 
 #[test]
 fn a_row_is_moved(rt: HostRuntime) -> Result<(), Fail> {
-    let mut rows = fresh(rt.alloc())?;
-    assert_eq!(rt;
-        move_row(&mut rows, 7, 9, row(1), row(2)),
-        Ok(Finished::ReadOnly)
-    );
-    assert_eq!(rt;
-        deliver(&mut rows, put(row(1), b'a', 0)?),
-        Answer::Gave(Verdict::Commit)
-    );
-    let item = moved(&mut rows)?;
+    sessions_run_alone::<Replica>();
+    let mut rows = with_a_row(rt.alloc())?;
+    let item = written(move_row(&mut rows, 7, 9, row(1), row(2)))?;
     assert_eq!(rt; deliver(&mut rows, item), Answer::Gave(Verdict::Commit));
-    assert_eq!(rt; rows.step(Event::Read(row(1), 2)), Answer::Row(None));
+    assert!(rt; stand(&mut rows, 2, None, Some(b"a".as_slice()))?);
+    Ok(())
+}
+
+#[test]
+fn where_there_is_no_row_none_is_moved(rt: HostRuntime) -> Result<(), Fail> {
+    let mut rows = with_a_row(rt.alloc())?;
     assert_eq!(rt;
-        rows.step(Event::Read(row(2), 2)),
-        Answer::Row(Some(Value::new(b"a")?))
+        move_row(&mut rows, 7, 9, row(2), row(1)),
+        Ok(Finished::ReadOnly)
     );
     Ok(())
 }
 
 #[test]
 fn a_row_that_changed_meanwhile_is_not_moved(rt: HostRuntime) -> Result<(), Fail> {
-    let mut rows = fresh(rt.alloc())?;
-    assert_eq!(rt;
-        deliver(&mut rows, put(row(1), b'a', 0)?),
-        Answer::Gave(Verdict::Commit)
-    );
-    let item = moved(&mut rows)?;
+    let mut rows = with_a_row(rt.alloc())?;
+    let item = written(move_row(&mut rows, 7, 9, row(1), row(2)))?;
     assert_eq!(rt;
         deliver(&mut rows, put(row(1), b'b', 1)?),
         Answer::Gave(Verdict::Commit)
@@ -87,27 +108,23 @@ fn a_row_that_changed_meanwhile_is_not_moved(rt: HostRuntime) -> Result<(), Fail
         deliver(&mut rows, item),
         Answer::Gave(Verdict::Conflict(2))
     );
-    assert_eq!(rt;
-        rows.step(Event::Read(row(1), 3)),
-        Answer::Row(Some(Value::new(b"b")?))
-    );
-    assert_eq!(rt; rows.step(Event::Read(row(2), 3)), Answer::Row(None));
+    assert!(rt; stand(&mut rows, 3, Some(b"b".as_slice()), None)?);
     Ok(())
 }
 
 #[test]
 fn a_row_outside_the_schema_is_refused(rt: HostRuntime) -> Result<(), Fail> {
-    let mut rows = fresh(rt.alloc())?;
+    let mut rows = with_a_row(rt.alloc())?;
     assert_eq!(rt;
         move_row(&mut rows, 7, 9, row(126), row(2)),
         Err(Refusal::BadKey)
     );
     assert_eq!(rt;
-        deliver(&mut rows, put(row(1), b'a', 0)?),
-        Answer::Gave(Verdict::Commit)
+        move_row(&mut rows, 7, 9, row(1), row(126)),
+        Err(Refusal::BadKey)
     );
     assert_eq!(rt;
-        move_row(&mut rows, 7, 9, row(1), row(126)),
+        swap_rows(&mut rows, 7, 9, row(1), row(126)),
         Err(Refusal::BadKey)
     );
     Ok(())
@@ -115,33 +132,21 @@ fn a_row_outside_the_schema_is_refused(rt: HostRuntime) -> Result<(), Fail> {
 
 #[test]
 fn two_rows_are_swapped(rt: HostRuntime) -> Result<(), Fail> {
-    let mut rows = fresh(rt.alloc())?;
+    let mut rows = with_a_row(rt.alloc())?;
     assert_eq!(rt;
-        deliver(&mut rows, put(row(1), b'a', 0)?),
+        deliver(&mut rows, put(row(2), b'b', 1)?),
         Answer::Gave(Verdict::Commit)
     );
-    let Finished::WriteSet(item) = swap_rows(&mut rows, 7, 9, row(2), row(1))? else {
-        return Err(Fail::new("nothing is written"));
-    };
+    let item = written(swap_rows(&mut rows, 7, 9, row(2), row(1)))?;
     assert_eq!(rt; deliver(&mut rows, item), Answer::Gave(Verdict::Commit));
-    assert_eq!(rt; rows.step(Event::Read(row(1), 2)), Answer::Row(None));
-    assert_eq!(rt;
-        rows.step(Event::Read(row(2), 2)),
-        Answer::Row(Some(Value::new(b"a")?))
-    );
+    assert!(rt; stand(&mut rows, 3, Some(b"b".as_slice()), Some(b"a".as_slice()))?);
     Ok(())
 }
 
 #[test]
 fn rows_that_changed_meanwhile_are_not_swapped(rt: HostRuntime) -> Result<(), Fail> {
-    let mut rows = fresh(rt.alloc())?;
-    assert_eq!(rt;
-        deliver(&mut rows, put(row(1), b'a', 0)?),
-        Answer::Gave(Verdict::Commit)
-    );
-    let Finished::WriteSet(item) = swap_rows(&mut rows, 7, 9, row(1), row(2))? else {
-        return Err(Fail::new("nothing is written"));
-    };
+    let mut rows = with_a_row(rt.alloc())?;
+    let item = written(swap_rows(&mut rows, 7, 9, row(1), row(2)))?;
     assert_eq!(rt;
         deliver(&mut rows, put(row(2), b'b', 1)?),
         Answer::Gave(Verdict::Commit)
@@ -150,13 +155,6 @@ fn rows_that_changed_meanwhile_are_not_swapped(rt: HostRuntime) -> Result<(), Fa
         deliver(&mut rows, item),
         Answer::Gave(Verdict::Conflict(2))
     );
-    assert_eq!(rt;
-        rows.step(Event::Read(row(1), 3)),
-        Answer::Row(Some(Value::new(b"a")?))
-    );
-    assert_eq!(rt;
-        rows.step(Event::Read(row(2), 3)),
-        Answer::Row(Some(Value::new(b"b")?))
-    );
+    assert!(rt; stand(&mut rows, 3, Some(b"a".as_slice()), Some(b"b".as_slice()))?);
     Ok(())
 }
