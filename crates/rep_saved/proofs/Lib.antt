@@ -1,2 +1,4 @@
 pub mod Trimmed
 pub mod Sayings
+pub mod Visible
+pub mod ReadBack

@@ -1,5 +1,5 @@
 -- What lines say, taken one by one.
-use Rattle.std.proofs.Common.{◌≡◌, ℕ, ℤ, ◌+◌, ◌-◌, ◌<◌, ◌≤◌, ◌==◌, Bool, true, false, cond, List, [], ◌∷◌, ◌++◌, length, take, drop, Option, None, Some, Result, Ok, Err, refl, sym, ap, ◌∙◌, arith}
+use Rattle.std.proofs.Common.{◌≡◌, ℕ, ◌+◌, ◌<◌, ◌≤◌, ◌==◌, Bool, true, false, cond, List, [], ◌∷◌, length, take, drop, Option, None, Some, Result, Err, refl, sym, ap, ◌∙◌, arith}
 use Rattle.std.specs.List.{slice_split, onto_first, position_or_len}
 use Rattle.std.proofs.Common.{ltb, length-take, length-drop}
 use Rattle.std.proofs.lemmas.Bool.{ltb-true, ltb-false}
@@ -14,7 +14,7 @@ use Rattle.rep_saved.specs.declared.saved.Found.{Found}
 use Rattle.rep_saved.specs.declared.saved.SavedState.{SavedState}
 use Rattle.rep_saved.specs.declared.line.Said.{Said}
 use Rattle.rep_saved.specs.declared.line.Said.TheVariants.{Nothing, Uuid, Seqno, Safe, Bad}
-use Rattle.rep_saved.specs.Saved.{Saying, saying, sayings, first_bad, last_said, uuid_of, seqno_of, safe_of, whole, unless_bad, rest_of, found_with}
+use Rattle.rep_saved.specs.Saved.{Saying, saying, sayings, whole, rest_of, found_with}
 
 option_or_assoc : {A : Type 0} (a b c : Option A) → option_or (option_or a b) c ≡ option_or a (option_or b c)
 option_or_assoc None b c = refl

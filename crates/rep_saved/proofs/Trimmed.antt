@@ -1,8 +1,8 @@
 -- Lemmas on lines without their blanks.
-use Rattle.std.proofs.Common.{◌-◌, ◌+◌, ◌≤◌, length, take, get_or, arith, ◌≡◌, ℕ, Bool, true, false, cond, List, [], ◌∷◌, ◌++◌, refl, sym, ap, ◌∙◌}
+use Rattle.std.proofs.Common.{◌-◌, ◌+◌, ◌≤◌, length, take, get_or, arith, ◌≡◌, ℕ, true, false, List, [], ◌∷◌, ◌++◌, refl, sym, ap, ◌∙◌}
 use Rattle.std.proofs.Math.Seq.{take-length}
 use Rattle.std.proofs.lemmas.List.{take_more}
-use Rattle.rep_saved.specs.Lines.{is_blank, before, from_first, up_to_last}
+use Rattle.rep_saved.specs.Lines.{is_blank, before, up_to_last}
 
 -- a blank at the end is left out
 pub blank_last : (xs : List ℕ) (b : ℕ) → is_blank b ≡ true → up_to_last (xs ++ b ∷ []) ≡ up_to_last xs

@@ -1,5 +1,5 @@
 -- What a line of a saved state says (the layout of the lines is that of Galera's grastate.dat).
-use Rattle.std.specs.Prelude.{ℕ, ℤ, ◌+◌, ◌-◌, Bool, true, false, ◌==◌, ◌||◌, if◌then◌else◌, List, [], ◌∷◌, length, take, drop, slice_index, Option, None, Some, codes}
+use Rattle.std.specs.Prelude.{ℕ, ℤ, ◌-◌, Bool, true, false, ◌==◌, ◌||◌, if◌then◌else◌, List, [], ◌∷◌, length, take, slice_index, Option, None, Some, codes}
 use Rattle.std.specs.Str.{bytes_eq}
 use Rattle.rep_types.specs.Gtids.{seqno_in, uuid_in}
 use Rattle.rep_record.specs.Words.{cut}

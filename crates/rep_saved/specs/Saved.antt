@@ -4,7 +4,7 @@ use Rattle.std.specs.List.{slice_split}
 use Rattle.std.specs.Option.{option_or}
 use Rattle.std.specs.Fmt.{signed_decimal}
 use Rattle.uuid.specs.Text.{lower, hyphenated_text}
-use Rattle.rep_types.specs.Gtids.{Gtid, is_seqno}
+use Rattle.rep_types.specs.Gtids.{is_seqno}
 use Rattle.rep_types.specs.declared.refusal.Refusal.{Refusal}
 use Rattle.rep_types.specs.declared.refusal.Refusal.TheVariants.{Malformed}
 use Rattle.rep_saved.specs.declared.line.Said.{Said}
@@ -54,36 +54,35 @@ is_bad (Uuid uuid) = false
 is_bad (Seqno seqno) = false
 is_bad (Safe safe) = false
 
-abbrev pub uuid_of : Said → Option (List ℕ)
-uuid_of (Uuid uuid) = Some uuid
-uuid_of Nothing = None
-uuid_of (Seqno seqno) = None
-uuid_of (Safe safe) = None
-uuid_of Bad = None
+abbrev pub nothing_found : Found
+nothing_found = record { uuid = None; seqno = None; safe = None }
 
-abbrev pub seqno_of : Said → Option ℤ
-seqno_of (Seqno seqno) = Some seqno
-seqno_of Nothing = None
-seqno_of (Uuid uuid) = None
-seqno_of (Safe safe) = None
-seqno_of Bad = None
-
-abbrev pub safe_of : Said → Option Bool
-safe_of (Safe safe) = Some safe
-safe_of Nothing = None
-safe_of (Uuid uuid) = None
-safe_of (Seqno seqno) = None
-safe_of Bad = None
+-- what a line says of each of the three values
+abbrev pub told : Said → Found
+told Nothing = nothing_found
+told (Uuid uuid) = record nothing_found { uuid = Some uuid }
+told (Seqno seqno) = record nothing_found { seqno = Some seqno }
+told (Safe safe) = record nothing_found { safe = Some safe }
+told Bad = nothing_found
 
 -- where the first line lies that says something bad
 abbrev pub first_bad : List Saying → Option ℕ
 first_bad [] = None
 first_bad (s ∷ ss) = if is_bad s.says then Some s.at else first_bad ss
 
--- what the last line says that says something of this kind
-abbrev pub last_said : {A : Type 0} → (Said → Option A) → List Saying → Option A
-last_said pick [] = None
-last_said pick (s ∷ ss) = option_or (last_said pick ss) (pick s.says)
+-- what the last line says of a value, of those that say something of it
+abbrev pub last_said : {A : Type 0} → (Found → Option A) → List Saying → Option A
+last_said value [] = None
+last_said value (s ∷ ss) = option_or (last_said value ss) (value (told s.says))
+
+abbrev pub last_uuid : List Saying → Option (List ℕ)
+last_uuid ss = last_said (λ (f : Found). f.uuid) ss
+
+abbrev pub last_seqno : List Saying → Option ℤ
+last_seqno ss = last_said (λ (f : Found). f.seqno) ss
+
+abbrev pub last_safe : List Saying → Option Bool
+last_safe ss = last_said (λ (f : Found). f.safe) ss
 
 abbrev pub or_false : Option Bool → Bool
 or_false None = false
@@ -101,7 +100,7 @@ unless_bad (Some at) r = Err (Malformed at)
 
 -- what such lines of a text of this size say together: the last of each kind counts, and no line may be bad
 abbrev pub together : ℕ → List Saying → Result SavedState Refusal
-together size ss = unless_bad (first_bad ss) (whole size (last_said uuid_of ss) (last_said seqno_of ss) (last_said safe_of ss))
+together size ss = unless_bad (first_bad ss) (whole size (last_uuid ss) (last_seqno ss) (last_safe ss))
 
 -- The saved state that the text is, or where its first fault lies: the offset of the first line with a bad value, or the size of
 -- the text where the UUID or the seqno is missing.
@@ -112,7 +111,7 @@ saved_in text = together (length text) (sayings_of text)
 
 -- a seqno that is said is one of a GTID
 abbrev pub IsWithin : Said → Type 0
-IsWithin said = IfSome (seqno_of said) (λ n. IsTrue (is_seqno n))
+IsWithin said = IfSome (told said).seqno (λ n. IsTrue (is_seqno n))
 
 -- with what one more line says
 abbrev pub found_with : Found → Said → Option Found
@@ -125,4 +124,4 @@ found_with f Bad = None
 -- with what all further lines say
 abbrev pub rest_of : ℕ → Found → List Saying → Result SavedState Refusal
 rest_of size f ss =
-    unless_bad (first_bad ss) (whole size (option_or (last_said uuid_of ss) f.uuid) (option_or (last_said seqno_of ss) f.seqno) (option_or (last_said safe_of ss) f.safe))
+    unless_bad (first_bad ss) (whole size (option_or (last_uuid ss) f.uuid) (option_or (last_seqno ss) f.seqno) (option_or (last_safe ss) f.safe))

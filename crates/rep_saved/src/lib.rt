@@ -4,4 +4,4 @@
 mod line;
 mod saved;
 
-pub use saved::SavedState;
+pub use saved::{SavedState, saved_states_read_back};

@@ -1,6 +1,6 @@
 //! The saved state.
 
-ghost use Rattle.std.specs.Prelude.{◌≡◌, ◌<◌, ◌≤◌, ℕ, length, take, IfSome, IfErr, OnOk, OnErr, IsTrue};
+ghost use Rattle.std.specs.Prelude.{◌≡◌, ◌<◌, ◌≤◌, ℕ, length, take, IfSome, IfErr, OnOk, OnErr, IsTrue, Ok};
 ghost use Rattle.std.specs.Io.KnownBytes.{Appends};
 ghost use Rattle.std.specs.Fmt.{signed_decimal};
 ghost use Rattle.arrayvec.specs.ArrayString.{array_string_len};
@@ -10,7 +10,7 @@ ghost use Rattle.rep_saved.specs.Saved.{saved_text, bit_text, saved_in, IsWithin
 use crate::line::{Said, read_line, without_return};
 use arrayvec::ArrayString;
 use rep_record::{cut_at, push_decimal, put_all};
-use rep_types::{Gtid, Refusal};
+use rep_types::{Gtid, Refusal, gtids_read_back};
 use std::io::Write;
 use uuid::Uuid;
 
@@ -168,7 +168,22 @@ impl SavedState {
         ensures ok { OnOk result (Appends (W.contents writer.old) (W.contents writer.new) (saved_text self.now)) }
         ensures cut { OnErr result ((k : ℕ) × Appends (W.contents writer.old) (W.contents writer.new) (take k (saved_text self.now))) }
         ensures err { IfErr result (λ e. e ≡ Refusal.StreamFault) }
+        // What is written reads back.
+        ensures back { saved_in (saved_text self.now) ≡ Ok self.now }
     {
+        // Brings the law that what is written here reads back.
+        saved_states_read_back(*self);
         put_all(writer, text_of(*self).as_bytes())
     }
+}
+
+/// What a saved state is written as reads back as that state. A law, as the contract of a function that
+/// does nothing: it holds by its proof, and calling the function brings it to the caller.
+#[tactic(auto, using(crate::proofs::ReadBack::saved_back))]
+pub fn saved_states_read_back(saved: SavedState)
+    ensures { saved_in (saved_text saved) ≡ Ok saved }
+{
+    // Brings the law of the GTID's own text, and the limit of its seqno.
+    gtids_read_back(saved.gtid);
+    let _seqno = saved.gtid.seqno();
 }

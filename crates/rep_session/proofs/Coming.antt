@@ -35,6 +35,7 @@ pub record Came (p : Setting) (L : Order) (t : Progress) (calls : List Call) (u 
   pub trx : u.trx ≡ t.trx
   pub snapshot : u.snapshot ≡ t.snapshot
   pub writes : (key : Key) → write_of u.writes key ≡ option_or (last_write (done calls) key) (write_of t.writes key)
+  pub once : (key : Key) → last_write t.writes key ≡ write_of t.writes key → last_write u.writes key ≡ write_of u.writes key
   pub kept : (key : Key) → Contains t.reads key → Contains u.reads key
   pub from : (key : Key) → Contains u.reads key → Contains t.reads key ⊎ ((row : Option (List ℕ)) × ReadFrom t calls key row)
   pub read_now : (key : Key) (row : Option (List ℕ)) → ReadFrom t calls key row → Contains u.reads key × (row ≡ read p L key t.snapshot)
@@ -52,6 +53,7 @@ came_nowhere p L t = record {
   trx = refl;
   snapshot = refl;
   writes = λ key. refl;
+  once = λ key old. old;
   kept = λ key has. has;
   from = λ key has. inl has;
   read_now = λ key row from. none_got from.got.before (Got key (Ok row)) from.got.behind from.got.whole;
@@ -113,6 +115,7 @@ module _ (p : Setting) (L : Order) (t mid u : Progress) (call : Call) (calls : L
     trx = r.trx ∙ s.trx;
     snapshot = r.snapshot ∙ s.snapshot;
     writes = λ key. r.writes key ∙ prior calls key;
+    once = λ key old. r.once key (s.once key old);
     kept = λ key has. r.kept key (s.kept key has);
     from = from_by;
     read_now = λ key row from. read_by key row from.got.before from.got.behind from.got.whole from.unwritten;
@@ -141,6 +144,7 @@ module _ {S : Type 0} (gives : S → Key → ℕ → Result (Option (List ℕ)) 
           (λ found. (c.read_now key found.0 (record { got = found.1.got; unwritten = or_none (last_write (done found.1.got.before) key) ∙ found.1.unwritten })).0),
         );
         writes = λ key. c.writes key ∙ or_none (last_write (done calls) key);
+        once = λ key. c.once key refl;
         rows = λ key row was. (c.read_now key row (record { got = was.got; unwritten = or_none (last_write (done was.got.before) key) ∙ was.unwritten })).1;
         own = λ key answer write got is. c.own key answer write got (or_none (last_write (done got.before) key) ∙ is);
       }

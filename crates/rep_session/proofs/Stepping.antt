@@ -12,11 +12,12 @@ use Rattle.rep_types.specs.declared.refusal.Refusal.TheVariants.{Closed, BadKey}
 use Rattle.rep_types.specs.Keys.{key_eq, key_lt}
 use Rattle.rep_types.specs.Settings.{Setting, has_row}
 use Rattle.rep_types.specs.Transactions.{key_of}
-use Rattle.rep_types.specs.Order.{Order, read}
+use Rattle.rep_types.specs.Order.{Order, read, latest}
+use Rattle.rep_types.proofs.Latest.{latest-append}
 use Rattle.rep_types.proofs.Members.{Contains-filter, Contains-from_filter, Contains-cons_cases, Contains-first, Contains-behind}
 use Rattle.rep_session.specs.Sessions.{Progress, known, recalled, is_read_too_many, write_of, with_read, with_write, after_read, write_refusal, placed, itself}
 use Rattle.rep_session.specs.Runs.{Call, Got, Wrote, Does, done, last_write}
-use Rattle.rep_session.proofs.Keys.{lt_not_eq, gt_not_eq, between, same_key, eq_not_lt, lt_not_gt}
+use Rattle.rep_session.proofs.Keys.{lt_not_eq, gt_not_eq, between, same_key, eq_not_lt, eq_not_gt, lt_not_gt}
 
 -- ---- what is found among writes, and kept of them
 
@@ -46,6 +47,27 @@ pub or_none : {A : Type 0} (o : Option A) → option_or o None ≡ o
 or_none None = refl
 or_none (Some x) = refl
 
+-- where none is found, there is no last one either
+latest_none_first : (test : Write → Bool) (x : Write) (xs : List Write) (t : Bool) → cond t (Some x) (find test xs) ≡ None →
+    (find test xs ≡ None → latest test xs ≡ None) → option_or (latest test xs) (cond t (Some x) None) ≡ None
+latest_none_first test x xs true e rest = absurd cc
+latest_none_first test x xs false e rest = rw (rest e) refl
+
+latest_none : (test : Write → Bool) (xs : List Write) → find test xs ≡ None → latest test xs ≡ None
+latest_none test [] e = refl
+latest_none test (x ∷ xs) e = latest_none_first test x xs (test x) e (latest_none test xs)
+
+-- a test that passes only where another does has the same last one in what is kept
+latest_kept_first : (test p : Write → Bool) (x : Write) (xs : List Write) (t b : Bool) → test x ≡ t → p x ≡ b → (test x ≡ true → p x ≡ true) →
+    latest test (filter p xs) ≡ latest test xs → latest test (cond b (x ∷ filter p xs) (filter p xs)) ≡ option_or (latest test xs) (cond t (Some x) None)
+latest_kept_first test p x xs t true e g h rest = rw e (ap (λ o. option_or o (cond t (Some x) None)) rest)
+latest_kept_first test p x xs true false e g h rest = absurd (let q : false ≡ true = sym g ∙ h e in cc)
+latest_kept_first test p x xs false false e g h rest = rest ∙ sym (or_none (latest test xs))
+
+latest_kept : (test p : Write → Bool) → ((x : Write) → test x ≡ true → p x ≡ true) → (xs : List Write) → latest test (filter p xs) ≡ latest test xs
+latest_kept test p h [] = refl
+latest_kept test p h (x ∷ xs) = latest_kept_first test p x xs (test x) (p x) refl refl (h x) (latest_kept test p h xs)
+
 or_cond : (b : Bool) (write : Write) (o : Option Write) → cond b (Some write) o ≡ option_or (cond b (Some write) None) o
 or_cond true write o = refl
 or_cond false write o = refl
@@ -63,35 +85,60 @@ module _ (write : Write) (key : Key) (ws : List Write) where
   placed_found : find of_key (placed key_of write ws) ≡ option_or (find of_key (filter below ws)) (cond (key_eq write.key key) (Some write) (find of_key (filter above ws)))
   placed_found = find-append of_key (filter below ws) (write ∷ filter above ws)
 
-  -- the write itself is found under its key
-  found_own : key_eq write.key key ≡ true → find of_key (placed key_of write ws) ≡ Some write
-  found_own same =
-      let none : find of_key (filter below ws) ≡ None = find_dropped of_key below (λ w e. rw (same_key write.key key same) (eq_not_lt w.key key e)) ws in
-      placed_found ∙ rw (none, same) refl
+  placed_last : latest of_key (placed key_of write ws) ≡ option_or (option_or (latest of_key (filter above ws)) (cond (key_eq write.key key) (Some write) None)) (latest of_key (filter below ws))
+  placed_last = latest-append of_key (filter below ws) (write ∷ filter above ws)
 
-  -- under a key above its key, what was there is found
-  found_above : key_lt write.key key ≡ true → find of_key (placed key_of write ws) ≡ find of_key ws
-  found_above up =
+  -- What stands under the key among those with the write: it, where its key is this one, and else what was there. It is found as the
+  -- first one, and is the last one too where no key was written twice.
+  record Under (is : Option Write) : Type 0 where
+    first : write_of (placed key_of write ws) key ≡ is
+    once : last_write ws key ≡ write_of ws key → last_write (placed key_of write ws) key ≡ is
+
+  -- the write itself under its key
+  under_own : key_eq write.key key ≡ true → Under (Some write)
+  under_own same =
+      let down : find of_key (filter below ws) ≡ None = find_dropped of_key below (λ w e. rw (same_key write.key key same) (eq_not_lt w.key key e)) ws in
+      let up : find of_key (filter above ws) ≡ None = find_dropped of_key above (λ w e. rw (same_key write.key key same) (eq_not_gt w.key key e)) ws in
+      record {
+        first = placed_found ∙ rw (down, same) refl;
+        once = λ old. placed_last ∙ rw (latest_none of_key (filter above ws) up, same) refl;
+      }
+
+  -- what was there under a key above its key
+  under_above : key_lt write.key key ≡ true → Under (write_of ws key)
+  under_above up =
       let none : find of_key (filter below ws) ≡ None = find_dropped of_key below (λ w e. rw (same_key w.key key e) (lt_not_gt write.key key up)) ws in
-      let all : find of_key (filter above ws) ≡ find of_key ws = find_kept of_key above (λ w e. rw (same_key w.key key e) up) ws in
-      placed_found ∙ rw (none, lt_not_eq write.key key up) all
+      let keeps : (w : Write) → of_key w ≡ true → above w ≡ true = λ w e. rw (same_key w.key key e) up in
+      record {
+        first = placed_found ∙ rw (none, lt_not_eq write.key key up) (find_kept of_key above keeps ws);
+        once = λ old. placed_last ∙ rw (latest_none of_key (filter below ws) none, lt_not_eq write.key key up, latest_kept of_key above keeps ws) (or_none (option_or (latest of_key ws) None) ∙ or_none (latest of_key ws) ∙ old);
+      }
 
-  -- and so under a key below it
-  found_below : key_lt key write.key ≡ true → find of_key (placed key_of write ws) ≡ find of_key ws
-  found_below down =
-      let all : find of_key (filter below ws) ≡ find of_key ws = find_kept of_key below (λ w e. rw (same_key w.key key e) down) ws in
+  -- and under a key below it
+  under_below : key_lt key write.key ≡ true → Under (write_of ws key)
+  under_below down =
       let none : find of_key (filter above ws) ≡ None = find_dropped of_key above (λ w e. rw (same_key w.key key e) (lt_not_gt key write.key down)) ws in
-      placed_found ∙ rw (all, gt_not_eq key write.key down, none) (or_none (find of_key ws))
+      let keeps : (w : Write) → of_key w ≡ true → below w ≡ true = λ w e. rw (same_key w.key key e) down in
+      record {
+        first = placed_found ∙ rw (find_kept of_key below keeps ws, gt_not_eq key write.key down, none) (or_none (find of_key ws));
+        once = λ old. placed_last ∙ rw (latest_none of_key (filter above ws) none, gt_not_eq key write.key down, latest_kept of_key below keeps ws) old;
+      }
 
-  found_by : (same up : Bool) → key_eq write.key key ≡ same → key_lt write.key key ≡ up → write_of (placed key_of write ws) key ≡ cond same (Some write) (write_of ws key)
-  found_by true up e g = found_own e
-  found_by false true e g = found_above g
-  found_by false false e g = found_below (between write.key key g e)
+  under : (same up : Bool) → key_eq write.key key ≡ same → key_lt write.key key ≡ up → Under (cond same (Some write) (write_of ws key))
+  under true up e g = under_own e
+  under false true e g = under_above g
+  under false false e g = under_below (between write.key key g e)
 
 -- under each key the write is found that was put there, or what was there
 pub placed_write : (write : Write) (ws : List Write) (key : Key) → write_of (placed key_of write ws) key ≡ option_or (last_write (write ∷ []) key) (write_of ws key)
 placed_write write ws key =
-    found_by write key ws (key_eq write.key key) (key_lt write.key key) refl refl ∙ or_cond (key_eq write.key key) write (write_of ws key)
+    (under write key ws (key_eq write.key key) (key_lt write.key key) refl refl).first ∙ or_cond (key_eq write.key key) write (write_of ws key)
+
+-- where no key was written twice, none is then
+pub placed_once : (write : Write) (ws : List Write) (key : Key) → last_write ws key ≡ write_of ws key → last_write (placed key_of write ws) key ≡ write_of (placed key_of write ws) key
+placed_once write ws key old =
+    let u = under write key ws (key_eq write.key key) (key_lt write.key key) refl refl in
+    u.once old ∙ sym u.first
 
 -- ---- which keys stand among those that were read
 
@@ -127,6 +174,7 @@ pub record Stepped (p : Setting) (L : Order) (t : Progress) (call : Call) (u : P
   pub snapshot : u.snapshot ≡ t.snapshot
   pub ended : u.ended ≡ t.ended
   pub writes : (key : Key) → write_of u.writes key ≡ option_or (last_write (done (call ∷ [])) key) (write_of t.writes key)
+  pub once : (key : Key) → last_write t.writes key ≡ write_of t.writes key → last_write u.writes key ≡ write_of u.writes key
   pub kept : (key : Key) → Contains t.reads key → Contains u.reads key
   pub from : (key : Key) → Contains u.reads key → Contains t.reads key ⊎ ((row : Option (List ℕ)) × ((call ≡ Got key (Ok row)) × (write_of t.writes key ≡ None)))
   pub read_now : (key : Key) (row : Option (List ℕ)) → call ≡ Got key (Ok row) → write_of t.writes key ≡ None → Contains u.reads key × (row ≡ read p L key t.snapshot)
@@ -171,6 +219,7 @@ step_known p L t key answer lasts e = record {
   snapshot = refl;
   ended = refl;
   writes = λ k. refl;
+  once = λ k old. old;
   kept = λ k has. has;
   from = λ k has. inl has;
   read_now = λ k row is none.
@@ -184,19 +233,27 @@ step_known p L t key answer lasts e = record {
       own.1.1 ∙ ap (λ (w : Write). w.value) same;
 }
 
--- a get that rows refused
-step_refused : (p : Setting) (L : Order) (t : Progress) (key : Key) (r : Refusal) → Stepped p L t (Got key (Err r)) t
-step_refused p L t key r = record {
+-- a call that no row is answered and that writes nothing
+step_nothing : (p : Setting) (L : Order) (t : Progress) (call : Call) → done (call ∷ []) ≡ [] → ((key : Key) (row : Option (List ℕ)) → call ≡ Got key (Ok row) → ⊥) → Stepped p L t call t
+step_nothing p L t call none unanswered = record {
   source = refl;
   trx = refl;
   snapshot = refl;
   ended = refl;
-  writes = λ k. refl;
+  writes = λ k. rw none refl;
+  once = λ k old. old;
   kept = λ k has. has;
   from = λ k has. inl has;
-  read_now = λ k row is none. absurd cc;
-  own = λ k row write is has. absurd cc;
+  read_now = λ k row is free. absurd (unanswered k row is);
+  own = λ k row write is has. absurd (unanswered k row is);
 }
+
+-- a get that rows refused, and a write that was refused
+step_refused : (p : Setting) (L : Order) (t : Progress) (key : Key) (r : Refusal) → Stepped p L t (Got key (Err r)) t
+step_refused p L t key r = step_nothing p L t (Got key (Err r)) refl (λ k row is. cc)
+
+step_undone : (p : Setting) (L : Order) (t : Progress) (write : Write) (r : Refusal) → Stepped p L t (Wrote write (Err r)) t
+step_undone p L t write r = step_nothing p L t (Wrote write (Err r)) refl (λ k row is. cc)
 
 -- a get that rows answered
 step_read : (p : Setting) (L : Order) (t : Progress) (key : Key) (found : Option (List ℕ)) → write_of t.writes key ≡ None → found ≡ read p L key t.snapshot → Stepped p L t (Got key (Ok found)) (with_read t key)
@@ -206,6 +263,7 @@ step_read p L t key found unwritten is_row = record {
   snapshot = refl;
   ended = refl;
   writes = λ k. refl;
+  once = λ k old. old;
   kept = λ k has. placed_keeps key k t.reads has;
   from = λ k has. ⊎_elim (λ old. inl old)
       (λ same. inr (found, (ap (λ j. Got j (Ok found)) same, ap (write_of t.writes) (sym same) ∙ unwritten)))
@@ -227,20 +285,7 @@ step_done p L t write nothing = record {
   snapshot = refl;
   ended = refl;
   writes = λ k. placed_write write t.writes k;
-  kept = λ k has. has;
-  from = λ k has. inl has;
-  read_now = λ k row is none. absurd cc;
-  own = λ k row w is has. absurd cc;
-}
-
--- a write that was refused
-step_undone : (p : Setting) (L : Order) (t : Progress) (write : Write) (r : Refusal) → Stepped p L t (Wrote write (Err r)) t
-step_undone p L t write r = record {
-  source = refl;
-  trx = refl;
-  snapshot = refl;
-  ended = refl;
-  writes = λ k. refl;
+  once = λ k old. placed_once write t.writes k old;
   kept = λ k has. has;
   from = λ k has. inl has;
   read_now = λ k row is none. absurd cc;

@@ -1,6 +1,6 @@
 -- The rows of a replica, as a session reads them.
 use Rattle.std.specs.Prelude.{◌≡◌, ℕ, ◌≤◌, nat_lt, not, Bool, true, false, if◌then◌else◌, List, take, Option, Some, None, Result, Ok, Err, refl}
-use Rattle.std.proofs.Common.{sym, ap, ◌∙◌}
+use Rattle.std.proofs.Common.{sym, ap, subst, ◌∙◌}
 use Rattle.std.proofs.lemmas.List.{take-take}
 use Rattle.std.proofs.lemmas.Bool.{ltb-false}
 use Rattle.rep_types.specs.declared.key.Key.{Key}
@@ -35,6 +35,10 @@ IsRead n key s answer m = (answer ≡ read_answer n key s) × (m ≡ n)
 pub record AreOf (n : Node) (p : Setting) (L : Order) : Type 0 where
   pub setting : n.setting ≡ p
   pub durable : take n.durable L ≡ take n.durable n.order
+
+-- a read leaves the replica as it was, so it is of the same orders
+pub read_forgets_nothing : (a b : Node) (key : Key) (s : ℕ) (answer : Result (Option (List ℕ)) Refusal) (p : Setting) (L : Order) → IsRead a key s answer b → AreOf b p L → AreOf a p L
+read_forgets_nothing a b key s answer p L h of = subst (λ (n : Node). AreOf n p L) h.1 of
 
 -- where a row is answered, the position is at most the durable one
 answered_within : (known : Bool) (above below : Bool) (n : Node) (s : ℕ) (row was : Option (List ℕ)) →

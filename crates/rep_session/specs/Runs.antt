@@ -50,14 +50,15 @@ pub record WasRead (calls : List Call) (key : Key) (row : Option (List ℕ)) : T
   pub unwritten : last_write (done got.before) key ≡ None
 
 -- What a session comes to that was t as it began, and whose rows were those of the order L. Its reads are the keys that were
--- read, its write of a key is the last that was done, and it saw the snapshot. What was read is what stands in the order's state
--- there. Where the key had been written before, the last write was answered.
+-- read, its write of a key is the last that was done, no key is written twice, and it saw the snapshot. What was read is what
+-- stands in the order's state there. Where the key had been written before, the last write was answered.
 pub record ComesTo (p : Setting) (L : Order) (t : Progress) (calls : List Call) (u : Progress) : Type 0 where
   pub source : u.source ≡ t.source
   pub trx : u.trx ≡ t.trx
   pub snapshot : u.snapshot ≡ t.snapshot
   pub reads : (key : Key) → Contains u.reads key ↔ ((row : Option (List ℕ)) × WasRead calls key row)
   pub writes : (key : Key) → write_of u.writes key ≡ last_write (done calls) key
+  pub once : (key : Key) → last_write u.writes key ≡ write_of u.writes key
   pub rows : (key : Key) (row : Option (List ℕ)) → WasRead calls key row → row ≡ read p L key t.snapshot
   pub own : (key : Key) (answer : Option (List ℕ)) (write : Write) → (got : WasGot calls key answer) → last_write (done got.before) key ≡ Some write → answer ≡ write.value
 

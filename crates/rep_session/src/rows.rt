@@ -14,7 +14,8 @@ use rep_types::{Key, Refusal, Schema, Value};
 /// replica, or a reader beside one that runs.
 ///
 /// What a call answers and what it leaves is said by each kind of rows, so that it has refusals of its
-/// own. What holds of each kind: a row that is answered is that of the order.
+/// own. What holds of each kind: a row that is answered is that of the order, and a read forgets nothing of
+/// the order that was known before it.
 pub trait Rows {
     /// The number of rows of each table.
     ghost tables: { Self → List ℕ };
@@ -42,6 +43,9 @@ pub trait Rows {
     fn read_at(&mut self, key: Key, s: u64) -> Result<Option<Value>, Refusal>
         ensures { read_gives self.old key s result self.new };
 
+    /// A read forgets nothing: an order that the rows are of behind it is one that they were of before it.
+    ghost forgets_nothing: { (a b : Self) (key : Key) (s : ℕ) (answer : Result (Option (List ℕ)) Refusal) (p : Setting) (L : Order) → read_gives a key s answer b → are_of b p L → are_of a p L };
+
     /// A row that is answered is the row of the order at that position.
     ghost reads_the_order: { (a b : Self) (key : Key) (s : ℕ) (row : Option (List ℕ)) (p : Setting) (L : Order) → read_gives a key s (Ok row) b → are_of b p L → row ≡ read p L key s };
 }
@@ -49,7 +53,7 @@ pub trait Rows {
 /// The rows of a replica, up to what is durable. It is refused, in this order, with `BadKey` outside the
 /// schema, `NotYet` above what is durable, and `TooOld` below the base.
 impl Rows for Replica {
-    ghost use Rattle.rep_session.specs.Rows.{tables_of, IsFront, IsRead, AreOf, read_is_of_the_order};
+    ghost use Rattle.rep_session.specs.Rows.{tables_of, IsFront, IsRead, AreOf, read_forgets_nothing, read_is_of_the_order};
 
     ghost tables = { tables_of };
 
@@ -58,6 +62,8 @@ impl Rows for Replica {
     ghost read_gives = { IsRead };
 
     ghost are_of = { AreOf };
+
+    ghost forgets_nothing = { read_forgets_nothing };
 
     ghost reads_the_order = { read_is_of_the_order };
 
