@@ -4,3 +4,4 @@ pub mod Lists
 pub mod Changing
 pub mod Ruling
 pub mod Looking
+pub mod Growing

@@ -4,6 +4,7 @@
 
 mod change;
 mod history;
+mod laws;
 mod peek;
 mod publisher;
 mod reader;
@@ -12,6 +13,7 @@ mod shelf;
 
 pub use change::{Change, Pair};
 pub use history::{Law, Told};
+pub use laws::{histories_grow, peeks_have_one_answer};
 pub use peek::Peek;
 pub use publisher::Publisher;
 pub use reader::Reader;

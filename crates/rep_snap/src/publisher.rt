@@ -220,13 +220,20 @@ impl<A: Admits + Copy + Drop> Publisher<A> {
         })
     }
 
-    /// Ends the publisher. Readers find nothing from then on. It waits for those that are just looking.
-    pub fn close<R: Wait>(self, rt: &R) {
+    /// Ends the publisher, and says what readers may still be told: the whole history. They find nothing
+    /// from then on. It waits for those that are just looking.
+    pub fn close<R: Wait>(self, rt: &R) -> Told
+        ensures { result ≡ telling self }
+    {
         let Publisher {
             writer,
             head: _head,
             failed: _,
         } = self;
-        drop(writer.take(rt));
+        let last = writer.take(rt);
+        Told {
+            count: last.count,
+            seen: last.sight.seen.again(),
+        }
     }
 }

@@ -6,7 +6,7 @@ ghost use Rattle.rep_snap.specs.Lists.{published, front_of};
 ghost use Rattle.rep_snap.specs.Views.{with_change, telling, watching};
 
 use arrayvec::ArrayVec;
-use rep_snap::{Admits, Publisher, Reader, Told};
+use rep_snap::{Admits, Publisher, Reader, Told, histories_grow};
 use rep_types::{Key, MAX_WRITES, Refusal, Value, Write};
 use std::alloc::Global;
 use std::sync::Wait;
@@ -55,6 +55,7 @@ impl Steady {
     ) -> (Steady, Result<(), Refusal>)
         ensures { MatchResult result.1 (λ _. result.0.publisher ≡ with_change (Publish (record { seqno = seqno; writes = writes })) self.publisher) (λ _. result.0.publisher ≡ self.publisher) }
     {
+        histories_grow();
         let Steady { publisher, front } = self;
         if seqno <= front {
             return (Steady { publisher, front }, Err(Refusal::NotDue));
@@ -89,6 +90,7 @@ impl Steady {
     pub fn prune<R: Wait>(self, rt: &R, position: u64) -> (Steady, Result<(), Refusal>)
         ensures { MatchResult result.1 (λ _. result.0.publisher ≡ with_change (Prune position) self.publisher) (λ _. result.0.publisher ≡ self.publisher) }
     {
+        histories_grow();
         let Steady { publisher, front } = self;
         let (publisher, done) = publisher.prune(rt, position);
         match done {
@@ -112,12 +114,14 @@ impl Steady {
         self.publisher.reader()
     }
 
-    /// Ends it.
-    pub fn close<R: Wait>(self, rt: &R) {
+    /// Ends it, and says what readers may still be told.
+    pub fn close<R: Wait>(self, rt: &R) -> Told
+        ensures { result ≡ telling self.publisher }
+    {
         let Steady {
             publisher,
             front: _,
         } = self;
-        publisher.close(rt);
+        publisher.close(rt)
     }
 }

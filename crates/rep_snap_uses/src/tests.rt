@@ -52,6 +52,8 @@ fn peeks_of_a_row_that_is_put_and_deleted(rt: HostRuntime) -> Result<(), Fail> {
     assert_eq!(rt; elsewhere, Ok(Peek::Cold));
     let (steady, pruned) = steady.prune(&rt, 2);
     assert!(rt; pruned.is_ok());
+    let mut reader = reader;
+    reader.learn(&steady.tell());
     let (reader, peeks) = five_peeks(reader, row);
     assert_eq!(rt;
         peeks,
@@ -65,6 +67,8 @@ fn peeks_of_a_row_that_is_put_and_deleted(rt: HostRuntime) -> Result<(), Fail> {
     );
     let (steady, fourth) = steady.publish(&rt, 4, ArrayVec::new());
     assert!(rt; fourth.is_ok());
+    let mut reader = reader;
+    reader.learn(&steady.tell());
     let (reader, front) = reader.front();
     let (reader, at_4) = reader.peek(row, 4);
     assert_eq!(rt; (front, at_4), (4, Ok(Peek::Absent)));
