@@ -171,7 +171,8 @@ impl<A: Admits + Copy + Drop> Publisher<A> {
     ) -> (Publisher<A>, Result<(), Refusal>)
         requires above { front_of self.start (published self.list) < seqno }
         requires allowed { A.allows self.basis self.start (published self.list ++ record { seqno = seqno; writes = writes } ∷ []) }
-        ensures { MatchResult result.1 (λ _. result.0 ≡ with_change (Publish (record { seqno = seqno; writes = writes })) self) (λ e. (e ≡ OutOfMemory) × (result.0 ≡ self)) }
+        ensures same { (result.0.book ≡ self.book) × (result.0.basis ≡ self.basis) × (result.0.start ≡ self.start) }
+        ensures change { MatchResult result.1 (λ _. result.0 ≡ with_change (Publish (record { seqno = seqno; writes = writes })) self) (λ e. (e ≡ OutOfMemory) × (result.0 ≡ self)) }
     {
         self.change(rt, Change::Publish(Pair { seqno, writes }))
     }
@@ -182,7 +183,8 @@ impl<A: Admits + Copy + Drop> Publisher<A> {
     /// Refuses with `OutOfMemory` where a growth was refused. Then readers see what they saw, and each
     /// later call that changes the list is refused too.
     pub fn prune<R: Wait>(self, rt: &R, position: u64) -> (Publisher<A>, Result<(), Refusal>)
-        ensures { MatchResult result.1 (λ _. result.0 ≡ with_change (Prune position) self) (λ e. (e ≡ OutOfMemory) × (result.0 ≡ self)) }
+        ensures same { (result.0.book ≡ self.book) × (result.0.basis ≡ self.basis) × (result.0.start ≡ self.start) }
+        ensures change { MatchResult result.1 (λ _. result.0 ≡ with_change (Prune position) self) (λ e. (e ≡ OutOfMemory) × (result.0 ≡ self)) }
     {
         self.change(rt, Change::Prune(position))
     }

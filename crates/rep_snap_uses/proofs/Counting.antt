@@ -9,9 +9,9 @@ use Rattle.rep_types.specs.declared.refusal.Refusal.TheVariants.{Closed, NotYet,
 use Rattle.rep_versions.specs.Versions.{Version}
 use Rattle.rep_snap.specs.declared.change.Pair.{Pair}
 use Rattle.rep_snap.specs.declared.change.Change.{Change}
-use Rattle.rep_snap.specs.declared.change.Change.TheVariants.{Publish, Prune}
+use Rattle.rep_snap.specs.declared.change.Change.TheVariants.{Publish}
 use Rattle.rep_snap.specs.declared.peek.Peek.{Peek}
-use Rattle.rep_snap.specs.declared.peek.Peek.TheVariants.{Value, Absent, Cold}
+use Rattle.rep_snap.specs.declared.peek.Peek.TheVariants.{Value}
 use Rattle.rep_snap.specs.Lists.{published, front_of, oldest_of, written, left, IsFound, refused, Answers}
 use Rattle.rep_snap.specs.Views.{Watching, Listing, with_change}
 use Rattle.rep_snap.specs.Looks.{Looked, IsPeek}

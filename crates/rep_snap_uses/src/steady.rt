@@ -53,7 +53,8 @@ impl Steady {
         seqno: u64,
         writes: ArrayVec<Write, MAX_WRITES>,
     ) -> (Steady, Result<(), Refusal>)
-        ensures { MatchResult result.1 (λ _. result.0.publisher ≡ with_change (Publish (record { seqno = seqno; writes = writes })) self.publisher) (λ _. result.0.publisher ≡ self.publisher) }
+        ensures same { result.0.publisher.book ≡ self.publisher.book }
+        ensures change { MatchResult result.1 (λ _. result.0.publisher ≡ with_change (Publish (record { seqno = seqno; writes = writes })) self.publisher) (λ _. result.0.publisher ≡ self.publisher) }
     {
         histories_grow();
         let Steady { publisher, front } = self;
@@ -80,7 +81,9 @@ impl Steady {
         seqno: u64,
         key: Key,
         value: Option<Value>,
-    ) -> (Steady, Result<(), Refusal>) {
+    ) -> (Steady, Result<(), Refusal>)
+        ensures same { result.0.publisher.book ≡ self.publisher.book }
+    {
         let mut writes = ArrayVec::new();
         writes.push(Write { key, value });
         self.publish(rt, seqno, writes)
@@ -88,7 +91,8 @@ impl Steady {
 
     /// Prunes.
     pub fn prune<R: Wait>(self, rt: &R, position: u64) -> (Steady, Result<(), Refusal>)
-        ensures { MatchResult result.1 (λ _. result.0.publisher ≡ with_change (Prune position) self.publisher) (λ _. result.0.publisher ≡ self.publisher) }
+        ensures same { result.0.publisher.book ≡ self.publisher.book }
+        ensures change { MatchResult result.1 (λ _. result.0.publisher ≡ with_change (Prune position) self.publisher) (λ _. result.0.publisher ≡ self.publisher) }
     {
         histories_grow();
         let Steady { publisher, front } = self;

@@ -1,3 +1,5 @@
+ghost use Rattle.std.specs.Prelude.{◌≡◌};
+
 use crate::beside::watched_beside;
 use crate::steady::{Free, Steady};
 use arrayvec::ArrayVec;
@@ -14,7 +16,9 @@ fn four_readers_beside_a_publisher_find_the_rows_of_the_list(rt: HostRuntime) ->
 }
 
 /// What the reader finds of the row at 0, 1, 2, 3 and 4.
-fn five_peeks(reader: Reader<Free>, row: Key) -> (Reader<Free>, [Result<Peek, Refusal>; 5]) {
+fn five_peeks(reader: Reader<Free>, row: Key) -> (Reader<Free>, [Result<Peek, Refusal>; 5])
+    ensures { result.0.book ≡ reader.book }
+{
     let (reader, at_0) = reader.peek(row, 0);
     let (reader, at_1) = reader.peek(row, 1);
     let (reader, at_2) = reader.peek(row, 2);

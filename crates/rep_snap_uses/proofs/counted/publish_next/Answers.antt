@@ -25,4 +25,4 @@ returns-in-Ok-done-clause-list g c =
     ∙ ap (λ (l : List Write). l ++ record { key = the_row; value = Some c.in-Ok.value } ∷ []) c.new-writes.ensures
     ∙ ap (λ (v : List ℕ). record { key = the_row; value = Some v } ∷ []) value in
     published_next c.histories_grow.ensures c.args.count c.args.publisher c.publish-publisher.result.0 c.publish-publisher.result.1 c.in-Ok-done.field-0 _ c.in-Ok-done.is _ c.requires.list
-    (ap (λ (l : List Write). record { seqno = n; writes = record { items = l } }) items) c.publish-publisher.ensures
+    (ap (λ (l : List Write). record { seqno = n; writes = record { items = l } }) items) c.publish-publisher.ensures.change
