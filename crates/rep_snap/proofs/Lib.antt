@@ -5,3 +5,4 @@ pub mod Changing
 pub mod Ruling
 pub mod Looking
 pub mod Growing
+pub mod Rows

@@ -13,7 +13,7 @@ mod shelf;
 
 pub use change::{Change, Pair};
 pub use history::{Law, Told};
-pub use laws::{histories_grow, peeks_have_one_answer};
+pub use laws::{histories_grow, peeks_follow_the_fold, peeks_have_one_answer};
 pub use peek::Peek;
 pub use publisher::Publisher;
 pub use reader::Reader;

@@ -55,7 +55,7 @@ below_oldest : (s oldest : ℕ) (e : Refusal) (b : Bool) → nat_lt s oldest ≡
 below_oldest s oldest e true is h = grind (arith, nat_tests, is)
 below_oldest s oldest e false is h = absurd (cc h)
 
-not_above : (front oldest s : ℕ) (e : Refusal) → s ≤ front → refused front oldest s ≡ Some e → s < oldest
+pub not_above : (front oldest s : ℕ) (e : Refusal) → s ≤ front → refused front oldest s ≡ Some e → s < oldest
 not_above front oldest s e le h =
     let within : nat_lt front s ≡ false = grind (arith, nat_tests, le) in
     below_oldest s oldest e _ refl (sym (ap (λ b. if b then Some (NotYet front) else (if nat_lt s oldest then Some (TooOld oldest) else None)) within) ∙ h)
