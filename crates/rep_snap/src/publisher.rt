@@ -138,23 +138,14 @@ impl<A: Admits + Copy + Drop> Publisher<A> {
             return (publisher, Err(Refusal::OutOfMemory));
         }
         let (writer, shown) = writer.publish_as::<Sees<A>, R>(rt);
+        let publisher = Publisher {
+            writer,
+            head,
+            failed: shown.is_err(),
+        };
         match shown {
-            Ok(()) => {
-                let publisher = Publisher {
-                    writer,
-                    head,
-                    failed: false,
-                };
-                (publisher, Ok(()))
-            }
-            Err(_) => {
-                let publisher = Publisher {
-                    writer,
-                    head,
-                    failed: true,
-                };
-                (publisher, Err(Refusal::OutOfMemory))
-            }
+            Ok(()) => (publisher, Ok(())),
+            Err(_) => (publisher, Err(Refusal::OutOfMemory)),
         }
     }
 
