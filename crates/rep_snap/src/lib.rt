@@ -9,6 +9,7 @@ mod peek;
 mod publisher;
 mod reader;
 mod rule;
+mod several;
 mod shelf;
 
 pub use change::{Change, Pair};
@@ -18,4 +19,5 @@ pub use peek::Peek;
 pub use publisher::Publisher;
 pub use reader::Reader;
 pub use rule::{Admits, Published};
+pub use several::start;
 pub use shelf::{Shelf, Sight, Step};

@@ -3,7 +3,7 @@ ghost use Rattle.std.specs.Prelude.{◌≡◌};
 use crate::beside::watched_beside;
 use crate::steady::{Free, Steady};
 use arrayvec::ArrayVec;
-use rep_snap::{Peek, Reader};
+use rep_snap::{Peek, Reader, start};
 use rep_types::{Key, Refusal, Value};
 use std::test::Fail;
 
@@ -80,5 +80,16 @@ fn peeks_of_a_row_that_is_put_and_deleted(rt: HostRuntime) -> Result<(), Fail> {
     let (reader, closed) = reader.peek(row, 4);
     let (_reader, front) = reader.front();
     assert_eq!(rt; (closed, front), (Err(Refusal::Closed), 4));
+    Ok(())
+}
+
+#[test]
+fn a_publisher_starts_with_its_readers(rt: HostRuntime) -> Result<(), Fail> {
+    let (publisher, mut readers) = start(rt.alloc(), &rt, Free, 5, 3)?;
+    let count = readers.len();
+    let last = readers.pop();
+    publisher.close(&rt);
+    let front = last.map(|reader| reader.front().1);
+    assert_eq!(rt; (count, front), (3, Some(5)));
     Ok(())
 }
