@@ -1,6 +1,7 @@
 //! A publisher of any lists, which looks at the front itself before it publishes.
 
 ghost use Rattle.std.specs.Prelude.{◌≡◌, ◌<◌, ◌^◌, [], MatchResult, IfOk, IfErr};
+ghost use Rattle.rep_types.specs.declared.refusal.Refusal.TheVariants.{OutOfMemory};
 ghost use Rattle.rep_snap.specs.declared.change.Change.TheVariants.{Publish, Prune};
 ghost use Rattle.rep_snap.specs.Lists.{published, front_of};
 ghost use Rattle.rep_snap.specs.Views.{with_change, telling, watching};
@@ -37,7 +38,8 @@ impl Steady {
         readers: usize,
     ) -> Result<Steady, Refusal>
         requires { (0 < readers) × (readers < 2 ^ 32) }
-        ensures { IfOk result (λ s. (s.publisher.start ≡ position) × (s.publisher.list ≡ [])) }
+        ensures started { IfOk result (λ s. (s.publisher.start ≡ position) × (s.publisher.list ≡ [])) }
+        ensures refused { IfErr result (λ e. e ≡ OutOfMemory) }
     {
         let publisher = Publisher::start(alloc, rt, Free, position, readers)?;
         Ok(Steady {
@@ -114,6 +116,7 @@ impl Steady {
     pub fn reader(&mut self) -> Result<Reader<Free>, Refusal>
         ensures same { self.new.publisher ≡ self.old.publisher }
         ensures reader { IfOk result (λ r. r ≡ watching self.old.publisher) }
+        ensures refused { IfErr result (λ e. e ≡ OutOfMemory) }
     {
         self.publisher.reader()
     }
