@@ -2,11 +2,12 @@
 
 CRATES := rep_types rep_plain rep_forms rep_record rep_disk rep_layout rep_cells rep_log rep_steps rep_replica replicad
 PROGRAM := crates/replicad/out/replicad
-# What `make bench` needs beside these: the certifier and what times it against the plain node, and the versions of rows and what
-# times them.
-TIMED := rep_cert rep_compare rep_versions rep_timed
+# What `make bench` needs beside these: the certifier and what times it against the plain node, the versions of rows and what
+# times them, and the readers and what times them against a lock.
+TIMED := rep_cert rep_compare rep_versions rep_timed rep_snap rep_snap_uses rep_snap_timed
 COMPARE := crates/rep_compare/out/rep_compare
 VERSIONS := crates/rep_timed/out/rep_timed
+PEEKS := crates/rep_snap_timed/out/rep_snap_timed
 
 .PHONY: run try test check bench toolchain
 
@@ -28,10 +29,11 @@ check: toolchain
 	@rt all check
 
 # Items judged in a second, for orders of 1,000, 10,000 and 100,000 items; what an item costs the certifier and the plain
-# node; and what a version that is added and a look-up cost among few and among many.
+# node; what a version that is added and a look-up cost among few and among many; and peeks in a second beside a publisher, and
+# behind one lock.
 bench: toolchain
 	@scripts/build $(CRATES) $(TIMED)
-	@scripts/bench $(PROGRAM) $(COMPARE) $(VERSIONS)
+	@scripts/bench $(PROGRAM) $(COMPARE) $(VERSIONS) $(PEEKS)
 
 toolchain:
 	@command -v rt >/dev/null || { echo "The Rattle toolchain is missing: no command 'rt' on the path." >&2; exit 1; }

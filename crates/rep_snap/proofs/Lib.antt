@@ -4,3 +4,5 @@ pub mod Lists
 pub mod Changing
 pub mod Ruling
 pub mod Looking
+pub mod Growing
+pub mod Rows

@@ -43,7 +43,7 @@ pub written-more : (pairs : List Pair) (pair : Pair) (key : Key) (s : ℕ)
     → written (pairs ++ pair ∷ []) key s ≡ (if pair.seqno == s then made_by pair.writes.items key else written pairs key s)
 written-more pairs pair key s = ap (written_by key) (latest-append (λ (p : Pair). p.seqno == s) pairs (pair ∷ [])) ∙ over key pair (pair.seqno == s) _
 
-front_above : (below : ℕ) (pairs : List Pair) → Ascends below pairs → below ≤ front_of below pairs
+pub front_above : (below : ℕ) (pairs : List Pair) → Ascends below pairs → below ≤ front_of below pairs
 front_above below [] h = omega arith
 front_above below (p ∷ pairs) h = let rest = front_above p.seqno pairs h.1 in let lt = h.0 in omega arith
 

@@ -1,5 +1,5 @@
 -- What a look finds, and that the answer is of the list that it finds.
-use Rattle.std.proofs.Common.{◌≡◌, ◌∙◌, sym, subst, ℕ, List, Option, None, Some, Result, Ok, Err, inr}
+use Rattle.std.proofs.Common.{◌≡◌, ◌∙◌, sym, ap, subst, ℕ, List, Option, None, Some, Result, Ok, Err, inr}
 use mathlib.Core.List.{IsPrefix}
 use Rattle.rep_types.specs.declared.key.Key.{Key}
 use Rattle.rep_types.specs.declared.refusal.Refusal.{Refusal}
@@ -60,3 +60,12 @@ module _ {A : Type 0} (allows : A → ℕ → List Pair → Type 0) where
       subst (λ u. IsPeek allows u key snapshot (watched new told) answer) is
       (subst (λ (t : Sight A). IsPeek allows (watched s told) key snapshot (watched t told) answer) (sym same)
       (inr (looked s told x sound later prefix, answered x key snapshot answer sound h)))
+
+  -- the reader is that of its publisher still
+  pub stays : (s new : Sight A) (told : Telling) (x : Shelf A) (v : Watching A) → watched s told ≡ v → Later s x.sight → new ≡ x.sight
+      → (new.seen.book ≡ v.book) × (new.basis ≡ v.basis) × (new.start ≡ v.start)
+  stays s new told x v is later same = (
+    ap (λ (t : Sight A). t.seen.book) same ∙ later.book ∙ ap (λ (t : Watching A). t.book) is,
+    ap (λ (t : Sight A). t.basis) same ∙ later.basis ∙ ap (λ (t : Watching A). t.basis) is,
+    ap (λ (t : Sight A). t.start) same ∙ later.start ∙ ap (λ (t : Watching A). t.start) is,
+  )

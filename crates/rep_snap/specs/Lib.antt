@@ -4,3 +4,4 @@ pub mod Views
 pub mod Shelves
 pub mod Rule
 pub mod Looks
+pub mod Laws

@@ -4,16 +4,20 @@
 
 mod change;
 mod history;
+mod laws;
 mod peek;
 mod publisher;
 mod reader;
 mod rule;
+mod several;
 mod shelf;
 
 pub use change::{Change, Pair};
 pub use history::{Law, Told};
+pub use laws::{histories_grow, peeks_follow_the_fold, peeks_have_one_answer};
 pub use peek::Peek;
 pub use publisher::Publisher;
 pub use reader::Reader;
 pub use rule::{Admits, Published};
+pub use several::start;
 pub use shelf::{Shelf, Sight, Step};

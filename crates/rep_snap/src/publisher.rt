@@ -138,23 +138,14 @@ impl<A: Admits + Copy + Drop> Publisher<A> {
             return (publisher, Err(Refusal::OutOfMemory));
         }
         let (writer, shown) = writer.publish_as::<Sees<A>, R>(rt);
+        let publisher = Publisher {
+            writer,
+            head,
+            failed: shown.is_err(),
+        };
         match shown {
-            Ok(()) => {
-                let publisher = Publisher {
-                    writer,
-                    head,
-                    failed: false,
-                };
-                (publisher, Ok(()))
-            }
-            Err(_) => {
-                let publisher = Publisher {
-                    writer,
-                    head,
-                    failed: true,
-                };
-                (publisher, Err(Refusal::OutOfMemory))
-            }
+            Ok(()) => (publisher, Ok(())),
+            Err(_) => (publisher, Err(Refusal::OutOfMemory)),
         }
     }
 
@@ -171,7 +162,8 @@ impl<A: Admits + Copy + Drop> Publisher<A> {
     ) -> (Publisher<A>, Result<(), Refusal>)
         requires above { front_of self.start (published self.list) < seqno }
         requires allowed { A.allows self.basis self.start (published self.list ++ record { seqno = seqno; writes = writes } ∷ []) }
-        ensures { MatchResult result.1 (λ _. result.0 ≡ with_change (Publish (record { seqno = seqno; writes = writes })) self) (λ e. (e ≡ OutOfMemory) × (result.0 ≡ self)) }
+        ensures same { (result.0.book ≡ self.book) × (result.0.basis ≡ self.basis) × (result.0.start ≡ self.start) }
+        ensures change { MatchResult result.1 (λ _. result.0 ≡ with_change (Publish (record { seqno = seqno; writes = writes })) self) (λ e. (e ≡ OutOfMemory) × (result.0 ≡ self)) }
     {
         self.change(rt, Change::Publish(Pair { seqno, writes }))
     }
@@ -182,7 +174,8 @@ impl<A: Admits + Copy + Drop> Publisher<A> {
     /// Refuses with `OutOfMemory` where a growth was refused. Then readers see what they saw, and each
     /// later call that changes the list is refused too.
     pub fn prune<R: Wait>(self, rt: &R, position: u64) -> (Publisher<A>, Result<(), Refusal>)
-        ensures { MatchResult result.1 (λ _. result.0 ≡ with_change (Prune position) self) (λ e. (e ≡ OutOfMemory) × (result.0 ≡ self)) }
+        ensures same { (result.0.book ≡ self.book) × (result.0.basis ≡ self.basis) × (result.0.start ≡ self.start) }
+        ensures change { MatchResult result.1 (λ _. result.0 ≡ with_change (Prune position) self) (λ e. (e ≡ OutOfMemory) × (result.0 ≡ self)) }
     {
         self.change(rt, Change::Prune(position))
     }
@@ -220,13 +213,20 @@ impl<A: Admits + Copy + Drop> Publisher<A> {
         })
     }
 
-    /// Ends the publisher. Readers find nothing from then on. It waits for those that are just looking.
-    pub fn close<R: Wait>(self, rt: &R) {
+    /// Ends the publisher, and says what readers may still be told: the whole history. They find nothing
+    /// from then on. It waits for those that are just looking.
+    pub fn close<R: Wait>(self, rt: &R) -> Told
+        ensures { result ≡ telling self }
+    {
         let Publisher {
             writer,
             head: _head,
             failed: _,
         } = self;
-        drop(writer.take(rt));
+        let last = writer.take(rt);
+        Told {
+            count: last.count,
+            seen: last.sight.seen.again(),
+        }
     }
 }

@@ -52,7 +52,8 @@ impl<A: Admits + Copy + Drop> Reader<A> {
     /// of the list where the snapshot is above it; with `TooOld` and the oldest snapshot where it is
     /// below that.
     pub fn peek(self, key: Key, snapshot: u64) -> (Reader<A>, Result<Peek, Refusal>)
-        ensures { IsPeek A.allows self key snapshot result.0 result.1 }
+        ensures same { (result.0.book ≡ self.book) × (result.0.basis ≡ self.basis) × (result.0.start ≡ self.start) }
+        ensures answer { IsPeek A.allows self key snapshot result.0 result.1 }
     {
         let Reader {
             place,
@@ -97,7 +98,8 @@ impl<A: Admits + Copy + Drop> Reader<A> {
     /// publisher is closed it is that of the list that the reader saw last. It takes no memory and waits
     /// for nobody.
     pub fn front(self) -> (Reader<A>, u64)
-        ensures { IsFront A.allows self result.0 result.1 }
+        ensures same { (result.0.book ≡ self.book) × (result.0.basis ≡ self.basis) × (result.0.start ≡ self.start) }
+        ensures front { IsFront A.allows self result.0 result.1 }
     {
         let (reader, _row) = self.peek(Key::default(), 0);
         let front = reader.front;

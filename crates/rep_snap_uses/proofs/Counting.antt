@@ -9,13 +9,13 @@ use Rattle.rep_types.specs.declared.refusal.Refusal.TheVariants.{Closed, NotYet,
 use Rattle.rep_versions.specs.Versions.{Version}
 use Rattle.rep_snap.specs.declared.change.Pair.{Pair}
 use Rattle.rep_snap.specs.declared.change.Change.{Change}
-use Rattle.rep_snap.specs.declared.change.Change.TheVariants.{Publish, Prune}
+use Rattle.rep_snap.specs.declared.change.Change.TheVariants.{Publish}
 use Rattle.rep_snap.specs.declared.peek.Peek.{Peek}
-use Rattle.rep_snap.specs.declared.peek.Peek.TheVariants.{Value, Absent, Cold}
+use Rattle.rep_snap.specs.declared.peek.Peek.TheVariants.{Value}
 use Rattle.rep_snap.specs.Lists.{published, front_of, oldest_of, written, left, IsFound, refused, Answers}
 use Rattle.rep_snap.specs.Views.{Watching, Listing, with_change}
 use Rattle.rep_snap.specs.Looks.{Looked, IsPeek}
-use Rattle.rep_snap.proofs.Lists.{written-more, front-more, published-publish}
+use Rattle.rep_snap.specs.Laws.{HistoriesGrow, PeeksHaveOneAnswer}
 use Rattle.rep_snap_uses.specs.Counting.{the_row, number_at, pair_at, counted, FindsTheNumber}
 
 here : (n s : ℕ) (o : Option Version) → n ≡ s → (b : Bool) → (n == s) ≡ b → (if b then Some (Some (number_at n)) else o) ≡ Some (Some (number_at s))
@@ -26,37 +26,27 @@ past : (n s : ℕ) (m o : Option Version) → (n ≡ s → ⊥) → (b : Bool) �
 past n s m o other true is = absurd (other (grind (arith, nat_tests, is)))
 past n s m o other false is = refl
 
-pub counted_at : (n s : ℕ) → 0 < s → s ≤ n → written (counted n) the_row s ≡ Some (Some (number_at s))
-counted_at zero s some le = absurd (omega arith)
-counted_at (suc n) s some le = dite (ℕ_discrete (suc n) s)
-    (λ same. written-more (counted n) (pair_at (suc n)) the_row s ∙ here (suc n) s _ same ((suc n) == s) refl)
-    (λ other. written-more (counted n) (pair_at (suc n)) the_row s ∙ past (suc n) s _ _ other ((suc n) == s) refl ∙ counted_at n s some (omega (arith, other)))
+pub counted_at : HistoriesGrow → (n s : ℕ) → 0 < s → s ≤ n → written (counted n) the_row s ≡ Some (Some (number_at s))
+counted_at laws zero s some le = absurd (omega arith)
+counted_at laws (suc n) s some le = dite (ℕ_discrete (suc n) s)
+    (λ same. laws.row (counted n) (pair_at (suc n)) the_row s ∙ here (suc n) s _ same ((suc n) == s) refl)
+    (λ other. laws.row (counted n) (pair_at (suc n)) the_row s ∙ past (suc n) s _ _ other ((suc n) == s) refl ∙ counted_at laws n s some (omega (arith, other)))
 
-pub front_counted : (n : ℕ) → front_of 0 (counted n) ≡ n
-front_counted zero = refl
-front_counted (suc n) = front-more 0 (counted n) (pair_at (suc n))
-
-published-append : (xs ys : List Change) → published (xs ++ ys) ≡ published xs ++ published ys
-published-append [] ys = refl
-published-append (Publish pair ∷ xs) ys = ap (λ ps. pair ∷ ps) (published-append xs ys)
-published-append (Prune c ∷ xs) ys = published-append xs ys
+pub front_counted : HistoriesGrow → (n : ℕ) → front_of 0 (counted n) ≡ n
+front_counted laws zero = refl
+front_counted laws (suc n) = laws.front 0 (counted n) (pair_at (suc n))
 
 -- what is told has no more pairs
-pub shorter : (xs ys : List Change) → IsPrefix xs ys → length (published xs) ≤ length (published ys)
-shorter xs ys p =
-    let whole : length (published ys) ≡ length (published xs) + length (published p.0) = ap (λ l. length (published l)) (sym p.1) ∙ ap length (published-append xs p.0) ∙ length-append (published xs) (published p.0) in
+pub shorter : HistoriesGrow → (xs ys : List Change) → IsPrefix xs ys → length (published xs) ≤ length (published ys)
+shorter laws xs ys p =
+    let rest = laws.beginning xs ys p in
+    let whole : length (published ys) ≡ length (published xs) + length rest.0 = ap length (sym rest.1) ∙ length-append (published xs) rest.0 in
     omega (arith, whole)
 
-module _ (f : ℕ → Option Version) (s : ℕ) (bytes : List ℕ) (stands : f s ≡ Some (Some bytes)) where
+module _ (laws : PeeksHaveOneAnswer) (f : ℕ → Option Version) (s : ℕ) (bytes : List ℕ) (stands : f s ≡ Some (Some bytes)) where
   -- the newest write at most at s is the one at s
   found_here : (peek : Peek) → IsFound f s peek → peek ≡ Value bytes
-  found_here (Value v) h = dite (ℕ_discrete h.0 s)
-      (λ same. let both : Some (Some v) ≡ Some (Some bytes) = sym h.1.stands ∙ ap f same ∙ stands in ap Value (cc both))
-      (λ other. absurd (let le = h.1.within in let none : Some (Some bytes) ≡ None = sym stands ∙ h.1.none_above s (omega (arith, le, other)) (omega arith) in cc none))
-  found_here Absent h = dite (ℕ_discrete h.0 s)
-      (λ same. absurd (let both : Some None ≡ Some (Some bytes) = sym h.1.stands ∙ ap f same ∙ stands in cc both))
-      (λ other. absurd (let le = h.1.within in let none : Some (Some bytes) ≡ None = sym stands ∙ h.1.none_above s (omega (arith, le, other)) (omega arith) in cc none))
-  found_here Cold h = absurd (let none : Some (Some bytes) ≡ None = sym stands ∙ h s (omega arith) in cc none)
+  found_here peek h = laws.row f s peek (Value bytes) h (s, record { stands = stands; within = omega arith; none_above = λ n lt le. absurd (omega (arith, lt, le)) })
 
 left_at : (oldest s : ℕ) (pairs : List Pair) (o : Option Version) → oldest < s → written pairs the_row s ≡ o → left oldest pairs the_row s ≡ o
 left_at oldest s pairs o lt is = let above : nat_le s oldest ≡ false = grind (arith, nat_tests, lt) in ap (λ b. if b then None else written pairs the_row s) above ∙ is
@@ -65,28 +55,28 @@ below_oldest : (s oldest : ℕ) (e : Refusal) (b : Bool) → nat_lt s oldest ≡
 below_oldest s oldest e true is h = grind (arith, nat_tests, is)
 below_oldest s oldest e false is h = absurd (cc h)
 
-not_above : (front oldest s : ℕ) (e : Refusal) → s ≤ front → refused front oldest s ≡ Some e → s < oldest
+pub not_above : (front oldest s : ℕ) (e : Refusal) → s ≤ front → refused front oldest s ≡ Some e → s < oldest
 not_above front oldest s e le h =
     let within : nat_lt front s ≡ false = grind (arith, nat_tests, le) in
     below_oldest s oldest e _ refl (sym (ap (λ b. if b then Some (NotYet front) else (if nat_lt s oldest then Some (TooOld oldest) else None)) within) ∙ h)
 
-module _ {A : Type 0} (w : Watching A) (s n : ℕ) (some : 0 < s) (le : s ≤ n) (start : w.start ≡ 0) (list : published w.seen ≡ counted n) where
+module _ (laws : HistoriesGrow) (answers : PeeksHaveOneAnswer) {A : Type 0} (w : Watching A) (s n : ℕ) (some : 0 < s) (le : s ≤ n) (start : w.start ≡ 0) (list : published w.seen ≡ counted n) where
   finds : (answer : Result Peek Refusal) → Answers (front_of w.start (published w.seen)) (oldest_of w.start w.seen) (left (oldest_of w.start w.seen) (published w.seen) the_row) s answer
       → FindsTheNumber w s answer
-  finds (Ok peek) h = λ lt. found_here _ s (number_at s) (left_at (oldest_of w.start w.seen) s (published w.seen) _ lt (ap (λ l. written l the_row s) list ∙ counted_at n s some le)) peek h.1
-  finds (Err e) h = let front : front_of w.start (published w.seen) ≡ n = ap (λ k. front_of k (published w.seen)) start ∙ ap (front_of 0) list ∙ front_counted n in
+  finds (Ok peek) h = λ lt. found_here answers _ s (number_at s) (left_at (oldest_of w.start w.seen) s (published w.seen) _ lt (ap (λ l. written l the_row s) list ∙ counted_at laws n s some le)) peek h.1
+  finds (Err e) h = let front : front_of w.start (published w.seen) ≡ n = ap (λ k. front_of k (published w.seen)) start ∙ ap (front_of 0) list ∙ front_counted laws n in
       inr (not_above (front_of w.start (published w.seen)) (oldest_of w.start w.seen) s e (omega (arith, front, le)) h)
 
 abbrev Allows : {A : Type 0} → A → ℕ → List Pair → Type 0
 Allows basis start pairs = pairs ≡ counted (length pairs)
 
 -- a reader that was told of the snapshot peeks it
-pub peeked : {A : Type 0} (v w : Watching A) (s : ℕ) (answer : Result Peek Refusal) → 0 < s → s ≤ length (published v.told) → v.start ≡ 0 → IsPeek Allows v the_row s w answer → FindsTheNumber w s answer
-peeked v w s answer some le start h = ⊎_elim
+pub peeked : HistoriesGrow → PeeksHaveOneAnswer → {A : Type 0} (v w : Watching A) (s : ℕ) (answer : Result Peek Refusal) → 0 < s → s ≤ length (published v.told) → v.start ≡ 0 → IsPeek Allows v the_row s w answer → FindsTheNumber w s answer
+peeked laws answers v w s answer some le start h = ⊎_elim
     (λ (closed : (answer ≡ Err Closed) × (w ≡ v)). subst (FindsTheNumber w s) (sym closed.0) (inl refl))
     (λ (seen : Looked Allows v w × Answers (front_of w.start (published w.seen)) (oldest_of w.start w.seen) (left (oldest_of w.start w.seen) (published w.seen) the_row) s answer).
-    let more = shorter v.told w.seen seen.0.told in
-    finds w s (length (published w.seen)) some (omega (arith, le, more)) (ap (λ (t : Watching _). t.start) seen.0.same ∙ start) seen.0.allowed answer seen.1) h
+    let more = shorter laws v.told w.seen seen.0.told in
+    finds laws answers w s (length (published w.seen)) some (omega (arith, le, more)) (ap (λ (t : Watching _). t.start) seen.0.same ∙ start) seen.0.allowed answer seen.1) h
 
 -- one more number
 length_counted : (n : ℕ) → length (counted n) ≡ n
@@ -101,11 +91,11 @@ pub still_allowed : (n : ℕ) (pairs : List Pair) (pair : Pair) → pairs ≡ co
 still_allowed n pairs pair list is = let more = one_more n pairs pair list is in
     more ∙ ap counted (sym (ap length more ∙ length_counted (n + 1)))
 
-pub above : (n start : ℕ) (pairs : List Pair) → start ≡ 0 → pairs ≡ counted n → front_of start pairs < n + 1
-above n start pairs none list = let front : front_of start pairs ≡ n = ap (λ k. front_of k pairs) none ∙ ap (front_of 0) list ∙ front_counted n in omega (arith, front)
+pub above : HistoriesGrow → (n start : ℕ) (pairs : List Pair) → start ≡ 0 → pairs ≡ counted n → front_of start pairs < n + 1
+above laws n start pairs none list = let front : front_of start pairs ≡ n = ap (λ k. front_of k pairs) none ∙ ap (front_of 0) list ∙ front_counted laws n in omega (arith, front)
 
-pub published_next : {A : Type 0} (n : ℕ) (p q : Listing A) (r : Result (Unit {0}) Refusal) (u : Unit {0}) (E : Refusal → Type 0) → r ≡ Ok u → (pair : Pair) → published p.list ≡ counted n → pair ≡ pair_at (n + 1)
+pub published_next : HistoriesGrow → {A : Type 0} (n : ℕ) (p q : Listing A) (r : Result (Unit {0}) Refusal) (u : Unit {0}) (E : Refusal → Type 0) → r ≡ Ok u → (pair : Pair) → published p.list ≡ counted n → pair ≡ pair_at (n + 1)
     → MatchResult r (λ _. q ≡ with_change (Publish pair) p) E → published q.list ≡ counted (n + 1)
-published_next n p q r u E ok pair list is h =
+published_next laws n p q r u E ok pair list is h =
     let after = subst (λ t. MatchResult t (λ _. q ≡ with_change (Publish pair) p) E) ok h in
-    ap (λ (t : Listing _). published t.list) after ∙ published-publish p.list pair ∙ one_more n (published p.list) pair list is
+    ap (λ (t : Listing _). published t.list) after ∙ laws.publish p.list pair ∙ one_more n (published p.list) pair list is

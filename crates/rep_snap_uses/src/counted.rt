@@ -5,7 +5,7 @@ ghost use Rattle.rep_snap.specs.Lists.{published};
 ghost use Rattle.rep_snap_uses.specs.Counting.{counted, FindsTheNumber};
 
 use arrayvec::ArrayVec;
-use rep_snap::{Admits, Peek, Publisher, Reader, Told};
+use rep_snap::{Admits, Peek, Publisher, Reader, Told, histories_grow, peeks_have_one_answer};
 use rep_types::{Key, Refusal, Value, Write};
 use std::sync::Wait;
 
@@ -36,6 +36,8 @@ pub fn number_at(
     requires told { (0 < snapshot) × (snapshot ≤ length (published told.now.list)) }
     ensures { FindsTheNumber result.0 snapshot result.1 }
 {
+    histories_grow();
+    peeks_have_one_answer();
     reader.learn(told);
     reader.peek(ROW, snapshot)
 }
@@ -52,6 +54,7 @@ pub fn publish_next<R: Wait>(
     ensures start { result.0.start ≡ 0 }
     ensures list { OnOk result.1 (published result.0.list ≡ counted (count + 1)) }
 {
+    histories_grow();
     let Ok(value) = Value::new(&[((count + 1) % 256) as u8]) else {
         unreachable!()
     };

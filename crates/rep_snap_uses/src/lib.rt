@@ -3,10 +3,12 @@
 
 mod beside;
 mod counted;
+mod folded;
 mod steady;
 #[cfg(test)]
 mod tests;
 
 pub use beside::{Count, watched_beside};
 pub use counted::{Numbers, number_at, publish_next};
+pub use folded::row_at;
 pub use steady::{Free, Steady};

@@ -1,12 +1,13 @@
 //! A publisher of any lists, which looks at the front itself before it publishes.
 
 ghost use Rattle.std.specs.Prelude.{◌≡◌, ◌<◌, ◌^◌, [], MatchResult, IfOk, IfErr};
+ghost use Rattle.rep_types.specs.declared.refusal.Refusal.TheVariants.{OutOfMemory};
 ghost use Rattle.rep_snap.specs.declared.change.Change.TheVariants.{Publish, Prune};
 ghost use Rattle.rep_snap.specs.Lists.{published, front_of};
 ghost use Rattle.rep_snap.specs.Views.{with_change, telling, watching};
 
 use arrayvec::ArrayVec;
-use rep_snap::{Admits, Publisher, Reader, Told};
+use rep_snap::{Admits, Publisher, Reader, Told, histories_grow};
 use rep_types::{Key, MAX_WRITES, Refusal, Value, Write};
 use std::alloc::Global;
 use std::sync::Wait;
@@ -37,7 +38,8 @@ impl Steady {
         readers: usize,
     ) -> Result<Steady, Refusal>
         requires { (0 < readers) × (readers < 2 ^ 32) }
-        ensures { IfOk result (λ s. (s.publisher.start ≡ position) × (s.publisher.list ≡ [])) }
+        ensures started { IfOk result (λ s. (s.publisher.start ≡ position) × (s.publisher.list ≡ [])) }
+        ensures refused { IfErr result (λ e. e ≡ OutOfMemory) }
     {
         let publisher = Publisher::start(alloc, rt, Free, position, readers)?;
         Ok(Steady {
@@ -53,8 +55,10 @@ impl Steady {
         seqno: u64,
         writes: ArrayVec<Write, MAX_WRITES>,
     ) -> (Steady, Result<(), Refusal>)
-        ensures { MatchResult result.1 (λ _. result.0.publisher ≡ with_change (Publish (record { seqno = seqno; writes = writes })) self.publisher) (λ _. result.0.publisher ≡ self.publisher) }
+        ensures same { result.0.publisher.book ≡ self.publisher.book }
+        ensures change { MatchResult result.1 (λ _. result.0.publisher ≡ with_change (Publish (record { seqno = seqno; writes = writes })) self.publisher) (λ _. result.0.publisher ≡ self.publisher) }
     {
+        histories_grow();
         let Steady { publisher, front } = self;
         if seqno <= front {
             return (Steady { publisher, front }, Err(Refusal::NotDue));
@@ -79,7 +83,9 @@ impl Steady {
         seqno: u64,
         key: Key,
         value: Option<Value>,
-    ) -> (Steady, Result<(), Refusal>) {
+    ) -> (Steady, Result<(), Refusal>)
+        ensures same { result.0.publisher.book ≡ self.publisher.book }
+    {
         let mut writes = ArrayVec::new();
         writes.push(Write { key, value });
         self.publish(rt, seqno, writes)
@@ -87,8 +93,10 @@ impl Steady {
 
     /// Prunes.
     pub fn prune<R: Wait>(self, rt: &R, position: u64) -> (Steady, Result<(), Refusal>)
-        ensures { MatchResult result.1 (λ _. result.0.publisher ≡ with_change (Prune position) self.publisher) (λ _. result.0.publisher ≡ self.publisher) }
+        ensures same { result.0.publisher.book ≡ self.publisher.book }
+        ensures change { MatchResult result.1 (λ _. result.0.publisher ≡ with_change (Prune position) self.publisher) (λ _. result.0.publisher ≡ self.publisher) }
     {
+        histories_grow();
         let Steady { publisher, front } = self;
         let (publisher, done) = publisher.prune(rt, position);
         match done {
@@ -108,16 +116,19 @@ impl Steady {
     pub fn reader(&mut self) -> Result<Reader<Free>, Refusal>
         ensures same { self.new.publisher ≡ self.old.publisher }
         ensures reader { IfOk result (λ r. r ≡ watching self.old.publisher) }
+        ensures refused { IfErr result (λ e. e ≡ OutOfMemory) }
     {
         self.publisher.reader()
     }
 
-    /// Ends it.
-    pub fn close<R: Wait>(self, rt: &R) {
+    /// Ends it, and says what readers may still be told.
+    pub fn close<R: Wait>(self, rt: &R) -> Told
+        ensures { result ≡ telling self.publisher }
+    {
         let Steady {
             publisher,
             front: _,
         } = self;
-        publisher.close(rt);
+        publisher.close(rt)
     }
 }

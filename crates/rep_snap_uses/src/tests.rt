@@ -1,7 +1,9 @@
+ghost use Rattle.std.specs.Prelude.{◌≡◌};
+
 use crate::beside::watched_beside;
 use crate::steady::{Free, Steady};
 use arrayvec::ArrayVec;
-use rep_snap::{Peek, Reader};
+use rep_snap::{Peek, Reader, start};
 use rep_types::{Key, Refusal, Value};
 use std::test::Fail;
 
@@ -14,7 +16,9 @@ fn four_readers_beside_a_publisher_find_the_rows_of_the_list(rt: HostRuntime) ->
 }
 
 /// What the reader finds of the row at 0, 1, 2, 3 and 4.
-fn five_peeks(reader: Reader<Free>, row: Key) -> (Reader<Free>, [Result<Peek, Refusal>; 5]) {
+fn five_peeks(reader: Reader<Free>, row: Key) -> (Reader<Free>, [Result<Peek, Refusal>; 5])
+    ensures { result.0.book ≡ reader.book }
+{
     let (reader, at_0) = reader.peek(row, 0);
     let (reader, at_1) = reader.peek(row, 1);
     let (reader, at_2) = reader.peek(row, 2);
@@ -52,6 +56,8 @@ fn peeks_of_a_row_that_is_put_and_deleted(rt: HostRuntime) -> Result<(), Fail> {
     assert_eq!(rt; elsewhere, Ok(Peek::Cold));
     let (steady, pruned) = steady.prune(&rt, 2);
     assert!(rt; pruned.is_ok());
+    let mut reader = reader;
+    reader.learn(&steady.tell());
     let (reader, peeks) = five_peeks(reader, row);
     assert_eq!(rt;
         peeks,
@@ -65,6 +71,8 @@ fn peeks_of_a_row_that_is_put_and_deleted(rt: HostRuntime) -> Result<(), Fail> {
     );
     let (steady, fourth) = steady.publish(&rt, 4, ArrayVec::new());
     assert!(rt; fourth.is_ok());
+    let mut reader = reader;
+    reader.learn(&steady.tell());
     let (reader, front) = reader.front();
     let (reader, at_4) = reader.peek(row, 4);
     assert_eq!(rt; (front, at_4), (4, Ok(Peek::Absent)));
@@ -72,5 +80,16 @@ fn peeks_of_a_row_that_is_put_and_deleted(rt: HostRuntime) -> Result<(), Fail> {
     let (reader, closed) = reader.peek(row, 4);
     let (_reader, front) = reader.front();
     assert_eq!(rt; (closed, front), (Err(Refusal::Closed), 4));
+    Ok(())
+}
+
+#[test]
+fn a_publisher_starts_with_its_readers(rt: HostRuntime) -> Result<(), Fail> {
+    let (publisher, mut readers) = start(rt.alloc(), &rt, Free, 5, 3)?;
+    let count = readers.len();
+    let last = readers.pop();
+    publisher.close(&rt);
+    let front = last.map(|reader| reader.front().1);
+    assert_eq!(rt; (count, front), (3, Some(5)));
     Ok(())
 }

@@ -5,6 +5,6 @@ use Rattle.rep_snap_uses.proofs.counted.number_at.Goals as goal
 pub returns : goal.returns
 returns c =
     let v = c.learn.new.self in
-    let more = shorter c.args.told.now.list v.told c.learn.ensures.told in
+    let more = shorter c.histories_grow.ensures c.args.told.now.list v.told c.learn.ensures.told in
     let within = c.requires.told.1 in
-    peeked v c.peek.result.0 c.args.snapshot c.peek.result.1 c.requires.told.0 (omega (arith, within, more)) (ap (λ t. t.start) c.learn.ensures.learnt ∙ c.requires.start) c.peek.ensures
+    peeked c.histories_grow.ensures c.peeks_have_one_answer.ensures v c.peek.result.0 c.args.snapshot c.peek.result.1 c.requires.told.0 (omega (arith, within, more)) (ap (λ t. t.start) c.learn.ensures.learnt ∙ c.requires.start) c.peek.ensures.answer
