@@ -1,5 +1,5 @@
 -- An engine that stands for a node, with more items.
-use Rattle.std.proofs.Common.{◌≡◌, ℕ, ◌+◌, ◌-◌, ◌<◌, ◌≤◌, List, [], ◌∷◌, ◌++◌, append_assoc, append-nil, length, length-append, length-drop, take, drop, map, refl, sym, ap, subst, ◌∙◌, arith}
+use Rattle.std.proofs.Common.{◌≡◌, ℕ, ◌+◌, ◌-◌, ◌<◌, ◌≤◌, List, [], ◌∷◌, ◌++◌, append_assoc, append-nil, length, length-append, length-drop, take, drop, map, refl, sym, ap, subst, ◌∙◌, arith, true}
 use Rattle.std.specs.Prelude.{IsTrue}
 use Rattle.std.proofs.lemmas.List.{take-append-le, drop-append-le}
 use Rattle.uuid.specs.Parts.{is_nil_bytes}
@@ -18,14 +18,16 @@ use Rattle.rep_types.specs.Order.{counts}
 use Rattle.rep_log.specs.declared.phase.Phase.{Phase}
 use Rattle.rep_log.specs.declared.phase.Phase.TheVariants.{Resting, Closing, Filling, Filled, Opening}
 use Rattle.rep_log.specs.Standing.{Standing as Log, stands_at}
-use Rattle.rep_record.specs.Fronts.{fitting}
+use Rattle.rep_record.specs.Fronts.{fitting, FrontsAreDetermined}
+use Rattle.rep_record.specs.declared.limits.TheConstants.{MAX_RECORDS}
+use Rattle.rep_types.specs.Replies.{reply_of}
 use Rattle.rep_steps.specs.Standings.{Standing, IsStanding, underway}
 use Rattle.rep_steps.specs.Nodes.{Node, IsNode, advanced, reached}
 use Rattle.rep_steps.specs.Images.{IsFrontAt, AreJudgedFrom}
 use Rattle.rep_image.specs.Meanings.{Means}
 use Rattle.rep_image.specs.Standing.{StandsAs}
 use Rattle.rep_engine.specs.Engines.{Engine, IsEngine, IsWhole, facts_of, durable_of}
-use Rattle.rep_engine.specs.Accepting.{AddsItems, accepted_in}
+use Rattle.rep_engine.specs.Accepting.{AddsItems, accepted_in, is_gathering}
 use Rattle.rep_engine.specs.Holding.{Stands, Holds, with_items}
 use Rattle.rep_engine.proofs.Accepting.{added_at}
 
@@ -37,6 +39,25 @@ accepted_some Closing block js more some = (refl, tt)
 accepted_some (Filling n) block js more some = absurd (omega (arith, some))
 accepted_some (Filled n) block js more some = absurd (omega (arith, some))
 accepted_some (Opening n) block js more some = absurd (omega (arith, some))
+
+pub gathering_some : (phase : Phase) (block js : List Judged) → 0 < accepted_in phase block js → is_gathering phase ≡ true
+gathering_some Resting block js some = refl
+gathering_some Closing block js some = refl
+gathering_some (Filling n) block js some = absurd (omega (arith, some))
+gathering_some (Filled n) block js some = absurd (omega (arith, some))
+gathering_some (Opening n) block js some = absurd (omega (arith, some))
+
+-- what was gathered and what comes is no more than a block has
+pub accepted_few : FrontsAreDetermined → (phase : Phase) (block js : List Judged) → length block ≤ MAX_RECORDS → length block + accepted_in phase block js ≤ MAX_RECORDS
+accepted_few fronts Resting block js few = fronts.few block js few
+accepted_few fronts Closing block js few = fronts.few block js few
+accepted_few fronts (Filling n) block js few = omega (arith, few)
+accepted_few fronts (Filled n) block js few = omega (arith, few)
+accepted_few fronts (Opening n) block js few = omega (arith, few)
+
+pub length-replies : (js : List Judged) → length (map reply_of js) ≡ length js
+length-replies [] = refl
+length-replies (j ∷ js) = let rest = length-replies js in omega (arith, rest)
 
 -- ---- lists of items
 
@@ -67,7 +88,7 @@ length-effects (j ∷ js) = let rest = length-effects js in omega (arith, rest)
 
 -- ---- a front of a node is one of the node with more items
 
-longer_front : (n : Node) (js : List Judged) (image : List ℕ) → IsFrontAt Means n image → IsFrontAt Means (with_items js n) image
+pub longer_front : (n : Node) (js : List Judged) (image : List ℕ) → IsFrontAt Means n image → IsFrontAt Means (with_items js n) image
 longer_front n js image f =
     let past = f.front.past in
     let inside : past ≤ length n.items = omega (arith, f.front.order, f.front.within) in

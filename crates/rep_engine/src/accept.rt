@@ -1,6 +1,6 @@
 //! How items come from the backlog.
 
-ghost use Rattle.std.specs.Prelude.{◌≡◌, ℕ, None, ◌⊎◌, ◌+◌, ◌-◌, ◌≤◌, ◌==◌, ◌++◌, [], length, take, drop, map, is_some, true, Ok, Err, IfOk, IfErr, OnOk, OnErr, MatchOption};
+ghost use Rattle.std.specs.Prelude.{◌≡◌, ℕ, None, ◌⊎◌, ◌+◌, ◌-◌, ◌≤◌, ◌<◌, ◌==◌, ◌++◌, [], length, take, drop, map, is_some, true, Ok, Err, IfOk, IfErr, OnOk, OnErr, MatchOption};
 ghost use Rattle.rep_types.specs.declared.refusal.Refusal.TheVariants.{OutOfMemory};
 ghost use Rattle.rep_types.specs.Replies.{reply_of};
 ghost use Rattle.rep_types.specs.Order.{counts};
@@ -47,7 +47,7 @@ fn add_items(
     requires within { from + count ≤ length backlog.now }
     requires few { from + count ≤ 64 }
     ensures added { OnOk result (AddsItems (take count (drop from backlog.now)) versions.old versions.new) }
-    ensures refused { IfErr result (λ e. e ≡ OutOfMemory) }
+    ensures refused { IfErr result (λ e. (e ≡ OutOfMemory) × (0 < count)) }
     ensures unchanged { (base last : ℕ) → base ≤ last → SeqnosFrom (last + 1) (drop from backlog.now) → AreWithin base last versions.old → OnErr result (versions.new ≡ versions.old) }
 {
     add_is_taken_back();
@@ -93,8 +93,9 @@ impl<D: Disk> Engine<D> {
     /// Takes items from the backlog for the log's next block, the longest front that fits, and says how many:
     /// none while the block is on its way to the disk. Room for what they wrote is taken here.
     ///
-    /// Refuses with `Stopped` where the device has failed before, and with `OutOfMemory`; engine and backlog
-    /// are then as they were.
+    /// Refuses with `Stopped` where the device has failed before, and with `OutOfMemory` where there is
+    /// something to take; engine and backlog are then as they were.
+    #[tactic(auto, using(crate::proofs::Accepts::gathering_some))]
     pub fn accept(&mut self, backlog: &mut Backlog) -> Result<u16, Refusal>
         requires { ComeNext (facts_of D.failures self.old) backlog.old }
         ensures count { IfOk result (λ count. count ≡ accepted_in self.old.log.phase self.old.block backlog.old) }
@@ -102,7 +103,7 @@ impl<D: Disk> Engine<D> {
         ensures backlog { IfOk result (λ count. backlog.new ≡ drop count backlog.old) }
         ensures disk { self.new.disk ≡ self.old.disk }
         ensures running { OnOk result (self.old.halted ≡ None) }
-        ensures refused { IfErr result (λ e. ((e ≡ is_stopped) × (is_some self.old.halted ≡ true)) ⊎ ((e ≡ OutOfMemory) × (self.old.halted ≡ None))) }
+        ensures refused { IfErr result (λ e. ((e ≡ is_stopped) × (is_some self.old.halted ≡ true)) ⊎ ((e ≡ OutOfMemory) × (self.old.halted ≡ None) × (is_gathering self.old.log.phase ≡ true))) }
         ensures unchanged { OnErr result ((self.new ≡ self.old) × (backlog.new ≡ backlog.old)) }
         ensures holds { IfOk result (λ count. (n : Node) → Holds D.honest D.history D.failures n self.old → AreJudgedFrom n.facts.setting (reached n.facts.setting n.base n.items) (take count backlog.old) → Holds D.honest D.history D.failures (with_items (take count backlog.old) n) self.new) }
     {

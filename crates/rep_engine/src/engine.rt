@@ -1,7 +1,7 @@
 //! What an engine holds, and the steps that write.
 
-ghost use Rattle.std.specs.Prelude.{◌≡◌, ◌+◌, ◌-◌, ◌<◌, ◌==◌, [], nat_le, if◌then◌else◌, true, false, length, map, is_some, Some, None, Err, IsErr, IfSome, IfErr, OnOk, OnErr, MatchOption};
-ghost use Rattle.rep_types.specs.declared.refusal.Refusal.TheVariants.{DiskFault, LogFull};
+ghost use Rattle.std.specs.Prelude.{◌≡◌, ◌≢◌, ◌+◌, ◌-◌, ◌<◌, ◌==◌, [], nat_le, if◌then◌else◌, true, false, length, map, is_some, Some, None, Err, IsErr, IfSome, IfErr, OnOk, OnErr, MatchOption};
+ghost use Rattle.rep_types.specs.declared.refusal.Refusal.TheVariants.{OutOfMemory, DiskFault, LogFull};
 ghost use Rattle.rep_types.specs.Replies.{reply_of};
 ghost use Rattle.rep_disk.specs.Moments.{LeavesOnly};
 ghost use Rattle.rep_cells.specs.Device.{disk_of, layout_of};
@@ -135,6 +135,8 @@ impl<D: Disk> Engine<D> {
     pub fn log(&mut self) -> Result<(), Refusal>
         ensures moves { Moves (facts_of D.failures self.old) to_log (wrote result) (facts_of D.failures self.new) }
         ensures steps { (n : Node) → Holds D.honest D.history D.failures n self.old → (m : Node) × Steps n to_log (wrote result) m × Holds D.honest D.history D.failures m self.new }
+        // It takes no memory.
+        ensures memory { IfErr result (λ e. e ≢ OutOfMemory) }
         ensures leaves { (n : Node) → Holds D.honest D.history D.failures n self.old → LeavesOnly (D.history self.old.disk) (D.history self.new.disk) (IsFrontAt Means n) }
     {
         nodes_stay_nodes();
@@ -237,7 +239,9 @@ impl<D: Disk> Engine<D> {
 
     /// The seqno of the last durable item.
     pub fn durable(&self) -> u64
-        ensures { result ≡ durable_of self.now.log }
+        ensures durable { result ≡ durable_of self.now.log }
+        // What holds of every engine.
+        ensures engine { IsEngine self.now.layout self.now.superblock self.now.log self.now.kept self.now.block }
     {
         self.log.durable()
     }

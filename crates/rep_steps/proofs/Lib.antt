@@ -6,3 +6,5 @@ pub mod Running
 pub mod Fronts
 pub mod Driving
 pub mod Judging
+pub mod Ahead
+pub mod Parts

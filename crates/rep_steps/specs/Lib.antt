@@ -4,3 +4,4 @@ pub mod Nodes
 pub mod Orders
 pub mod Runs
 pub mod Images
+pub mod Parts

@@ -1,5 +1,5 @@
 -- Steps of the facts, on any device.
-use Rattle.std.specs.Prelude.{◌≡◌, ◌⊎◌, ℕ, zero, suc, ◌+◌, ◌==◌, Bool, true, false, nat_le, nat_lt, not, ◌&&◌, if◌then◌else◌, List, [], ◌∷◌, ◌++◌, map, filter, take, drop, Option, IsTrue, MatchOption}
+use Rattle.std.specs.Prelude.{◌≡◌, ◌⊎◌, ℕ, zero, suc, ◌+◌, ◌==◌, Bool, true, false, not, ◌&&◌, if◌then◌else◌, List, [], ◌∷◌, ◌++◌, map, filter, take, drop, Option, IsTrue, MatchOption}
 use Rattle.std.specs.List.{list_any}
 use Rattle.rep_types.specs.declared.judged.Judged.{Judged}
 use Rattle.rep_types.specs.declared.reply.Reply.{Reply}
@@ -153,14 +153,19 @@ after s Check found = record s { stage = checked s found.left s.stage }
 after s (Flush page) found = record s { stage = flushed page s.stage }
 after s (Read key at) found = s
 
--- whether the event, where no refusal applies, may grow memory, and whether it calls the device: room for what is written is
--- taken as items come, so that the log takes none
+-- Whether the event, where no refusal applies, may grow memory, and whether it calls the device. Room for what items wrote is
+-- taken before the next block is written, so that nothing but its beginning takes any for the log.
+abbrev pub is_at_rest : Phase → Bool
+is_at_rest Resting = true
+is_at_rest phase = false
+
 abbrev pub is_off : Stage → Bool
 is_off Off = true
 is_off stage = false
 
 abbrev pub takes_memory : Standing → Event → Bool
 takes_memory s (Deliver seqno w) = true
+takes_memory s Log = is_at_rest s.phase
 takes_memory s Check = is_off s.stage
 takes_memory s e = false
 

@@ -1,6 +1,7 @@
 //! Laws of nodes, each as the contract of a function that does nothing.
 
 ghost use Rattle.rep_steps.specs.Nodes.{StepsAreMoves, NodesStayNodes};
+ghost use Rattle.rep_steps.specs.Parts.{PartsStepAsTheWhole};
 ghost use Rattle.rep_steps.specs.Orders.{StepsFollowTheOrder, NodesHoldTheOrder};
 ghost use Rattle.rep_steps.specs.Runs.{RunsComeTo, FedTheRest};
 ghost use Rattle.rep_steps.specs.Images.{JudgedItemsExtendTheOrder, FrontsStandForTheOrder, FrontsFromLayers, OpeningsOpenTheOrder};
@@ -81,4 +82,10 @@ pub fn fronts_from_layers()
 /// What opening makes of an image is a node, of the order that the image stands for.
 pub fn openings_open_the_order()
     ensures { OpeningsOpenTheOrder }
+{}
+
+/// What the log, a sync and a read do with what was taken of the delivered items is what they do with all of
+/// them: so an engine that has taken a front of them steps as the replica around it does.
+pub fn parts_step_as_the_whole()
+    ensures { PartsStepAsTheWhole }
 {}

@@ -12,7 +12,7 @@ use Rattle.rep_engine.specs.Engines.{Engine, IsEngine, IsWhole, durable_of, fact
 use Rattle.rep_engine.specs.Accepting.{ComeNext, AddsItems, accepted_in}
 use Rattle.rep_engine.specs.Holding.{Holds}
 use Rattle.rep_engine.proofs.Accepting.{engine_accepted}
-use Rattle.rep_engine.proofs.Accepts.{accepted_some, holds_more}
+use Rattle.rep_engine.proofs.Accepts.{accepted_some, accepted_few, length-replies, holds_more}
 use Rattle.rep_engine.proofs.engine.Engine.accept.Goals as goal
 
 -- ---- where a growth was refused
@@ -39,6 +39,15 @@ returns-in_err-add_items-clause-unchanged g c =
           (sym (same_versions g c)) c.self.view_is,
       refl,
     )
+
+-- ---- room for the replies
+
+pub add_replies-requires-clause-room : goal.add_replies-requires-clause-room
+add_replies-requires-clause-room g c =
+    let size = ap length c.self.invariant.1 ∙ length-replies c.self.inside.block in
+    let count = c.next_items-count.ensures.count ∙ ap (λ (e : Engine g.row.D.Denot). accepted_in e.log.phase e.block c.args.backlog.now) (sym c.self.view_is) in
+    let few = accepted_few c.fronts_are_determined.ensures c.self.inside.log.phase c.self.inside.block c.args.backlog.now c.self.invariant.0.few in
+    omega (arith, size, count, few)
 
 -- ---- where some came
 
