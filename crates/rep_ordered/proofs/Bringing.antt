@@ -8,6 +8,7 @@ use lib.ListN.{get_elem?}
 use lib.Seq.{set-get_or}
 use Rattle.atomic_table.specs.Table.{State, Me, Act, step, keeps, takes, gives, chain, carried_after, homes_after, Valid, Allows}
 use Rattle.atomic_table.proofs.Lists.{set_here, set_else, set_again}
+use Rattle.rep_ordered.specs.declared.view.GivenUp.{GivenUp}
 use Rattle.rep_ordered.specs.declared.view.Hold.{Hold}
 use Rattle.rep_ordered.specs.declared.view.Mind.{Mind}
 use Rattle.rep_ordered.specs.declared.rule.Opening.{Opening}
@@ -118,7 +119,25 @@ module _ {V E : Type 0} (law : List E → Type 0) (at_home : ℕ → ℕ → ℕ
       gone = o.gone;
       home = λ free. let h = o.home free in record { value = h.value; there = same j (o.counts ∙ free) ∙ h.there; keeps = h.keeps; backed = h.backed; common = h.common };
     };
-    each_seat = r.each_seat;
+    each_seat = λ i m at. let o = r.each_seat i m at in record {
+      starts = o.starts;
+      wholes = o.wholes;
+      firsts = o.firsts;
+      begins = o.begins;
+      told = o.told;
+      lasts = o.lasts;
+      stops = o.stops;
+      stays = o.stays;
+      below = o.below;
+      named = o.named;
+      exact = o.exact;
+      reached = o.reached;
+      holds = o.holds;
+      lives = o.lives;
+      gone = every_map _ _ m.view.given_up (λ (g : GivenUp V) q. record { word = q.word; there = q.there; gone = q.gone; home = same g.station (let here = r.each_station g.station q.word q.there in let counts = here.counts in let gave_it = q.gone in omega arith) ∙ q.home }) o.gone;
+      placed = o.placed;
+      idle = o.idle;
+    };
     known = r.known;
     lone = r.lone;
     lawful = r.lawful;

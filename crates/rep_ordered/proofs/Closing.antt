@@ -2,11 +2,13 @@
 use Rattle.std.proofs.Common.{◌≡◌, ℕ, zero, suc, ◌+◌, ◌/◌, ◌<◌, ◌≤◌, Option, Some, None, List, [], ◌∷◌, ◌++◌, length, Bool, false, take, get_or, set, sym, refl, ap, ◌∙◌, subst, arith, get_or-set_other, get_or-set_same}
 use Rattle.std.specs.Prelude.{slice_get}
 use Rattle.std.specs.Slots.Ownership.{Filled}
+use mathlib.Core.Option as maybe
 use mathlib.Core.Option.{some, some-injective, some-ne-none}
 use mathlib.Core.Logic.{dite}
 use native.Mathlib.Decide.{ℕ_discrete}
 use lib.ListN.{get_elem?}
 use Rattle.atomic_table.specs.Table.{State, Final, Seen}
+use Rattle.rep_ordered.specs.declared.view.GivenUp.{GivenUp}
 use Rattle.rep_ordered.specs.declared.view.Mind.{Mind}
 use Rattle.rep_ordered.specs.declared.view.View.{View}
 use Rattle.rep_ordered.specs.declared.rule.Opening.{Opening}
@@ -14,7 +16,7 @@ use Rattle.rep_ordered.specs.Counts.{times, total, gave}
 use Rattle.rep_ordered.specs.Views.{Placed, held_at, count_of, drew, on, halted_of}
 use Rattle.rep_ordered.specs.Rule.{Figures, Kept, first_of}
 use Rattle.rep_ordered.specs.Ends.{Closed}
-use Rattle.rep_ordered.proofs.Sums.{total_only, get_or_there}
+use Rattle.rep_ordered.proofs.Sums.{every_map, total_only, get_or_there}
 use Rattle.rep_ordered.proofs.Keeping.{no_numbers, others_idle, knows_whole}
 use Rattle.rep_ordered.proofs.Drawing.{RuleOf}
 
@@ -22,6 +24,15 @@ read_both : {A : Type 0} (xs : List A) (j : ℕ) (x y : A) → slice_get xs j �
 read_both [] j x y e d = absurd (some-ne-none y (sym d))
 read_both (z ∷ zs) zero x y e d = (cc) ∙ some-injective z y d
 read_both (z ∷ zs) (suc j) x y e d = read_both zs j x y e d
+
+abbrev value_or : {V : Type 0} → V → maybe.Option (maybe.Option (Option V)) → V
+value_or d (maybe.some (maybe.some (Some x))) = x
+value_or d (maybe.some (maybe.some None)) = d
+value_or d (maybe.some maybe.none) = d
+value_or d maybe.none = d
+
+same_home : {V : Type 0} (x y : V) → maybe.some (maybe.some (Some x)) ≡ maybe.some (maybe.some (Some y)) → x ≡ y
+same_home x y e = ap (value_or x) e
 
 within_list : {A : Type 0} (xs : List A) (j : ℕ) (x : A) → slice_get xs j ≡ Some x → j < length xs
 within_list [] j x e = absurd (let d : None ≡ Some x = e in cc)
@@ -55,6 +66,7 @@ module _ {V E : Type 0} (law : List E → Type 0) (at_home : ℕ → ℕ → ℕ
               is = read_both xs j found (Some h.value) is (home_is j (Some h.value) h.there);
               given = gave w;
               halted = omega arith;
+              kept = every_map _ _ v.given_up (λ (u : GivenUp V) q (same : u.station ≡ j). same_home u.value h.value (sym q.home ∙ (ap (get_elem? s.homes) same ∙ h.there))) mine.gone;
               keeps = subst (λ l. at_home j (w / 4) (gave w) l f.durable h.value) whole h.keeps;
               backed = λ one. let a = h.backed one in let b = mine.below in let c = spelled.backed_up in (omega arith, omega arith);
               common = h.common;

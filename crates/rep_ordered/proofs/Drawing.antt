@@ -54,7 +54,7 @@ module _ {V E : Type 0} (law : List E → Type 0) (at_home : ℕ → ℕ → ℕ
       let counted : length (v.own ++ n ∷ []) ≡ length v.own + 1 = omega (arith, length-append v.own (n ∷ [])) in
       let words' : List ℕ = set s.words 0 y in let f' : Figures E = record f { next = f.next + 1; durable = f.durable; stop = f.stop } in
       let same : (j : ℕ) → get_elem? words' (j + 2) ≡ get_elem? s.words (j + 2) = (λ j. set_else s.words 0 (j + 2) y (λ e. omega arith)) in
-      let still : Knows k f' words' m = knows_on k f (f.next + 1) f.durable f.stop s.words words' m (omega arith) (omega arith) (λ _. omega arith) same known in (
+      let still : Knows k f' words' s.homes m = knows_on k f (f.next + 1) f.durable f.stop s.words words' s.homes m (omega arith) (omega arith) (λ _. omega arith) same known in (
         m',
         keeps,
         tt,
@@ -85,6 +85,7 @@ module _ {V E : Type 0} (law : List E → Type 0) (at_home : ℕ → ℕ → ℕ
               reached = still.reached;
               holds = every_map _ _ v.held (λ (h : Hold) o. record { word = o.word; taken = o.taken; floor = o.floor; drawn = λ ticket. let a = o.drawn ticket in let e = total_snoc (one (h.word / 4)) v.own n in omega arith; whole = o.whole }) still.holds;
               lives = λ _ _. omega arith;
+              gone = still.gone;
               placed = placed_drawn k.start n f.history v.own v.joined (omega arith) still.placed;
               idle = λ _ none_left. absurd (omega arith);
             }
@@ -107,7 +108,7 @@ module _ {V E : Type 0} (law : List E → Type 0) (at_home : ℕ → ℕ → ℕ
       → Rule k record { words = words'; homes = s.homes; views = set s.views id (untold (knowing r.figures.history durable stop m.view)) } × Learns law m.told m.view (knowing r.figures.history durable stop m.view)
   learning k s r id m words' durable stop at up halts over same spelled lives = let f : Figures E = r.figures in let v : View V E = m.view in let known = r.each_seat id m at in let w : View V E = knowing f.history durable stop v in
       let f' : Figures E = record f { next = f.next; durable = durable; stop = stop } in
-      let still : Knows k f' words' m = knows_on k f f.next durable stop s.words words' m up halts over same known in let a = known.lasts in let b = known.stops in let whole = known.wholes in (
+      let still : Knows k f' words' s.homes m = knows_on k f f.next durable stop s.words words' s.homes m up halts over same known in let a = known.lasts in let b = known.stops in let whole = known.wholes in (
         quiet law at_home durable_of common_of grows k s r id m (untold w) words' f.next durable stop at (omega arith) up halts over same spelled refl refl (λ x. refl) refl
             record {
               starts = still.starts;
@@ -124,6 +125,7 @@ module _ {V E : Type 0} (law : List E → Type 0) (at_home : ℕ → ℕ → ℕ
               reached = still.reached;
               holds = every_map _ _ v.held (λ (h : Hold) o. record { word = o.word; taken = o.taken; floor = o.floor; drawn = o.drawn; whole = λ _. refl }) still.holds;
               lives = still.lives;
+              gone = still.gone;
               placed = still.placed;
               idle = λ some none_left. let l = lives (omega arith) in absurd (omega arith);
             }

@@ -1,5 +1,6 @@
 -- The steps on a station's word: entering it, and leaving it in one of three ways.
 use Rattle.std.proofs.Common.{◌≡◌, ◌≢◌, ℕ, ◌+◌, ◌-◌, ◌*◌, ◌/◌, ◌%◌, ◌<◌, ◌≤◌, eqb, ◌⊎◌, Option, Some, List, [], ◌∷◌, ◌++◌, get_or, set, inl, inr, ⊎_elim, sym, refl, ap, ◌∙◌, subst, arith, length-set, eq-eqb, ne_eqb, if◌then◌else◌}
+use mathlib.Core.Option as maybe
 use mathlib.Core.Option.{some, none}
 use mathlib.Core.Logic.{dite}
 use native.Mathlib.Decide.{ℕ_discrete}
@@ -19,7 +20,7 @@ use Rattle.rep_ordered.specs.Steps.{Entered, tried}
 use Rattle.rep_ordered.proofs.Sums.{total_at, every_away, get_or_there, below_length, reached_more, backed_here, backed_else, common_here, common_else}
 use Rattle.rep_ordered.proofs.Owning.{append_nil}
 use Rattle.rep_ordered.proofs.Keeping.{seen_whole, knows_me}
-use Rattle.rep_ordered.proofs.Moving.{after, moved}
+use Rattle.rep_ordered.proofs.Moving.{after, gone_on, moved}
 use Rattle.rep_ordered.proofs.Drawing.{RuleOf, as_first}
 
 pub begins_more : {E : Type 0} (j : ℕ) (history more front : List E) → StartsWith history front → (j ≡ 0 → front ≡ history) → (j ≢ 0 → more ≡ []) → StartsWith (history ++ more) (front ++ more)
@@ -61,11 +62,11 @@ module _ {V E : Type 0} (law : List E → Type 0) (at_home : ℕ → ℕ → ℕ
   entering f j n y x v = record (knowing f.history f.durable f.stop v) { backed = backed_after j (durable_of x) v.backed; common = common_after j (common_of x) v.common; reached = reach j n ∷ v.reached; held = hold j y (durable_of x) ∷ v.held }
 
   -- what a seat knows that has just entered the station j at the number n
-  knows_entered : (k : Opening V) (f : Figures E) (words : List ℕ) (m : Mind V E) (j n y : ℕ) (x : V) → get_elem? words (j + 2) ≡ some (4 * n) → y / 4 ≡ n → y % 4 ≡ 1 ⊎ y % 4 ≡ 2 → (y % 4 ≡ 1 → 0 < times n m.view.own)
+  knows_entered : (k : Opening V) (f : Figures E) (words : List ℕ) (homes : List (maybe.Option (Option V))) (m : Mind V E) (j n y : ℕ) (x : V) → get_elem? words (j + 2) ≡ some (4 * n) → y / 4 ≡ n → y % 4 ≡ 1 ⊎ y % 4 ≡ 2 → (y % 4 ≡ 1 → 0 < times n m.view.own)
       → (j ≡ 1 → f.backed ≤ durable_of x) → (0 < names j → common_of x ≡ f.common)
-      → on j m ≡ 0 → Lives m.view → Knows k f words m
-      → Knows k (after f [] (backed_after j (durable_of x) f.backed) f.common) (set words (j + 2) y) (untold (entering f j n y x m.view))
-  knows_entered k f words m j n y x was same_turn kind drawn risen same apart lives known = let v : View V E = m.view in let d : ℕ = durable_of x in let whole = known.wholes in let all : f.history ≡ f.history ++ [] = sym (append_nil f.history) in record {
+      → on j m ≡ 0 → Lives m.view → Knows k f words homes m
+      → Knows k (after f [] (backed_after j (durable_of x) f.backed) f.common) (set words (j + 2) y) (set homes j none) (untold (entering f j n y x m.view))
+  knows_entered k f words homes m j n y x was same_turn kind drawn risen same apart lives known = let v : View V E = m.view in let d : ℕ = durable_of x in let whole = known.wholes in let all : f.history ≡ f.history ++ [] = sym (append_nil f.history) in record {
     starts = known.starts;
     wholes = known.wholes;
     firsts = known.firsts;
@@ -99,6 +100,7 @@ module _ {V E : Type 0} (law : List E → Type 0) (at_home : ℕ → ℕ → ℕ
           }) known.holds,
     );
     lives = λ _ some. lives (omega arith);
+    gone = gone_on words homes (set homes j none) j (4 * n) y v.given_up was (omega arith) (λ i apart. set_else homes j i none apart) known.gone;
     placed = subst (λ l. Placed k.start l v.own v.joined) all known.placed;
     idle = λ some none_left. let l = lives (omega arith) in absurd (omega arith);
   }
@@ -156,12 +158,12 @@ module _ {V E : Type 0} (law : List E → Type 0) (at_home : ℕ → ℕ → ℕ
       let m' : Mind V E = untold (entering f j n new x v) in
       let within = here.within in let whole = known.wholes in
       let kept : Rule k record { words = set s.words (j + 2) new; homes = set s.homes j none; views = set s.views id m' } =
-      moved law at_home durable_of common_of grows k s r id m m' j (4 * n) new [] e' f.common (set s.homes j none) at was (omega arith) (omega arith) (λ _. omega arith) (λ _. refl) (λ some_more. absurd (omega arith))
+      moved law at_home durable_of common_of grows k s r id m m' j (4 * n) new [] e' f.common (set s.homes j none) at was (omega arith) (omega arith) (omega arith) (λ _. omega arith) (λ _. refl) (λ some_more. absurd (omega arith))
       (subst law (sym (append_nil f.history)) r.lawful)
       (risen_above j d f.backed h.backed) (backed_else j d f.backed)
       (omega arith) (inl refl)
       (λ i apart. set_else s.homes j i none apart) (length-set s.homes j none) refl refl (λ i apart. omega arith) (omega arith) (omega arith) (omega arith) known.stops (λ none_held. absurd (omega arith))
-      (knows_entered k f s.words m j n new x was turn new_kinds (λ ticket. drawn (⊎_elim (λ (e : kind ≡ 1). e) (λ (e : kind ≡ 2). absurd {A = kind ≡ 1} (omega arith)) kinds)) h.backed h.common alone lives known)
+      (knows_entered k f s.words s.homes m j n new x was turn new_kinds (λ ticket. drawn (⊎_elim (λ (e : kind ≡ 1). e) (λ (e : kind ≡ 2). absurd {A = kind ≡ 1} (omega arith)) kinds)) h.backed h.common alone lives known)
       (knows_me k (after f [] e' f.common) s.views id m' (below_length s.views id m at) (λ some_number. lives (omega arith)) (sym (append_nil f.history))) in (
         m',
         takes j (Some x),

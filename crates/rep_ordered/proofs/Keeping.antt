@@ -7,6 +7,7 @@ use native.Mathlib.Decide.{ℕ_discrete}
 use lib.ListN.{get_elem?}
 use Rattle.atomic_table.specs.Table.{State}
 use Rattle.atomic_table.proofs.Lists.{at_set, set_here, set_else}
+use Rattle.rep_ordered.specs.declared.view.GivenUp.{GivenUp}
 use Rattle.rep_ordered.specs.declared.view.Hold.{Hold}
 use Rattle.rep_ordered.specs.declared.view.Mind.{Mind}
 use Rattle.rep_ordered.specs.declared.rule.Opening.{Opening}
@@ -74,9 +75,9 @@ module _ {V E : Type 0} where
       })
 
   -- where a word changes that is none of a station's, and the figures rise, what a seat knows stays so
-  pub knows_on : (k : Opening V) (f : Figures E) (next durable stop : ℕ) (words words' : List ℕ) (v : Mind V E) → f.durable ≤ durable → f.stop ≤ stop → (0 < f.stop → durable ≤ f.durable)
-      → ((j : ℕ) → get_elem? words' (j + 2) ≡ get_elem? words (j + 2)) → Knows k f words v → Knows k (record f { next = next; durable = durable; stop = stop }) words' v
-  knows_on k f next durable stop words words' v up halts over same known = let a = known.lasts in let b = known.stops in record {
+  pub knows_on : (k : Opening V) (f : Figures E) (next durable stop : ℕ) (words words' : List ℕ) (homes : List (maybe.Option (Option V))) (v : Mind V E) → f.durable ≤ durable → f.stop ≤ stop → (0 < f.stop → durable ≤ f.durable)
+      → ((j : ℕ) → get_elem? words' (j + 2) ≡ get_elem? words (j + 2)) → Knows k f words homes v → Knows k (record f { next = next; durable = durable; stop = stop }) words' homes v
+  knows_on k f next durable stop words words' homes v up halts over same known = let a = known.lasts in let b = known.stops in record {
     starts = known.starts;
     wholes = known.wholes;
     firsts = known.firsts;
@@ -91,6 +92,7 @@ module _ {V E : Type 0} where
     reached = λ j w e. known.reached j w (sym (same j) ∙ e);
     holds = every_map _ _ v.view.held (λ (h : Hold) r. record { word = same h.station ∙ r.word; taken = r.taken; floor = r.floor; drawn = r.drawn; whole = r.whole }) known.holds;
     lives = known.lives;
+    gone = every_map _ _ v.view.given_up (λ (g : GivenUp V) o. record { word = o.word; there = same g.station ∙ o.there; gone = o.gone; home = o.home }) known.gone;
     placed = known.placed;
     idle = known.idle;
   }
@@ -135,8 +137,8 @@ module _ {V E : Type 0} (law : List E → Type 0) (at_home : ℕ → ℕ → ℕ
       → f'.next + w.view.allowance ≡ r.figures.next + v.view.allowance → f'.next + length v.view.own ≡ r.figures.next + length w.view.own
       → ((x : ℕ) → times x w.view.own + once_below x r.figures.next ≡ times x v.view.own + once_below x f'.next)
       → ((j y c : ℕ) → get_elem? words' (j + 2) ≡ some y → c + on j v ≡ total (on j) s.views + on j w → Station law at_home durable_of common_of k f' homes' c j y)
-      → Knows k f' words' w
-      → ((i : ℕ) (d : Mind V E) → i ≢ id → get_elem? s.views i ≡ some d → Knows k f' words' d)
+      → Knows k f' words' homes' w
+      → ((i : ℕ) (d : Mind V E) → i ≢ id → get_elem? s.views i ≡ some d → Knows k f' words' homes' d)
       → Known k f' (set s.views id w)
       → law f'.history
       → f'.stop + v.view.halted ≤ r.figures.stop + w.view.halted
@@ -146,7 +148,7 @@ module _ {V E : Type 0} (law : List E → Type 0) (at_home : ℕ → ℕ → ℕ
     spelled = spelled;
     dealt = deals k r.figures.next f'.next s.views id v w at r.dealt allowed counted drawn;
     each_station = λ j y e. stations j y _ e (total_set (on j) s.views id v w at);
-    each_seat = λ i d e. ⊎_elim (λ (t : (i ≡ id) × (w ≡ d)). subst (Knows k f' words') t.1 mine) (λ (t : (i ≢ id) × (get_elem? s.views i ≡ some d)). others i d t.0 t.1) (at_set s.views id i w d e);
+    each_seat = λ i d e. ⊎_elim (λ (t : (i ≡ id) × (w ≡ d)). subst (Knows k f' words' homes') t.1 mine) (λ (t : (i ≢ id) × (get_elem? s.views i ≡ some d)). others i d t.0 t.1) (at_set s.views id i w d e);
     known = known;
     lone = λ none. length-set s.views id w ∙ r.lone none;
     lawful = lawful;
@@ -165,7 +167,7 @@ module _ {V E : Type 0} (law : List E → Type 0) (at_home : ℕ → ℕ → ℕ
         → next + w.view.allowance ≡ r.figures.next + v.view.allowance → next + length v.view.own ≡ r.figures.next + length w.view.own
         → ((x : ℕ) → times x w.view.own + once_below x r.figures.next ≡ times x v.view.own + once_below x next)
         → w.view.held ≡ v.view.held
-        → Knows k (record r.figures { next = next; durable = durable; stop = stop }) words' w
+        → Knows k (record r.figures { next = next; durable = durable; stop = stop }) words' s.homes w
         → Known k (record r.figures { next = next; durable = durable; stop = stop }) (set s.views id w)
         → stop + v.view.halted ≤ r.figures.stop + w.view.halted
         → Kept law at_home durable_of common_of k record { words = words'; homes = s.homes; views = set s.views id w }
@@ -180,7 +182,7 @@ module _ {V E : Type 0} (law : List E → Type 0) (at_home : ℕ → ℕ → ℕ
           home = λ free. let h = o.home free in record { value = h.value; there = h.there; keeps = later_home (y / 4) j _ f.durable durable f.history h.value h.keeps durable_up; backed = h.backed; common = h.common };
         })
         mine
-        (λ i d _ e. knows_on k f next durable stop s.words words' d durable_up stop_up over same (r.each_seat i d e))
+        (λ i d _ e. knows_on k f next durable stop s.words words' s.homes d durable_up stop_up over same (r.each_seat i d e))
         known
         r.lawful
         stopped

@@ -9,18 +9,19 @@ use lib.ListN.{get_elem?}
 use lib.Bits.{or_block, or_comm}
 use Rattle.atomic_table.specs.Table.{State, Me, step, gives, rest, put_back, Allows}
 use Rattle.atomic_table.proofs.Lists.{at_set, set_here, set_else}
+use Rattle.rep_ordered.specs.declared.view.GivenUp.{GivenUp}
 use Rattle.rep_ordered.specs.declared.view.Hold.{Hold}
 use Rattle.rep_ordered.specs.declared.view.Mind.{Mind}
 use Rattle.rep_ordered.specs.declared.view.View.{View}
 use Rattle.rep_ordered.specs.declared.rule.Opening.{Opening}
 use Rattle.rep_ordered.specs.Counts.{total, times, busy, gave}
-use Rattle.rep_ordered.specs.Views.{Every, StartsWith, Names, held_at, reach, word_at, floor_at, except, grown, joining, names, backed_after, common_after, on, without, Lives, Holds}
-use Rattle.rep_ordered.specs.Rule.{Figures, HoldIsRight, Knows, Kept, first_of}
-use Rattle.rep_ordered.specs.Steps.{left}
-use Rattle.rep_ordered.proofs.Sums.{total_at, every_away, every_at, every_except, held_here, held_else, get_or_is, below_length, reached_more, backed_here, backed_else, common_here, common_else}
+use Rattle.rep_ordered.specs.Views.{abandoned_with, gone_at, Every, StartsWith, Names, held_at, reach, word_at, floor_at, except, grown, joining, names, backed_after, common_after, on, without, Lives, Holds}
+use Rattle.rep_ordered.specs.Rule.{Figures, Gone, HoldIsRight, Knows, Kept, first_of}
+use Rattle.rep_ordered.specs.Steps.{abandons, left}
+use Rattle.rep_ordered.proofs.Sums.{every_append, every_map, total_at, every_away, every_at, every_except, held_here, held_else, get_or_is, below_length, reached_more, backed_here, backed_else, common_here, common_else}
 use Rattle.rep_ordered.proofs.Owning.{append_nil, entries_of, joined_with, joining_is, longer, placed_mine}
 use Rattle.rep_ordered.proofs.Keeping.{knows_me, knows_still, held_once}
-use Rattle.rep_ordered.proofs.Moving.{after, nothing_more, moved}
+use Rattle.rep_ordered.proofs.Moving.{after, gone_on, nothing_more, moved}
 use Rattle.rep_ordered.proofs.Drawing.{RuleOf}
 use Rattle.rep_ordered.proofs.Entering.{begins_more, risen_up, risen_above}
 
@@ -102,15 +103,15 @@ module _ {V E : Type 0} (law : List E → Type 0) (at_home : ℕ → ℕ → ℕ
   Rule = Kept law at_home durable_of common_of
 
   -- the view of a seat that has left the station j, with its turn at n
-  abbrev leaving : ℕ → ℕ → ℕ → ℕ → List E → View V E → View V E
-  leaving j n d c more v = record v { seen = v.seen ++ more; joined = joined_with more (word_at j v.held / 4) v.joined; backed = backed_after j d v.backed; common = common_after j c v.common; reached = reach j n ∷ v.reached; held = except j v.held }
+  abbrev leaving : ℕ → ℕ → ℕ → ℕ → List E → List (GivenUp V) → View V E → View V E
+  leaving j n d c more lost v = record v { seen = v.seen ++ more; joined = joined_with more (word_at j v.held / 4) v.joined; backed = backed_after j d v.backed; common = common_after j c v.common; reached = reach j n ∷ v.reached; held = except j v.held; given_up = lost ++ v.given_up }
 
   -- what a seat knows that has just left the station j, whose word was x, with its turn at n
-  knows_left : (k : Opening V) (f : Figures E) (words : List ℕ) (m : Mind V E) (j x y n d c : ℕ) (more : List E) → get_elem? words (j + 2) ≡ some x → word_at j m.view.held ≡ x → x / 4 ≤ n → y / 4 ≡ n
+  knows_left : (k : Opening V) (f : Figures E) (words : List ℕ) (homes homes' : List (maybe.Option (Option V))) (m : Mind V E) (j x y n d c : ℕ) (more : List E) (lost : List (GivenUp V)) → get_elem? words (j + 2) ≡ some x → word_at j m.view.held ≡ x → x / 4 ≤ n → y / 4 ≡ n
       → (j ≡ 0 → m.view.seen ≡ f.history) → (j ≢ 0 → more ≡ []) → held_at j (except j m.view.held) ≡ 0
-      → (0 < length more → (k.start + length f.history ≡ x / 4) × (length more ≡ 1) × (0 < times (x / 4) m.view.own)) → Lives m.view → Knows k f words m
-      → Knows k (after f more (backed_after j d f.backed) (common_after j c f.common)) (set words (j + 2) y) (record m { view = leaving j n d c more m.view })
-  knows_left k f words m j x y n d c more was word up turn all kept apart mine lives known = let v : View V E = m.view in let tail : List Hold = except j v.held in let whole = known.wholes in record {
+      → (0 < length more → (k.start + length f.history ≡ x / 4) × (length more ≡ 1) × (0 < times (x / 4) m.view.own)) → gave x ≡ 0 → ((i : ℕ) → i ≢ j → get_elem? homes' i ≡ get_elem? homes i) → Every (Gone (set words (j + 2) y) homes') lost → Lives m.view → Knows k f words homes m
+      → Knows k (after f more (backed_after j d f.backed) (common_after j c f.common)) (set words (j + 2) y) homes' (record m { view = leaving j n d c more lost m.view })
+  knows_left k f words homes homes' m j x y n d c more lost was word up turn all kept apart mine here same_homes gone lives known = let v : View V E = m.view in let tail : List Hold = except j v.held in let whole = known.wholes in record {
     starts = known.starts;
     wholes = known.wholes;
     firsts = known.firsts;
@@ -135,6 +136,7 @@ module _ {V E : Type 0} (law : List E → Type 0) (at_home : ℕ → ℕ → ℕ
           whole = λ first. ap (λ l. l ++ more) (r.whole first);
         }) (every_except (HoldIsRight f words v.own v.seen) j v.held known.holds);
     lives = λ _ some. lives (omega arith);
+    gone = every_append _ lost v.given_up gone (gone_on words homes homes' j x y v.given_up was here same_homes known.gone);
     placed = subst (λ (t : ℕ). Rattle.rep_ordered.specs.Views.Placed k.start (f.history ++ more) v.own (joined_with more t v.joined)) (let a : x / 4 ≡ word_at j v.held / 4 = omega arith in a) (placed_mine k.start (x / 4) f.history more v.own v.joined mine known.placed);
     idle = known.idle;
   }
@@ -142,9 +144,9 @@ module _ {V E : Type 0} (law : List E → Type 0) (at_home : ℕ → ℕ → ℕ
       exact_before : names j ≡ 0 → 0 < held_at 1 (except j m.view.held) + held_at 2 (except j m.view.held) → 0 < held_at 1 m.view.held + held_at 2 m.view.held
       exact_before unnamed holds = let a = held_else 1 j m.view.held (λ e. omega arith) in let b = held_else 2 j m.view.held (λ e. omega arith) in omega arith
 
-  departs_at : (k : Opening V) (slots id : ℕ) (me : M) (j n g : ℕ) (up : ℕ → ℕ) (entry : Option E) (x : V) → j < slots → me.1 ≡ (j, Some x) ∷ rest me.1 → Departing law at_home durable_of common_of j n g up entry x me.0.view
-      → Allows (Rule k) slots id me (j + 2) up (λ y m'. (m'.0.view ≡ leaving j n (durable_of x) (common_of x) (entries_of entry) me.0.view) × (m'.0.told ≡ me.0.told) × (m'.1 ≡ rest me.1))
-  departs_at k slots id me j n g up entry x inside carried p s r deep at _ =
+  departs_at : (k : Opening V) (slots id : ℕ) (me : M) (j n g : ℕ) (up : ℕ → ℕ) (entry : Option E) (x : V) (lost : List (GivenUp V)) → Every (λ (u : GivenUp V). (u.station ≡ j) × (u.value ≡ x) × (g ≡ 1)) lost → j < slots → me.1 ≡ (j, Some x) ∷ rest me.1 → Departing law at_home durable_of common_of j n g up entry x me.0.view
+      → Allows (Rule k) slots id me (j + 2) up (λ y m'. (m'.0.view ≡ leaving j n (durable_of x) (common_of x) (entries_of entry) lost me.0.view) × (m'.0.told ≡ me.0.told) × (m'.1 ≡ rest me.1))
+  departs_at k slots id me j n g up entry x lost lost_here inside carried p s r deep at _ =
       let m : Mind V E = me.0 in let v : View V E = m.view in let more : List E = entries_of entry in let f : Figures E = r.figures in let sp = r.spelled in let h : ℕ = word_at j v.held in let tail : List Hold = except j v.held in let known = r.each_seat id m at in
       let top = every_at (HoldIsRight f s.words v.own v.seen) j v.held p.holds known.holds in let was : get_elem? s.words (j + 2) ≡ some h = top.word in let here = r.each_station j h was in
       let is : get_or s.words (j + 2) 0 ≡ h = get_or_is s.words (j + 2) h was in let dealt = r.dealt in let tickets = dealt.tickets in let small = sp.small in let within = here.within in
@@ -153,7 +155,7 @@ module _ {V E : Type 0} (law : List E → Type 0) (at_home : ℕ → ℕ → ℕ
       let split : on j m ≡ 1 + held_at j tail = held_here j v.held p.holds in
       let apart : held_at j tail ≡ 0 = omega arith in let alone : total (on j) s.views ≡ on j m = omega arith in
       let d : ℕ = durable_of x in let c : ℕ = common_of x in let e' : ℕ = backed_after j d f.backed in let c' : ℕ = common_after j c f.common in
-      let m' : Mind V E = record m { view = leaving j n d c more v } in
+      let m' : Mind V E = record m { view = leaving j n d c more lost v } in
       let forth : h / 4 ≤ n = p.forth in
       let below : n ≤ f.next = dite (ℕ_discrete (h % 4) 1)
       (λ one_more. let a = p.ticket one_more in let drawn = top.drawn one_more in let t = total_at (λ (u : Mind V E). times (h / 4) u.view.own) s.views id m at in let e = dealt.drawn (h / 4) in omega arith)
@@ -169,7 +171,7 @@ module _ {V E : Type 0} (law : List E → Type 0) (at_home : ℕ → ℕ → ℕ
       let two = named_up j c v.common f.common (on 1 m) (on 2 m) p.common (λ some_name. known.exact (holds_named j some_name v.held some_hold)) (held_once law at_home durable_of common_of k s r id m at 1) (held_once law at_home durable_of common_of k s r id m at 2) in
       let wide = sp.wide in let stops = known.stops in let halted : g ≤ v.halted = p.halted in
       let kept_rule : Rule k record { words = set s.words (j + 2) y; homes = set s.homes j (some (Some x)); views = set s.views id m' } =
-      moved law at_home durable_of common_of grows k s r id m m' j h y more e' c' (set s.homes j (some (Some x))) at was (omega arith) (omega arith) (λ z. let c = p.counted z in omega arith) p.kept joins lawful
+      moved law at_home durable_of common_of grows k s r id m m' j h y more e' c' (set s.homes j (some (Some x))) at was (omega arith) (omega arith) (omega arith) (λ z. let c = p.counted z in omega arith) p.kept joins lawful
       (risen_above j d f.backed (λ one. let a = top.floor one in let b = p.floor one in omega arith)) (backed_else j d f.backed)
       two.0 two.1
       (λ i other. set_else s.homes j i (some (Some x)) other) (length-set s.homes j (some (Some x))) refl refl
@@ -182,7 +184,13 @@ module _ {V E : Type 0} (law : List E → Type 0) (at_home : ℕ → ℕ → ℕ
         backed = λ one. let a = backed_here j d f.backed one in let z : ℕ = e' in let q : z ≡ d = a in let goal : z ≤ durable_of x = omega arith in goal;
         common = λ some_name. sym (common_here j c f.common some_name);
       })
-      (knows_left k f s.words m j h y n d c more was refl forth turn all p.kept apart (λ some_more. let q = joins some_more in (here.counted (at_first some_more), q.0, q.1)) p.lives known)
+      (knows_left k f s.words s.homes (set s.homes j (some (Some x))) m j h y n d c more lost was refl forth turn all p.kept apart (λ some_more. let q = joins some_more in (here.counted (at_first some_more), q.0, q.1)) (omega arith) (λ i other. set_else s.homes j i (some (Some x)) other)
+      (every_map _ _ lost (λ (u : GivenUp V) q. record {
+        word = y;
+        there = ap (λ (z : ℕ). get_elem? (set s.words (j + 2) y) (z + 2)) q.0 ∙ set_here s.words (j + 2) y (below_length s.words (j + 2) h was);
+        gone = gone ∙ q.2;
+        home = ap (λ (z : ℕ). get_elem? (set s.homes j (some (Some x))) z) q.0 ∙ (set_here s.homes j (some (Some x)) (omega arith) ∙ ap (λ (z : V). some (some (Some z))) (sym q.1));
+      }) lost_here) p.lives known)
       (dite (ℕ_discrete j 0)
       (λ z. knows_me k (after f more e' c') s.views id m' (below_length s.views id m at) (λ some_number. let whole = known.wholes in p.lives (omega arith)) (ap (λ l. l ++ more) (all z)))
       (λ nz. knows_still k f (after f more e' c') s.views id m m' at (ap length (nothing_more f.history more (p.kept nz))) refl (omega (arith, length-append v.seen more)) (omega arith) r.known)) in (
@@ -207,8 +215,15 @@ module _ {V E : Type 0} (law : List E → Type 0) (at_home : ℕ → ℕ → ℕ
       → Allows (Rule k) slots id me (j + 2) up (left entry (durable_of x) (common_of x) n (step slots (j + 2) a 0 none) me)
   departs k slots id me j n g a up entry x inside carried p s r deep at small =
       let v : View V E = me.0.view in let same = grown_is v.seen entry in let joins = joining_is entry (word_at j v.held / 4) v.joined in
-      let t = departs_at k slots id me j n g up entry x inside carried p s r deep at small in let b : j ≡ (j + 2) - 2 = omega arith in
+      let t = departs_at k slots id me j n g up entry x [] tt inside carried p s r deep at small in let b : j ≡ (j + 2) - 2 = omega arith in
       (t.0, t.1, t.2, t.3, (subst (λ (z : ℕ). t.0.view ≡ without entry z n (durable_of x) (common_of x) v) b (t.4.0 ∙ (λ i. record v { seen = sym same i; joined = sym joins i; backed = backed_after j (durable_of x) v.backed; common = common_after j (common_of x) v.common; reached = reach j n ∷ v.reached; held = except j v.held })), t.4.1, t.4.2))
+
+  abandons_by : (k : Opening V) (slots id : ℕ) (me : M) (j n a : ℕ) (up : ℕ → ℕ) (x : V) → j < slots → me.1 ≡ (j, Some x) ∷ rest me.1 → Departing law at_home durable_of common_of j n 1 up None x me.0.view
+      → Allows (Rule k) slots id me (j + 2) up (abandons (x ∷ []) (durable_of x) (common_of x) n (step slots (j + 2) a 0 none) me)
+  abandons_by k slots id me j n a up x inside carried p s r deep at small =
+      let v : View V E = me.0.view in let same : v.seen ≡ v.seen ++ [] = sym (append_nil v.seen) in
+      let t = departs_at k slots id me j n 1 up None x (gone_at j x ∷ []) ((refl, refl, refl), tt) inside carried p s r deep at small in let b : j ≡ (j + 2) - 2 = omega arith in
+      (t.0, t.1, t.2, t.3, (subst (λ (z : ℕ). t.0.view ≡ abandoned_with z (x ∷ []) (without None z n (durable_of x) (common_of x) v)) b (t.4.0 ∙ (λ i. record v { seen = sym same i; joined = v.joined; backed = backed_after j (durable_of x) v.backed; common = common_after j (common_of x) v.common; reached = reach j n ∷ v.reached; held = except j v.held; given_up = gone_at j x ∷ v.given_up })), t.4.1, t.4.2))
 
 module _ {V E : Type 0} (legal : List V → List E → Type 0) (at_home : List V → ℕ → ℕ → ℕ → List E → ℕ → V → Type 0) (durable_of common_of : V → ℕ) (grows : (first : List V) (station number given durable later : ℕ) (history more : List E) (x : V) → at_home first station number given history durable x → durable ≤ later → at_home first station number given (history ++ more) later x) where
   pub leaves : (k : Opening V) (slots id : ℕ) (me : Me (Option V) (Mind V E)) (j n n' g d c a : ℕ) (up : ℕ → ℕ) (entry entry' : Option E) (x : V) (v : View V E) → entry' ≡ entry → d ≡ durable_of x → c ≡ common_of x → n' ≡ n → me.0.view ≡ v
@@ -219,3 +234,12 @@ module _ {V E : Type 0} (legal : List V → List E → Type 0) (at_home : List V
       let q = subst (λ (fs : List V). Departing (legal fs) (at_home fs) durable_of common_of j n g up entry x me.0.view) (r.each_seat id me.0 at).firsts p in
       subst (λ (z : Option E × ℕ × ℕ × ℕ). Allows (RuleOf legal at_home durable_of common_of k) slots id me (j + 2) up (left z.0 z.1 z.2 z.3 (step slots (j + 2) a 0 none) me)) (λ i. (sym joins i, sym durable i, sym common i, sym number i))
       (departs (legal (first_of k)) (at_home (first_of k)) durable_of common_of (grows (first_of k)) k slots id me j n g a up entry x inside carried q) s r deep at small
+
+  pub gives_up : (k : Opening V) (slots id : ℕ) (me : Me (Option V) (Mind V E)) (j n n' d c a : ℕ) (up : ℕ → ℕ) (x : V) (xs : List V) (v : View V E) → xs ≡ x ∷ [] → d ≡ durable_of x → c ≡ common_of x → n' ≡ n → me.0.view ≡ v
+      → Departing (legal v.first) (at_home v.first) durable_of common_of j n 1 up None x v → j < slots → me.1 ≡ (j, Some x) ∷ rest me.1
+      → Allows (RuleOf legal at_home durable_of common_of k) slots id me (j + 2) up (abandons xs d c n' (step slots (j + 2) a 0 none) me)
+  gives_up k slots id me j n n' d c a up x xs v values durable common number is departing inside carried s r deep at small =
+      let p = subst (λ (z : View V E). Departing (legal z.first) (at_home z.first) durable_of common_of j n 1 up None x z) (sym is) departing in
+      let q = subst (λ (fs : List V). Departing (legal fs) (at_home fs) durable_of common_of j n 1 up None x me.0.view) (r.each_seat id me.0 at).firsts p in
+      subst (λ (z : List V × ℕ × ℕ × ℕ). Allows (RuleOf legal at_home durable_of common_of k) slots id me (j + 2) up (abandons z.0 z.1 z.2 z.3 (step slots (j + 2) a 0 none) me)) (λ i. (sym values i, sym durable i, sym common i, sym number i))
+      (abandons_by (legal (first_of k)) (at_home (first_of k)) durable_of common_of (grows (first_of k)) k slots id me j n a up x inside carried q) s r deep at small

@@ -54,7 +54,7 @@ module _ {V E : Type 0} (law : List E → Type 0) (at_home : ℕ → ℕ → ℕ
           gone = omega arith;
           home = λ _. let x = at_values values j (omega arith) in let m = meet j x.0 x.1 in record { value = x.0; there = x.2; keeps = subst (λ (z : ℕ × ℕ). at_home j z.0 z.1 [] k.durable x.0) (λ i. (turn i, free i)) m.0; backed = m.1; common = λ some_name. named.1 j x.0 x.1 some_name };
         };
-        each_seat = λ i v e. subst (Knows k f (k.start ∷ k.durable ∷ replicate n (4 * k.start))) (alone _ v i e).1 record {
+        each_seat = λ i v e. subst (Knows k f (k.start ∷ k.durable ∷ replicate n (4 * k.start)) (map some (map Some values))) (alone _ v i e).1 record {
           starts = refl;
           wholes = refl;
           firsts = refl;
@@ -69,6 +69,7 @@ module _ {V E : Type 0} (law : List E → Type 0) (at_home : ℕ → ℕ → ℕ
           reached = λ j w _. omega arith;
           holds = tt;
           lives = λ held _. absurd (omega arith);
+          gone = tt;
           placed = placed_none k.start [];
           idle = λ _ _. refl;
         };

@@ -7,13 +7,14 @@ use native.Mathlib.Decide.{ℕ_discrete}
 use lib.ListN.{get_elem?}
 use Rattle.atomic_table.specs.Table.{State}
 use Rattle.atomic_table.proofs.Lists.{at_set, set_else}
+use Rattle.rep_ordered.specs.declared.view.GivenUp.{GivenUp}
 use Rattle.rep_ordered.specs.declared.view.Hold.{Hold}
 use Rattle.rep_ordered.specs.declared.view.Mind.{Mind}
 use Rattle.rep_ordered.specs.declared.rule.Opening.{Opening}
 use Rattle.rep_ordered.specs.Counts.{total, times, once_below, busy, gave}
-use Rattle.rep_ordered.specs.Views.{held_at, names, on}
-use Rattle.rep_ordered.specs.Rule.{Figures, Knows, Known, Home, Station, Kept}
-use Rattle.rep_ordered.proofs.Sums.{total_at, total_two, every_away}
+use Rattle.rep_ordered.specs.Views.{Every, held_at, names, on}
+use Rattle.rep_ordered.specs.Rule.{Figures, Gone, Knows, Known, Home, Station, Kept}
+use Rattle.rep_ordered.proofs.Sums.{total_at, total_two, every_away, every_map}
 use Rattle.rep_ordered.proofs.Owning.{append_nil, longer, placed_else}
 use Rattle.rep_ordered.proofs.Keeping.{one_holder, rebuilt}
 
@@ -25,13 +26,20 @@ module _ {E : Type 0} where
   abbrev pub after : Figures E → List E → ℕ → ℕ → Figures E
   after f more backed common = record f { history = f.history ++ more; backed = backed; common = common }
 
+-- what was given up stays so, where another station's word and slot change
+pub gone_on : {V : Type 0} (words : List ℕ) (homes homes' : List (maybe.Option (Option V))) (j x y : ℕ) (gs : List (GivenUp V)) → get_elem? words (j + 2) ≡ some x → gave x ≡ 0 → ((i : ℕ) → i ≢ j → get_elem? homes' i ≡ get_elem? homes i)
+    → Every (Gone words homes) gs → Every (Gone (set words (j + 2) y) homes') gs
+gone_on {V} words homes homes' j x y gs was here same all = every_map _ _ gs
+    (λ (g : GivenUp V) o. let apart : g.station ≢ j = (λ (e : g.station ≡ j). let w : o.word ≡ x = maybe.some-injective o.word x (sym o.there ∙ (ap (λ (n : ℕ). get_elem? words (n + 2)) e ∙ was)) in let a = o.gone in let b : gave o.word ≡ gave x = ap gave w in absurd (omega arith)) in
+    record { word = o.word; there = set_else words (j + 2) (g.station + 2) y (λ e. apart (omega arith)) ∙ o.there; gone = o.gone; home = same g.station apart ∙ o.home }) all
+
 module _ {V E : Type 0} where
   -- what another seat knows stays so
-  pub others_know : (k : Opening V) (f : Figures E) (j x y : ℕ) (more : List E) (backed common : ℕ) (words : List ℕ) (v : Mind V E) → get_elem? words (j + 2) ≡ some x → x / 4 ≤ y / 4
+  pub others_know : (k : Opening V) (f : Figures E) (j x y : ℕ) (more : List E) (backed common : ℕ) (words : List ℕ) (homes homes' : List (maybe.Option (Option V))) (v : Mind V E) → get_elem? words (j + 2) ≡ some x → gave x ≡ 0 → ((i : ℕ) → i ≢ j → get_elem? homes' i ≡ get_elem? homes i) → x / 4 ≤ y / 4
       → (j ≢ 0 → more ≡ []) → f.backed ≤ backed → (j ≢ 1 → backed ≡ f.backed) → f.common ≤ common → (0 < held_at 1 v.view.held + held_at 2 v.view.held → common ≡ f.common)
       → (0 < length more → (k.start + length f.history ≡ x / 4) × (length more ≡ 1) × (times (x / 4) v.view.own ≡ 0))
-      → on j v ≡ 0 → Knows k f words v → Knows k (after f more backed common) (set words (j + 2) y) v
-  others_know k f j x y more backed common words v was up kept risen same raised alike not_mine apart known = let b = known.below in let n = known.named in record {
+      → on j v ≡ 0 → Knows k f words homes v → Knows k (after f more backed common) (set words (j + 2) y) homes' v
+  others_know k f j x y more backed common words homes homes' v was here same_homes up kept risen same raised alike not_mine apart known = let b = known.below in let n = known.named in record {
     starts = known.starts;
     wholes = known.wholes;
     firsts = known.firsts;
@@ -55,6 +63,7 @@ module _ {V E : Type 0} where
           whole = λ none. r.whole none ∙ sym (nothing_more f.history more (kept (λ is. away (none ∙ sym is))));
         }) known.holds;
     lives = known.lives;
+    gone = gone_on words homes homes' j x y v.view.given_up was here same_homes known.gone;
     placed = placed_else k.start (x / 4) f.history more v.view.own v.view.joined not_mine known.placed;
     idle = known.idle;
   }
@@ -88,7 +97,7 @@ module _ {V E : Type 0} (law : List E → Type 0) (at_home : ℕ → ℕ → ℕ
   module _ (grows : (station number given durable later : ℕ) (history more : List E) (x : V) → at_home station number given history durable x → durable ≤ later → at_home station number given (history ++ more) later x) where
     -- the word of the station j goes from x to y, and its slot may be taken or given back
     pub moved : (k : Opening V) (s : St) (r : Kept law at_home durable_of common_of k s) (id : ℕ) (v w : Mind V E) (j x y : ℕ) (more : List E) (backed common : ℕ) (homes' : Homes) → get_elem? s.views id ≡ some v
-        → get_elem? s.words (j + 2) ≡ some x → x / 4 ≤ y / 4 → y / 4 ≤ r.figures.next
+        → get_elem? s.words (j + 2) ≡ some x → gave x ≡ 0 → x / 4 ≤ y / 4 → y / 4 ≤ r.figures.next
         → (j ≡ 0 → length more + x / 4 ≡ y / 4) → (j ≢ 0 → more ≡ []) → (0 < length more → (length more ≡ 1) × (0 < times (x / 4) v.view.own))
         → law (r.figures.history ++ more)
         → r.figures.backed ≤ backed → (j ≢ 1 → backed ≡ r.figures.backed)
@@ -98,10 +107,10 @@ module _ {V E : Type 0} (law : List E → Type 0) (at_home : ℕ → ℕ → ℕ
         → total (on j) s.views ≡ on j v → on j w ≡ busy y
         → gave y ≤ r.figures.stop → v.view.halted ≤ w.view.halted
         → (busy y ≡ 0 → Home law at_home durable_of common_of (after r.figures more backed common) homes' j (y / 4) (gave y))
-        → Knows k (after r.figures more backed common) (set s.words (j + 2) y) w
+        → Knows k (after r.figures more backed common) (set s.words (j + 2) y) homes' w
         → Known k (after r.figures more backed common) (set s.views id w)
         → Kept law at_home durable_of common_of k record { words = set s.words (j + 2) y; homes = homes'; views = set s.views id w }
-    moved k s r id v w j x y more backed common homes' at was up within counted_more kept joins lawful risen same raised named homes_same slots allowed own on_same alone mine_now gone halted home mine known =
+    moved k s r id v w j x y more backed common homes' at was not_gone up within counted_more kept joins lawful risen same raised named homes_same slots allowed own on_same alone mine_now gone halted home mine known =
         let f : Figures E = r.figures in let sp = r.spelled in let here = r.each_station j x was in
         let own_length : length w.view.own ≡ length v.view.own = ap length own in
         let none_at : j ≢ 0 → length more ≡ 0 = (λ nz. ap length (kept nz)) in
@@ -148,7 +157,7 @@ module _ {V E : Type 0} (law : List E → Type 0) (at_home : ℕ → ℕ → ℕ
         (at_set s.words (j + 2) (i + 2) y z e))
         mine
         (λ i d apart e. let two = total_two (on j) s.views id i v d (λ is. apart (sym is)) at e in
-        others_know k f j x y more backed common s.words d was up kept risen same raised (alike_for k s r id v i d common at apart e named)
+        others_know k f j x y more backed common s.words s.homes homes' d was not_gone homes_same up kept risen same raised (alike_for k s r id v i d common at apart e named)
         (λ some_more. let t = joins some_more in let long = t.0 in let mine_is = t.1 in let first : j ≡ 0 = (dite (ℕ_discrete j 0) (λ z. z) (λ nz. let l = none_at nz in absurd (omega arith))) in let a = here.counted first in
         let dealt = r.dealt in let once = dealt.drawn (x / 4) in let pair = total_two (λ (u : Mind V E). times (x / 4) u.view.own) s.views id i v d (λ is. apart (sym is)) at e in (omega arith, long, omega arith))
         (omega arith) (r.each_seat i d e))

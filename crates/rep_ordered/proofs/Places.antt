@@ -5,7 +5,7 @@ use Rattle.rep_ordered.specs.declared.view.Hold.{Hold}
 use Rattle.rep_ordered.specs.declared.view.Mind.{Mind}
 use Rattle.rep_ordered.specs.declared.view.View.{View}
 use Rattle.rep_ordered.specs.Counts.{one, times}
-use Rattle.rep_ordered.specs.Views.{Every, StartsWith, Later, Lives, hold, reach, held_at, reached_at, backed_after, common_after, both, with_number, knowing, except, without}
+use Rattle.rep_ordered.specs.Views.{abandoned_with, Every, StartsWith, Later, Lives, hold, reach, held_at, reached_at, backed_after, common_after, both, with_number, knowing, except, without}
 use Rattle.rep_ordered.specs.Steps.{Learns, Entered, Plain, Apart}
 use Rattle.atomic_table.specs.Table.{rest}
 use Rattle.rep_ordered.specs.Seats.{empty_slot, IsSeated}
@@ -107,6 +107,23 @@ module _ {V E : Type 0} where
   departed a b me m1 m2 i j n n' d d' c c' entry entry' x v size place joins durable common number is seated put left told gave =
       let before : m1.0.view ≡ v = ap (λ z. z.0.view) put ∙ is in
       let now : m2.0.view ≡ without entry j n d c v = left ∙ (λ k. without (joins k) (place k) (number k) (durable k) (common k) (before k)) in
+      let held : m2.0.view.held ≡ except j me.0.view.held = ap (λ (z : View V E). z.held) now ∙ ap (λ (z : View V E). except j z.held) (sym is) in (
+        record {
+          told = told ∙ (ap (λ z. z.0.told) put ∙ seated.told);
+          lives = subst Lives (sym now) (subst Lives is seated.lives);
+          slots = gave ∙ (ap (λ z. rest z.1) put ∙ ap (map empty_slot) (sym held));
+          inside = inside_of a b (except j me.0.view.held) m2.0.view.held size held (every_except (λ (h : Hold). h.station < a) j me.0.view.held seated.inside);
+          small = subst (λ (z : View V E). Small z.own) (sym now) (subst (λ (z : View V E). Small z.own) is seated.small);
+        },
+        now,
+      )
+
+  -- the same where it was given up
+  pub given_away : (a b : ℕ) (me m1 m2 : Me (Option V) (Mind V E)) (i j n n' d d' c c' : ℕ) (xs xs' : List V) (x : Option V) (v : View V E) → b ≡ a → i ≡ j → xs' ≡ xs → d' ≡ d → c' ≡ c → n' ≡ n → me.0.view ≡ v → IsSeated a me
+      → m1 ≡ (me.0, (j, x) ∷ map empty_slot (except j me.0.view.held)) → m2.0.view ≡ abandoned_with i xs' (without None i n' d' c' m1.0.view) → m2.0.told ≡ m1.0.told → m2.1 ≡ rest m1.1 → IsSeated b m2 × (m2.0.view ≡ abandoned_with j xs (without None j n d c v))
+  given_away a b me m1 m2 i j n n' d d' c c' xs xs' x v size place joins durable common number is seated put left told gave =
+      let before : m1.0.view ≡ v = ap (λ z. z.0.view) put ∙ is in
+      let now : m2.0.view ≡ abandoned_with j xs (without None j n d c v) = left ∙ (λ k. abandoned_with (place k) (joins k) (without None (place k) (number k) (durable k) (common k) (before k))) in
       let held : m2.0.view.held ≡ except j me.0.view.held = ap (λ (z : View V E). z.held) now ∙ ap (λ (z : View V E). except j z.held) (sym is) in (
         record {
           told = told ∙ (ap (λ z. z.0.told) put ∙ seated.told);

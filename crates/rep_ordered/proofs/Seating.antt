@@ -14,7 +14,7 @@ use Rattle.rep_ordered.specs.declared.rule.Opening.{Opening}
 use Rattle.rep_ordered.specs.Counts.{one}
 use Rattle.rep_ordered.specs.Views.{held_at, allowance_of, count_of, drew, on, halted_of, spent, giving, given, both, untold}
 use Rattle.rep_ordered.specs.Rule.{Figures, Knows, Kept}
-use Rattle.rep_ordered.proofs.Sums.{total_append, total_snoc, total_at, total_set, total_two, every_map, below_length, reached_both}
+use Rattle.rep_ordered.proofs.Sums.{total_append, total_snoc, total_at, total_set, total_two, every_append, every_map, below_length, reached_both}
 use Rattle.rep_ordered.proofs.Owning.{placed_none, placed_both}
 
 -- the greater of two that know of the halt and the durable number
@@ -45,7 +45,7 @@ module _ {V E : Type 0} (law : List E → Type 0) (at_home : ℕ → ℕ → ℕ
         };
         each_seat = λ i u e. ⊎_elim
             (λ (here : get_elem? vs i ≡ some u). ⊎_elim
-            (λ (t : (i ≡ id) × (left ≡ u)). subst (Knows k f s.words) t.1 record {
+            (λ (t : (i ≡ id) × (left ≡ u)). subst (Knows k f s.words s.homes) t.1 record {
               starts = known.starts;
               wholes = known.wholes;
               firsts = known.firsts;
@@ -60,11 +60,12 @@ module _ {V E : Type 0} (law : List E → Type 0) (at_home : ℕ → ℕ → ℕ
               reached = known.reached;
               holds = known.holds;
               lives = λ _ _. omega arith;
+              gone = known.gone;
               placed = known.placed;
               idle = λ _ none_left. absurd (omega arith);
             })
             (λ (t : (i ≢ id) × (get_elem? s.views i ≡ some u)). r.each_seat i u t.1) (at_set s.views id i left u here))
-            (λ (is : right ≡ u). subst (Knows k f s.words) is record {
+            (λ (is : right ≡ u). subst (Knows k f s.words s.homes) is record {
               starts = known.starts;
               wholes = known.wholes;
               firsts = known.firsts;
@@ -79,6 +80,7 @@ module _ {V E : Type 0} (law : List E → Type 0) (at_home : ℕ → ℕ → ℕ
               reached = known.reached;
               holds = tt;
               lives = λ held _. absurd (omega arith);
+              gone = tt;
               placed = placed_none k.start f.history;
               idle = λ _ none_left. absurd (omega arith);
             }) (at_snoc vs right u i e);
@@ -126,7 +128,7 @@ module _ {V E : Type 0} (law : List E → Type 0) (at_home : ℕ → ℕ → ℕ
           home = o.home;
         };
         each_seat = λ i u e. ⊎_elim
-            (λ (t : (i ≡ other) × (z ≡ u)). subst (Knows k f s.words) t.1 record {
+            (λ (t : (i ≡ other) × (z ≡ u)). subst (Knows k f s.words s.homes) t.1 record {
               starts = omega arith;
               wholes = omega arith;
               firsts = sym firsts ∙ kv.firsts;
@@ -141,11 +143,12 @@ module _ {V E : Type 0} (law : List E → Type 0) (at_home : ℕ → ℕ → ℕ
               reached = λ j y _. omega arith;
               holds = tt;
               lives = λ held _. absurd (omega arith);
+              gone = tt;
               placed = placed_none k.start f.history;
               idle = λ _ _. refl;
             })
             (λ (t : (i ≢ other) × (get_elem? vs i ≡ some u)). ⊎_elim
-            (λ (q : (i ≡ id) × (b ≡ u)). subst (Knows k f s.words) q.1 record {
+            (λ (q : (i ≡ id) × (b ≡ u)). subst (Knows k f s.words s.homes) q.1 record {
               starts = kv.starts;
               wholes = kv.wholes;
               firsts = kv.firsts;
@@ -160,6 +163,7 @@ module _ {V E : Type 0} (law : List E → Type 0) (at_home : ℕ → ℕ → ℕ
               reached = λ j y there_now. reached_both j (y / 4) v.reached w.reached (kv.reached j y there_now) (kw.reached j y there_now);
               holds = every_map _ _ v.held (λ (h : Hold) o. record { word = o.word; taken = o.taken; floor = o.floor; drawn = λ ticket. let x = o.drawn ticket in let l = total_append (one (h.word / 4)) v.own w.own in omega arith; whole = o.whole }) kv.holds;
               lives = λ held some_number. let x = kv.lives held some_number in let l : length (v.own ++ w.own) ≡ length v.own + length w.own = length-append v.own w.own in omega arith;
+              gone = every_append _ v.given_up w.given_up kv.gone kw.gone;
               placed = placed_both k.start f.history v.own w.own v.joined w.joined kv.placed kw.placed;
               idle = λ some none_left. let l : length (v.own ++ w.own) ≡ length v.own + length w.own = length-append v.own w.own in let x = kv.idle some (omega arith) in let y = kw.idle some (omega arith) in omega arith;
             })

@@ -1,8 +1,9 @@
 -- The first and the last of a lock: the values that it is made with, and those that it gives back.
 use Rattle.std.specs.Prelude.{◌≡◌, ℕ, ◌+◌, ◌<◌, ◌≤◌, Option, Some, List, [], length, slice_get}
+use Rattle.rep_ordered.specs.declared.view.GivenUp.{GivenUp}
 use Rattle.rep_ordered.specs.declared.view.View.{View}
 use Rattle.rep_ordered.specs.Counts.{times, once_below}
-use Rattle.rep_ordered.specs.Views.{Sees, held_at, reached_at, names}
+use Rattle.rep_ordered.specs.Views.{Every, Sees, held_at, reached_at, names}
 use Rattle.rep_ordered.specs.Rule.{Meets}
 
 -- the values of stations 1 and 2 name the same number
@@ -22,6 +23,8 @@ module _ {V E : Type 0} (law : List E → Type 0) (at_home : ℕ → ℕ → ℕ
     -- 1 where the station was given up, else 0: after a halt alone, of which the seat knows
     pub given : ℕ
     pub halted : given ≤ v.halted
+    -- where a seat gave the station up, it is the value that it gave back then
+    pub kept : Every (λ (g : GivenUp V). g.station ≡ j → g.value ≡ value) v.given_up
     -- it meets what may lie at home there, at the history that the seat saw
     pub keeps : at_home j number given v.seen durable value
     pub backed : j ≡ 1 → (v.backed ≤ durable_of value) × (durable ≤ durable_of value)

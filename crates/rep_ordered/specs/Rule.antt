@@ -4,6 +4,7 @@ use Rattle.std.specs.Prelude.{◌≡◌, ℕ, ◌+◌, ◌*◌, ◌/◌, ◌%◌
 use mathlib.Core.Option as maybe
 use lib.ListN.{get_elem?}
 use Rattle.atomic_table.specs.Table.{State}
+use Rattle.rep_ordered.specs.declared.view.GivenUp.{GivenUp}
 use Rattle.rep_ordered.specs.declared.view.Hold.{Hold}
 use Rattle.rep_ordered.specs.declared.view.Mind.{Mind}
 use Rattle.rep_ordered.specs.declared.rule.Opening.{Opening}
@@ -30,6 +31,13 @@ pub record HoldIsRight {E : Type 0} (f : Figures E) (words : List ℕ) (own : Li
   pub drawn : h.word % 4 ≡ 1 → 0 < times (h.word / 4) own
   pub whole : h.station ≡ 0 → seen ≡ f.history
 
+-- the station was given up, and has this value at home
+pub record Gone {V : Type 0} (words : List ℕ) (homes : List (maybe.Option (Option V))) (g : GivenUp V) : Type 0 where
+  pub word : ℕ
+  pub there : get_elem? words (g.station + 2) ≡ maybe.some word
+  pub gone : gave word ≡ 1
+  pub home : get_elem? homes g.station ≡ maybe.some (maybe.some (Some g.value))
+
 module _ {V E : Type 0} where
   -- what the first two words mean, and the limits
   pub record Spelled (k : Opening V) (f : Figures E) (words : List ℕ) (slots : ℕ) : Type 0 where
@@ -49,7 +57,7 @@ module _ {V E : Type 0} where
     pub drawn : (x : ℕ) → total (drew x) views + once_below x k.start ≡ once_below x next
 
   -- what a seat knows is so
-  pub record Knows (k : Opening V) (f : Figures E) (words : List ℕ) (m : Mind V E) : Type 0 where
+  pub record Knows (k : Opening V) (f : Figures E) (words : List ℕ) (homes : List (maybe.Option (Option V))) (m : Mind V E) : Type 0 where
     pub starts : m.view.start ≡ k.start
     pub wholes : m.view.whole ≡ k.whole
     pub firsts : m.view.first ≡ first_of k
@@ -65,6 +73,8 @@ module _ {V E : Type 0} where
     pub reached : (j w : ℕ) → get_elem? words (j + 2) ≡ maybe.some w → reached_at j m.view.reached ≤ w / 4
     pub holds : Every (HoldIsRight f words m.view.own m.view.seen) m.view.held
     pub lives : 0 < length m.view.held → 0 < k.whole → 0 < m.view.allowance + length m.view.own
+    -- nobody enters a station again that was given up
+    pub gone : Every (Gone words homes) m.view.given_up
     pub placed : Placed k.start f.history m.view.own m.view.joined
     -- who may not act any more, having been joined to another, knows of no halt
     pub idle : 0 < k.whole → m.view.allowance + length m.view.own ≡ 0 → m.view.halted ≡ 0
@@ -105,7 +115,7 @@ module _ {V E : Type 0} (law : List E → Type 0) (at_home : ℕ → ℕ → ℕ
     pub spelled : Spelled k figures s.words (length s.homes)
     pub dealt : Dealt k figures.next s.views
     pub each_station : (j w : ℕ) → get_elem? s.words (j + 2) ≡ maybe.some w → Station k figures s.homes (total (on j) s.views) j w
-    pub each_seat : (i : ℕ) (m : Mind V E) → get_elem? s.views i ≡ maybe.some m → Knows k figures s.words m
+    pub each_seat : (i : ℕ) (m : Mind V E) → get_elem? s.views i ≡ maybe.some m → Knows k figures s.words s.homes m
     pub known : Known k figures s.views
     -- where there is no number at all, there is one seat
     pub lone : k.whole ≡ 0 → length s.views ≡ 1

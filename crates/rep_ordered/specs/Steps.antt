@@ -5,7 +5,7 @@ use Rattle.rep_ordered.specs.declared.view.Hold.{Hold}
 use Rattle.rep_ordered.specs.declared.view.Mind.{Mind}
 use Rattle.rep_ordered.specs.declared.view.View.{View}
 use Rattle.rep_ordered.specs.Counts.{times}
-use Rattle.rep_ordered.specs.Views.{Every, StartsWith, Sees, held_at, reached_at, hold, reach, backed_after, common_after, names, turn_of, word_at, with_number, knowing, except, without}
+use Rattle.rep_ordered.specs.Views.{abandoned_with, Every, StartsWith, Sees, held_at, reached_at, hold, reach, backed_after, common_after, names, turn_of, word_at, with_number, knowing, except, without}
 use Rattle.rep_ordered.specs.Seats.{empty_slot}
 
 module _ {V E : Type 0} where
@@ -108,3 +108,7 @@ module _ {V E : Type 0} where
   -- the station's word is changed, and its slot given back
   abbrev pub left : Option E → ℕ → ℕ → ℕ → Step (Option V) → Me (Option V) (Mind V E) → ℕ → Me (Option V) (Mind V E) → Type 0
   left entry durable common number st m r m' = (m'.0.view ≡ without entry (st.word - 2) number durable common m.0.view) × (m'.0.told ≡ m.0.told) × (m'.1 ≡ rest m.1)
+
+  -- the same of a station that is given up with these values, of which there is one
+  abbrev pub abandons : List V → ℕ → ℕ → ℕ → Step (Option V) → Me (Option V) (Mind V E) → ℕ → Me (Option V) (Mind V E) → Type 0
+  abandons xs durable common number st m r m' = (m'.0.view ≡ abandoned_with (st.word - 2) xs (without None (st.word - 2) number durable common m.0.view)) × (m'.0.told ≡ m.0.told) × (m'.1 ≡ rest m.1)

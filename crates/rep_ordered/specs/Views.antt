@@ -1,5 +1,6 @@
 -- Words on what a seat knows.
-use Rattle.std.specs.Prelude.{◌≡◌, ℕ, ◌+◌, ◌-◌, ◌/◌, ◌%◌, ◌<◌, ◌≤◌, ◌==◌, if◌then◌else◌, max, Option, Some, None, List, [], ◌∷◌, ◌++◌, length}
+use Rattle.std.specs.Prelude.{◌≡◌, ℕ, ◌+◌, ◌-◌, ◌/◌, ◌%◌, ◌<◌, ◌≤◌, ◌==◌, if◌then◌else◌, max, Option, Some, None, List, [], ◌∷◌, ◌++◌, length, map}
+use Rattle.rep_ordered.specs.declared.view.GivenUp.{GivenUp}
 use Rattle.rep_ordered.specs.declared.view.Hold.{Hold}
 use Rattle.rep_ordered.specs.declared.view.Joined.{Joined}
 use Rattle.rep_ordered.specs.declared.view.Reached.{Reached}
@@ -72,6 +73,10 @@ names j = one j 1 + one j 2
 abbrev pub common_after : ℕ → ℕ → ℕ → ℕ
 common_after j seen known = if names j == 0 then known else seen
 
+-- a station that was given up with this value
+abbrev pub gone_at : {V : Type 0} → ℕ → V → GivenUp V
+gone_at j x = record { station = j; value = x }
+
 module _ {E : Type 0} where
   -- the entry stands in the history at its number, which is among the seat's own
   pub record OwnEntry (start : ℕ) (history : List E) (own : List ℕ) (o : Joined E) : Type 0 where
@@ -107,11 +112,11 @@ module _ {V E : Type 0} where
 
   -- the first seat's view: it has the whole allowance, and knows the durable number that the lock is made with
   abbrev pub opened : ℕ → ℕ → List V → ℕ → View V E
-  opened start whole first durable = record { start = start; whole = whole; first = first; allowance = whole; seen = []; own = []; joined = []; durable = durable; halted = 0; backed = durable; common = 0; reached = []; held = [] }
+  opened start whole first durable = record { start = start; whole = whole; first = first; allowance = whole; seen = []; own = []; joined = []; durable = durable; halted = 0; backed = durable; common = 0; reached = []; held = []; given_up = [] }
 
   -- the view of a seat that was joined to another
   abbrev pub spent : ℕ → ℕ → List V → View V E
-  spent start whole first = record { start = start; whole = whole; first = first; allowance = 0; seen = []; own = []; joined = []; durable = 0; halted = 0; backed = 0; common = 0; reached = []; held = [] }
+  spent start whole first = record { start = start; whole = whole; first = first; allowance = 0; seen = []; own = []; joined = []; durable = 0; halted = 0; backed = 0; common = 0; reached = []; held = []; given_up = [] }
 
   abbrev pub with_number : ℕ → View V E → View V E
   with_number n v = record v { allowance = v.allowance - 1; own = v.own ++ n ∷ [] }
@@ -121,11 +126,11 @@ module _ {V E : Type 0} where
 
   -- a seat that was split off: it has seen as much, and has drawn and holds nothing
   abbrev pub given : ℕ → View V E → View V E
-  given give v = record v { allowance = give; own = []; joined = []; held = [] }
+  given give v = record v { allowance = give; own = []; joined = []; held = []; given_up = [] }
 
   -- two views in one, but for what the second has seen of the history
   abbrev pub both : View V E → View V E → View V E
-  both v w = record v { allowance = v.allowance + w.allowance; own = v.own ++ w.own; joined = v.joined ++ w.joined; durable = max v.durable w.durable; halted = max v.halted w.halted; backed = max v.backed w.backed; common = max v.common w.common; reached = v.reached ++ w.reached }
+  both v w = record v { allowance = v.allowance + w.allowance; own = v.own ++ w.own; joined = v.joined ++ w.joined; durable = max v.durable w.durable; halted = max v.halted w.halted; backed = max v.backed w.backed; common = max v.common w.common; reached = v.reached ++ w.reached; given_up = v.given_up ++ w.given_up }
 
   -- the same seat, which knows the history and the durable word as they are now
   abbrev pub knowing : List E → ℕ → ℕ → View V E → View V E
@@ -173,6 +178,14 @@ module _ {V E : Type 0} where
   -- the station is left: the entry has joined the history at the number of the turn, the station's turn is at n, and its value names this durable number and this one for stations 1 and 2. The other stations are held as before
   abbrev pub without : Option E → ℕ → ℕ → ℕ → ℕ → View V E → View V E
   without entry j n durable common v = record v { seen = grown v.seen entry; joined = joining entry (turn_of j v) v.joined; backed = backed_after j durable v.backed; common = common_after j common v.common; reached = reach j n ∷ v.reached; held = except j v.held }
+
+  -- the station was given up with these values, of which there is one
+  abbrev pub abandoned_with : ℕ → List V → View V E → View V E
+  abandoned_with j xs v = record v { given_up = map (gone_at j) xs ++ v.given_up }
+
+  -- the station was given up with this value
+  abbrev pub abandoned : ℕ → V → View V E → View V E
+  abandoned j x v = record v { given_up = gone_at j x ∷ v.given_up }
 
   -- a seat that may still act: it may draw a number or has drawn one, unless there is none at all
   abbrev pub Lives : View V E → Type 0

@@ -2,7 +2,7 @@
 
 ghost use Rattle.std.specs.Prelude.{ℕ, Option, None, List, []};
 ghost use Rattle.rep_ordered.specs.Views.{giving, given, both, spent, untold};
-ghost use Rattle.rep_ordered.specs.Steps.{claimed, loaded, fronted, raised, stopped, tried, brought, left};
+ghost use Rattle.rep_ordered.specs.Steps.{claimed, loaded, fronted, raised, stopped, tried, brought, left, abandons};
 
 use crate::rule::Keeps;
 use crate::view::Mind;
@@ -88,6 +88,39 @@ pub(crate) struct Leave<L> {
 
 impl<V, E, L: Leaving<E>> Play<Option<V>, Mind<V, E>> for Leave<L> {
     ghost then = { left L.entry L.durable L.common L.number };
+}
+
+/// How a station is given up. A call picks it.
+pub(crate) trait Abandoning<V> {
+    // The values that are given back: there is one.
+    ghost values: { List V };
+
+    // The durable number that it names.
+    ghost durable: { ℕ };
+
+    // The number that it names for stations 1 and 2.
+    ghost common: { ℕ };
+
+    // The number of the station's turn.
+    ghost number: { ℕ };
+}
+
+impl<V> Abandoning<V> for Brand {
+    ghost values = { [] };
+
+    ghost durable = { 0 };
+
+    ghost common = { 0 };
+
+    ghost number = { 0 };
+}
+
+pub(crate) struct Abandon<L> {
+    abandoning: PhantomData<L>,
+}
+
+impl<V, E, L: Abandoning<V>> Play<Option<V>, Mind<V, E>> for Abandon<L> {
+    ghost then = { abandons L.values L.durable L.common L.number };
 }
 
 /// How many numbers a new seat may draw. A call picks it.

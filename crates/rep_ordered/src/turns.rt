@@ -1,13 +1,13 @@
 //! The turns: how a station is entered and left.
 
-ghost use Rattle.std.specs.Prelude.{◌≡◌, ◌≢◌, ℕ, ◌+◌, ◌/◌, ◌<◌, ◌≤◌, IfOk, IfErr, IsErr, IfSome, IfNone, IsSome, IsNone, Option, Some, None, ◌∷◌, map};
+ghost use Rattle.std.specs.Prelude.{◌≡◌, ◌≢◌, ℕ, ◌+◌, ◌/◌, ◌<◌, ◌≤◌, IfOk, IfErr, IsErr, IfSome, IfNone, IsSome, IsNone, Option, Some, None, [], ◌∷◌, map};
 ghost use Rattle.rep_ordered.specs.Counts.{times};
-ghost use Rattle.rep_ordered.specs.Views.{HoldsTurn, HoldsSide, Holds, Later, Names, Sees, except, floor_of, grown, names, turn_of, without};
+ghost use Rattle.rep_ordered.specs.Views.{HoldsTurn, HoldsSide, Holds, Later, Names, Sees, abandoned, except, floor_of, grown, names, turn_of, without};
 ghost use Rattle.rep_ordered.specs.Steps.{Entered};
 ghost use Rattle.rep_ordered.specs.Seats.{IsSeated, empty_slot, seat_of, stations_of};
 
 use crate::lock::OrderedLock;
-use crate::plays::{Bring, ByTicket, FromSide, Leave, Leaving};
+use crate::plays::{Abandon, Abandoning, Bring, ByTicket, FromSide, Leave, Leaving};
 use crate::rule::Keeps;
 use crate::seat::Seat;
 use crate::view::Mind;
@@ -259,7 +259,8 @@ impl<V: Keeps<E>, E> OrderedLock<V, E> {
     }
 
     /// Gives up a station, however it was entered and whatever else the seat holds, once the seat saw
-    /// that the lock was halted. The value goes home, and the seat holds its other stations as before.
+    /// that the lock was halted. The value goes home, nobody enters the station again, and `close` gives
+    /// that value. The seat holds its other stations as before.
     ///
     /// The value may lie at home there as one that was given up: at the number at which the station was
     /// entered, at what the seat has seen of the history, and at the durable number that it has seen.
@@ -272,24 +273,24 @@ impl<V: Keeps<E>, E> OrderedLock<V, E> {
         requires value { V.at_home seat.old.view.first station (turn_of station seat.old.view) 1 seat.old.view.seen seat.old.view.durable value }
         requires floor { station ≡ 1 → floor_of station seat.old.view ≤ V.durable_of value }
         requires common { 0 < names station → Names seat.old.view (V.common_of value) }
-        ensures seat { seat.new ≡ seat_of seat.old.lock (without None station (turn_of station seat.old.view) (V.durable_of value) (V.common_of value) seat.old.view) }
+        ensures seat { seat.new ≡ seat_of seat.old.lock (abandoned station value (without None station (turn_of station seat.old.view) (V.durable_of value) (V.common_of value) seat.old.view)) }
     {
         self.give_up_as::<Brand>(seat, station, value);
     }
 
-    fn give_up_as<L: Leaving<E>>(&self, seat: &mut Seat<V, E>, station: usize, value: V)
+    fn give_up_as<L: Abandoning<V>>(&self, seat: &mut Seat<V, E>, station: usize, value: V)
         requires lock { seat.old.lock ≡ self.now }
         requires halted { seat.old.view.halted ≡ 1 }
         requires holds { Holds seat.old.view station }
         requires value { V.at_home seat.old.view.first station (turn_of station seat.old.view) 1 seat.old.view.seen seat.old.view.durable value }
         requires floor { station ≡ 1 → floor_of station seat.old.view ≤ V.durable_of value }
         requires common { 0 < names station → Names seat.old.view (V.common_of value) }
-        requires pick { (L.entry ≡ None) × (L.durable ≡ V.durable_of value) × (L.common ≡ V.common_of value) × (L.number ≡ turn_of station seat.old.view) }
-        ensures seat { seat.new ≡ seat_of seat.old.lock (without None station (turn_of station seat.old.view) (V.durable_of value) (V.common_of value) seat.old.view) }
+        requires pick { (L.values ≡ value ∷ []) × (L.durable ≡ V.durable_of value) × (L.common ≡ V.common_of value) × (L.number ≡ turn_of station seat.old.view) }
+        ensures seat { seat.new ≡ seat_of seat.old.lock (abandoned station value (without None station (turn_of station seat.old.view) (V.durable_of value) (V.common_of value) seat.old.view)) }
     {
         self.put_back(&mut seat.seat, station, value);
         self.table
             .shared
-            .fetch_or::<Leave<L>>(&mut seat.seat, station + 2, GIVEN_UP);
+            .fetch_or::<Abandon<L>>(&mut seat.seat, station + 2, GIVEN_UP);
     }
 }

@@ -20,6 +20,12 @@ pub struct Joined<E> {
     pub entry: E,
 }
 
+/// A value with which a seat gave up a station.
+pub struct GivenUp<V> {
+    pub station: u64,
+    pub value: V,
+}
+
 /// A number that a station's turn had reached.
 pub struct Reached {
     pub station: u64,
@@ -55,6 +61,8 @@ pub struct View<V, E> {
     pub reached: LinkedList<Reached>,
     /// The stations that it holds, the one that it entered last first.
     pub held: LinkedList<Hold>,
+    /// What it gave up, the latest first.
+    pub given_up: LinkedList<GivenUp<V>>,
 }
 
 /// What the table keeps of a seat.

@@ -95,6 +95,7 @@ ends_as v values closed x y seat passed p q = let f = first_is v.first p.number 
         front = at_second.front;
         begins = at_second.below.begins;
         holds = at_second.holds;
+        least = at_second.low;
         low = omega arith;
         high = at_second.high;
         whole = λ running. (all running, at_second.works (omega arith));
@@ -121,6 +122,7 @@ ends_before v w c e later halted seen h = let first : w.first ≡ v.first = ap (
   front = h.front;
   begins = subst (λ l. StartsWith l h.front) seen h.begins;
   holds = h.holds ∙ ap (λ (fs : List Home). order_of fs ++ map item_of h.front) first;
+  least = subst (λ (fs : List Home). length (order_of fs) ≤ e.durable) first h.least;
   low = omega arith;
   high = h.high;
   whole = λ running. let t = h.whole (omega arith) in (t.0 ∙ seen, t.1);
@@ -156,3 +158,25 @@ same_certifier a b is = ap (certifier_or a) is
 
 pub same_engine_value : (a b : Engine) → AtSecond a ≡ AtSecond b → a ≡ b
 same_engine_value a b is = ap (engine_or a) is
+
+-- of two lists that are put together to the same, the longer first one begins with the shorter
+front_of : {A : Type 0} (a b more rest : List A) → a ++ more ≡ b ++ rest → length b ≤ length a → StartsWith a b
+front_of a [] more rest e long = (a, refl)
+front_of [] (y ∷ b) more rest e long = absurd (omega arith)
+front_of (x ∷ a) (y ∷ b) more rest e long = let t = front_of a b more rest (ap (rest_of) e) (omega arith) in (t.0, λ i. ap (head_of x) e i ∷ t.1 i)
+  where
+    head_of : {A : Type 0} → A → List A → A
+    head_of d [] = d
+    head_of d (z ∷ zs) = z
+
+    rest_of : {A : Type 0} → List A → List A
+    rest_of [] = []
+    rest_of (z ∷ zs) = zs
+
+-- the log at the end begins with the order that the node was started from
+pub log_begins : (v : View Home Done) (c : Certifier) (e : Engine) (log : List ℕ) → EndsAs v c e → order_of v.first ≡ log → StartsWith e.log.items log
+log_begins v c e log h is = let least = h.least in let high = h.high in subst (λ l. StartsWith e.log.items l) is (front_of e.log.items (order_of v.first) e.backlog.items (map item_of h.front) h.holds (omega arith))
+
+-- without a halt the certifier has judged what the engine has
+pub certifier_follows : (v : View Home Done) (c : Certifier) (e : Engine) → EndsAs v c e → v.halted ≡ 0 → Follows (e.log.items ++ e.backlog.items) c
+certifier_follows v c e h running = subst (λ l. Follows l c) (sym (h.holds ∙ ap (λ (l : List Done). order_of v.first ++ map item_of l) (h.whole running).0)) (h.follows running)

@@ -59,6 +59,7 @@ pub record EndsAs (v : View Home Done) (c : Certifier) (e : Engine) : Type 0 whe
   pub front : List Done
   pub begins : StartsWith v.seen front
   pub holds : e.log.items ++ e.backlog.items ≡ order_of v.first ++ map item_of front
+  pub least : length (order_of v.first) ≤ e.durable
   pub low : v.durable ≤ e.durable
   pub high : e.durable ≤ length e.log.items
   pub whole : v.halted ≡ 0 → (front ≡ v.seen) × IsFalse e.failed

@@ -1,6 +1,6 @@
 //! How the node is started and closed.
 
-ghost use Rattle.std.specs.Prelude.{◌≡◌, ◌+◌, ◌-◌, ◌≤◌, ◌↔◌, [], length, IfOk, IfErr, IsTrue};
+ghost use Rattle.std.specs.Prelude.{◌≡◌, ◌+◌, ◌-◌, ◌≤◌, [], ◌++◌, length, IfOk, IfErr, IsTrue, IsFalse};
 ghost use Rattle.rep_ordered.specs.Views.{opened};
 ghost use Rattle.rep_ordered.specs.Seats.{seat_of, stations_of};
 ghost use Rattle.rep_ordered_node.specs.Homes.{order_of};
@@ -21,6 +21,42 @@ pub struct Parts {
     pub certifier: Certifier,
     pub engine: Engine,
     pub stopped: bool,
+}
+
+impl Parts {
+    /// Parts without items, with an engine that fails after so many syncs.
+    pub fn new(alloc: Global, syncs: u64) -> Parts
+        ensures quiet { Quiet result.engine }
+        ensures follows { Follows result.engine.log.items result.certifier }
+        ensures empty { result.engine.log.items ≡ [] }
+    {
+        Parts {
+            certifier: Certifier {
+                delivered: 0,
+                highest: 0,
+                commits: Vec::new(alloc),
+            },
+            engine: Engine {
+                log: Vec::new(alloc),
+                backlog: Vec::new(alloc),
+                durable: 0,
+                syncs,
+                failed: false,
+            },
+            stopped: false,
+        }
+    }
+
+    /// Whether a node can be started from these parts: it was not stopped, nothing waits and all is
+    /// durable.
+    pub fn is_ready(&self) -> bool
+        requires runs { IsFalse self.now.stopped → IsFalse self.now.engine.failed × Follows (self.now.engine.log.items ++ self.now.engine.backlog.items) self.now.certifier }
+        ensures quiet { IsTrue result → Quiet self.now.engine }
+        ensures follows { IsTrue result → Follows self.now.engine.log.items self.now.certifier }
+    {
+        let engine = &self.engine;
+        !self.stopped && engine.backlog.is_empty() && engine.durable == engine.log.len() as u64
+    }
 }
 
 /// Starts the node from these parts: all items are durable, and the certifier has judged them. The
@@ -85,7 +121,7 @@ pub fn close(lock: OrderedLock<Home, Done>, mut seat: Seat<Home, Done>) -> Parts
     requires free { seat.view.held ≡ [] }
     requires all { seat.view.allowance + length seat.view.own ≡ seat.view.whole }
     requires passed { PassedOrStopped seat.view }
-    ensures stopped { IsTrue result.stopped ↔ (seat.view.halted ≡ 1) }
+    ensures stopped { (IsTrue result.stopped → seat.view.halted ≡ 1) × (IsFalse result.stopped → seat.view.halted ≡ 0) }
     ensures legal { Legal (order_of seat.view.first) seat.view.seen }
     ensures ends { EndsAs seat.view result.certifier result.engine }
 {

@@ -1,6 +1,6 @@
 //! Two threads run the node.
 
-ghost use Rattle.std.specs.Prelude.{◌≡◌, ◌+◌, ◌<◌, ◌≤◌, [], length, IfOk, IfErr, OnOk, IsFalse, ◌⊎◌};
+ghost use Rattle.std.specs.Prelude.{◌≡◌, ◌+◌, ◌<◌, ◌≤◌, [], ◌++◌, length, IfOk, IfErr, OnOk, IsFalse};
 ghost use Rattle.std.specs.Thread.{IsSync};
 ghost use Rattle.rep_ordered.specs.Views.{StartsWith};
 ghost use Rattle.rep_ordered.specs.Seats.{stations_of};
@@ -34,6 +34,7 @@ pub fn submit_all<R: Wait>(
     ensures lock { seat.new.lock ≡ seat.old.lock }
     ensures went { Went seat.old.view seat.new.view }
     ensures passed { PassedOrStopped seat.new.view }
+    ensures drawn { OnOk result (length seat.new.view.own ≡ length seat.old.view.own + length items.now) }
     ensures stopped { IfErr result (λ refusal. (refusal ≡ Refusal.Stopped) × (seat.new.view.halted ≡ 1)) }
 {
     for item in items {
@@ -42,9 +43,10 @@ pub fn submit_all<R: Wait>(
     Ok(())
 }
 
-/// One thread submits the items, while another makes them durable: what the node is closed with. It
-/// stops where the engine fails, or there is no memory. The engine then still has all that it began
-/// with.
+/// One thread submits the items, while another makes them durable: what the node is closed with. The
+/// engine's log begins with what it had. Where the node was not stopped, the engine works, and the
+/// certifier has judged what the engine has, so that a node can be started from the two again. It stops
+/// where the engine fails, or there is no memory.
 pub fn run_by_two<R: Threads + Wait + Sync>(
     rt: &R,
     alloc: Global,
@@ -55,7 +57,8 @@ pub fn run_by_two<R: Threads + Wait + Sync>(
     requires quiet { Quiet engine }
     requires follows { Follows engine.log.items certifier }
     requires limit { length engine.log.items + length items.now + 1 < MAX_SEQNO }
-    ensures begins { IfOk result (λ parts. engine.durable ≤ parts.engine.durable) }
+    ensures begins { IfOk result (λ parts. StartsWith parts.engine.log.items engine.log.items) }
+    ensures runs { IfOk result (λ parts. IsFalse parts.stopped → IsFalse parts.engine.failed × Follows (parts.engine.log.items ++ parts.engine.backlog.items) parts.certifier) }
     ensures refused { IfErr result (λ refusal. refusal ≡ Refusal.OutOfMemory) }
 {
     let last = engine.durable + items.len() as u64;

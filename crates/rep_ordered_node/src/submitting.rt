@@ -108,7 +108,7 @@ pub fn submit<R: Wait>(
     ensures joined { Joins item seat.old.view seat.new.view }
     ensures sees { Sees (Legal (order_of seat.old.view.first)) seat.new.view }
     ensures stands { IfOk result (λ done. OwnEntry seat.new.view.start seat.new.view.seen seat.new.view.own (own_entry done)) }
-    ensures receipt { IfOk result (λ done. (done.item ≡ item) × (done.seqno ≤ seat.new.view.durable) × (seat.old.view.start + length seat.old.view.seen ≤ done.seqno)) }
+    ensures receipt { IfOk result (λ done. (done.item ≡ item) × (seat.new.view.joined ≡ own_entry done ∷ seat.old.view.joined) × (done.seqno ≤ seat.new.view.durable) × (seat.old.view.start + length seat.old.view.seen ≤ done.seqno)) }
     ensures passed { PassedOrStopped seat.old.view → PassedOrStopped seat.new.view }
     ensures stopped { IfErr result (λ refusal. (refusal ≡ Refusal.Stopped) × (seat.new.view.halted ≡ 1)) }
 {

@@ -1,48 +1,20 @@
 //! What the node leaves behind.
 
-use crate::certifier::Certifier;
 use crate::ends::{Parts, close, start};
-use crate::engine::Engine;
 use crate::keeping::{keep, keep_once, wait_durable};
 use crate::runs::{run_by_two, submit_all};
 use rep_types::Refusal;
-use std::alloc::Global;
 use std::test::Fail;
-
-/// A certifier that has judged nothing.
-fn new_certifier(alloc: Global) -> Certifier {
-    Certifier {
-        delivered: 0,
-        highest: 0,
-        commits: Vec::new(alloc),
-    }
-}
-
-/// An engine without items, that fails after so many syncs.
-fn new_engine(alloc: Global, syncs: u64) -> Engine {
-    Engine {
-        log: Vec::new(alloc),
-        backlog: Vec::new(alloc),
-        durable: 0,
-        syncs,
-        failed: false,
-    }
-}
 
 #[test]
 fn items_are_judged_and_kept_by_two_threads(rt: HostRuntime) -> Result<(), Fail> {
     let alloc = rt.alloc();
+    let parts = Parts::new(alloc, u64::MAX);
     let Parts {
         certifier,
         engine,
         stopped,
-    } = run_by_two(
-        &rt,
-        alloc,
-        new_certifier(alloc),
-        new_engine(alloc, u64::MAX),
-        &[3, 1, 4, 1, 5],
-    )?;
+    } = run_by_two(&rt, alloc, parts.certifier, parts.engine, &[3, 1, 4, 1, 5])?;
     assert!(rt; !stopped && !engine.failed);
     assert!(rt; engine.log.iter().copied().eq([3, 1, 4, 1, 5]));
     assert_eq!(rt; engine.durable, 5);
@@ -54,13 +26,9 @@ fn items_are_judged_and_kept_by_two_threads(rt: HostRuntime) -> Result<(), Fail>
 #[test]
 fn a_node_goes_on_from_what_another_left(rt: HostRuntime) -> Result<(), Fail> {
     let alloc = rt.alloc();
-    let first = run_by_two(
-        &rt,
-        alloc,
-        new_certifier(alloc),
-        new_engine(alloc, u64::MAX),
-        &[3, 1, 4],
-    )?;
+    let none = Parts::new(alloc, u64::MAX);
+    let first = run_by_two(&rt, alloc, none.certifier, none.engine, &[3, 1, 4])?;
+    assert!(rt; first.is_ready() && first.engine.log.len() == 3);
     let second = run_by_two(&rt, alloc, first.certifier, first.engine, &[2, 7, 1, 8])?;
     assert!(rt; !second.stopped);
     assert!(rt; second.engine.log.iter().copied().eq([3, 1, 4, 2, 7, 1, 8]));
@@ -71,13 +39,8 @@ fn a_node_goes_on_from_what_another_left(rt: HostRuntime) -> Result<(), Fail> {
 #[test]
 fn a_fault_halts_the_node_and_what_was_durable_stays(rt: HostRuntime) -> Result<(), Fail> {
     let alloc = rt.alloc();
-    let parts = run_by_two(
-        &rt,
-        alloc,
-        new_certifier(alloc),
-        new_engine(alloc, 1),
-        &[3, 1, 4],
-    )?;
+    let none = Parts::new(alloc, 1);
+    let parts = run_by_two(&rt, alloc, none.certifier, none.engine, &[3, 1, 4])?;
     // The first sync takes over what waits then, at most the first item: the submitter waits for each.
     assert!(rt; parts.stopped && parts.engine.failed);
     assert!(rt; parts.engine.durable <= 1);
@@ -89,7 +52,8 @@ fn a_fault_halts_the_node_and_what_was_durable_stays(rt: HostRuntime) -> Result<
 #[test]
 fn a_single_seat_keeps_its_own_items(rt: HostRuntime) -> Result<(), Fail> {
     let alloc = rt.alloc();
-    let (lock, mut seat) = start(alloc, new_certifier(alloc), new_engine(alloc, u64::MAX))?;
+    let none = Parts::new(alloc, u64::MAX);
+    let (lock, mut seat) = start(alloc, none.certifier, none.engine)?;
     assert_eq!(rt; keep(&rt, &lock, &mut seat, 0), Ok(0));
     assert_eq!(rt; keep_once(&rt, &lock, &mut seat), Ok(0));
     assert_eq!(rt; wait_durable(&rt, &lock, &mut seat, 0), Ok(0));

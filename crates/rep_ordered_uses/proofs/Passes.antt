@@ -1,7 +1,7 @@
 -- Lists of tickets, one ticket later.
 use Rattle.std.proofs.Common.{◌≡◌, ℕ, zero, suc, ◌+◌, ◌-◌, ◌*◌, ◌/◌, ◌<◌, ◌≤◌, max, eqb, List, [], ◌∷◌, ◌++◌, length, get_or, take, sym, refl, ap, ◌∙◌, subst, arith, length-append, mul-le-mul_right, if◌then◌else◌}
-use Rattle.std.specs.Prelude.{Option, Some, Result, Ok, Err, OnOk, IsSomeAnd, All}
-use Rattle.std.proofs.lemmas.Option.{slice_get-get_or}
+use Rattle.std.specs.Prelude.{slice_get, Option, None, Some, Result, Ok, Err, OnOk, IsSomeAnd, All}
+use Rattle.std.proofs.lemmas.Option.{same_Some, slice_get-get_or}
 use Rattle.rep_ordered_uses.specs.declared.notes.Note.{Note}
 use Rattle.rep_ordered.specs.Ends.{Closed}
 use Rattle.std.specs.Result.{result_and}
@@ -132,3 +132,10 @@ product_some a b p q = let l : 1 * b ≤ a * b = mul-le-mul_right b p in omega a
 
 pub popped_last : {A : Type 0} (items : List A) (a b : A) (n : ℕ) (r : Option A) → items ≡ a ∷ b ∷ [] → n ≡ length items → ((d : A) → 0 < n → r ≡ Some (get_or items (n - 1) d)) → r ≡ Some b
 popped_last items a b n r two n_is first = let n_two : n ≡ 2 = n_is ∙ ap length two in first a (omega arith) ∙ (λ i. Some (get_or (two i) (n_two i - 1) a))
+
+-- each of three parts, of which the same is known
+pub each_of_three : {A : Type 0} (P : A → Type 0) (a b c x : A) (j : ℕ) → P a → P b → P c → slice_get (a ∷ b ∷ c ∷ []) j ≡ Some x → P x
+each_of_three P a b c x zero p q r is = subst P (same_Some a x is) p
+each_of_three P a b c x (suc zero) p q r is = subst P (same_Some b x is) q
+each_of_three P a b c x (suc (suc zero)) p q r is = subst P (same_Some c x is) r
+each_of_three P a b c x (suc (suc (suc j))) p q r is = absurd (let d : None ≡ Some x = is in cc)

@@ -30,3 +30,7 @@ pub record Went {V : Type 0} (v w : View V ℕ) : Type 0 where
 -- each number that the seat drew has passed both stations
 abbrev pub AllDone : {V : Type 0} → View V ℕ → Type 0
 AllDone v = (x : ℕ) → 0 < times x v.own → (x < reached_at 0 v.reached) × (x < reached_at 1 v.reached)
+
+-- at station 2 those that wait make up all numbers from the last that was taken over to the turn
+abbrev pub PartAtHome : ℕ → ℕ → ℕ → ℕ → Type 0
+PartAtHome station number taken waiting = station ≡ 2 → taken + waiting + 1 ≡ number

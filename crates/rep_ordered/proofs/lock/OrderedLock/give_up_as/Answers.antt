@@ -1,11 +1,11 @@
-use Rattle.std.proofs.Common.{rules, ◌+◌, ◌-◌, ◌<◌, bit_or, Some, None, arith, sym, refl, ap, ◌∙◌, subst}
+use Rattle.std.proofs.Common.{rules, ◌+◌, ◌-◌, ◌<◌, bit_or, Some, [], ◌∷◌, arith, sym, refl, ap, ◌∙◌, subst}
 use Rattle.atomic_table.specs.Seated.{TableId}
 use Rattle.rep_ordered.specs.declared.view.View.{View}
 use Rattle.rep_ordered.specs.Views.{Lives, turn_of, word_at, held_at}
 use Rattle.rep_ordered.specs.Seats.{Place}
 use Rattle.rep_ordered.specs.declared.turns.TheConstants.{GIVEN_UP}
-use Rattle.rep_ordered.proofs.Leaving.{leaves, given_up_word}
-use Rattle.rep_ordered.proofs.Places.{front_is, departed}
+use Rattle.rep_ordered.proofs.Leaving.{gives_up, given_up_word}
+use Rattle.rep_ordered.proofs.Places.{front_is, given_away}
 use Rattle.rep_ordered.proofs.lock.OrderedLock.give_up_as.Goals as goal
 
 pub put_back-requires-clause-holds : goal.put_back-requires-clause-holds
@@ -17,7 +17,7 @@ fetch_or-requires g c = let v : View g.row.V.Denot g.row.E.Denot = c.args.seat.n
     let slots = ap (λ (z : TableId). z.slots) c.self.view_is in (
       search rules,
       omega arith,
-      leaves g.V.Keeps.legal g.V.Keeps.at_home g.V.Keeps.durable_of g.V.Keeps.common_of g.V.Keeps.grows _ _ _ _ _ (turn_of c.args.station v) _ 1 _ _ GIVEN_UP (λ y. bit_or y GIVEN_UP) None _ c.args.value v c.requires.pick.0 c.requires.pick.1 c.requires.pick.2 c.requires.pick.3 (ap (λ z. z.0.view) put ∙ is)
+      gives_up g.V.Keeps.legal g.V.Keeps.at_home g.V.Keeps.durable_of g.V.Keeps.common_of g.V.Keeps.grows _ _ _ _ _ (turn_of c.args.station v) _ _ _ GIVEN_UP (λ y. bit_or y GIVEN_UP) c.args.value _ v c.requires.pick.0 c.requires.pick.1 c.requires.pick.2 c.requires.pick.3 (ap (λ z. z.0.view) put ∙ is)
           record {
             holds = held;
             moves = (λ low taken. given_up_word (word_at c.args.station v.held) GIVEN_UP (omega arith) taken);
@@ -39,5 +39,5 @@ fetch_or-requires g c = let v : View g.row.V.Denot g.row.E.Denot = c.args.seat.n
 
 pub invariant_of-seat : goal.invariant_of-seat
 invariant_of-seat g c = let v : View g.row.V.Denot g.row.E.Denot = c.args.seat.now.view in let is = ap (λ (z : Place g.row.V.Denot g.row.E.Denot). z.view) c.seat.view_is in let left = c.fetch_or.ensures.2 in
-    (departed _ _ c.seat.inside.seat.me c.put_back.new.seat.me c.fetch_or.new.seat.me ((c.args.station + 2) - 2) c.args.station (turn_of c.args.station v) _ (g.V.Keeps.durable_of c.args.value) _ (g.V.Keeps.common_of c.args.value) _ None _ _ v (ap (λ (z : TableId). z.slots) (c.fetch_or.ensures.0 ∙ c.put_back.ensures.table)) (omega arith)
+    (given_away _ _ c.seat.inside.seat.me c.put_back.new.seat.me c.fetch_or.new.seat.me ((c.args.station + 2) - 2) c.args.station (turn_of c.args.station v) _ (g.V.Keeps.durable_of c.args.value) _ (g.V.Keeps.common_of c.args.value) _ (c.args.value ∷ []) _ _ v (ap (λ (z : TableId). z.slots) (c.fetch_or.ensures.0 ∙ c.put_back.ensures.table)) (omega arith)
     c.requires.pick.0 c.requires.pick.1 c.requires.pick.2 c.requires.pick.3 is c.seat.invariant c.put_back.ensures.put left.0 left.1 left.2).0
