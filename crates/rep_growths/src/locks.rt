@@ -16,11 +16,15 @@ pub struct Note {
 impl Keeps<u64> for Note {
     ghost use Rattle.std.specs.Prelude.{⊤};
 
-    ghost at_home = { λ _ _ _ _ _. ⊤ };
+    ghost legal = { λ _ _. ⊤ };
+
+    ghost at_home = { λ _ _ _ _ _ _ _. ⊤ };
 
     ghost durable_of = { λ _. 0 };
 
-    ghost grows = { λ _ _ _ _ _ _ _ _ _. tt };
+    ghost common_of = { λ _. 0 };
+
+    ghost grows = { λ _ _ _ _ _ _ _ _ _ _ _. tt };
 }
 
 /// The two values, taken again where there was no room for them.

@@ -8,15 +8,17 @@ use lib.ListN.{get_elem?}
 use lib.Seq.{set-get_or}
 use Rattle.atomic_table.specs.Table.{State, Me, Act, step, keeps, takes, gives, chain, carried_after, homes_after, Valid, Allows}
 use Rattle.atomic_table.proofs.Lists.{set_here, set_else, set_again}
+use Rattle.rep_ordered.specs.declared.view.GivenUp.{GivenUp}
 use Rattle.rep_ordered.specs.declared.view.Hold.{Hold}
-use Rattle.rep_ordered.specs.declared.view.View.{View}
+use Rattle.rep_ordered.specs.declared.view.Mind.{Mind}
 use Rattle.rep_ordered.specs.declared.rule.Opening.{Opening}
 use Rattle.rep_ordered.specs.Counts.{total}
-use Rattle.rep_ordered.specs.Views.{held_at, word_at, except, on}
-use Rattle.rep_ordered.specs.Rule.{Every, HoldIsRight, Kept}
+use Rattle.rep_ordered.specs.Views.{Every, held_at, except, on}
+use Rattle.rep_ordered.specs.Rule.{Kept}
 use Rattle.rep_ordered.specs.Seats.{empty_slot}
 use Rattle.rep_ordered.specs.Steps.{brought}
 use Rattle.rep_ordered.proofs.Sums.{total_at, every_at, every_map}
+use Rattle.rep_ordered.proofs.Keeping.{held_once}
 
 module _ (V : Type 0) where
   abbrev Homes : Type 0
@@ -83,25 +85,18 @@ module _ (V : Type 0) where
       carries_more j h hs homes other inside.0 (every_at (λ (d : Hold). d.station < length homes) j hs behind inside.1) (let a = once h.station in omega arith) behind
       (carries_first j hs first behind (λ m. let a = once m in omega arith) inside_first))
 
-module _ {V E : Type 0} (at_home : ℕ → ℕ → List E → ℕ → V → Type 0) (durable_of : V → ℕ) where
+module _ {V E : Type 0} (law : List E → Type 0) (at_home : ℕ → ℕ → ℕ → List E → ℕ → V → Type 0) (durable_of common_of : V → ℕ) where
   abbrev St : Type 0
-  St = State (Option V) (View E)
+  St = State (Option V) (Mind V E)
 
   abbrev M : Type 0
-  M = Me (Option V) (View E)
+  M = Me (Option V) (Mind V E)
 
-  abbrev Rule : Opening → St → Type 0
-  Rule = Kept at_home durable_of
-
-  -- a station is held once
-  held_once : (k : Opening) (s : St) (r : Rule k s) (id : ℕ) (v : View E) → get_elem? s.views id ≡ some v → (i : ℕ) → held_at i v.held ≤ 1
-  held_once k s r id v at i = dite (ℕ_discrete (held_at i v.held) 0)
-      (λ none_held. omega arith)
-      (λ held. let known = r.each_seat id v at in let top = every_at (HoldIsRight r.figures s.words v.own v.seen) i v.held (omega arith) known.holds in let here = r.each_station i (word_at i v.held) top.word in
-      let counts = here.counts in let mine = total_at (on i) s.views id v at in omega arith)
+  abbrev Rule : Opening V → St → Type 0
+  Rule = Kept law at_home durable_of common_of
 
   -- where the slots of held stations alone have moved, the rule is kept
-  rehomed : (k : Opening) (s : St) (r : Rule k s) (homes : List (maybe.Option (Option V))) → length homes ≡ length s.homes → ((i : ℕ) → total (on i) s.views ≡ 0 → get_elem? homes i ≡ get_elem? s.homes i)
+  rehomed : (k : Opening V) (s : St) (r : Rule k s) (homes : List (maybe.Option (Option V))) → length homes ≡ length s.homes → ((i : ℕ) → total (on i) s.views ≡ 0 → get_elem? homes i ≡ get_elem? s.homes i)
       → Rule k record { words = s.words; homes = homes; views = s.views }
   rehomed k s r homes long same = record {
     figures = r.figures;
@@ -111,7 +106,7 @@ module _ {V E : Type 0} (at_home : ℕ → ℕ → List E → ℕ → V → Type
       durable_is = sp.durable_is;
       low = sp.low;
       stop_bit = sp.stop_bit;
-      engine_up = sp.engine_up;
+      backed_up = sp.backed_up;
       short = sp.short;
       small = sp.small;
     };
@@ -121,23 +116,44 @@ module _ {V E : Type 0} (at_home : ℕ → ℕ → List E → ℕ → V → Type
       within = o.within;
       counts = o.counts;
       counted = o.counted;
-      home = λ free. let h = o.home free in record { value = h.value; there = same j (o.counts ∙ free) ∙ h.there; keeps = h.keeps; engine = h.engine };
+      gone = o.gone;
+      home = λ free. let h = o.home free in record { value = h.value; there = same j (o.counts ∙ free) ∙ h.there; keeps = h.keeps; backed = h.backed; common = h.common };
     };
-    each_seat = r.each_seat;
+    each_seat = λ i m at. let o = r.each_seat i m at in record {
+      starts = o.starts;
+      wholes = o.wholes;
+      firsts = o.firsts;
+      begins = o.begins;
+      told = o.told;
+      lasts = o.lasts;
+      stops = o.stops;
+      stays = o.stays;
+      below = o.below;
+      named = o.named;
+      exact = o.exact;
+      reached = o.reached;
+      holds = o.holds;
+      lives = o.lives;
+      gone = every_map _ _ m.view.given_up (λ (g : GivenUp V) q. record { word = q.word; there = q.there; gone = q.gone; home = same g.station (let here = r.each_station g.station q.word q.there in let counts = here.counts in let gave_it = q.gone in omega arith) ∙ q.home }) o.gone;
+      placed = o.placed;
+      idle = o.idle;
+    };
     known = r.known;
     lone = r.lone;
+    lawful = r.lawful;
+    stopped = r.stopped;
   }
 
-  pub brings : (k : Opening) (slots id : ℕ) (me : M) (j : ℕ) → me.1 ≡ map empty_slot me.0.held → Every (λ (h : Hold). h.station < slots) me.0.held → 0 < held_at j me.0.held
+  pub brings : (k : Opening V) (slots id : ℕ) (me : M) (j : ℕ) → me.1 ≡ map empty_slot me.0.view.held → Every (λ (h : Hold). h.station < slots) me.0.view.held → 0 < held_at j me.0.view.held
       → Allows (Rule k) slots id me (j + 2) (λ n. n) (brought (step slots (j + 2) 0 0 none) me)
-  brings k slots id me j empty inside some_hold s r deep at _ = let v : View E = me.0 in
-      let t = carries_first V j v.held s.homes some_hold (held_once k s r id v at) (every_map _ _ v.held (λ (h : Hold) l. omega arith) inside) in
-      let kept = rehomed k s r (homes_after s.homes (map empty_slot v.held) t.act) t.long (λ i none_held. t.others i (let a = total_at (on i) s.views id v at in omega arith)) in
+  brings k slots id me j empty inside some_hold s r deep at _ = let m : Mind V E = me.0 in let held : List Hold = m.view.held in
+      let t = carries_first V j held s.homes some_hold (held_once law at_home durable_of common_of k s r id m at) (every_map _ _ held (λ (h : Hold) l. omega arith) inside) in
+      let kept = rehomed k s r (homes_after s.homes (map empty_slot held) t.act) t.long (λ i none_held. t.others i (let a = total_at (on i) s.views id m at in omega arith)) in
       let b : j ≡ (j + 2) - 2 = omega arith in (
-        v,
+        m,
         t.act,
         subst (λ (c : List (ℕ × Option V)). Valid s.homes c t.act) (sym empty) t.valid,
-        subst (λ (z : List ℕ × List (ℕ × Option V) × List (View E)). Rule k record { words = z.0; homes = homes_after s.homes z.1 t.act; views = z.2 })
-            (λ i. (sym (set-get_or s.words (j + 2) 0) i, sym empty i, sym (set_again s.views id v at) i)) kept,
-        (refl, subst (λ (c : List (ℕ × Option V)). carried_after c t.act ≡ ((j + 2) - 2, None) ∷ map empty_slot (except ((j + 2) - 2) v.held)) (sym empty) (t.carried ∙ ap (λ (n : ℕ). (n, None) ∷ map empty_slot (except n v.held)) b)),
+        subst (λ (z : List ℕ × List (ℕ × Option V) × List (Mind V E)). Rule k record { words = z.0; homes = homes_after s.homes z.1 t.act; views = z.2 })
+            (λ i. (sym (set-get_or s.words (j + 2) 0) i, sym empty i, sym (set_again s.views id m at) i)) kept,
+        (refl, subst (λ (c : List (ℕ × Option V)). carried_after c t.act ≡ ((j + 2) - 2, None) ∷ map empty_slot (except ((j + 2) - 2) held)) (sym empty) (t.carried ∙ ap (λ (n : ℕ). (n, None) ∷ map empty_slot (except n held)) b)),
       )

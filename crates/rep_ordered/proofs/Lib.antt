@@ -1,4 +1,5 @@
 pub mod Sums
+pub mod Owning
 pub mod Keeping
 pub mod Moving
 pub mod Drawing

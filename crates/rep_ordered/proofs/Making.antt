@@ -5,9 +5,11 @@ use mathlib.Core.Option.{some, some-injective, some-ne-none}
 use lib.ListN.{get_elem?, length-map, length-replicate}
 use Rattle.atomic_table.specs.Table.{opening}
 use Rattle.rep_ordered.specs.declared.rule.Opening.{Opening}
-use Rattle.rep_ordered.specs.Views.{opened}
-use Rattle.rep_ordered.specs.Rule.{Every, Figures, Knows, Kept}
-use Rattle.rep_ordered.specs.Ends.{AllMeet}
+use Rattle.rep_ordered.specs.Counts.{gave}
+use Rattle.rep_ordered.specs.Views.{Every, opened, untold}
+use Rattle.rep_ordered.specs.Rule.{Figures, Knows, Kept, first_of}
+use Rattle.rep_ordered.specs.Ends.{AllMeet, AllName}
+use Rattle.rep_ordered.proofs.Owning.{placed_none}
 
 later_word : (a b w : ℕ) (ws : List ℕ) (j : ℕ) → get_elem? (a ∷ b ∷ ws) (j + 2) ≡ some w → get_elem? ws j ≡ some w
 later_word a b w ws j e = let up : j + 2 ≡ suc (suc j) = omega arith in sym (ap (get_elem? (a ∷ b ∷ ws)) up) ∙ e
@@ -27,10 +29,10 @@ alone : {A : Type 0} (a b : A) (j : ℕ) → get_elem? (a ∷ []) j ≡ some b �
 alone a b zero e = (refl, some-injective a b e)
 alone a b (suc j) e = absurd (some-ne-none b (sym e))
 
-module _ {V E : Type 0} (at_home : ℕ → ℕ → List E → ℕ → V → Type 0) (durable_of : V → ℕ) where
-  pub opens : (k : Opening) (values : List V) (n : ℕ) → n ≡ length values → k.start + k.whole ≡ 2 ^ 60 + 1 → k.durable < k.start → k.start ≤ 2 ^ 60 + 1 → AllMeet at_home durable_of k.start k.durable values
-      → Kept at_home durable_of k (opening (k.start ∷ k.durable ∷ replicate n (4 * k.start)) (map Some values) (opened k.start k.whole k.durable))
-  opens k values n count wide low small meet = let f : Figures E = record { history = []; next = k.start; durable = k.durable; stop = 0; engine = k.durable } in
+module _ {V E : Type 0} (law : List E → Type 0) (at_home : ℕ → ℕ → ℕ → List E → ℕ → V → Type 0) (durable_of common_of : V → ℕ) where
+  pub opens : (k : Opening V) (values : List V) (n : ℕ) → n ≡ length values → k.start + k.whole ≡ 2 ^ 60 + 1 → k.durable < k.start → k.start ≤ 2 ^ 60 + 1 → law [] → AllName common_of values → AllMeet law at_home durable_of common_of k.start k.durable values
+      → Kept law at_home durable_of common_of k (opening (k.start ∷ k.durable ∷ replicate n (4 * k.start)) (map Some values) (untold (opened k.start k.whole (first_of k) k.durable)))
+  opens k values n count wide low small lawful named meet = let f : Figures E = record { history = []; next = k.start; durable = k.durable; stop = 0; backed = k.durable; common = named.0 } in
       let lengths : length (map some (map Some values)) ≡ length values = length-map (map Some values) (λ (x : Option V). some x) ∙ length-map values (λ (x : V). Some x) in record {
         figures = f;
         spelled = record {
@@ -39,32 +41,42 @@ module _ {V E : Type 0} (at_home : ℕ → ℕ → List E → ℕ → V → Type
           durable_is = let e : k.durable ≡ k.durable + 2 ^ 63 * 0 = omega arith in ap some e;
           low = omega arith;
           stop_bit = omega arith;
-          engine_up = omega arith;
+          backed_up = omega arith;
           short = omega arith;
           small = omega arith;
         };
         dealt = record { tickets = omega arith; many = omega arith; drawn = λ x. omega arith };
-        each_station = λ j w e. let t = in_replicate n (4 * k.start) j w (later_word k.start k.durable w (replicate n (4 * k.start)) j e) in let l = t.0 in let is = t.1 in let turn : k.start ≡ w / 4 = omega arith in record {
+        each_station = λ j w e. let t = in_replicate n (4 * k.start) j w (later_word k.start k.durable w (replicate n (4 * k.start)) j e) in let l = t.0 in let is = t.1 in let turn : k.start ≡ w / 4 = omega arith in let free : 0 ≡ gave w = omega arith in record {
           begun = omega arith;
           within = omega arith;
           counts = omega arith;
           counted = λ _. omega arith;
-          home = λ _. let x = at_values values j (omega arith) in let m = meet j x.0 x.1 in record { value = x.0; there = x.2; keeps = subst (λ (z : ℕ). at_home j z [] k.durable x.0) turn m.0; engine = m.1 };
+          gone = omega arith;
+          home = λ _. let x = at_values values j (omega arith) in let m = meet j x.0 x.1 in record { value = x.0; there = x.2; keeps = subst (λ (z : ℕ × ℕ). at_home j z.0 z.1 [] k.durable x.0) (λ i. (turn i, free i)) m.0; backed = m.1; common = λ some_name. named.1 j x.0 x.1 some_name };
         };
-        each_seat = λ i v e. subst (Knows k f (k.start ∷ k.durable ∷ replicate n (4 * k.start))) (alone _ v i e).1 record {
+        each_seat = λ i v e. subst (Knows k f (k.start ∷ k.durable ∷ replicate n (4 * k.start)) (map some (map Some values))) (alone _ v i e).1 record {
           starts = refl;
           wholes = refl;
+          firsts = refl;
           begins = ([], refl);
           told = ([], refl);
           lasts = omega arith;
           stops = omega arith;
+          stays = λ _. omega arith;
           below = omega arith;
+          named = omega arith;
+          exact = λ holds. absurd (omega arith);
           reached = λ j w _. omega arith;
           holds = tt;
           lives = λ held _. absurd (omega arith);
+          gone = tt;
+          placed = placed_none k.start [];
+          idle = λ _ _. refl;
         };
-        known = record { seat = 0; view = opened k.start k.whole k.durable; there = refl; lives = λ some_number. omega arith; knows = omega arith };
+        known = record { seat = 0; mind = untold (opened k.start k.whole (first_of k) k.durable); there = refl; lives = λ some_number. omega arith; knows = omega arith };
         lone = λ _. refl;
+        lawful = lawful;
+        stopped = omega arith;
       }
 
 pub all_some : {V : Type 0} (values : List V) → Every IsSome (map Some values)

@@ -2,41 +2,44 @@
 use Rattle.std.proofs.Common.{◌≡◌, ℕ, zero, suc, ◌+◌, ◌*◌, ◌^◌, ◌<◌, ◌≤◌, Option, Some, None, List, [], ◌∷◌, ◌++◌, map, sym, refl, ap, ◌∙◌, subst, arith, length-append, append_assoc}
 use Rattle.atomic_table.specs.Table.{Me}
 use Rattle.rep_ordered.specs.declared.view.Hold.{Hold}
+use Rattle.rep_ordered.specs.declared.view.Mind.{Mind}
 use Rattle.rep_ordered.specs.declared.view.View.{View}
 use Rattle.rep_ordered.specs.Counts.{one, times}
-use Rattle.rep_ordered.specs.Views.{StartsWith, both, with_number, Later, Lives}
-use Rattle.rep_ordered.specs.Steps.{Learns}
-use Rattle.rep_ordered.specs.Views.{hold, reach, held_at, reached_at, engine_after, knowing, except, without}
-use Rattle.rep_ordered.specs.Rule.{Every}
-use Rattle.rep_ordered.specs.Steps.{Entered}
+use Rattle.rep_ordered.specs.Views.{abandoned_with, Every, StartsWith, Later, Lives, hold, reach, held_at, reached_at, backed_after, common_after, both, with_number, knowing, except, without}
+use Rattle.rep_ordered.specs.Steps.{Learns, Entered, Plain, Apart}
 use Rattle.atomic_table.specs.Table.{rest}
 use Rattle.rep_ordered.specs.Seats.{empty_slot, IsSeated}
 use Rattle.rep_ordered.proofs.Sums.{total_append, total_snoc, one_equal, every_except}
+use Rattle.rep_ordered.proofs.Owning.{append_nil}
 
 -- each of the numbers is at most 2 ^ 60
 abbrev pub Small : List ℕ → Type 0
 Small own = (x : ℕ) → 0 < times x own → x ≤ 2 ^ 60
 
-pub later : {E : Type 0} (v w : View E) → v.told ≡ [] → Learns v w → Later v w
-later v w none learns = record { same = learns.same ∙ ap (λ l. record v { seen = w.seen; told = l; durable = w.durable; halted = w.halted }) (sym none); seen = learns.seen; still = learns.still; durable = learns.durable; halted = learns.halted }
+pub times_last : (own : List ℕ) (t : ℕ) → 0 < times t (own ++ t ∷ [])
+times_last own t = let s = total_snoc (one t) own t in omega arith
 
-append_nil : {A : Type 0} (l : List A) → l ++ [] ≡ l
-append_nil [] = refl
-append_nil (e ∷ es) = ap (λ z. e ∷ z) (append_nil es)
+pub later : {V E : Type 0} (law : List E → Type 0) (told : List E) (v w : View V E) → Learns law told v w → Later v w
+later law told v w learns = record { same = learns.same; seen = learns.seen; still = learns.still; durable = learns.durable; halted = learns.halted; stays = learns.stays }
 
-pub later_same : {E : Type 0} (v : View E) → Later v v
-later_same v = record { same = refl; seen = ([], sym (append_nil v.seen)); still = λ _. refl; durable = omega arith; halted = omega arith }
+pub later_same : {V E : Type 0} (v : View V E) → Later v v
+later_same v = record { same = refl; seen = ([], sym (append_nil v.seen)); still = λ _. refl; durable = omega arith; halted = omega arith; stays = λ _. refl }
 
 begins_on : {A : Type 0} (a b c : List A) → StartsWith b a → StartsWith c b → StartsWith c a
 begins_on a b c p q = (p.0 ++ q.0, q.1 ∙ (ap (λ l. l ++ q.0) p.1 ∙ append_assoc a p.0 q.0))
 
-pub later_still : {E : Type 0} (u v w : View E) → Later u v → Later v w → Later u w
+-- the same for the bound of a halt
+stays_on : (a b c p q : ℕ) → p ≤ q → (0 < p → b ≡ a) → (0 < q → c ≡ b) → 0 < p → c ≡ a
+stays_on a b c p q up first second halted = second (omega arith) ∙ first halted
+
+pub later_still : {V E : Type 0} (u v w : View V E) → Later u v → Later v w → Later u w
 later_still u v w a b = let d = a.durable in let e = b.durable in let f = a.halted in let h = b.halted in record {
-  same = b.same ∙ ap (λ (z : View _). record z { seen = w.seen; durable = w.durable; halted = w.halted }) a.same;
+  same = b.same ∙ ap (λ (z : View _ _). record z { seen = w.seen; durable = w.durable; halted = w.halted }) a.same;
   seen = begins_on u.seen v.seen w.seen a.seen b.seen;
-  still = λ some_hold. b.still (subst (λ (z : View _). 0 < held_at 0 z.held) (sym a.same) some_hold) ∙ a.still some_hold;
+  still = λ some_hold. b.still (subst (λ (z : View _ _). 0 < held_at 0 z.held) (sym a.same) some_hold) ∙ a.still some_hold;
   durable = omega arith;
   halted = omega arith;
+  stays = stays_on u.durable v.durable w.durable u.halted v.halted a.halted a.stays b.stays;
 }
 
 inside_of : (n m : ℕ) (a b : List Hold) → m ≡ n → b ≡ a → Every (λ (h : Hold). h.station < n) a → Every (λ (h : Hold). h.station < m) b
@@ -55,25 +58,25 @@ pub front_is : {V : Type 0} (l : List (ℕ × V)) (i j : ℕ) (a : V) (cs : List
 front_is l i j a cs same is = is ∙ (λ k. (same k, a) ∷ ap rest (sym is) k)
 
 module _ {V E : Type 0} where
-  pub learnt : (n m : ℕ) (me m' : Me (Option V) (View E)) → m ≡ n → Lives me.0 → me.1 ≡ map empty_slot me.0.held → Every (λ (h : Hold). h.station < n) me.0.held → Small me.0.own → Learns me.0 m'.0 → m'.1 ≡ me.1 → IsSeated m m'
-  learnt n m me m' size lives slots inside small learns same = let is = learns.same in record {
-    told = ap (λ (z : View E). z.told) is;
+  pub learnt : (law : List E → Type 0) (n m : ℕ) (me me' : Me (Option V) (Mind V E)) → m ≡ n → Lives me.0.view → me.1 ≡ map empty_slot me.0.view.held → Every (λ (h : Hold). h.station < n) me.0.view.held → Small me.0.view.own → Learns law me.0.told me.0.view me'.0.view → Plain me me' → IsSeated m me'
+  learnt law n m me me' size lives slots inside small learns plain = let is = learns.same in record {
+    told = plain.0;
     lives = subst Lives (sym is) lives;
-    slots = same ∙ (slots ∙ ap (λ (z : View E). map empty_slot z.held) (sym is));
-    inside = inside_of n m me.0.held m'.0.held size (ap (λ (z : View E). z.held) is) inside;
-    small = subst (λ (z : View E). Small z.own) (sym is) small;
+    slots = plain.1 ∙ (slots ∙ ap (λ (z : View V E). map empty_slot z.held) (sym is));
+    inside = inside_of n m me.0.view.held me'.0.view.held size (ap (λ (z : View V E). z.held) is) inside;
+    small = subst (λ (z : View V E). Small z.own) (sym is) small;
   }
 
-  pub still_seated : (n m : ℕ) (me m' : Me (Option V) (View E)) → m ≡ n → IsSeated n me → Learns me.0 m'.0 → m'.1 ≡ me.1 → IsSeated m m'
-  still_seated n m me m' size seated learns same = learnt n m me m' size seated.lives seated.slots seated.inside seated.small learns same
+  pub still_seated : (law : List E → Type 0) (n m : ℕ) (me me' : Me (Option V) (Mind V E)) → m ≡ n → IsSeated n me → Learns law me.0.told me.0.view me'.0.view → Plain me me' → IsSeated m me'
+  still_seated law n m me me' size seated learns plain = learnt law n m me me' size seated.lives seated.slots seated.inside seated.small learns plain
 
-  pub seated_claim : (a b : ℕ) (me m' : Me (Option V) (View E)) (n : ℕ) → b ≡ a → IsSeated a me → m'.0 ≡ with_number n me.0 → m'.1 ≡ me.1 → n ≤ 2 ^ 60 → 0 < me.0.allowance → IsSeated b m'
-  seated_claim a b me m' n size seated is same low room = record {
-    told = ap (λ (z : View E). z.told) is ∙ seated.told;
-    lives = subst Lives (sym is) (λ some_number. omega (arith, length-append me.0.own (n ∷ [])));
-    slots = same ∙ (seated.slots ∙ ap (λ (z : View E). map empty_slot z.held) (sym is));
-    inside = inside_of a b me.0.held m'.0.held size (ap (λ (z : View E). z.held) is) seated.inside;
-    small = subst (λ (z : View E). Small z.own) (sym is) (λ x drawn. small_snoc me.0.own n seated.small low x drawn);
+  pub seated_claim : (a b : ℕ) (me me' : Me (Option V) (Mind V E)) (n : ℕ) → b ≡ a → IsSeated a me → me'.0.view ≡ with_number n me.0.view → Apart me me' → n ≤ 2 ^ 60 → 0 < me.0.view.allowance → IsSeated b me'
+  seated_claim a b me me' n size seated is apart low room = record {
+    told = apart.0 ∙ seated.told;
+    lives = subst Lives (sym is) (λ some_number. omega (arith, length-append me.0.view.own (n ∷ [])));
+    slots = apart.1 ∙ (seated.slots ∙ ap (λ (z : View V E). map empty_slot z.held) (sym is));
+    inside = inside_of a b me.0.view.held me'.0.view.held size (ap (λ (z : View V E). z.held) is) seated.inside;
+    small = subst (λ (z : View V E). Small z.own) (sym is) (λ x drawn. small_snoc me.0.view.own n seated.small low x drawn);
   }
     where
       small_snoc : (own : List ℕ) (n : ℕ) → Small own → n ≤ 2 ^ 60 → Small (own ++ n ∷ [])
@@ -83,12 +86,12 @@ module _ {V E : Type 0} where
           go zero e = let s = total_snoc (one x) own n in let is = one_equal x n (omega arith) in omega arith
           go (suc t) e = small x (omega arith)
 
-  pub seated_both : (n : ℕ) (me m' : Me (Option V) (View E)) (w : View E) → IsSeated n me → Lives w → Small w.own → m'.0 ≡ both me.0 w → m'.1 ≡ me.1 → Lives m'.0 × (m'.1 ≡ map empty_slot m'.0.held) × Every (λ (h : Hold). h.station < n) m'.0.held × Small m'.0.own
-  seated_both n me m' w seated other_lives other_small is same = let lives = seated.lives in (
-    subst Lives (sym is) (λ some_number. let a = lives some_number in omega (arith, length-append me.0.own w.own)),
-    same ∙ (seated.slots ∙ ap (λ (z : View E). map empty_slot z.held) (sym is)),
-    inside_of n n me.0.held m'.0.held refl (ap (λ (z : View E). z.held) is) seated.inside,
-    subst (λ (z : View E). Small z.own) (sym is) (λ x drawn. join_small me.0.own w.own seated.small other_small x drawn),
+  pub seated_both : (n : ℕ) (me me' : Me (Option V) (Mind V E)) (w : View V E) → IsSeated n me → Lives w → Small w.own → me'.0.view ≡ both me.0.view w → me'.1 ≡ me.1 → Lives me'.0.view × (me'.1 ≡ map empty_slot me'.0.view.held) × Every (λ (h : Hold). h.station < n) me'.0.view.held × Small me'.0.view.own
+  seated_both n me me' w seated other_lives other_small is same = let lives = seated.lives in (
+    subst Lives (sym is) (λ some_number. let a = lives some_number in omega (arith, length-append me.0.view.own w.own)),
+    same ∙ (seated.slots ∙ ap (λ (z : View V E). map empty_slot z.held) (sym is)),
+    inside_of n n me.0.view.held me'.0.view.held refl (ap (λ (z : View V E). z.held) is) seated.inside,
+    subst (λ (z : View V E). Small z.own) (sym is) (λ x drawn. join_small me.0.view.own w.own seated.small other_small x drawn),
   )
     where
       join_small : (a b : List ℕ) → Small a → Small b → Small (a ++ b)
@@ -99,54 +102,78 @@ module _ {V E : Type 0} where
           go (suc t) e = p x (omega arith)
 
   -- the station was left
-  pub departed : (a b : ℕ) (me m1 m2 : Me (Option V) (View E)) (i j n n' d d' : ℕ) (entry entry' : Option E) (x : Option V) (v : View E) → b ≡ a → i ≡ j → entry' ≡ entry → d' ≡ d → n' ≡ n → me.0 ≡ v → IsSeated a me
-      → m1 ≡ (me.0, (j, x) ∷ map empty_slot (except j me.0.held)) → m2.0 ≡ without entry' i n' d' m1.0 → m2.1 ≡ rest m1.1 → IsSeated b m2 × (m2.0 ≡ without entry j n d v)
-  departed a b me m1 m2 i j n n' d d' entry entry' x v size place joins durable number is seated put left gave =
-      let before : m1.0 ≡ v = ap (λ z. z.0) put ∙ is in
-      let now : m2.0 ≡ without entry j n d v = left ∙ (λ k. without (joins k) (place k) (number k) (durable k) (before k)) in
-      let held : m2.0.held ≡ except j me.0.held = ap (λ (z : View E). z.held) now ∙ ap (λ (z : View E). except j z.held) (sym is) in (
+  pub departed : (a b : ℕ) (me m1 m2 : Me (Option V) (Mind V E)) (i j n n' d d' c c' : ℕ) (entry entry' : Option E) (x : Option V) (v : View V E) → b ≡ a → i ≡ j → entry' ≡ entry → d' ≡ d → c' ≡ c → n' ≡ n → me.0.view ≡ v → IsSeated a me
+      → m1 ≡ (me.0, (j, x) ∷ map empty_slot (except j me.0.view.held)) → m2.0.view ≡ without entry' i n' d' c' m1.0.view → m2.0.told ≡ m1.0.told → m2.1 ≡ rest m1.1 → IsSeated b m2 × (m2.0.view ≡ without entry j n d c v)
+  departed a b me m1 m2 i j n n' d d' c c' entry entry' x v size place joins durable common number is seated put left told gave =
+      let before : m1.0.view ≡ v = ap (λ z. z.0.view) put ∙ is in
+      let now : m2.0.view ≡ without entry j n d c v = left ∙ (λ k. without (joins k) (place k) (number k) (durable k) (common k) (before k)) in
+      let held : m2.0.view.held ≡ except j me.0.view.held = ap (λ (z : View V E). z.held) now ∙ ap (λ (z : View V E). except j z.held) (sym is) in (
         record {
-          told = ap (λ (z : View E). z.told) now ∙ (ap (λ (z : View E). z.told) (sym is) ∙ seated.told);
+          told = told ∙ (ap (λ z. z.0.told) put ∙ seated.told);
           lives = subst Lives (sym now) (subst Lives is seated.lives);
           slots = gave ∙ (ap (λ z. rest z.1) put ∙ ap (map empty_slot) (sym held));
-          inside = inside_of a b (except j me.0.held) m2.0.held size held (every_except (λ (h : Hold). h.station < a) j me.0.held seated.inside);
-          small = subst (λ (z : View E). Small z.own) (sym now) (subst (λ (z : View E). Small z.own) is seated.small);
+          inside = inside_of a b (except j me.0.view.held) m2.0.view.held size held (every_except (λ (h : Hold). h.station < a) j me.0.view.held seated.inside);
+          small = subst (λ (z : View V E). Small z.own) (sym now) (subst (λ (z : View V E). Small z.own) is seated.small);
         },
         now,
       )
 
-module _ {V E : Type 0} (at_home : ℕ → ℕ → List E → ℕ → V → Type 0) (durable_of : V → ℕ) where
-  -- the station was entered, and its slot read
-  pub passed : (a b : ℕ) (me m1 m2 : Me (Option V) (View E)) (i j n n' kind : ℕ) (found : Option V) → b ≡ a → i ≡ j → n ≡ n' → j < a → IsSeated a me
-      → (x : V) × Entered at_home durable_of i n kind me.0 m1.0 x × (m1.1 ≡ (i, Some x) ∷ me.1) → m1.1 ≡ (j, found) ∷ rest m1.1 → m2 ≡ (m1.0, (j, None) ∷ rest m1.1)
-      → IsSeated b m2 × (x : V) × (found ≡ Some x) × Entered at_home durable_of j n' kind me.0 m2.0 x
-  passed a b me m1 m2 i j n n' kind found size place number inside seated entered read left = let x : V = entered.0 in let view : m2.0 ≡ m1.0 = ap (λ z. z.0) left in
-      let now : Entered at_home durable_of j n' kind me.0 m2.0 x = subst (λ (z : ℕ × ℕ × View E). Entered at_home durable_of z.0 z.1 kind me.0 z.2 x) (λ k. (place k, number k, sym view k)) entered.1 in
-      let is = now.view in let behind : rest m1.1 ≡ me.1 = ap rest entered.2 in (
+  -- the same where it was given up
+  pub given_away : (a b : ℕ) (me m1 m2 : Me (Option V) (Mind V E)) (i j n n' d d' c c' : ℕ) (xs xs' : List V) (x : Option V) (v : View V E) → b ≡ a → i ≡ j → xs' ≡ xs → d' ≡ d → c' ≡ c → n' ≡ n → me.0.view ≡ v → IsSeated a me
+      → m1 ≡ (me.0, (j, x) ∷ map empty_slot (except j me.0.view.held)) → m2.0.view ≡ abandoned_with i xs' (without None i n' d' c' m1.0.view) → m2.0.told ≡ m1.0.told → m2.1 ≡ rest m1.1 → IsSeated b m2 × (m2.0.view ≡ abandoned_with j xs (without None j n d c v))
+  given_away a b me m1 m2 i j n n' d d' c c' xs xs' x v size place joins durable common number is seated put left told gave =
+      let before : m1.0.view ≡ v = ap (λ z. z.0.view) put ∙ is in
+      let now : m2.0.view ≡ abandoned_with j xs (without None j n d c v) = left ∙ (λ k. abandoned_with (place k) (joins k) (without None (place k) (number k) (durable k) (common k) (before k))) in
+      let held : m2.0.view.held ≡ except j me.0.view.held = ap (λ (z : View V E). z.held) now ∙ ap (λ (z : View V E). except j z.held) (sym is) in (
         record {
-          told = ap (λ (z : View E). z.told) is;
+          told = told ∙ (ap (λ z. z.0.told) put ∙ seated.told);
+          lives = subst Lives (sym now) (subst Lives is seated.lives);
+          slots = gave ∙ (ap (λ z. rest z.1) put ∙ ap (map empty_slot) (sym held));
+          inside = inside_of a b (except j me.0.view.held) m2.0.view.held size held (every_except (λ (h : Hold). h.station < a) j me.0.view.held seated.inside);
+          small = subst (λ (z : View V E). Small z.own) (sym now) (subst (λ (z : View V E). Small z.own) is seated.small);
+        },
+        now,
+      )
+
+module _ {V E : Type 0} (law : List E → Type 0) (at_home : ℕ → ℕ → ℕ → List E → ℕ → V → Type 0) (durable_of common_of : V → ℕ) where
+  -- the station was entered, and its slot read
+  pub passed : (a b : ℕ) (me m1 m2 : Me (Option V) (Mind V E)) (i j n n' kind : ℕ) (found : Option V) → b ≡ a → i ≡ j → n ≡ n' → j < a → IsSeated a me
+      → (x : V) × Entered law at_home durable_of common_of i n kind me.0.view m1.0.view x × (m1.0.told ≡ []) × (m1.1 ≡ (i, Some x) ∷ me.1) → m1.1 ≡ (j, found) ∷ rest m1.1 → m2 ≡ (m1.0, (j, None) ∷ rest m1.1)
+      → IsSeated b m2 × (x : V) × (found ≡ Some x) × Entered law at_home durable_of common_of j n' kind me.0.view m2.0.view x
+  passed a b me m1 m2 i j n n' kind found size place number inside seated entered read left = let x : V = entered.0 in let view : m2.0.view ≡ m1.0.view = ap (λ z. z.0.view) left in
+      let now : Entered law at_home durable_of common_of j n' kind me.0.view m2.0.view x = subst (λ (z : ℕ × ℕ × View V E). Entered law at_home durable_of common_of z.0 z.1 kind me.0.view z.2 x) (λ k. (place k, number k, sym view k)) entered.1 in
+      let is = now.view in let behind : rest m1.1 ≡ me.1 = ap rest entered.3 in (
+        record {
+          told = ap (λ z. z.0.told) left ∙ entered.2;
           lives = subst Lives (sym is) seated.lives;
-          slots = ap (λ z. z.1) left ∙ (ap (λ l. (j, None) ∷ l) (behind ∙ seated.slots) ∙ ap (λ (z : View E). map empty_slot z.held) (sym is));
-          inside = inside_of a b (hold j (4 * n' + kind) (durable_of x) ∷ me.0.held) m2.0.held size (ap (λ (z : View E). z.held) is) (inside, seated.inside);
-          small = subst (λ (z : View E). Small z.own) (sym is) seated.small;
+          slots = ap (λ z. z.1) left ∙ (ap (λ l. (j, None) ∷ l) (behind ∙ seated.slots) ∙ ap (λ (z : View V E). map empty_slot z.held) (sym is));
+          inside = inside_of a b (hold j (4 * n' + kind) (durable_of x) ∷ me.0.view.held) m2.0.view.held size (ap (λ (z : View V E). z.held) is) (inside, seated.inside);
+          small = subst (λ (z : View V E). Small z.own) (sym is) seated.small;
         },
         x,
-        first_value j i found (Some x) (rest m1.1) me.1 (sym read ∙ entered.2),
+        first_value j i found (Some x) (rest m1.1) me.1 (sym read ∙ entered.3),
         now,
       )
 
   -- a seat that has learnt something, and then entered a station, has entered it
-  pub later_entered : (u v w : View E) (station number kind : ℕ) (x : V) → Later u v → Entered at_home durable_of station number kind v w x → Entered at_home durable_of station number kind u w x
+  pub later_entered : (u v w : View V E) (station number kind : ℕ) (x : V) → Later u v → Entered law at_home durable_of common_of station number kind v w x → Entered law at_home durable_of common_of station number kind u w x
   later_entered u v w station number kind x l e = let is = l.same in let a = l.durable in let b = e.durable in let c = l.halted in let d = e.halted in
-      let engine : v.engine ≡ u.engine = ap (λ (z : View E). z.engine) is in record {
-        view = e.view ∙ ap (λ (z : View E). record (knowing w.seen w.durable w.halted z) { engine = engine_after station (durable_of x) z.engine; reached = reach station number ∷ z.reached; held = hold station (4 * number + kind) (durable_of x) ∷ z.held }) is;
+      let backed : v.backed ≡ u.backed = ap (λ (z : View V E). z.backed) is in let common : v.common ≡ u.common = ap (λ (z : View V E). z.common) is in let start : v.start ≡ u.start = ap (λ (z : View V E). z.start) is in let held : v.held ≡ u.held = ap (λ (z : View V E). z.held) is in record {
+        view = e.view ∙ ap (λ (z : View V E). record (knowing w.seen w.durable w.halted z) { backed = backed_after station (durable_of x) z.backed; common = common_after station (common_of x) z.common; reached = reach station number ∷ z.reached; held = hold station (4 * number + kind) (durable_of x) ∷ z.held }) is;
         seen = begins_on u.seen v.seen w.seen l.seen e.seen;
-        still = λ some_hold. e.still (subst (λ (z : View E). 0 < held_at 0 z.held) (sym is) some_hold) ∙ l.still some_hold;
+        sees = e.sees;
+        still = λ some_hold. e.still (subst (λ (z : View V E). 0 < held_at 0 z.held) (sym is) some_hold) ∙ l.still some_hold;
         durable = omega arith;
         halted = omega arith;
+        stays = stays_on u.durable v.durable w.durable u.halted v.halted l.halted l.stays e.stays;
         keeps = e.keeps;
-        engine = λ one. let q = e.engine one in let q0 = q.0 in let q1 = q.1 in (omega arith, q1);
-        turn = subst (λ (z : View E). reached_at station z.reached ≤ number) is e.turn;
-        place = λ first. let q = e.place first in let start : v.start ≡ u.start = ap (λ (z : View E). z.start) is in omega arith;
-        alone = subst (λ (z : View E). held_at station z.held ≡ 0) is e.alone;
+        backed = λ one. let q = e.backed one in let q0 = q.0 in let q1 = q.1 in (omega arith, q1);
+        common = λ some_name. let q = e.common some_name in let q0 = q.0 in (omega arith, λ holds. let t = q.1 (subst (λ (h : List Hold). 0 < held_at 1 h + held_at 2 h) (sym held) holds) in omega arith);
+        begun = let q = e.begun in omega arith;
+        limit = e.limit;
+        turn = subst (λ (z : View V E). reached_at station z.reached ≤ number) is e.turn;
+        word = e.word;
+        now = e.now;
+        place = λ first. let q = e.place first in omega arith;
+        alone = subst (λ (z : View V E). held_at station z.held ≡ 0) is e.alone;
       }

@@ -7,8 +7,7 @@ use lib.ListN.{get_elem?}
 use Rattle.rep_ordered.specs.declared.view.Hold.{Hold}
 use Rattle.rep_ordered.specs.declared.view.Reached.{Reached}
 use Rattle.rep_ordered.specs.Counts.{one, total}
-use Rattle.rep_ordered.specs.Views.{held_at, word_at, floor_at, except, hold, reached_at, reach, engine_after}
-use Rattle.rep_ordered.specs.Rule.{Every}
+use Rattle.rep_ordered.specs.Views.{Every, held_at, word_at, floor_at, except, hold, reached_at, reach, backed_after, names, common_after}
 
 module _ {A : Type 0} (f : A → ℕ) where
   pub total_append : (xs ys : List A) → total f (xs ++ ys) ≡ total f xs + total f ys
@@ -43,6 +42,10 @@ module _ {A : Type 0} where
   pub every_map : (P Q : A → Type 0) (xs : List A) → ((x : A) → P x → Q x) → Every P xs → Every Q xs
   every_map P Q [] f e = tt
   every_map P Q (x ∷ xs) f e = (f x e.0, every_map P Q xs f e.1)
+
+  pub every_append : (P : A → Type 0) (xs ys : List A) → Every P xs → Every P ys → Every P (xs ++ ys)
+  every_append P [] ys e f = f
+  every_append P (x ∷ xs) ys e f = (e.0, every_append P xs ys e.1 f)
 
   pub below_length : (xs : List A) (i : ℕ) (a : A) → get_elem? xs i ≡ some a → i < length xs
   below_length [] i a e = absurd (some-ne-none a (sym e))
@@ -114,11 +117,21 @@ reached_both j m [] ts a b = b
 reached_both j m (r ∷ rs) ts a b = let x : ℕ = if eqb j r.station then r.number else 0 in let y : ℕ = reached_at j rs in let old : max x y ≤ m = a in
     let s = reached_both j m rs ts (omega arith) b in let z : ℕ = reached_at j (rs ++ ts) in let t : z ≤ m = s in let goal : max x z ≤ m = omega arith in goal
 
-pub engine_here : (j a b : ℕ) → j ≡ 1 → engine_after j a b ≡ a
-engine_here j a b e = subst (λ t. (if t then a else b) ≡ a) (sym (eq-eqb j 1 e)) refl
+pub backed_here : (j a b : ℕ) → j ≡ 1 → backed_after j a b ≡ a
+backed_here j a b e = subst (λ t. (if t then a else b) ≡ a) (sym (eq-eqb j 1 e)) refl
 
-pub engine_else : (j a b : ℕ) → j ≢ 1 → engine_after j a b ≡ b
-engine_else j a b n = subst (λ t. (if t then a else b) ≡ b) (sym (ne_eqb j 1 n)) refl
+pub backed_else : (j a b : ℕ) → j ≢ 1 → backed_after j a b ≡ b
+backed_else j a b n = subst (λ t. (if t then a else b) ≡ b) (sym (ne_eqb j 1 n)) refl
+
+pub common_here : (j a b : ℕ) → 0 < names j → common_after j a b ≡ a
+common_here j a b some_name = subst (λ t. (if t then b else a) ≡ a) (sym (ne_eqb (names j) 0 (λ e. omega arith))) refl
+
+pub common_else : (j a b : ℕ) → names j ≡ 0 → common_after j a b ≡ b
+common_else j a b none = subst (λ t. (if t then b else a) ≡ b) (sym (eq-eqb (names j) 0 none)) refl
+
+-- the number that is named alike goes on as it is where the station's value names the same
+pub common_same : (j a b : ℕ) → (0 < names j → a ≡ b) → common_after j a b ≡ b
+common_same j a b same = dite (ℕ_discrete (names j) 0) (λ none. common_else j a b none) (λ some_name. let up : 0 < names j = omega arith in let x : ℕ = common_after j a b in let p : x ≡ a = common_here j a b up in let q : a ≡ b = same up in let goal : x ≡ b = omega arith in goal)
 
 module _ {A : Type 0} (f : A → ℕ) where
   -- the sum where all others count nothing

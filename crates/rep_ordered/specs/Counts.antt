@@ -21,3 +21,7 @@ once_below x n = 1 - (x + 1 - n)
 -- 1 where a station with this word is held, by a ticket (4n + 1) or from the side (4n + 2), else 0
 abbrev pub busy : ℕ → ℕ
 busy w = one (w % 4) 1 + one (w % 4) 2
+
+-- 1 where a station with this word was given up (4n + 3), else 0
+abbrev pub gave : ℕ → ℕ
+gave w = one (w % 4) 3

@@ -3,30 +3,30 @@ use Rattle.std.specs.Prelude.{◌≡◌, ℕ, ◌^◌, ◌<◌, ◌≤◌, Optio
 use Rattle.atomic_table.specs.Table.{Me}
 use Rattle.atomic_table.specs.Seated.{TableId}
 use Rattle.rep_ordered.specs.declared.view.Hold.{Hold}
+use Rattle.rep_ordered.specs.declared.view.Mind.{Mind}
 use Rattle.rep_ordered.specs.declared.view.View.{View}
 use Rattle.rep_ordered.specs.Counts.{times}
-use Rattle.rep_ordered.specs.Views.{Lives}
-use Rattle.rep_ordered.specs.Rule.{Every}
+use Rattle.rep_ordered.specs.Views.{Every, Lives}
 
 -- the lock that it is a seat of, and what it knows
-pub record Place (E : Type 0) : Type 0 where
+pub record Place (V E : Type 0) : Type 0 where
   pub lock : TableId
-  pub view : View E
+  pub view : View V E
 
 abbrev pub empty_slot : {V : Type 0} → Hold → ℕ × Option V
 empty_slot h = (h.station, None)
 
 -- between two calls a seat was told nothing that it has not seen, and the slots of the stations that it holds are empty
-pub record IsSeated {V E : Type 0} (stations : ℕ) (me : Me (Option V) (View E)) : Type 0 where
+pub record IsSeated {V E : Type 0} (stations : ℕ) (me : Me (Option V) (Mind V E)) : Type 0 where
   pub told : me.0.told ≡ []
-  pub lives : Lives me.0
-  pub slots : me.1 ≡ map empty_slot me.0.held
-  pub inside : Every (λ (h : Hold). h.station < stations) me.0.held
-  pub small : (x : ℕ) → 0 < times x me.0.own → x ≤ 2 ^ 60
+  pub lives : Lives me.0.view
+  pub slots : me.1 ≡ map empty_slot me.0.view.held
+  pub inside : Every (λ (h : Hold). h.station < stations) me.0.view.held
+  pub small : (x : ℕ) → 0 < times x me.0.view.own → x ≤ 2 ^ 60
 
 -- a lock of so many stations
 abbrev pub stations_of : TableId → ℕ
 stations_of lock = lock.slots
 
-abbrev pub seat_of : {E : Type 0} → TableId → View E → Place E
+abbrev pub seat_of : {V E : Type 0} → TableId → View V E → Place V E
 seat_of lock view = record { lock = lock; view = view }

@@ -1,9 +1,16 @@
 -- Words on what a seat knows.
-use Rattle.std.specs.Prelude.{◌≡◌, ℕ, ◌+◌, ◌-◌, ◌/◌, ◌%◌, ◌<◌, ◌≤◌, ◌==◌, if◌then◌else◌, max, Option, Some, None, List, [], ◌∷◌, ◌++◌, length}
+use Rattle.std.specs.Prelude.{◌≡◌, ℕ, ◌+◌, ◌-◌, ◌/◌, ◌%◌, ◌<◌, ◌≤◌, ◌==◌, if◌then◌else◌, max, Option, Some, None, List, [], ◌∷◌, ◌++◌, length, map}
+use Rattle.rep_ordered.specs.declared.view.GivenUp.{GivenUp}
 use Rattle.rep_ordered.specs.declared.view.Hold.{Hold}
+use Rattle.rep_ordered.specs.declared.view.Joined.{Joined}
 use Rattle.rep_ordered.specs.declared.view.Reached.{Reached}
 use Rattle.rep_ordered.specs.declared.view.View.{View}
+use Rattle.rep_ordered.specs.declared.view.Mind.{Mind}
 use Rattle.rep_ordered.specs.Counts.{one, total, times}
+
+abbrev pub Every : {A : Type 0} → (A → Type 0) → List A → Type 0
+Every P [] = Unit {0}
+Every P (x ∷ xs) = P x × Every P xs
 
 -- the list begins with `front`
 abbrev pub StartsWith : {A : Type 0} → List A → List A → Type 0
@@ -44,81 +51,142 @@ abbrev pub grown : {E : Type 0} → List E → Option E → List E
 grown seen None = seen
 grown seen (Some e) = seen ++ e ∷ []
 
+-- how many of the entries joined the history at this number
+abbrev pub joined_at : {E : Type 0} → ℕ → List (Joined E) → ℕ
+joined_at x [] = 0
+joined_at x (o ∷ os) = one x o.number + joined_at x os
+
+-- the entries that a seat let join the history, after what joins it at this number
+abbrev pub joining : {E : Type 0} → Option E → ℕ → List (Joined E) → List (Joined E)
+joining None n os = os
+joining (Some e) n os = record { number = n; entry = e } ∷ os
+
 -- the durable number that is known of station 1, after one of the station j was seen
-abbrev pub engine_after : ℕ → ℕ → ℕ → ℕ
-engine_after j seen known = if j == 1 then seen else known
+abbrev pub backed_after : ℕ → ℕ → ℕ → ℕ
+backed_after j seen known = if j == 1 then seen else known
+
+-- 1 where the station's value names the number that stations 1 and 2 name alike, else 0
+abbrev pub names : ℕ → ℕ
+names j = one j 1 + one j 2
+
+-- the number that is known to be named alike, after one of the station j was seen
+abbrev pub common_after : ℕ → ℕ → ℕ → ℕ
+common_after j seen known = if names j == 0 then known else seen
+
+-- a station that was given up with this value
+abbrev pub gone_at : {V : Type 0} → ℕ → V → GivenUp V
+gone_at j x = record { station = j; value = x }
 
 module _ {E : Type 0} where
-  abbrev pub allowance_of : View E → ℕ
-  allowance_of v = v.allowance
+  -- the entry stands in the history at its number, which is among the seat's own
+  pub record OwnEntry (start : ℕ) (history : List E) (own : List ℕ) (o : Joined E) : Type 0 where
+    pub before : List E
+    pub begins : StartsWith history (before ++ o.entry ∷ [])
+    pub place : start + length before ≡ o.number
+    pub drawn : 0 < times o.number own
 
-  abbrev pub count_of : View E → ℕ
-  count_of v = length v.own
+  -- what the history has at a seat's own numbers: the entries that it let join, and at the others nothing yet
+  pub record Placed (start : ℕ) (history : List E) (own : List ℕ) (joined : List (Joined E)) : Type 0 where
+    pub entries : Every (OwnEntry start history own) joined
+    pub others : (x : ℕ) → 0 < times x own → joined_at x joined ≡ 0 → start + length history ≤ x
 
-  abbrev pub drew : ℕ → View E → ℕ
-  drew x v = times x v.own
+module _ {V E : Type 0} where
+  abbrev pub allowance_of : Mind V E → ℕ
+  allowance_of m = m.view.allowance
 
-  abbrev pub on : ℕ → View E → ℕ
-  on j v = held_at j v.held
+  abbrev pub count_of : Mind V E → ℕ
+  count_of m = length m.view.own
+
+  abbrev pub drew : ℕ → Mind V E → ℕ
+  drew x m = times x m.view.own
+
+  abbrev pub on : ℕ → Mind V E → ℕ
+  on j m = held_at j m.view.held
+
+  abbrev pub halted_of : Mind V E → ℕ
+  halted_of m = m.view.halted
+
+  -- a seat that was told of no history
+  abbrev pub untold : View V E → Mind V E
+  untold v = record { view = v; told = [] }
 
   -- the first seat's view: it has the whole allowance, and knows the durable number that the lock is made with
-  abbrev pub opened : ℕ → ℕ → ℕ → View E
-  opened start whole durable = record { start = start; whole = whole; allowance = whole; seen = []; told = []; own = []; durable = durable; halted = 0; engine = durable; reached = []; held = [] }
+  abbrev pub opened : ℕ → ℕ → List V → ℕ → View V E
+  opened start whole first durable = record { start = start; whole = whole; first = first; allowance = whole; seen = []; own = []; joined = []; durable = durable; halted = 0; backed = durable; common = 0; reached = []; held = []; given_up = [] }
 
   -- the view of a seat that was joined to another
-  abbrev pub spent : ℕ → ℕ → View E
-  spent start whole = record { start = start; whole = whole; allowance = 0; seen = []; told = []; own = []; durable = 0; halted = 0; engine = 0; reached = []; held = [] }
+  abbrev pub spent : ℕ → ℕ → List V → View V E
+  spent start whole first = record { start = start; whole = whole; first = first; allowance = 0; seen = []; own = []; joined = []; durable = 0; halted = 0; backed = 0; common = 0; reached = []; held = []; given_up = [] }
 
-  abbrev pub with_number : ℕ → View E → View E
+  abbrev pub with_number : ℕ → View V E → View V E
   with_number n v = record v { allowance = v.allowance - 1; own = v.own ++ n ∷ [] }
 
-  abbrev pub giving : ℕ → View E → View E
+  abbrev pub giving : ℕ → View V E → View V E
   giving give v = record v { allowance = v.allowance - give }
 
   -- a seat that was split off: it has seen as much, and has drawn and holds nothing
-  abbrev pub given : ℕ → View E → View E
-  given give v = record v { allowance = give; told = []; own = []; held = [] }
+  abbrev pub given : ℕ → View V E → View V E
+  given give v = record v { allowance = give; own = []; joined = []; held = []; given_up = [] }
 
-  -- two views in one. What the second has seen is told
-  abbrev pub both : View E → View E → View E
-  both v w = record v { allowance = v.allowance + w.allowance; told = w.seen; own = v.own ++ w.own; durable = max v.durable w.durable; halted = max v.halted w.halted; engine = max v.engine w.engine; reached = v.reached ++ w.reached }
+  -- two views in one, but for what the second has seen of the history
+  abbrev pub both : View V E → View V E → View V E
+  both v w = record v { allowance = v.allowance + w.allowance; own = v.own ++ w.own; joined = v.joined ++ w.joined; durable = max v.durable w.durable; halted = max v.halted w.halted; backed = max v.backed w.backed; common = max v.common w.common; reached = v.reached ++ w.reached; given_up = v.given_up ++ w.given_up }
 
   -- the same seat, which knows the history and the durable word as they are now
-  abbrev pub knowing : List E → ℕ → ℕ → View E → View E
-  knowing history durable halted v = record v { seen = history; told = []; durable = durable; halted = halted }
+  abbrev pub knowing : List E → ℕ → ℕ → View V E → View V E
+  knowing history durable halted v = record v { seen = history; durable = durable; halted = halted }
+
+  -- what a seat knows of the history that it has seen, where the law holds of every history of the lock
+  pub record Sees (law : List E → Type 0) (v : View V E) : Type 0 where
+    pub legal : law v.seen
+    pub placed : Placed v.start v.seen v.own v.joined
 
   -- what is known of the history, of the durable number and of the halt has grown, and nothing else has changed
-  pub record Later (v w : View E) : Type 0 where
+  pub record Later (v w : View V E) : Type 0 where
     pub same : w ≡ record v { seen = w.seen; durable = w.durable; halted = w.halted }
     pub seen : StartsWith w.seen v.seen
     -- while it holds station 0, nothing joins the history
     pub still : 0 < held_at 0 v.held → w.seen ≡ v.seen
     pub durable : v.durable ≤ w.durable
     pub halted : v.halted ≤ w.halted
+    -- after a halt the durable number stays
+    pub stays : 0 < v.halted → w.durable ≡ v.durable
 
   -- the seat holds the station by its ticket, whatever else it holds
-  abbrev pub HoldsTurn : View E → ℕ → Type 0
+  abbrev pub HoldsTurn : View V E → ℕ → Type 0
   HoldsTurn v j = word_at j v.held % 4 ≡ 1
 
   -- the same from the side
-  abbrev pub HoldsSide : View E → ℕ → Type 0
+  abbrev pub HoldsSide : View V E → ℕ → Type 0
   HoldsSide v j = word_at j v.held % 4 ≡ 2
 
   -- the same in either way
-  abbrev pub Holds : View E → ℕ → Type 0
+  abbrev pub Holds : View V E → ℕ → Type 0
   Holds v j = 0 < held_at j v.held
 
   -- the number of the turn at which the station was entered
-  abbrev pub turn_of : ℕ → View E → ℕ
+  abbrev pub turn_of : ℕ → View V E → ℕ
   turn_of j v = word_at j v.held / 4
 
-  abbrev pub floor_of : ℕ → View E → ℕ
+  abbrev pub floor_of : ℕ → View V E → ℕ
   floor_of j v = floor_at j v.held
 
-  -- the station is left: the entry has joined the history, the station's turn is at n, and its value has this durable number. The other stations are held as before
-  abbrev pub without : Option E → ℕ → ℕ → ℕ → View E → View E
-  without entry j n durable v = record v { seen = grown v.seen entry; engine = engine_after j durable v.engine; reached = reach j n ∷ v.reached; held = except j v.held }
+  -- who leaves one of stations 1 and 2 with a value that names this number: the number is not lowered, and is another than before only if the seat holds both
+  abbrev pub Names : View V E → ℕ → Type 0
+  Names v number = (v.common ≤ number) × (held_at 1 v.held + held_at 2 v.held ≤ 1 → number ≡ v.common)
+
+  -- the station is left: the entry has joined the history at the number of the turn, the station's turn is at n, and its value names this durable number and this one for stations 1 and 2. The other stations are held as before
+  abbrev pub without : Option E → ℕ → ℕ → ℕ → ℕ → View V E → View V E
+  without entry j n durable common v = record v { seen = grown v.seen entry; joined = joining entry (turn_of j v) v.joined; backed = backed_after j durable v.backed; common = common_after j common v.common; reached = reach j n ∷ v.reached; held = except j v.held }
+
+  -- the station was given up with these values, of which there is one
+  abbrev pub abandoned_with : ℕ → List V → View V E → View V E
+  abandoned_with j xs v = record v { given_up = map (gone_at j) xs ++ v.given_up }
+
+  -- the station was given up with this value
+  abbrev pub abandoned : ℕ → V → View V E → View V E
+  abandoned j x v = record v { given_up = gone_at j x ∷ v.given_up }
 
   -- a seat that may still act: it may draw a number or has drawn one, unless there is none at all
-  abbrev pub Lives : View E → Type 0
+  abbrev pub Lives : View V E → Type 0
   Lives v = 0 < v.whole → 0 < v.allowance + length v.own

@@ -1,9 +1,9 @@
 //! How a lock is made, and how it is closed.
 
 ghost use Rattle.std.specs.Prelude.{◌≡◌, ◌+◌, ◌-◌, ◌*◌, ◌≤◌, [], ◌∷◌, length, map, replicate, Some, IfOk, IfErr, IfSome, IsSome, vec_capacity};
-ghost use Rattle.rep_ordered.specs.Views.{opened};
-ghost use Rattle.rep_ordered.specs.Rule.{Every};
-ghost use Rattle.rep_ordered.specs.Ends.{AllMeet, Closed};
+ghost use Rattle.rep_ordered.specs.Views.{Every, opened};
+ghost use Rattle.rep_ordered.specs.Rule.{first_of};
+ghost use Rattle.rep_ordered.specs.Ends.{AllMeet, AllName, Closed};
 ghost use Rattle.rep_ordered.specs.Seats.{seat_of, stations_of};
 
 use crate::lock::OrderedLock;
@@ -12,6 +12,7 @@ use crate::seat::Seat;
 use atomic_table::Table;
 use rep_types::MAX_SEQNO;
 use std::alloc::Global;
+use std::snapshot::Snapshot;
 
 /// There was no memory for a lock. The values come back.
 #[derive(Debug, Drop)]
@@ -80,17 +81,19 @@ fn unwrap<V>(slots: &mut Vec<Option<V>>, values: &mut Vec<V>)
     values.reverse();
 }
 
-/// The numbers of a lock that is made at this position.
-fn opening_at(position: u64, durable: u64) -> Opening
+/// What a lock is told that is made of these values, at this position.
+fn opening_at<V>(values: &Vec<V>, position: u64, durable: u64) -> Opening<V>
     requires { (durable ≤ position) × (position ≤ MAX_SEQNO) }
     ensures start { result.start ≡ position + 1 }
     ensures whole { result.whole ≡ MAX_SEQNO - position }
     ensures durable { result.durable ≡ durable }
+    ensures first { first_of result ≡ values.now.items }
 {
     Opening {
         start: position + 1,
         whole: MAX_SEQNO - position,
         durable,
+        first: Snapshot::of(values),
     }
 }
 
@@ -100,8 +103,9 @@ impl<V: Keeps<E>, E> OrderedLock<V, E> {
     /// draw all of them up to `MAX_SEQNO`. The durable number is not above the position. The history
     /// is empty.
     ///
-    /// Each value may lie at home in its station at the first number, after an empty history and at the
-    /// durable number. At station 1 the durable number is not above the value's own: the lock keeps it
+    /// Each value may lie at home in its station at the first number, after an empty history, which is
+    /// lawful, and at the durable number. The values of stations 1 and 2, where there are such, name the
+    /// same number. At station 1 the durable number is not above the value's own: the lock keeps it
     /// so, and says so to whoever enters that station and where it is closed. No `Keeps` could, since
     /// what it says stays so while the durable number rises.
     ///
@@ -114,12 +118,14 @@ impl<V: Keeps<E>, E> OrderedLock<V, E> {
         durable: u64,
     ) -> Result<(OrderedLock<V, E>, Seat<V, E>), Refused<V>>
         requires position { (durable ≤ position) × (position ≤ MAX_SEQNO) }
-        requires values { AllMeet V.at_home V.durable_of (position + 1) durable values.items }
+        requires legal { V.legal values.items [] }
+        requires names { AllName V.common_of values.items }
+        requires values { AllMeet (V.legal values.items) (V.at_home values.items) V.durable_of V.common_of (position + 1) durable values.items }
         ensures stations { IfOk result (λ made. stations_of made.0 ≡ length values.items) }
-        ensures seat { IfOk result (λ made. made.1 ≡ seat_of made.0 (opened (position + 1) (MAX_SEQNO - position) durable)) }
+        ensures seat { IfOk result (λ made. made.1 ≡ seat_of made.0 (opened (position + 1) (MAX_SEQNO - position) values.items durable)) }
         ensures refused { IfErr result (λ refusal. refusal.values.items ≡ values.items) }
     {
-        let opening = opening_at(position, durable);
+        let opening = opening_at(&values, position, durable);
         let Some(
             Space {
                 words,
@@ -150,15 +156,16 @@ impl<V: Keeps<E>, E> OrderedLock<V, E> {
     /// allowance. `None` stands only for a station that this seat still holds.
     ///
     /// Each value may lie at home in its station, at the number where the station's turn is, at the
-    /// history that the seat has seen, which is the whole one, and at the durable number. The seat's
-    /// numbers are all from the first on, each once. Whether the lock was halted makes no difference.
+    /// history that the seat has seen, which is the whole one, and at the durable number. A value was
+    /// given up only after a halt, of which the seat then knows. The seat's numbers are all from the
+    /// first on, each once, and what it let join the history stands there.
     ///
     /// It takes no memory and does not wait.
     pub fn close(self, seat: Seat<V, E>) -> Vec<Option<V>>
         requires lock { seat.lock ≡ self }
         requires all { seat.view.allowance + length seat.view.own ≡ seat.view.whole }
         ensures stations { length result.items ≡ stations_of self }
-        ensures values { Closed V.at_home V.durable_of seat.view result.items }
+        ensures values { Closed (V.legal seat.view.first) (V.at_home seat.view.first) V.durable_of V.common_of seat.view result.items }
     {
         let OrderedLock {
             table,

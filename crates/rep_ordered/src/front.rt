@@ -1,7 +1,7 @@
 //! The second word: the durable number and the halt.
 
-ghost use Rattle.std.specs.Prelude.{◌≡◌, ◌+◌, ◌≤◌, ◌↔◌, IsTrue, min};
-ghost use Rattle.rep_ordered.specs.Views.{Later};
+ghost use Rattle.std.specs.Prelude.{◌≡◌, ◌+◌, ◌≤◌, ◌↔◌, IsTrue, length, min};
+ghost use Rattle.rep_ordered.specs.Views.{Later, Sees};
 
 use crate::lock::OrderedLock;
 use crate::plays::{Halt, Raise, ReadFront};
@@ -21,17 +21,21 @@ pub struct Front {
 
 impl<V: Keeps<E>, E> OrderedLock<V, E> {
     /// The durable number, and whether the lock was halted, as they are now. They are at least what the
-    /// seat saw before, and what the seat knows from then on.
+    /// seat saw before, and what the seat knows from then on. Once a seat saw the halt, the durable number
+    /// stays as it saw it. A seat that has all the numbers knows the whole history and of every halt
+    /// already.
     ///
     /// It takes no memory and does not wait.
     pub fn front(&self, seat: &mut Seat<V, E>) -> Front
         requires { seat.old.lock ≡ self.now }
         ensures lock { seat.new.lock ≡ seat.old.lock }
         ensures later { Later seat.old.view seat.new.view }
+        ensures sees { Sees (V.legal seat.old.view.first) seat.new.view }
         ensures durable { result.durable ≡ seat.new.view.durable }
         ensures limit { result.durable ≤ MAX_SEQNO }
         ensures halted { IsTrue result.halted ↔ (seat.new.view.halted ≡ 1) }
         ensures one_bit { seat.new.view.halted ≤ 1 }
+        ensures last { seat.old.view.allowance + length seat.old.view.own ≡ seat.old.view.whole → (seat.new.view.halted ≡ seat.old.view.halted) × (seat.new.view.seen ≡ seat.old.view.seen) }
     {
         let word = self.table.shared.load::<ReadFront>(&mut seat.seat, 1);
         Front {
@@ -48,9 +52,10 @@ impl<V: Keeps<E>, E> OrderedLock<V, E> {
     /// It takes no memory and does not wait.
     pub fn raise(&self, seat: &mut Seat<V, E>, durable: u64)
         requires lock { seat.old.lock ≡ self.now }
-        requires saw { durable ≤ seat.old.view.engine }
+        requires saw { durable ≤ seat.old.view.backed }
         ensures lock { seat.new.lock ≡ seat.old.lock }
         ensures later { Later seat.old.view seat.new.view }
+        ensures sees { Sees (V.legal seat.old.view.first) seat.new.view }
         ensures raised { seat.new.view.halted ≡ 0 → min durable MAX_SEQNO ≤ seat.new.view.durable }
     {
         self.table
@@ -59,14 +64,15 @@ impl<V: Keeps<E>, E> OrderedLock<V, E> {
     }
 
     /// Halts the lock, for good: whoever waits for a station, and whoever comes to enter one, is
-    /// refused once he reads it. The durable number stays as it is. Who is inside a station may leave
-    /// it, or give it up.
+    /// refused once he reads it. The durable number then stays as the seat has seen it. Who is inside a
+    /// station may leave it, or give it up.
     ///
     /// It takes no memory and does not wait.
     pub fn halt(&self, seat: &mut Seat<V, E>)
         requires { seat.old.lock ≡ self.now }
         ensures lock { seat.new.lock ≡ seat.old.lock }
         ensures later { Later seat.old.view seat.new.view }
+        ensures sees { Sees (V.legal seat.old.view.first) seat.new.view }
         ensures halted { seat.new.view.halted ≡ 1 }
     {
         self.table.shared.fetch_or::<Halt>(&mut seat.seat, 1, HALT);

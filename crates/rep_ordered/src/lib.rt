@@ -17,4 +17,4 @@ pub use front::Front;
 pub use lock::OrderedLock;
 pub use rule::{Keeps, Opening};
 pub use seat::Seat;
-pub use view::{Hold, Reached, View};
+pub use view::{GivenUp, Hold, Joined, Reached, View};

@@ -1,7 +1,7 @@
 //! The lock.
 
 use crate::rule::{Keeps, Opening, Ordered};
-use crate::view::View;
+use crate::view::Mind;
 use atomic_table::Table;
 use std::alloc::Global;
 use std::marker::Model;
@@ -16,13 +16,15 @@ use std::marker::Model;
 /// durable number, which only rises, with the halt. After a `halt` whoever waits is refused.
 ///
 /// Which values may lie at home in a station the caller says by [`Keeps`](crate::Keeps): a fact of the
-/// station, the number of its turn, the history, the durable number and the value, which stays so as
-/// the history and the durable number grow. It is what a seat finds when it enters, and owes when it
-/// leaves.
+/// values that the lock was made with, the station, the number of its turn, whether it was given up,
+/// the history, the durable number and the value, which stays so as the history and the durable number
+/// grow. It is what a seat finds when it enters, and owes when it leaves. The caller also says which
+/// histories are lawful: who lets an entry join owes it, and who sees more of the history is told it.
 ///
 /// What a seat knows, its [`View`](crate::View), exists in contracts alone, as does the history. A seat
 /// sees more of the history as it enters stations, looks at the front or takes in other seats, and of
-/// what any two seats have seen one is a beginning of the other.
+/// what any two seats have seen one is a beginning of the other. What it let join the history stands
+/// there at its own numbers, and at a number of its own that joined nothing there is no entry yet.
 ///
 /// Not promised, by any contract: that an `enter` or a `side_enter` returns, that the threads get on,
 /// or that any of them is served before another who waits from the side (no progress, no fairness);
@@ -31,7 +33,7 @@ use std::marker::Model;
 /// others can wait forever.
 #[derive(Drop)]
 pub struct OrderedLock<V: Keeps<E>, E> {
-    pub(crate) table: Table<Option<V>, View<E>, Opening, Ordered, Global>,
+    pub(crate) table: Table<Option<V>, Mind<V, E>, Opening<V>, Ordered, Global>,
     /// Room for the values as `close` gives them.
     pub(crate) room: Vec<Option<V>>,
 }

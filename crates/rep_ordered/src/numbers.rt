@@ -26,6 +26,7 @@ impl<V: Keeps<E>, E> OrderedLock<V, E> {
         ensures limit { result ≤ MAX_SEQNO }
         ensures later { seat.old.view.start + length seat.old.view.seen ≤ result }
         ensures fresh { times result seat.old.view.own ≡ 0 }
+        ensures drawn { 0 < times result seat.new.view.own }
     {
         self.table.shared.fetch_add::<Claim>(&mut seat.seat, 0, 1)
     }
@@ -59,24 +60,24 @@ impl<V: Keeps<E>, E> OrderedLock<V, E> {
 
     /// Takes in another seat of the lock, which holds no station. The seat then may draw what both
     /// might, has drawn what both had, no number twice, and has seen at least what both had: the
-    /// whole history.
+    /// whole history, which is lawful.
     ///
     /// It takes no memory and does not wait.
     pub fn join(&self, seat: &mut Seat<V, E>, other: Seat<V, E>)
         requires lock { (seat.old.lock ≡ self.now) × (other.lock ≡ self.now) }
         requires free { other.view.held ≡ [] }
         ensures lock { seat.new.lock ≡ seat.old.lock }
-        ensures joined { Learns (both seat.old.view other.view) seat.new.view }
+        ensures joined { Learns (V.legal seat.old.view.first) other.view.seen (both seat.old.view other.view) seat.new.view }
     {
         self.join_as::<Brand>(seat, other);
     }
 
-    fn join_as<N: Numbers>(&self, seat: &mut Seat<V, E>, other: Seat<V, E>)
+    fn join_as<N: Numbers<V>>(&self, seat: &mut Seat<V, E>, other: Seat<V, E>)
         requires lock { (seat.old.lock ≡ self.now) × (other.lock ≡ self.now) }
         requires free { other.view.held ≡ [] }
-        requires pick { (seat.old.view.start ≡ N.start) × (seat.old.view.whole ≡ N.whole) }
+        requires pick { (seat.old.view.start ≡ N.start) × (seat.old.view.whole ≡ N.whole) × (seat.old.view.first ≡ N.first) }
         ensures lock { seat.new.lock ≡ seat.old.lock }
-        ensures joined { Learns (both seat.old.view other.view) seat.new.view }
+        ensures joined { Learns (V.legal seat.old.view.first) other.view.seen (both seat.old.view other.view) seat.new.view }
     {
         let Seat { seat: other } = other;
         self.table

@@ -1,16 +1,16 @@
 //! The turns: how a station is entered and left.
 
-ghost use Rattle.std.specs.Prelude.{◌≡◌, ◌≢◌, ℕ, ◌+◌, ◌/◌, ◌<◌, ◌≤◌, IfOk, IfErr, IsErr, IfSome, IfNone, IsSome, IsNone, Option, Some, None, ◌∷◌, map};
+ghost use Rattle.std.specs.Prelude.{◌≡◌, ◌≢◌, ℕ, ◌+◌, ◌/◌, ◌<◌, ◌≤◌, IfOk, IfErr, IsErr, IfSome, IfNone, IsSome, IsNone, Option, Some, None, [], ◌∷◌, map};
 ghost use Rattle.rep_ordered.specs.Counts.{times};
-ghost use Rattle.rep_ordered.specs.Views.{HoldsTurn, HoldsSide, Holds, Later, except, floor_of, grown, turn_of, without};
+ghost use Rattle.rep_ordered.specs.Views.{HoldsTurn, HoldsSide, Holds, Later, Names, Sees, abandoned, except, floor_of, grown, names, turn_of, without};
 ghost use Rattle.rep_ordered.specs.Steps.{Entered};
 ghost use Rattle.rep_ordered.specs.Seats.{IsSeated, empty_slot, seat_of, stations_of};
 
 use crate::lock::OrderedLock;
-use crate::plays::{Bring, ByTicket, FromSide, Leave, Leaving};
+use crate::plays::{Abandon, Abandoning, Bring, ByTicket, FromSide, Leave, Leaving};
 use crate::rule::Keeps;
 use crate::seat::Seat;
-use crate::view::View;
+use crate::view::Mind;
 use crossbeam_utils::Backoff;
 use rep_types::Refusal;
 use std::marker::Brand;
@@ -40,7 +40,9 @@ impl<V: Keeps<E>, E> OrderedLock<V, E> {
     /// many entries have joined the history as there are numbers before the ticket. The turns of a
     /// station come in the order of the tickets: what the seat saw of it before is no later than this.
     /// Nobody else is inside until the seat leaves, and while it is inside station 0 nothing joins the
-    /// history.
+    /// history. The history is lawful, and the seat's own entries stand in it at their numbers. At
+    /// stations 1 and 2 the number that the two name is not below what the seat saw, and the same where
+    /// it holds the other one.
     ///
     /// The ticket is one that the seat drew. A ticket enters each station once; where a ticket was
     /// never brought to a station, no later one can enter it. A seat may hold several stations, and
@@ -63,8 +65,8 @@ impl<V: Keeps<E>, E> OrderedLock<V, E> {
         requires station { station < stations_of self.now }
         requires ticket { 0 < times ticket seat.old.view.own }
         ensures lock { seat.new.lock ≡ seat.old.lock }
-        ensures entered { IfOk result (Entered V.at_home V.durable_of station ticket 1 seat.old.view seat.new.view) }
-        ensures stopped { IfErr result (λ refusal. (refusal ≡ Refusal.Stopped) × Later seat.old.view seat.new.view × (seat.new.view.halted ≡ 1)) }
+        ensures entered { IfOk result (Entered (V.legal seat.old.view.first) (V.at_home seat.old.view.first) V.durable_of V.common_of station ticket 1 seat.old.view seat.new.view) }
+        ensures stopped { IfErr result (λ refusal. (refusal ≡ Refusal.Stopped) × Later seat.old.view seat.new.view × Sees (V.legal seat.old.view.first) seat.new.view × (seat.new.view.halted ≡ 1)) }
         ensures halted { seat.old.view.halted ≡ 1 → IsErr result }
     {
         let backoff = Backoff::new();
@@ -86,7 +88,7 @@ impl<V: Keeps<E>, E> OrderedLock<V, E> {
         requires station { station < stations_of self.now }
         requires ticket { 0 < times ticket seat.old.view.own }
         ensures lock { seat.new.lock ≡ seat.old.lock }
-        ensures entered { IfSome result (Entered V.at_home V.durable_of station ticket 1 seat.old.view seat.new.view) }
+        ensures entered { IfSome result (Entered (V.legal seat.old.view.first) (V.at_home seat.old.view.first) V.durable_of V.common_of station ticket 1 seat.old.view seat.new.view) }
         ensures missed { IfNone result (seat.new ≡ seat.old) }
     {
         // Tells the proof that the seat's numbers are small.
@@ -119,8 +121,8 @@ impl<V: Keeps<E>, E> OrderedLock<V, E> {
         requires lock { seat.old.lock ≡ self.now }
         requires station { station < stations_of self.now }
         ensures lock { seat.new.lock ≡ seat.old.lock }
-        ensures entered { IfOk result (λ value. (number : ℕ) × Entered V.at_home V.durable_of station number 2 seat.old.view seat.new.view value) }
-        ensures stopped { IfErr result (λ refusal. (refusal ≡ Refusal.Stopped) × Later seat.old.view seat.new.view × (seat.new.view.halted ≡ 1)) }
+        ensures entered { IfOk result (λ value. (number : ℕ) × Entered (V.legal seat.old.view.first) (V.at_home seat.old.view.first) V.durable_of V.common_of station number 2 seat.old.view seat.new.view value) }
+        ensures stopped { IfErr result (λ refusal. (refusal ≡ Refusal.Stopped) × Later seat.old.view seat.new.view × Sees (V.legal seat.old.view.first) seat.new.view × (seat.new.view.halted ≡ 1)) }
         ensures halted { seat.old.view.halted ≡ 1 → IsErr result }
     {
         let backoff = Backoff::new();
@@ -141,7 +143,7 @@ impl<V: Keeps<E>, E> OrderedLock<V, E> {
         requires lock { seat.old.lock ≡ self.now }
         requires station { station < stations_of self.now }
         ensures lock { seat.new.lock ≡ seat.old.lock }
-        ensures entered { IfSome result (λ value. (number : ℕ) × Entered V.at_home V.durable_of station number 2 seat.old.view seat.new.view value) }
+        ensures entered { IfSome result (λ value. (number : ℕ) × Entered (V.legal seat.old.view.first) (V.at_home seat.old.view.first) V.durable_of V.common_of station number 2 seat.old.view seat.new.view value) }
         ensures missed { IfNone result (seat.new ≡ seat.old) }
     {
         let free = self.table.shared.peek(station + 2);
@@ -161,13 +163,18 @@ impl<V: Keeps<E>, E> OrderedLock<V, E> {
     /// Puts a value into the slot of a station that the seat holds. A step can give back only the first
     /// of the slots that a seat carries, so a load, which changes nothing, brings this one in front of
     /// the others.
-    fn put_back(&self, seat: &mut atomic_table::Seat<Option<V>, View<E>>, station: usize, value: V)
+    fn put_back(
+        &self,
+        seat: &mut atomic_table::Seat<Option<V>, Mind<V, E>>,
+        station: usize,
+        value: V,
+    )
         requires table { seat.old.table_id ≡ self.now }
         requires seated { IsSeated (stations_of self.now) seat.old.me }
-        requires holds { Holds seat.old.me.0 station }
+        requires holds { Holds seat.old.me.0.view station }
         ensures table { seat.new.table_id ≡ seat.old.table_id }
         ensures within { station < stations_of self.now }
-        ensures put { seat.new.me ≡ (seat.old.me.0, (station, Some value) ∷ map empty_slot (except station seat.old.me.0.held)) }
+        ensures put { seat.new.me ≡ (seat.old.me.0, (station, Some value) ∷ map empty_slot (except station seat.old.me.0.view.held)) }
     {
         self.table.shared.load::<Bring>(seat, station + 2);
         let empty = self.table.shared.exchange(seat, station, Some(value));
@@ -178,16 +185,20 @@ impl<V: Keeps<E>, E> OrderedLock<V, E> {
     /// back. Its turn is then at the next number. At station 0 the entry joins the history; at the
     /// others there is none. The seat holds its other stations as before.
     ///
-    /// The value may lie at home there: at the next number, at what the seat has seen of the history,
-    /// the entry included, and at the durable number that it has seen. At station 1 its durable number
-    /// is not below that of the value that was found there.
+    /// At station 0 the history is lawful with the entry. The value may lie at home there: at the next
+    /// number, at what the seat has seen of the history, the entry included, and at the durable number
+    /// that it has seen. At station 1 its durable number is not below that of the value that was found
+    /// there. At stations 1 and 2 the number that the two name is not lowered, and is as it was unless
+    /// the seat holds both.
     pub fn leave(&self, seat: &mut Seat<V, E>, station: usize, value: V, entry: &Option<E>)
         requires lock { seat.old.lock ≡ self.now }
         requires turn { HoldsTurn seat.old.view station }
         requires entry { (station ≡ 0 → IsSome entry.now) × (station ≢ 0 → IsNone entry.now) }
-        requires value { V.at_home station (turn_of station seat.old.view + 1) (grown seat.old.view.seen entry.now) seat.old.view.durable value }
+        requires legal { station ≡ 0 → V.legal seat.old.view.first (grown seat.old.view.seen entry.now) }
+        requires value { V.at_home seat.old.view.first station (turn_of station seat.old.view + 1) 0 (grown seat.old.view.seen entry.now) seat.old.view.durable value }
         requires floor { station ≡ 1 → floor_of station seat.old.view ≤ V.durable_of value }
-        ensures seat { seat.new ≡ seat_of seat.old.lock (without entry.now station (turn_of station seat.old.view + 1) (V.durable_of value) seat.old.view) }
+        requires common { 0 < names station → Names seat.old.view (V.common_of value) }
+        ensures seat { seat.new ≡ seat_of seat.old.lock (without entry.now station (turn_of station seat.old.view + 1) (V.durable_of value) (V.common_of value) seat.old.view) }
     {
         self.leave_as::<Brand>(seat, station, value, entry);
     }
@@ -202,10 +213,12 @@ impl<V: Keeps<E>, E> OrderedLock<V, E> {
         requires lock { seat.old.lock ≡ self.now }
         requires turn { HoldsTurn seat.old.view station }
         requires entry { (station ≡ 0 → IsSome entry.now) × (station ≢ 0 → IsNone entry.now) }
-        requires value { V.at_home station (turn_of station seat.old.view + 1) (grown seat.old.view.seen entry.now) seat.old.view.durable value }
+        requires legal { station ≡ 0 → V.legal seat.old.view.first (grown seat.old.view.seen entry.now) }
+        requires value { V.at_home seat.old.view.first station (turn_of station seat.old.view + 1) 0 (grown seat.old.view.seen entry.now) seat.old.view.durable value }
         requires floor { station ≡ 1 → floor_of station seat.old.view ≤ V.durable_of value }
-        requires pick { (L.entry ≡ entry.now) × (L.durable ≡ V.durable_of value) × (L.number ≡ turn_of station seat.old.view + 1) }
-        ensures seat { seat.new ≡ seat_of seat.old.lock (without entry.now station (turn_of station seat.old.view + 1) (V.durable_of value) seat.old.view) }
+        requires common { 0 < names station → Names seat.old.view (V.common_of value) }
+        requires pick { (L.entry ≡ entry.now) × (L.durable ≡ V.durable_of value) × (L.common ≡ V.common_of value) × (L.number ≡ turn_of station seat.old.view + 1) }
+        ensures seat { seat.new ≡ seat_of seat.old.lock (without entry.now station (turn_of station seat.old.view + 1) (V.durable_of value) (V.common_of value) seat.old.view) }
     {
         self.put_back(&mut seat.seat, station, value);
         self.table
@@ -218,14 +231,14 @@ impl<V: Keeps<E>, E> OrderedLock<V, E> {
     /// other stations as before.
     ///
     /// The value may lie at home there, at that number, at what the seat has seen of the history, and
-    /// at the durable number that it has seen. At station 1 its durable number is not below that of the
-    /// value that was found there.
+    /// at the durable number that it has seen. The numbers that the value names are bound as by `leave`.
     pub fn side_leave(&self, seat: &mut Seat<V, E>, station: usize, value: V)
         requires lock { seat.old.lock ≡ self.now }
         requires side { HoldsSide seat.old.view station }
-        requires value { V.at_home station (turn_of station seat.old.view) seat.old.view.seen seat.old.view.durable value }
+        requires value { V.at_home seat.old.view.first station (turn_of station seat.old.view) 0 seat.old.view.seen seat.old.view.durable value }
         requires floor { station ≡ 1 → floor_of station seat.old.view ≤ V.durable_of value }
-        ensures seat { seat.new ≡ seat_of seat.old.lock (without None station (turn_of station seat.old.view) (V.durable_of value) seat.old.view) }
+        requires common { 0 < names station → Names seat.old.view (V.common_of value) }
+        ensures seat { seat.new ≡ seat_of seat.old.lock (without None station (turn_of station seat.old.view) (V.durable_of value) (V.common_of value) seat.old.view) }
     {
         self.side_leave_as::<Brand>(seat, station, value);
     }
@@ -233,10 +246,11 @@ impl<V: Keeps<E>, E> OrderedLock<V, E> {
     fn side_leave_as<L: Leaving<E>>(&self, seat: &mut Seat<V, E>, station: usize, value: V)
         requires lock { seat.old.lock ≡ self.now }
         requires side { HoldsSide seat.old.view station }
-        requires value { V.at_home station (turn_of station seat.old.view) seat.old.view.seen seat.old.view.durable value }
+        requires value { V.at_home seat.old.view.first station (turn_of station seat.old.view) 0 seat.old.view.seen seat.old.view.durable value }
         requires floor { station ≡ 1 → floor_of station seat.old.view ≤ V.durable_of value }
-        requires pick { (L.entry ≡ None) × (L.durable ≡ V.durable_of value) × (L.number ≡ turn_of station seat.old.view) }
-        ensures seat { seat.new ≡ seat_of seat.old.lock (without None station (turn_of station seat.old.view) (V.durable_of value) seat.old.view) }
+        requires common { 0 < names station → Names seat.old.view (V.common_of value) }
+        requires pick { (L.entry ≡ None) × (L.durable ≡ V.durable_of value) × (L.common ≡ V.common_of value) × (L.number ≡ turn_of station seat.old.view) }
+        ensures seat { seat.new ≡ seat_of seat.old.lock (without None station (turn_of station seat.old.view) (V.durable_of value) (V.common_of value) seat.old.view) }
     {
         self.put_back(&mut seat.seat, station, value);
         self.table
@@ -245,34 +259,38 @@ impl<V: Keeps<E>, E> OrderedLock<V, E> {
     }
 
     /// Gives up a station, however it was entered and whatever else the seat holds, once the seat saw
-    /// that the lock was halted. The value goes home, nobody enters the station again, and `close`
-    /// gives that value. The seat holds its other stations as before.
+    /// that the lock was halted. The value goes home, nobody enters the station again, and `close` gives
+    /// that value. The seat holds its other stations as before.
     ///
-    /// The value may lie at home there at the number at which the station was entered, at what the seat
-    /// has seen of the history, and at the durable number that it has seen. At station 1 its durable
-    /// number is not below that of the value that was found there.
+    /// The value may lie at home there as one that was given up: at the number at which the station was
+    /// entered, at what the seat has seen of the history, and at the durable number that it has seen.
+    /// Who enters a station never finds such a value, since what he finds was not given up; `close`
+    /// says of each value whether it was. The numbers that the value names are bound as by `leave`.
     pub fn give_up(&self, seat: &mut Seat<V, E>, station: usize, value: V)
         requires lock { seat.old.lock ≡ self.now }
         requires halted { seat.old.view.halted ≡ 1 }
         requires holds { Holds seat.old.view station }
-        requires value { V.at_home station (turn_of station seat.old.view) seat.old.view.seen seat.old.view.durable value }
+        requires value { V.at_home seat.old.view.first station (turn_of station seat.old.view) 1 seat.old.view.seen seat.old.view.durable value }
         requires floor { station ≡ 1 → floor_of station seat.old.view ≤ V.durable_of value }
-        ensures seat { seat.new ≡ seat_of seat.old.lock (without None station (turn_of station seat.old.view) (V.durable_of value) seat.old.view) }
+        requires common { 0 < names station → Names seat.old.view (V.common_of value) }
+        ensures seat { seat.new ≡ seat_of seat.old.lock (abandoned station value (without None station (turn_of station seat.old.view) (V.durable_of value) (V.common_of value) seat.old.view)) }
     {
         self.give_up_as::<Brand>(seat, station, value);
     }
 
-    fn give_up_as<L: Leaving<E>>(&self, seat: &mut Seat<V, E>, station: usize, value: V)
+    fn give_up_as<L: Abandoning<V>>(&self, seat: &mut Seat<V, E>, station: usize, value: V)
         requires lock { seat.old.lock ≡ self.now }
+        requires halted { seat.old.view.halted ≡ 1 }
         requires holds { Holds seat.old.view station }
-        requires value { V.at_home station (turn_of station seat.old.view) seat.old.view.seen seat.old.view.durable value }
+        requires value { V.at_home seat.old.view.first station (turn_of station seat.old.view) 1 seat.old.view.seen seat.old.view.durable value }
         requires floor { station ≡ 1 → floor_of station seat.old.view ≤ V.durable_of value }
-        requires pick { (L.entry ≡ None) × (L.durable ≡ V.durable_of value) × (L.number ≡ turn_of station seat.old.view) }
-        ensures seat { seat.new ≡ seat_of seat.old.lock (without None station (turn_of station seat.old.view) (V.durable_of value) seat.old.view) }
+        requires common { 0 < names station → Names seat.old.view (V.common_of value) }
+        requires pick { (L.values ≡ value ∷ []) × (L.durable ≡ V.durable_of value) × (L.common ≡ V.common_of value) × (L.number ≡ turn_of station seat.old.view) }
+        ensures seat { seat.new ≡ seat_of seat.old.lock (abandoned station value (without None station (turn_of station seat.old.view) (V.durable_of value) (V.common_of value) seat.old.view)) }
     {
         self.put_back(&mut seat.seat, station, value);
         self.table
             .shared
-            .fetch_or::<Leave<L>>(&mut seat.seat, station + 2, GIVEN_UP);
+            .fetch_or::<Abandon<L>>(&mut seat.seat, station + 2, GIVEN_UP);
     }
 }

@@ -1,25 +1,28 @@
 -- Lists of tickets, one ticket later.
-use Rattle.std.proofs.Common.{◌≡◌, ℕ, zero, suc, ◌+◌, ◌-◌, ◌*◌, ◌/◌, ◌<◌, ◌≤◌, max, eqb, List, [], ◌∷◌, ◌++◌, length, get_or, take, sym, refl, ap, ◌∙◌, subst, arith, length-append, mul-le-mul_right, if◌then◌else◌, eq-eqb}
-use Rattle.std.specs.Prelude.{Option, Some, Result, Ok, Err, OnOk, IsSomeAnd, All}
-use Rattle.std.proofs.lemmas.Option.{slice_get-get_or}
+use Rattle.std.proofs.Common.{◌≡◌, ℕ, zero, suc, ◌+◌, ◌-◌, ◌*◌, ◌/◌, ◌<◌, ◌≤◌, max, eqb, List, [], ◌∷◌, ◌++◌, length, get_or, take, sym, refl, ap, ◌∙◌, subst, arith, length-append, mul-le-mul_right, if◌then◌else◌}
+use Rattle.std.specs.Prelude.{slice_get, Option, None, Some, Result, Ok, Err, OnOk, IsSomeAnd, All}
+use Rattle.std.proofs.lemmas.Option.{same_Some, slice_get-get_or}
 use Rattle.rep_ordered_uses.specs.declared.notes.Note.{Note}
 use Rattle.rep_ordered.specs.Ends.{Closed}
 use Rattle.std.specs.Result.{result_and}
 use Rattle.std.proofs.Math.Nat.{add-mul}
 use Rattle.rep_ordered.specs.declared.view.Reached.{Reached}
 use Rattle.rep_ordered.specs.declared.view.View.{View}
-use Rattle.rep_ordered.specs.Counts.{one, times}
-use Rattle.rep_ordered.specs.Views.{StartsWith, held_at, reached_at, reach, turn_of, word_at}
-use Rattle.rep_ordered.specs.Steps.{Entered}
-use Rattle.rep_ordered.proofs.Sums.{total_snoc, total_append, one_equal}
-use Rattle.rep_ordered_uses.specs.Passing.{HavePassed, numbers, AllDone}
+use Rattle.rep_ordered.specs.Counts.{times}
+use Rattle.rep_ordered.specs.Views.{StartsWith, held_at, reached_at, reach}
+use Rattle.rep_ordered_uses.specs.Passing.{Anything, HavePassed, numbers, AllDone}
 
 append_nil : {A : Type 0} (l : List A) → l ++ [] ≡ l
 append_nil [] = refl
 append_nil (e ∷ es) = ap (λ z. e ∷ z) (append_nil es)
 
-pub times_last : (own : List ℕ) (t : ℕ) → 0 < times t (own ++ t ∷ [])
-times_last own t = let s = total_snoc (one t) own t in omega arith
+times_append : (x : ℕ) (xs ys : List ℕ) → times x (xs ++ ys) ≡ times x xs + times x ys
+times_append x [] ys = omega arith
+times_append x (y ∷ xs) ys = let e = times_append x xs ys in omega arith
+
+-- the only number of a list of one
+times_one : (x t : ℕ) → 0 < times x (t ∷ []) → x ≡ t
+times_one x t drawn = omega arith
 
 pub length-numbers : (first n : ℕ) → length (numbers first n) ≡ n
 length-numbers first zero = refl
@@ -57,30 +60,24 @@ next_second start t before seen old tickets g place begins h = let count = h.cou
       front = (begins.0, begins.1 ∙ ap (λ l. (l ++ t ∷ []) ++ begins.0) (sym is));
     }
 
--- the number of the turn of a station that was just entered by a ticket
-pub turn_entered : {V E : Type 0} (at_home : ℕ → ℕ → List E → ℕ → V → Type 0) (durable_of : V → ℕ) (station number : ℕ) (v w : View E) (x : V) → Entered at_home durable_of station number 1 v w x → turn_of station w ≡ number
-turn_entered at_home durable_of station number v w x e = let behind : ℕ = word_at station v.held in
-    let word : word_at station w.held ≡ (if eqb station station then 4 * number + 1 else behind) = ap (λ (z : View _). word_at station z.held) e.view in
-    let here : word_at station w.held ≡ 4 * number + 1 = word ∙ ap (λ b. if b then 4 * number + 1 else behind) (eq-eqb station station refl) in omega arith
-
 -- the number drawn has passed both stations, and so have those before it
-all_done : (v w : View ℕ) (t : ℕ) → w.own ≡ v.own ++ t ∷ [] → t < reached_at 0 w.reached → t < reached_at 1 w.reached → reached_at 0 v.reached ≤ reached_at 0 w.reached → reached_at 1 v.reached ≤ reached_at 1 w.reached → AllDone v → AllDone w
+all_done : {V : Type 0} (v w : View V ℕ) (t : ℕ) → w.own ≡ v.own ++ t ∷ [] → t < reached_at 0 w.reached → t < reached_at 1 w.reached → reached_at 0 v.reached ≤ reached_at 0 w.reached → reached_at 1 v.reached ≤ reached_at 1 w.reached → AllDone v → AllDone w
 all_done v w t own here there up_here up_there old x drawn = go (times x v.own) refl
   where
     go : (n : ℕ) → n ≡ times x v.own → (x < reached_at 0 w.reached) × (x < reached_at 1 w.reached)
-    go zero none = let s = total_snoc (one x) v.own t in let counted : times x w.own ≡ times x (v.own ++ t ∷ []) = ap (times x) own in let is = one_equal x t (omega arith) in (omega arith, omega arith)
+    go zero none = let s = times_append x v.own (t ∷ []) in let counted : times x w.own ≡ times x (v.own ++ t ∷ []) = ap (times x) own in let is = times_one x t (omega arith) in (omega arith, omega arith)
     go (suc n) some = let o = old x (omega arith) in let a = o.0 in let b = o.1 in (omega arith, omega arith)
 
 -- the number drawn has left the first station, and then passed the second
-pub done_more : (v w : View ℕ) (t : ℕ) → w.own ≡ v.own ++ t ∷ [] → w.reached ≡ reach 1 (t + 1) ∷ reach 1 t ∷ reach 0 (t + 1) ∷ reach 0 t ∷ v.reached → AllDone v → AllDone w
+pub done_more : {V : Type 0} (v w : View V ℕ) (t : ℕ) → w.own ≡ v.own ++ t ∷ [] → w.reached ≡ reach 1 (t + 1) ∷ reach 1 t ∷ reach 0 (t + 1) ∷ reach 0 t ∷ v.reached → AllDone v → AllDone w
 done_more v w t own reached old = let here = ap (reached_at 0) reached in let there = ap (reached_at 1) reached in all_done v w t own (omega arith) (omega arith) (omega arith) (omega arith) old
 
 -- it was inside both at once, and left the first one first
-pub done_coupled : (v w : View ℕ) (t : ℕ) → w.own ≡ v.own ++ t ∷ [] → w.reached ≡ reach 1 (t + 1) ∷ reach 0 (t + 1) ∷ reach 1 t ∷ reach 0 t ∷ v.reached → AllDone v → AllDone w
+pub done_coupled : {V : Type 0} (v w : View V ℕ) (t : ℕ) → w.own ≡ v.own ++ t ∷ [] → w.reached ≡ reach 1 (t + 1) ∷ reach 0 (t + 1) ∷ reach 1 t ∷ reach 0 t ∷ v.reached → AllDone v → AllDone w
 done_coupled v w t own reached old = let here = ap (reached_at 0) reached in let there = ap (reached_at 1) reached in all_done v w t own (omega arith) (omega arith) (omega arith) (omega arith) old
 
 -- the notes that a lock is closed with whose seat holds no station
-pub closed_marks : (v : View ℕ) (values : List (Option Note)) → Closed (λ _ _ _ _ note. note.mark ≤ 100) (λ note. note.mark) v values → v.held ≡ [] → All (λ found. IsSomeAnd found (λ note. note.mark ≤ 100)) values
+pub closed_marks : (v : View Note ℕ) (values : List (Option Note)) → Closed Anything (λ _ _ _ _ _ note. note.mark ≤ 100) (λ note. note.mark) (λ _. 0) v values → v.held ≡ [] → All (λ found. IsSomeAnd found (λ note. note.mark ≤ 100)) values
 closed_marks v values closed free k d below = let c = closed.each k (get_or values k d) (slice_get-get_or values k d below) (ap (held_at k) free) in subst (λ found. IsSomeAnd found (λ (note : Note). note.mark ≤ 100)) (sym c.is) c.keeps
 
 pub no_more : (start n m : ℕ) (before after first second : List ℕ) → HavePassed start n before first → start + length before ≡ n → HavePassed start m after second → after ≡ before → length second ≤ length first
@@ -103,16 +100,16 @@ reached_right j [] ts = omega arith
 reached_right j (r ∷ rs) ts = let s = reached_right j rs ts in let x : ℕ = if eqb j r.station then r.number else 0 in let y : ℕ = reached_at j ts in let z : ℕ = reached_at j (rs ++ ts) in let t : y ≤ z = s in let goal : y ≤ max x z = omega arith in goal
 
 -- what two seats drew has passed, once they are joined
-pub done_both : (v w u : View ℕ) → u.own ≡ v.own ++ w.own → u.reached ≡ v.reached ++ w.reached → AllDone v → AllDone w → AllDone u
+pub done_both : {V : Type 0} (v w u : View V ℕ) → u.own ≡ v.own ++ w.own → u.reached ≡ v.reached ++ w.reached → AllDone v → AllDone w → AllDone u
 done_both v w u own reached p q x drawn = subst (λ rs. (x < reached_at 0 rs) × (x < reached_at 1 rs)) (sym reached) (go (times x v.own) refl)
   where
     go : (n : ℕ) → n ≡ times x v.own → (x < reached_at 0 (v.reached ++ w.reached)) × (x < reached_at 1 (v.reached ++ w.reached))
-    go zero none = let s = total_append (one x) v.own w.own in let counted : times x u.own ≡ times x (v.own ++ w.own) = ap (times x) own in let o = q x (omega arith) in let a = o.0 in let b = o.1 in
+    go zero none = let s = times_append x v.own w.own in let counted : times x u.own ≡ times x (v.own ++ w.own) = ap (times x) own in let o = q x (omega arith) in let a = o.0 in let b = o.1 in
         let l = reached_right 0 v.reached w.reached in let m = reached_right 1 v.reached w.reached in (omega arith, omega arith)
     go (suc n) some = let o = p x (omega arith) in let a = o.0 in let b = o.1 in let l = reached_left 0 v.reached w.reached in let m = reached_left 1 v.reached w.reached in (omega arith, omega arith)
 
 -- what a lock is closed with whose seat has drawn so many tickets, each of which has passed both stations
-pub closed_lists : {V : Type 0} (tickets : V → List ℕ) (durable_of : V → ℕ) (start count : ℕ) (v : View ℕ) (values : List (Option V)) → Closed (λ _ number history _ x. HavePassed start number history (tickets x)) durable_of v values
+pub closed_lists : {V : Type 0} (tickets : V → List ℕ) (durable_of : V → ℕ) (start count : ℕ) (v : View V ℕ) (values : List (Option V)) → Closed Anything (λ _ number _ history _ x. HavePassed start number history (tickets x)) durable_of (λ _. 0) v values
     → length values ≡ 2 → v.held ≡ [] → AllDone v → v.start ≡ start → length v.own ≡ count → 0 < count → (a : V) × (b : V) × (values ≡ Some a ∷ Some b ∷ []) × (tickets a ≡ numbers start count) × (tickets b ≡ numbers start count)
 closed_lists tickets durable_of start count v [] closed two free done starts own some_number = absurd (omega arith)
 closed_lists tickets durable_of start count v (x ∷ []) closed two free done starts own some_number = absurd (omega arith)
@@ -135,3 +132,10 @@ product_some a b p q = let l : 1 * b ≤ a * b = mul-le-mul_right b p in omega a
 
 pub popped_last : {A : Type 0} (items : List A) (a b : A) (n : ℕ) (r : Option A) → items ≡ a ∷ b ∷ [] → n ≡ length items → ((d : A) → 0 < n → r ≡ Some (get_or items (n - 1) d)) → r ≡ Some b
 popped_last items a b n r two n_is first = let n_two : n ≡ 2 = n_is ∙ ap length two in first a (omega arith) ∙ (λ i. Some (get_or (two i) (n_two i - 1) a))
+
+-- each of three parts, of which the same is known
+pub each_of_three : {A : Type 0} (P : A → Type 0) (a b c x : A) (j : ℕ) → P a → P b → P c → slice_get (a ∷ b ∷ c ∷ []) j ≡ Some x → P x
+each_of_three P a b c x zero p q r is = subst P (same_Some a x is) p
+each_of_three P a b c x (suc zero) p q r is = subst P (same_Some b x is) q
+each_of_three P a b c x (suc (suc zero)) p q r is = subst P (same_Some c x is) r
+each_of_three P a b c x (suc (suc (suc j))) p q r is = absurd (let d : None ≡ Some x = is in cc)

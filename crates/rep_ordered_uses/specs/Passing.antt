@@ -16,13 +16,21 @@ pub record HavePassed (start number : ℕ) (history tickets : List ℕ) : Type 0
   pub all : tickets ≡ numbers start (length tickets)
   pub front : StartsWith history tickets
 
+-- every history is lawful
+abbrev pub Anything : List ℕ → Type 0
+Anything history = Unit {0}
+
 -- the seat has its numbers still, or has drawn them, and holds nothing
-pub record Went (v w : View ℕ) : Type 0 where
+pub record Went {V : Type 0} (v w : View V ℕ) : Type 0 where
   pub start : w.start ≡ v.start
   pub whole : w.whole ≡ v.whole
   pub kept : w.allowance + length w.own ≡ v.allowance + length v.own
   pub free : w.held ≡ []
 
 -- each number that the seat drew has passed both stations
-abbrev pub AllDone : View ℕ → Type 0
+abbrev pub AllDone : {V : Type 0} → View V ℕ → Type 0
 AllDone v = (x : ℕ) → 0 < times x v.own → (x < reached_at 0 v.reached) × (x < reached_at 1 v.reached)
+
+-- at station 2 those that wait make up all numbers from the last that was taken over to the turn
+abbrev pub PartAtHome : ℕ → ℕ → ℕ → ℕ → Type 0
+PartAtHome station number taken waiting = station ≡ 2 → taken + waiting + 1 ≡ number

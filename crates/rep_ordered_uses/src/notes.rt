@@ -21,12 +21,17 @@ pub struct Note {
 
 impl Keeps<u64> for Note {
     ghost use Rattle.std.specs.Prelude.{◌≤◌};
+    ghost use Rattle.rep_ordered_uses.specs.Passing.{Anything};
 
-    ghost at_home = { λ _ _ _ _ note. note.mark ≤ 100 };
+    ghost legal = { λ _ history. Anything history };
+
+    ghost at_home = { λ _ _ _ _ _ _ note. note.mark ≤ 100 };
 
     ghost durable_of = { λ note. note.mark };
 
-    ghost grows = { λ _ _ _ _ _ _ _ home _. home };
+    ghost common_of = { λ _. 0 };
+
+    ghost grows = { λ _ _ _ _ _ _ _ _ _ home _. home };
 }
 
 /// A lock at this position whose two notes are 0, with its first seat.

@@ -9,12 +9,16 @@ pub struct Passed<const START: u64> {
 }
 
 impl<const START: u64> Keeps<u64> for Passed<START> {
-    ghost use Rattle.rep_ordered_uses.specs.Passing.{HavePassed};
+    ghost use Rattle.rep_ordered_uses.specs.Passing.{Anything, HavePassed};
     ghost use Rattle.rep_ordered_uses.specs.Growing.{passed_grows};
 
-    ghost at_home = { λ station number history durable value. HavePassed START number history value.tickets.items };
+    ghost legal = { λ _ history. Anything history };
+
+    ghost at_home = { λ _ station number given history durable value. HavePassed START number history value.tickets.items };
 
     ghost durable_of = { λ _. 0 };
 
-    ghost grows = { λ station number durable later history more value home _. passed_grows START number history more value.tickets.items home };
+    ghost common_of = { λ _. 0 };
+
+    ghost grows = { λ _ station number given durable later history more value home _. passed_grows START number history more value.tickets.items home };
 }

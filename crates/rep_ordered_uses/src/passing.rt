@@ -153,7 +153,7 @@ pub fn lock_of_lists<const START: u64>(
 ) -> Result<(OrderedLock<Passed<START>, u64>, Seat<Passed<START>, u64>), Refusal>
     requires start { (0 < START) × (START ≤ MAX_SEQNO + 1) }
     ensures stations { IfOk result (λ made. stations_of made.0 ≡ 2) }
-    ensures seat { IfOk result (λ made. made.1 ≡ seat_of made.0 (opened START (MAX_SEQNO + 1 - START) 0)) }
+    ensures seat { IfOk result (λ made. made.1 ≡ seat_of made.0 (opened START (MAX_SEQNO + 1 - START) made.1.view.first 0)) }
     ensures refused { IfErr result (λ refusal. refusal ≡ Refusal.OutOfMemory) }
 {
     let mut values = Vec::with_capacity(alloc, 2)?;

@@ -3,6 +3,7 @@
 use crate::coupled::counts_beside;
 use crate::notes::{halted_run, lock_of_notes, raised_run};
 use crate::passing::tickets_by;
+use crate::three::{lock_of_parts, take_over, wait_one};
 use rep_ordered::Front;
 use rep_types::{MAX_SEQNO, Refusal};
 use std::test::Fail;
@@ -61,5 +62,15 @@ fn the_durable_number_rises_and_outlasts_a_halt(rt: HostRuntime) -> Result<(), F
     assert_eq!(rt; raised, running);
     assert_eq!(rt; kept, running);
     assert!(rt; halted.durable == 7 && halted.halted);
+    Ok(())
+}
+
+#[test]
+fn what_waits_is_taken_over_once(rt: HostRuntime) -> Result<(), Fail> {
+    let (lock, mut seat) = lock_of_parts(rt.alloc(), 5)?;
+    assert_eq!(rt; wait_one(&rt, &lock, &mut seat), Ok(()));
+    assert_eq!(rt; wait_one(&rt, &lock, &mut seat), Ok(()));
+    assert_eq!(rt; take_over(&rt, &lock, &mut seat), Ok(2));
+    assert_eq!(rt; take_over(&rt, &lock, &mut seat), Ok(0));
     Ok(())
 }

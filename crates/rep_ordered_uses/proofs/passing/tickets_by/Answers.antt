@@ -11,7 +11,7 @@ use Rattle.rep_ordered_uses.proofs.passing.tickets_by.Goals as goal
 pub unwrap-second-requires : goal.unwrap-second-requires
 unwrap-second-requires g c = let seat = c.pass_by-seat.result.0 in let went = c.pass_by-seat.ensures.went in let made = c.in_ok-lock.ensures.seat in let all : ℕ = c.args.threads * c.args.count in let some_start = c.requires.start.0 in
     let done = subst (λ r. OnOk r (AllDone seat.view)) c.in_ok-passed.was c.pass_by-seat.ensures.done in let drawn = subst (λ r. OnOk r (length seat.view.own ≡ length c.in_ok-lock.seat.view.own + all)) c.in_ok-passed.was c.pass_by-seat.ensures.drawn in
-    let start : c.in_ok-lock.seat.view.start ≡ g.row.START = ap (λ (z : Place ℕ). z.view.start) made in let own : length c.in_ok-lock.seat.view.own ≡ 0 = ap (λ (z : Place ℕ). length z.view.own) made in
+    let start : c.in_ok-lock.seat.view.start ≡ g.row.START = ap (λ (z : Place _ ℕ). z.view.start) made in let own : length c.in_ok-lock.seat.view.own ≡ 0 = ap (λ (z : Place _ ℕ). length z.view.own) made in
     let two : length c.close-values.result.items ≡ 2 = search rules in
     let drawn_all : length seat.view.own ≡ all = drawn ∙ (let z : length c.in_ok-lock.seat.view.own + all ≡ all = omega arith in z) in
     let lists = closed_lists (λ (x : Passed g.row.START). x.tickets.items) (λ _. 0) g.row.START all seat.view c.close-values.result.items c.close-values.ensures.values two went.free done (went.start ∙ start) drawn_all (product_some c.args.threads c.args.count c.requires.some.0 c.requires.some.1) in
@@ -22,7 +22,7 @@ unwrap-second-requires g c = let seat = c.pass_by-seat.result.0 in let went = c.
 pub unwrap-first-requires : goal.unwrap-first-requires
 unwrap-first-requires g c = let seat = c.pass_by-seat.result.0 in let went = c.pass_by-seat.ensures.went in let made = c.in_ok-lock.ensures.seat in let all : ℕ = c.args.threads * c.args.count in let some_start = c.requires.start.0 in
     let done = subst (λ r. OnOk r (AllDone seat.view)) c.in_ok-passed.was c.pass_by-seat.ensures.done in let drawn = subst (λ r. OnOk r (length seat.view.own ≡ length c.in_ok-lock.seat.view.own + all)) c.in_ok-passed.was c.pass_by-seat.ensures.drawn in
-    let start : c.in_ok-lock.seat.view.start ≡ g.row.START = ap (λ (z : Place ℕ). z.view.start) made in let own : length c.in_ok-lock.seat.view.own ≡ 0 = ap (λ (z : Place ℕ). length z.view.own) made in
+    let start : c.in_ok-lock.seat.view.start ≡ g.row.START = ap (λ (z : Place _ ℕ). z.view.start) made in let own : length c.in_ok-lock.seat.view.own ≡ 0 = ap (λ (z : Place _ ℕ). length z.view.own) made in
     let two : length c.close-values.result.items ≡ 2 = search rules in
     let drawn_all : length seat.view.own ≡ all = drawn ∙ (let z : length c.in_ok-lock.seat.view.own + all ≡ all = omega arith in z) in
     let lists = closed_lists (λ (x : Passed g.row.START). x.tickets.items) (λ _. 0) g.row.START all seat.view c.close-values.result.items c.close-values.ensures.values two went.free done (went.start ∙ start) drawn_all (product_some c.args.threads c.args.count c.requires.some.0 c.requires.some.1) in
@@ -34,7 +34,7 @@ unwrap-first-requires g c = let seat = c.pass_by-seat.result.0 in let went = c.p
 pub returns : goal.returns
 returns g c = let seat = c.pass_by-seat.result.0 in let went = c.pass_by-seat.ensures.went in let made = c.in_ok-lock.ensures.seat in let all : ℕ = c.args.threads * c.args.count in let some_start = c.requires.start.0 in
     let done = subst (λ r. OnOk r (AllDone seat.view)) c.in_ok-passed.was c.pass_by-seat.ensures.done in let drawn = subst (λ r. OnOk r (length seat.view.own ≡ length c.in_ok-lock.seat.view.own + all)) c.in_ok-passed.was c.pass_by-seat.ensures.drawn in
-    let start : c.in_ok-lock.seat.view.start ≡ g.row.START = ap (λ (z : Place ℕ). z.view.start) made in let own : length c.in_ok-lock.seat.view.own ≡ 0 = ap (λ (z : Place ℕ). length z.view.own) made in
+    let start : c.in_ok-lock.seat.view.start ≡ g.row.START = ap (λ (z : Place _ ℕ). z.view.start) made in let own : length c.in_ok-lock.seat.view.own ≡ 0 = ap (λ (z : Place _ ℕ). length z.view.own) made in
     let two : length c.close-values.result.items ≡ 2 = search rules in
     let drawn_all : length seat.view.own ≡ all = drawn ∙ (let z : length c.in_ok-lock.seat.view.own + all ≡ all = omega arith in z) in
     let lists = closed_lists (λ (x : Passed g.row.START). x.tickets.items) (λ _. 0) g.row.START all seat.view c.close-values.result.items c.close-values.ensures.values two went.free done (went.start ∙ start) drawn_all (product_some c.args.threads c.args.count c.requires.some.0 c.requires.some.1) in

@@ -21,8 +21,8 @@ pub returns-clause-values : goal.returns-clause-values
 returns-clause-values g c = let inv = c.loop-station.invariant in let done = c.close_with-closed.result.slots in let counts = slots_counts done in let word_counts = slots_counts c.close_with-closed.result.words in let end = c.loop-station-test.false in
     let past : length (slots_items done) ≤ c.loop-station.station = search rules in
     let all : c.loop-station.values.items ≡ slots_items done = inv.4 ∙ take_whole (slots_items done) c.loop-station.station past in
-    let is = ap (λ (z : Place g.row.E.Denot). z.view) c.seat.view_is in
-    let every = subst (λ (z : View g.row.E.Denot). z.allowance + length z.own ≡ z.whole) (sym is) c.requires.all in
+    let is = ap (λ (z : Place g.row.V.Denot g.row.E.Denot). z.view) c.seat.view_is in
+    let every = subst (λ (z : View g.row.V.Denot g.row.E.Denot). z.allowance + length z.own ≡ z.whole) (sym is) c.requires.all in
     let wide : length (slots_items c.close_with-closed.result.words) ≡ length (slots_items done) + 2 = (let a = c.close_with-closed.ensures.counts in let a0 = a.0 in let a1 = a.1 in let b = c.self.invariant.0 in omega arith) in
-    let t = closes g.V.Keeps.at_home g.V.Keeps.durable_of _ _ _ _ _ every c.seat.invariant.told c.close_with-closed.ensures.values.2 wide in
-    subst (λ (z : View g.row.E.Denot × List (Option g.row.V.Denot)). Closed g.V.Keeps.at_home g.V.Keeps.durable_of z.0 z.1) (λ i. (is i, sym all i)) t
+    let t = closes g.V.Keeps.legal g.V.Keeps.at_home g.V.Keeps.durable_of g.V.Keeps.common_of _ _ _ _ _ every c.seat.invariant.told c.close_with-closed.ensures.values.2 wide in
+    subst (λ (z : View g.row.V.Denot g.row.E.Denot × List (Option g.row.V.Denot)). Closed (g.V.Keeps.legal z.0.first) (g.V.Keeps.at_home z.0.first) g.V.Keeps.durable_of g.V.Keeps.common_of z.0 z.1) (λ i. (is i, sym all i)) t

@@ -7,16 +7,16 @@ use Rattle.rep_ordered.proofs.Places.{front_is, passed}
 use Rattle.rep_ordered.proofs.lock.OrderedLock.try_enter.Goals as goal
 
 pub overflow_mul-free : goal.overflow_mul-free
-overflow_mul-free g c = let drawn = subst (λ (z : Place g.row.E.Denot). 0 < times c.args.ticket z.view.own) (sym c.seat.view_is) c.requires.ticket in let low = c.seat.invariant.small c.args.ticket drawn in omega arith
+overflow_mul-free g c = let drawn = subst (λ (z : Place g.row.V.Denot g.row.E.Denot). 0 < times c.args.ticket z.view.own) (sym c.seat.view_is) c.requires.ticket in let low = c.seat.invariant.small c.args.ticket drawn in omega arith
 
 pub compare_exchange-found-requires : goal.compare_exchange-found-requires
-compare_exchange-found-requires g c = let drawn = subst (λ (z : Place g.row.E.Denot). 0 < times c.args.ticket z.view.own) (sym c.seat.view_is) c.requires.ticket in
+compare_exchange-found-requires g c = let drawn = subst (λ (z : Place g.row.V.Denot g.row.E.Denot). 0 < times c.args.ticket z.view.own) (sym c.seat.view_is) c.requires.ticket in
     let slots = ap (λ (z : TableId). z.slots) c.self.view_is in let station = c.requires.station in let words = c.self.invariant.0 in
-    (search rules, omega arith, enters g.V.Keeps.at_home g.V.Keeps.durable_of g.V.Keeps.grows _ _ _ _ _ _ _ c.args.ticket 1 (omega arith) (omega arith) (omega arith) (inl refl) (λ _. drawn) c.seat.invariant.lives)
+    (search rules, omega arith, enters g.V.Keeps.legal g.V.Keeps.at_home g.V.Keeps.durable_of g.V.Keeps.common_of g.V.Keeps.grows _ _ _ _ _ _ _ c.args.ticket 1 (omega arith) (omega arith) (omega arith) (inl refl) (λ _. drawn) c.seat.invariant.lives)
 
 pub exchange-requires : goal.exchange-requires
-exchange-requires g c = let e = c.compare_exchange-found.ensures.2.0 c.if-found-free.false in (search rules, (Some e.0, front_is _ _ _ (Some e.0) _ (let back : (c.args.station + 2) - 2 ≡ c.args.station = omega arith in back) e.2))
+exchange-requires g c = let e = c.compare_exchange-found.ensures.2.0 c.if-found-free.false in (search rules, (Some e.0, front_is _ _ _ (Some e.0) _ (let back : (c.args.station + 2) - 2 ≡ c.args.station = omega arith in back) e.3))
 
 pub invariant_of-seat-2 : goal.invariant_of-seat-2
 invariant_of-seat-2 g c = let e = c.compare_exchange-found.ensures.2.0 c.if-found-free.false in let same : c.seat.inside.seat.table_id ≡ c.self.inside.table.shared.table_id = search rules in let slots = ap (λ (z : TableId). z.slots) (sym same) in let mine = ap (λ (z : TableId). z.slots) c.self.view_is in let station = c.requires.station in
-    (passed g.V.Keeps.at_home g.V.Keeps.durable_of _ _ c.seat.inside.seat.me c.compare_exchange-found.new.seat.me c.exchange.new.seat.me ((c.args.station + 2) - 2) c.args.station (4 * c.args.ticket / 4) c.args.ticket 1 c.exchange.result (ap (λ (z : TableId). z.slots) (c.exchange.ensures.0 ∙ c.compare_exchange-found.ensures.0)) (omega arith) (omega arith) (omega arith) c.seat.invariant e c.exchange.ensures.2 c.exchange.ensures.3).0
+    (passed (g.V.Keeps.legal c.seat.inside.seat.me.0.view.first) (g.V.Keeps.at_home c.seat.inside.seat.me.0.view.first) g.V.Keeps.durable_of g.V.Keeps.common_of _ _ c.seat.inside.seat.me c.compare_exchange-found.new.seat.me c.exchange.new.seat.me ((c.args.station + 2) - 2) c.args.station (4 * c.args.ticket / 4) c.args.ticket 1 c.exchange.result (ap (λ (z : TableId). z.slots) (c.exchange.ensures.0 ∙ c.compare_exchange-found.ensures.0)) (omega arith) (omega arith) (omega arith) c.seat.invariant e c.exchange.ensures.2 c.exchange.ensures.3).0

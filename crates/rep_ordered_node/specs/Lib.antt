@@ -1,0 +1,4 @@
+pub mod Judging
+pub mod Homes
+pub mod Growing
+pub mod Seats
