@@ -1,0 +1,3 @@
+pub mod Going
+pub mod Formatting
+pub mod Formatted
