@@ -1,2 +1,4 @@
 pub mod Going
 pub mod Formatting
+pub mod Judging
+pub mod Looking

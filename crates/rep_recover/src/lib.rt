@@ -2,5 +2,10 @@
 #![tactic(auto)]
 
 mod format;
+mod judge;
+mod logs;
+mod pages;
+mod supers;
+mod windows;
 
 pub use format::format_disk;
