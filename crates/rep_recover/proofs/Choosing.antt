@@ -13,22 +13,18 @@ use Rattle.rep_layout.specs.Places.{side_of, body_len, gate_len, offset_of, gate
 use Rattle.rep_layout.specs.Supers.{super_bytes}
 use Rattle.rep_cells.specs.Readings.{Reading}
 use Rattle.rep_cells.specs.Known.{IsReadable}
-use Rattle.rep_image.specs.Bases.{other, IsSuperAt, IsLesser, IsChosen}
+use Rattle.rep_image.specs.Bases.{other, IsSuperAt, IsLesser}
 use Rattle.rep_types.specs.declared.refusal.Refusal.{Refusal}
 use Rattle.rep_types.specs.declared.refusal.Refusal.TheVariants.{NotFormatted}
 use Rattle.std.specs.Result.{result_ok}
 use Rattle.std.specs.Option.{ok_or}
-use Rattle.rep_recover.specs.Looking.{chosen, HasNoSuper, RefusesSupers}
+use Rattle.rep_recover.specs.Looking.{chosen, Counts, HasNoSuper, RefusesSupers}
 
 -- where no write failed every place can be read
 pub readable : (l : Layout) (h : History) (place : Place) → failed h ≡ [] → IsReadable l h place
 readable l h place none =
     let at : (from n : ℕ) → Untouched (failed h) from n = λ from n. subst (λ (ranges : List (ℕ × ℕ)). Untouched ranges from n) (sym none) tt in
     (at (offset_of l place) (body_len place), at (gate_of l place) (gate_len place))
-
--- a superblock that counts, and whether there is another
-abbrev pub Counts : ℕ → Reading → SuperBody → Bool → Type 0
-Counts size r b two = IsChosen size r b × (two ≡ is_some (r (Super (other (side_of b.number)))))
 
 -- the same by its side
 record CountsAt (size : ℕ) (r : Reading) (side : Side) (b : SuperBody) (two : Bool) : Type 0 where

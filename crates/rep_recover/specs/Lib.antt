@@ -2,3 +2,4 @@ pub mod Going
 pub mod Formatting
 pub mod Judging
 pub mod Looking
+pub mod Opening

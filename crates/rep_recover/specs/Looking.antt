@@ -1,11 +1,12 @@
 -- What reading a device finds, part by part.
-use Rattle.std.specs.Prelude.{◌≡◌, ◌⊎◌, ℕ, ◌+◌, ◌<◌, ◌≤◌, Bool, true, false, nat_lt, if◌then◌else◌, List, [], Option, None, Some, Result}
+use Rattle.std.specs.Prelude.{◌≡◌, ◌⊎◌, ℕ, ◌+◌, ◌<◌, ◌≤◌, Bool, true, false, is_some, nat_lt, if◌then◌else◌, List, [], Option, None, Some, Result, Err}
 use Rattle.rep_types.specs.declared.judged.Judged.{Judged}
 use Rattle.rep_types.specs.declared.refusal.Part.{Part}
 use Rattle.rep_types.specs.declared.refusal.Part.TheVariants.{Superblock}
 use Rattle.rep_types.specs.declared.refusal.Refusal.{Refusal}
 use Rattle.rep_types.specs.declared.refusal.Refusal.TheVariants.{OutOfMemory, DiskFault, NotFormatted, Corrupt}
 use Rattle.rep_types.specs.Entries.{Entry}
+use Rattle.rep_disk.specs.declared.disk.DiskFault.{DiskFault as Fault}
 use Rattle.rep_disk.specs.History.{History}
 use Rattle.rep_disk.specs.Calls.{IsCall}
 use Rattle.rep_layout.specs.declared.super_body.SuperBody.{SuperBody}
@@ -13,7 +14,7 @@ use Rattle.rep_layout.specs.declared.page_state.PageState.TheVariants.{In}
 use Rattle.rep_layout.specs.declared.place.Side.{Side}
 use Rattle.rep_layout.specs.declared.place.Slot.{Slot}
 use Rattle.rep_layout.specs.declared.place.Place.TheVariants.{Super, Page}
-use Rattle.rep_layout.specs.Places.{layout_of}
+use Rattle.rep_layout.specs.Places.{side_of, layout_of}
 use Rattle.rep_layout.specs.Supers.{IsNil, super_bytes}
 use Rattle.rep_layout.specs.Windows.{window, window_bytes, IsWindowBody}
 use Rattle.rep_cells.specs.Readings.{Reading}
@@ -23,13 +24,17 @@ use Rattle.rep_pages.specs.declared.page.Page.{Page as PageBody}
 use Rattle.rep_pages.specs.Slots.{state_of_page}
 use Rattle.rep_pages.specs.Pages.{IsPageBody}
 use Rattle.rep_steps.specs.Images.{AreJudgedFrom}
-use Rattle.rep_image.specs.Bases.{IsSuperAt}
+use Rattle.rep_image.specs.Bases.{other, IsSuperAt, IsChosen}
 use Rattle.rep_recover.specs.Judging.{bare}
 
 -- Calls that write nothing: on an honest device nothing happened.
 pub record Looks {D T : Type 0} (size failures : D → ℕ) (honest : D → Type 0) (history : D → History) (old new : D) (result : Result T Refusal) : Type 0 where
   pub call : IsCall size failures honest old new (fault_of result)
   pub same : honest old → history new ≡ history old
+
+-- a refusal as what the device answered
+abbrev pub fault_in : Refusal → Result (Unit {0}) Fault
+fault_in e = fault_of {T = Unit {0}} (Err e)
 
 -- A refusal that comes where the device failed, or for this reason of this part.
 abbrev pub RefusesPart : Part → Type 0 → Refusal → Type 0
@@ -62,6 +67,10 @@ chosen None None = None
 chosen (Some a) None = Some (a, false)
 chosen None (Some b) = Some (b, false)
 chosen (Some a) (Some b) = if nat_lt a.number b.number then Some (b, true) else Some (a, true)
+
+-- The superblock counts, and this says whether another one stands open.
+abbrev pub Counts : ℕ → Reading → SuperBody → Bool → Type 0
+Counts size r b two = IsChosen size r b × (two ≡ is_some (r (Super (other (side_of b.number)))))
 
 -- A refusal where no superblock is found.
 abbrev pub RefusesSupers : Type 0 → Type 0 → Refusal → Type 0

@@ -37,7 +37,7 @@ fn refusal_of(answer: Result<(), DiskFault>) -> Result<(), Refusal>
 }
 
 /// The same parameters once more.
-fn copy_of(params: &Params) -> Params
+pub(crate) fn copy_of(params: &Params) -> Params
     ensures { result ≡ params.now }
 {
     match Params::new(params.window(), params.cells(), params.schema().rows()) {

@@ -4,8 +4,10 @@
 mod format;
 mod judge;
 mod logs;
+mod open;
 mod pages;
 mod supers;
 mod windows;
 
 pub use format::format_disk;
+pub use open::{Opened, read_disk};

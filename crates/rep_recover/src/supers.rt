@@ -1,14 +1,14 @@
 //! The superblocks that stand on a device, and which of them counts.
 
-ghost use Rattle.std.specs.Prelude.{◌≡◌, ◌≤◌, [], is_some, IfOk, IfErr, IfSome, option_map};
+ghost use Rattle.std.specs.Prelude.{◌≡◌, ◌≤◌, [], IfOk, IfErr, IfSome, option_map};
 ghost use Rattle.rep_types.specs.declared.refusal.Part.TheVariants.{Superblock};
 ghost use Rattle.rep_disk.specs.History.{seen, failed};
 ghost use Rattle.rep_layout.specs.Places.{side_of, layout_of as layout_with, need_of};
 ghost use Rattle.rep_layout.specs.Supers.{IsSuper, super_bytes};
 ghost use Rattle.rep_cells.specs.Device.{disk_of, layout_of};
 ghost use Rattle.rep_cells.specs.Readings.{reading_of};
-ghost use Rattle.rep_image.specs.Bases.{other, IsSuperAt, IsChosen};
-ghost use Rattle.rep_recover.specs.Looking.{Looks, RefusesPart, RefusesSupers, IsNoSuper, HasBadSuper, HasNoSuper, chosen};
+ghost use Rattle.rep_image.specs.Bases.{IsSuperAt};
+ghost use Rattle.rep_recover.specs.Looking.{Looks, RefusesPart, RefusesSupers, IsNoSuper, HasBadSuper, HasNoSuper, Counts, chosen};
 
 use rep_cells::Cells;
 use rep_disk::Disk;
@@ -80,7 +80,7 @@ pub(crate) fn find_super<D: Disk>(cells: &mut Cells<D>) -> Result<(SuperBody, bo
     ensures layout { layout_of cells.new ≡ layout_of cells.old }
     ensures looks { Looks D.size D.failures D.honest D.history (disk_of cells.old) (disk_of cells.new) result }
     ensures form { IfOk result (λ x. IsSuperAt (D.size (disk_of cells.old)) (side_of x.0.number) x.0) }
-    ensures found { D.honest (disk_of cells.old) → failed (D.history (disk_of cells.old)) ≡ [] → IfOk result (λ x. IsChosen (D.size (disk_of cells.old)) (reading_of (layout_of cells.old) (seen (D.history (disk_of cells.old)))) x.0 × (x.1 ≡ is_some (reading_of (layout_of cells.old) (seen (D.history (disk_of cells.old))) (Place.Super (other (side_of x.0.number)))))) }
+    ensures found { D.honest (disk_of cells.old) → failed (D.history (disk_of cells.old)) ≡ [] → IfOk result (λ x. Counts (D.size (disk_of cells.old)) (reading_of (layout_of cells.old) (seen (D.history (disk_of cells.old)))) x.0 x.1) }
     ensures refused { IfErr result (RefusesSupers (D.honest (disk_of cells.old) → failed (D.history (disk_of cells.old)) ≡ [] → HasNoSuper (reading_of (layout_of cells.old) (seen (D.history (disk_of cells.old))))) (D.honest (disk_of cells.old) → failed (D.history (disk_of cells.old)) ≡ [] → HasBadSuper (D.size (disk_of cells.old)) (reading_of (layout_of cells.old) (seen (D.history (disk_of cells.old)))))) }
 {
     let a = read_super(cells, Side::A)?;
