@@ -211,6 +211,25 @@ no_log turns told r l first k cell scan lt there at bad form =
       ]
     ]
 
+-- ---- what it counts on any device
+
+-- a visit takes a block at most, and only that of its number
+pub visits_within :
+    (l : Layout) (number k start : ℕ) (cell : Option (List ℕ)) (old new : Found) → Visits l number cell old new → old.next ≤ start + k → number ≡ start + k → new.next ≤ start + (k + 1)
+visits_within l number k start cell old new (inl takes) le is = let next : new.next ≡ old.next + 1 = ap (λ (x : Found). x.next) takes.after in omega (arith, next, le)
+visits_within l number k start cell old new (inr passes) le is = let next : new.next ≡ old.next = ap (λ (x : Found). x.next) passes.after in omega (arith, next, le)
+
+-- the seqno goes on by the records that are taken
+pub visits_counted : (l : Layout) (number first : ℕ) (cell : Option (List ℕ)) (old new : Found) → Visits l number cell old new → old.seqno ≡ first + length old.items → new.seqno ≡ first + length new.items
+visits_counted l number first cell old new (inl takes) is =
+    let seqno : new.seqno ≡ old.seqno + length takes.records = ap (λ (x : Found). x.seqno) takes.after in
+    let items : length new.items ≡ length (old.items ++ takes.records) = ap (λ (x : Found). length x.items) takes.after in
+    omega (arith, seqno, items, length-append old.items takes.records, is)
+visits_counted l number first cell old new (inr passes) is =
+    let seqno : new.seqno ≡ old.seqno = ap (λ (x : Found). x.seqno) passes.after in
+    let items : length new.items ≡ length old.items = ap (λ (x : Found). length x.items) passes.after in
+    omega (arith, seqno, items, is)
+
 -- ---- what is found in the end
 
 -- the blocks that were taken are the log

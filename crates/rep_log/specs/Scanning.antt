@@ -1,7 +1,7 @@
 -- What a scan finds, and how far it has come.
 use Rattle.std.specs.Prelude.{◌≡◌, ◌⊎◌, ℕ, ◌+◌, ◌<◌, ◌≤◌, ◌%◌, Bool, is_some, List, [], ◌++◌, length, slice_set, Option, Some}
 use Rattle.rep_types.specs.declared.judged.Judged.{Judged}
-use Rattle.rep_types.specs.declared.limits.TheConstants.{MAX_CELLS}
+use Rattle.rep_types.specs.declared.limits.TheConstants.{MAX_CELLS, MAX_SEQNO}
 use Rattle.rep_types.specs.declared.refusal.Part.TheVariants.{Log as in_log}
 use Rattle.rep_types.specs.declared.refusal.Refusal.{Refusal}
 use Rattle.rep_types.specs.declared.refusal.Refusal.TheVariants.{OutOfMemory, Corrupt}
@@ -28,6 +28,17 @@ pub record Finds (l : Layout) (bytes : List ℕ) (from first : ℕ) (log : Stand
   pub start : log.start ≡ from
   pub phase : log.phase ≡ Resting
   pub log_is : LogIs l log first blocks [] (found l bytes)
+
+-- What is found on any device, whatever it reads as: a log at rest in these cells, from this start on, of no more than a lap, behind
+-- which as many seqnos are taken as there are items.
+pub record IsScanned (l : Layout) (from first : ℕ) (log : Standing) (items : List Judged) : Type 0 where
+  pub start : log.start ≡ from
+  pub cells : log.cells ≡ l.cells
+  pub phase : log.phase ≡ Resting
+  pub later : from ≤ log.next
+  pub lap : log.next ≤ from + l.cells
+  pub seqno : log.seqno ≡ first + length items
+  pub limit : log.seqno ≤ MAX_SEQNO + 1
 
 -- A refusal that a scan may answer: no memory, or cells that hold no log.
 abbrev pub RefusesLog : Type 0 → Refusal → Type 0

@@ -12,7 +12,7 @@ ghost use Rattle.rep_cells.specs.Calls.{gate, WritesOnly};
 ghost use Rattle.rep_log.specs.Tail.{IsBlockFrom, IsOfForm};
 ghost use Rattle.rep_log.specs.Standing.{index_of, due_of};
 ghost use Rattle.rep_log.specs.Moves.{unless_recycle, unless_seal, unless_gate, recycle_refusal, seal_refusal, gate_refusal, fault_of, recycled, sealed_as, gated, after_sync, durable_by, started, IsRefused, IsStep, SyncsLog, StartsLater};
-ghost use Rattle.rep_log.specs.Scanning.{HasCells, Finds, RefusesLog, rests_as};
+ghost use Rattle.rep_log.specs.Scanning.{HasCells, Finds, IsScanned, RefusesLog, rests_as};
 
 use crate::phase::{Phase, Step};
 use crate::scan::{CORRUPT, Scan};
@@ -83,6 +83,8 @@ impl Log {
         ensures layout { layout_of cells.new ≡ layout_of cells.old }
         ensures same { D.honest (disk_of cells.old) → D.history (disk_of cells.new) ≡ D.history (disk_of cells.old) }
         ensures cells { HasCells (layout_of cells.old) ⊎ (result ≡ Err Refusal.BadParams) }
+        // On any device.
+        ensures scanned { IfOk result (λ x. IsScanned (layout_of cells.old) start (position + 1) x.0 x.1.items) }
         ensures finds { D.honest (disk_of cells.old) → failed (D.history (disk_of cells.old)) ≡ [] → IfOk result (λ x. Finds (layout_of cells.old) (seen (D.history (disk_of cells.old))) start (position + 1) x.0 x.1.items) }
         ensures refused { IfErr result (λ e. (e ≡ Refusal.DiskFault) ⊎ (((e ≡ Refusal.BadParams) × (HasCells (layout_of cells.old) → ⊥)) ⊎ RefusesLog (D.honest (disk_of cells.old) → failed (D.history (disk_of cells.old)) ≡ [] → IsOfForm (reading_of (layout_of cells.old) (seen (D.history (disk_of cells.old)))) (layout_of cells.old) start (position + 1) → ⊥) e)) }
     {
@@ -108,6 +110,8 @@ impl Log {
         requires { HasCells layout }
         ensures log { result.0 ≡ rests_as layout scan }
         ensures items { result.1.items ≡ scan.items }
+        ensures later { result.0.start ≤ result.0.next }
+        ensures limit { result.0.seqno ≤ MAX_SEQNO + 1 }
     {
         let stands = scan.stands;
         let log = Log {

@@ -1,6 +1,6 @@
 //! What the cells hold after a stop, one by one.
 
-ghost use Rattle.std.specs.Prelude.{◌≡◌, ◌+◌, ◌<◌, ◌≤◌, ◌%◌, ◌++◌, List, length, OnOk, IfOk, IfErr, IfSome, option_map, ◌⊎◌, []};
+ghost use Rattle.std.specs.Prelude.{◌≡◌, ◌+◌, ◌<◌, ◌≤◌, ◌%◌, ◌++◌, ℕ, List, Option, length, OnOk, IfOk, IfErr, IfSome, option_map, ◌⊎◌, []};
 ghost use Rattle.rep_types.specs.declared.judged.Judged.{Judged};
 ghost use Rattle.rep_types.specs.declared.refusal.Refusal.TheVariants.{OutOfMemory};
 ghost use Rattle.rep_record.specs.declared.limits.TheConstants.{BLOCK};
@@ -160,6 +160,7 @@ impl Scan {
         ensures same { D.honest (disk_of cells.old) → D.history (disk_of cells.new) ≡ D.history (disk_of cells.old) }
         ensures from { OnOk result (self.new.from ≡ self.old.from) }
         ensures stands { OnOk result (length self.new.stands ≡ MAX_CELLS) }
+        ensures some { OnOk result ((cell : Option (List ℕ)) × Visits (layout_of cells.old) number cell self.old self.new) }
         ensures visited { D.honest (disk_of cells.old) → failed (D.history (disk_of cells.old)) ≡ [] → OnOk result (Visits (layout_of cells.old) number (reading_of (layout_of cells.old) (seen (D.history (disk_of cells.old))) (log_of (layout_of cells.old) number)) self.old self.new) }
         ensures refused { IfErr result (λ e. (e ≡ Refusal.DiskFault) ⊎ RefusesLog (D.honest (disk_of cells.old) → failed (D.history (disk_of cells.old)) ≡ [] → IsNoCell (layout_of cells.old) number (reading_of (layout_of cells.old) (seen (D.history (disk_of cells.old))) (log_of (layout_of cells.old) number)) self.old) e) }
     {

@@ -25,6 +25,8 @@ mod plain;
 #[cfg(test)]
 mod record;
 #[cfg(test)]
+mod recover;
+#[cfg(test)]
 mod replica;
 #[cfg(test)]
 mod saved;

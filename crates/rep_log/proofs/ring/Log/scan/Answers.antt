@@ -1,5 +1,6 @@
-use Rattle.std.proofs.Common.{◌≡◌, ℕ, ◌+◌, ◌⊎◌, Result, IfErr, [], refl, sym, ap, subst, ◌∙◌, arith, inl, inr}
+use Rattle.std.proofs.Common.{◌≡◌, ℕ, ◌+◌, ◌⊎◌, Result, IfErr, List, [], length, refl, sym, ap, subst, ◌∙◌, arith, inl, inr}
 use Rattle.std.proofs.lemmas.Result.{err_from_is_err_and}
+use Rattle.rep_types.specs.declared.judged.Judged.{Judged}
 use Rattle.rep_types.specs.declared.refusal.Refusal.{Refusal}
 use Rattle.rep_types.specs.declared.refusal.Refusal.TheVariants.{DiskFault, BadParams}
 use Rattle.rep_disk.specs.History.{History, seen, failed}
@@ -7,8 +8,9 @@ use Rattle.rep_layout.specs.declared.place.Layout.{Layout}
 use Rattle.rep_cells.specs.Device.{disk_of, layout_of}
 use Rattle.rep_cells.specs.Readings.{reading_of}
 use Rattle.rep_log.specs.Tail.{IsOfForm}
+use Rattle.rep_log.specs.Standing.{Standing}
 use Rattle.rep_log.specs.Scanning.{Found, HasCells, RefusesLog}
-use Rattle.rep_log.proofs.Scanned.{nothing_yet}
+use Rattle.rep_log.proofs.Scanned.{nothing_yet, visits_within, visits_counted}
 use Rattle.rep_log.proofs.ReadOn.{IsSame, no_call, calls, read_goes_on, read_no_log, read_all}
 use Rattle.rep_log.proofs.ring.Log.scan.Goals as goal
 
@@ -25,6 +27,8 @@ loop-k-init g c =
       placed = omega (arith, c.if-position-gt-MAX_SEQNO.false);
       from = begun.from_is;
       stands = c.new-scan.ensures.stands;
+      came = omega (arith, begun.next_is);
+      counted = (let none : length c.new-scan.result.items ≡ 0 = ap (λ (xs : List Judged). length xs) begun.items_are in omega (arith, begun.seqno_is, none));
       call = no_call g.D.Disk.size g.D.Disk.failures g.D.Disk.honest (disk_of c.args.cells.now);
       same = λ honest. refl;
       progress = λ honest none. nothing_yet (reading_of l (seen (g.D.Disk.history (disk_of c.args.cells.now)))) l (c.args.position + 1) c.new-scan.result begun.items_are (begun.next_is ∙ sym begun.from_is) begun.seqno_is;
@@ -41,6 +45,8 @@ loop-k-preserved g c =
     let first_disk = disk_of c.args.cells.now in
     let disk = disk_of c.loop-k.cells in
     let h : History = g.D.Disk.history first_disk in
+    let l_read : Layout = layout_of c.loop-k.cells in
+    let some = c.in_ok-read_on.ensures.some in
     record {
       layout = c.read_on.ensures.layout ∙ inv.layout;
       was_layout = inv.was_layout;
@@ -50,6 +56,8 @@ loop-k-preserved g c =
       placed = inv.placed;
       from = c.in_ok-read_on.ensures.from ∙ inv.from;
       stands = c.in_ok-read_on.ensures.stands;
+      came = visits_within l_read (c.args.start + c.from.result) c.loop-k.k c.args.start some.0 c.loop-k.scan c.read_on.new.self some.1 inv.came (omega (arith, c.from.ensures));
+      counted = visits_counted l_read (c.args.start + c.from.result) (c.args.position + 1) some.0 c.loop-k.scan c.read_on.new.self some.1 inv.counted;
       call = calls g.D.Disk.size g.D.Disk.failures g.D.Disk.honest first_disk disk (disk_of c.read_on.new.cells) inv.call c.in_ok-read_on.ensures.call;
       same = λ honest. c.read_on.ensures.same (inv.call.stays_honest honest) ∙ inv.same honest;
       progress = λ honest none. read_goes_on c.turns_are_taken.ensures (layout_of c.loop-k.cells) l (g.D.Disk.history disk) h (c.args.position + 1) c.args.start (c.args.start + c.from.result) c.loop-k.k c.loop-k.scan c.read_on.new.self
@@ -90,3 +98,23 @@ returns-clause-finds g c = λ honest none.
     let l : Layout = c.layout-layout.result in
     read_all c.turns_are_taken.ensures c.blocks_are_told.ensures (layout_of c.args.cells.now) l (g.D.Disk.history (disk_of c.args.cells.now)) (c.args.position + 1) c.args.start c.loop-k.k c.loop-k.scan c.at_rest.result.0 c.at_rest.result.1.items
     inv.limits inv.was_layout (omega (arith, c.loop-k-test.false, c.loop-k.auto.k-end)) (omega (arith, inv.limits.few, inv.stands)) (omega (arith, inv.started)) (omega (arith, inv.placed)) inv.from c.at_rest.ensures.log c.at_rest.ensures.items (inv.progress honest none)
+
+pub returns-clause-scanned : goal.returns-clause-scanned
+returns-clause-scanned g c =
+    let inv = c.loop-k.invariant in
+    let l : Layout = c.layout-layout.result in
+    let log : Standing = c.at_rest.result.0 in
+    let is = c.at_rest.ensures.log in
+    let start = ap (λ (x : Standing). x.start) is ∙ inv.from in
+    let cells = ap (λ (x : Standing). x.cells) is in
+    let next = ap (λ (x : Standing). x.next) is in
+    let seqno = ap (λ (x : Standing). x.seqno) is in
+    record {
+      start = start;
+      cells = cells ∙ ap (λ (k : Layout). k.cells) (sym inv.was_layout);
+      phase = ap (λ (x : Standing). x.phase) is;
+      later = omega (arith, start, c.at_rest.ensures.later);
+      lap = omega (arith, next, inv.came, inv.lap, c.loop-k.auto.k-end, ap (λ (k : Layout). k.cells) inv.was_layout, c.loop-k-test.false);
+      seqno = seqno ∙ inv.counted ∙ ap (λ (xs : List Judged). c.args.position + 1 + length xs) (sym c.at_rest.ensures.items);
+      limit = c.at_rest.ensures.limit;
+    }

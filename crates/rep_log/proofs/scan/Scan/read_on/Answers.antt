@@ -9,6 +9,11 @@ use Rattle.rep_log.specs.Scanning.{Visits, IsNoCell}
 use Rattle.rep_log.proofs.Scanned.{all_readable}
 use Rattle.rep_log.proofs.scan.Scan.read_on.Goals as goal
 
+pub returns-clause-some : goal.returns-clause-some
+returns-clause-some g c =
+    let read : Option (List ℕ) = option_map (λ (body : Bor (List ℕ)). body.now) c.in-Ok.found in
+    on_ok_weaker c.visit.result (λ v. (read, subst (λ (k : Layout). Visits k c.args.number read c.args.self.now c.visit.new.self) c.layout-layout.ensures v)) c.visit.ensures.visited
+
 pub returns-clause-visited : goal.returns-clause-visited
 returns-clause-visited g c = λ honest none.
     let l : Layout = layout_of c.args.cells.now in

@@ -1,0 +1,96 @@
+-- What stands behind a superblock, and which part fails first.
+use Rattle.std.proofs.Common.{◌≡◌, ℕ, ◌+◌, ◌<◌, inl, inr, true, List, [], ◌∷◌, Result, IfErr, refl, sym, ap, subst, ◌∙◌, arith}
+use Rattle.std.specs.Result.{IsErrAnd}
+use Rattle.std.proofs.lemmas.Bool.Decides.{nat_tests}
+use Rattle.std.proofs.lemmas.Result.{err_from_is_err_and}
+use Rattle.rep_types.specs.declared.judged.Judged.{Judged}
+use Rattle.rep_types.specs.declared.refusal.Part.{Part}
+use Rattle.rep_types.specs.declared.refusal.Part.TheVariants.{Log as in_log}
+use Rattle.rep_types.specs.declared.refusal.Refusal.{Refusal}
+use Rattle.rep_types.specs.Entries.{Entry}
+use Rattle.rep_types.specs.Settings.{Setting, is_setting}
+use Rattle.rep_disk.specs.History.{History, seen}
+use Rattle.rep_layout.specs.declared.super_body.SuperBody.{SuperBody}
+use Rattle.rep_layout.specs.declared.place.Layout.{Layout}
+use Rattle.rep_layout.specs.Places.{layout_of}
+use Rattle.rep_layout.specs.Supers.{IsNil, IsSuper}
+use Rattle.rep_cells.specs.Readings.{Reading, reading_of}
+use Rattle.rep_log.specs.Tail.{Stand, Shows, records_of}
+use Rattle.rep_log.specs.Standing.{Standing}
+use Rattle.rep_log.specs.Scanning.{Finds}
+use Rattle.rep_log.specs.Laws.{TheLogIsTold}
+use Rattle.rep_versions.specs.Versions.{Kept}
+use Rattle.rep_cert.specs.Holdings.{Holding}
+use Rattle.rep_steps.specs.Images.{AreJudgedFrom}
+use Rattle.rep_image.specs.Bases.{HasWindow}
+use Rattle.rep_recover.specs.Judging.{bare, HasJudged, RefusesItems}
+use Rattle.rep_recover.specs.Looking.{RefusesPart, RefusesGrowing, HasBlocks, HasTail, HasBadPage}
+use Rattle.rep_recover.specs.Opening.{FailsAtLog, FailsAtPages, RefusesBehind}
+
+-- what is read of the same places and the same bytes
+pub same_reading : (m l : Layout) (g h : History) → m ≡ l → g ≡ h → reading_of m (seen g) ≡ reading_of l (seen h)
+same_reading m l g h layout history = ap (λ (x : Layout). reading_of x (seen g)) layout ∙ ap (λ (x : History). reading_of l (seen x)) history
+
+-- ---- the log
+
+some_cell : (p : Setting) → is_setting p ≡ true → 0 < p.cells
+some_cell p h = grind (arith, nat_tests)
+
+-- blocks without a record are none
+pub no_blocks : (Has : ℕ → List ℕ → Type 0) (n seqno : ℕ) (blocks : List (List Judged)) → Stand Has n seqno blocks → records_of blocks ≡ [] → blocks ≡ []
+no_blocks Has n seqno [] stand none = refl
+no_blocks Has n seqno ([] ∷ blocks) stand none = absurd (omega (arith, stand.1.is_block.some))
+no_blocks Has n seqno ((j ∷ records) ∷ blocks) stand none = absurd cc
+
+pub fails_at_log : (r : Reading) (b : SuperBody) (entries : List Entry) → HasWindow r b entries → ((blocks : List (List Judged)) → HasBlocks r b blocks → ⊥) → FailsAtLog r b
+fails_at_log r b entries window none = record { entries = entries; window = window; none = λ items tail. none tail.blocks tail.has }
+
+module _ (told : TheLogIsTold) (bytes : List ℕ) (b : SuperBody) (is : IsSuper b) (log : Standing) (items : List Judged) (finds : Finds (layout_of b.params) bytes b.start (b.position + 1) log items) where
+  abbrev r : Reading
+  r = reading_of (layout_of b.params) bytes
+
+  has_blocks : (IsNil b.uuid → items ≡ []) → HasBlocks r b finds.blocks
+  has_blocks undefined = record {
+    log = finds.is_log;
+    undefined = λ nil. no_blocks (Shows r (layout_of b.params)) b.start (b.position + 1) finds.blocks finds.is_log.stand (sym finds.items_are ∙ undefined nil);
+  }
+
+  -- another log's items are these
+  same_items : (entries : List Entry) (others : List Judged) → HasTail r b entries others → others ≡ items
+  same_items entries others tail =
+      tail.items_are ∙ ap records_of (told.only r (layout_of b.params) b.start (b.position + 1) tail.blocks finds.blocks (some_cell b.params is.setting) tail.has.log finds.is_log) ∙ sym finds.items_are
+
+  -- items that judging doesn't give again are no tail
+  pub fails_judging : (entries : List Entry) → HasWindow r b entries → (AreJudgedFrom b.params (bare b.position entries) items → ⊥) → FailsAtLog r b
+  fails_judging entries window none = record {
+    entries = entries;
+    window = window;
+    none = λ others tail. none (subst (λ (js : List Judged). AreJudgedFrom b.params (bare b.position entries) js) (same_items entries others tail) tail.judged);
+  }
+
+  has_tail : (IsNil b.uuid → items ≡ []) → (entries : List Entry) (h : Holding) (kept : Kept) → HasJudged b.params (bare b.position entries) items h kept → HasTail r b entries items
+  has_tail undefined entries h kept judged = record { blocks = finds.blocks; has = has_blocks undefined; items_are = finds.items_are; judged = judged.judged }
+
+  pub fails_at_pages : (IsNil b.uuid → items ≡ []) → (entries : List Entry) → HasWindow r b entries → (h : Holding) (kept : Kept) → HasJudged b.params (bare b.position entries) items h kept → HasBadPage r b → FailsAtPages r b
+  fails_at_pages undefined entries window h kept judged bad = record { entries = entries; window = window; items = items; tail = has_tail undefined entries h kept judged; bad = bad }
+
+-- ---- refusals
+
+pub refuses_growing : (part : Part) (R : Type 0) (Reason : Part → Type 0) (e : Refusal) → (R → Reason part) → RefusesGrowing part R e → RefusesBehind Reason e
+refuses_growing part R Reason e f (inl memory) = inl memory
+refuses_growing part R Reason e f (inr (inl fault)) = inr (inl fault)
+refuses_growing part R Reason e f (inr (inr why)) = inr (inr (part, (why.0, f why.1)))
+
+pub refuses_part : (part : Part) (R : Type 0) (Reason : Part → Type 0) (e : Refusal) → (R → Reason part) → RefusesPart part R e → RefusesBehind Reason e
+refuses_part part R Reason e f (inl fault) = inr (inl fault)
+refuses_part part R Reason e f (inr why) = inr (inr (part, (why.0, f why.1)))
+
+pub refuses_items : (R : Type 0) (Reason : Part → Type 0) (e : Refusal) → (R → Reason in_log) → RefusesItems R e → RefusesBehind Reason e
+refuses_items R Reason e f (inl memory) = inl memory
+refuses_items R Reason e f (inr why) = inr (inr (in_log, (why.0, f why.1)))
+
+-- what holds of a refusal that is passed on
+pub passed_on : {T : Type 0} (P : Refusal → Type 0) (q : Result T Refusal) (e : Refusal) → IsErrAnd q (λ x. x ≡ e) → P e → IfErr q P
+passed_on P q e is holds =
+    let err = err_from_is_err_and q is in
+    subst (λ (x : Result _ Refusal). IfErr x P) (sym err.1) (subst P (sym err.2) holds)

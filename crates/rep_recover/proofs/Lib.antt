@@ -1,0 +1,10 @@
+pub mod Going
+pub mod Formatting
+pub mod Formatted
+pub mod Judging
+pub mod Choosing
+pub mod Reading
+pub mod Spanning
+pub mod Behind
+pub mod Contents
+pub mod Opening

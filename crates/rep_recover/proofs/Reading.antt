@@ -1,0 +1,49 @@
+-- Calls that write nothing, one after another.
+use Rattle.std.proofs.Common.{◌≡◌, ℕ, ◌+◌, ◌<◌, ◌≤◌, ◌⊎◌, inl, inr, false, Result, Ok, Err, OnOk, refl, ap, subst, ◌∙◌, arith}
+use Rattle.std.specs.Result.{is_err}
+use Rattle.rep_types.specs.declared.refusal.Refusal.{Refusal}
+use Rattle.rep_disk.specs.History.{History}
+use Rattle.rep_log.specs.Moves.{fault_of}
+use Rattle.std.proofs.lemmas.Bool.{cases_lt}
+use Rattle.rep_disk.specs.History.{seen}
+use Rattle.rep_layout.specs.declared.super_body.SuperBody.{SuperBody}
+use Rattle.rep_layout.specs.declared.page_state.PageState.TheVariants.{In}
+use Rattle.rep_layout.specs.declared.place.Layout.{Layout}
+use Rattle.rep_layout.specs.declared.place.Slot.{Slot}
+use Rattle.rep_cells.specs.Readings.{reading_of}
+use Rattle.rep_pages.specs.Slots.{state_of_page}
+use Rattle.rep_recover.specs.Looking.{Looks, HasPage, HasFirstPages}
+use Rattle.rep_recover.proofs.Going.{no_call, calls}
+
+-- what holds where a call succeeds, where it is no failure
+pub at_no_err : {T E : Type 0} (P : Type 0) (r : Result T E) → is_err r ≡ false → OnOk r P → P
+at_no_err P (Ok x) e h = h
+at_no_err P (Err x) e h = absurd cc
+
+module _ {D : Type 0} (size failures : D → ℕ) (honest : D → Type 0) (history : D → History) where
+  pub looks_nowhere : (disk : D) → Looks {T = Unit {0}} size failures honest history disk disk (Ok tt)
+  looks_nowhere disk = record { call = no_call size failures honest disk; same = λ h. refl }
+
+  -- one behind another that succeeded
+  pub looks_on :
+      {T U : Type 0} (a b d : D) (x : T) (r : Result U Refusal) → Looks {T = T} size failures honest history a b (Ok x) → Looks size failures honest history b d r → Looks size failures honest history a d r
+  looks_on a b d x r first second = record {
+    call = calls size failures honest a b d tt (fault_of r) first.call second.call;
+    same = λ h. second.same (first.call.stays_honest h) ∙ first.same h;
+  }
+
+-- ---- pages
+
+pub pages_more : (l m : Layout) (h g : History) (b : SuperBody) (k : ℕ) → m ≡ l → g ≡ h → HasFirstPages (reading_of l (seen h)) b k
+    → ((slot : Slot) → state_of_page b k ≡ In slot → HasPage (reading_of m (seen g)) b k slot) → HasFirstPages (reading_of l (seen h)) b (k + 1)
+pages_more l m h g b k same_layout same_history first next number slot lt there = by (cases_lt number k)
+  where
+    here : (slot : Slot) → state_of_page b k ≡ In slot → HasPage (reading_of l (seen h)) b k slot
+    here slot there =
+        subst (λ (x : Layout). HasPage (reading_of x (seen h)) b k slot) same_layout (subst (λ (x : History). HasPage (reading_of m (seen x)) b k slot) same_history (next slot there))
+
+    by : ((number < k) ⊎ (k ≤ number)) → HasPage (reading_of l (seen h)) b number slot
+    by (inl less) = first number slot less there
+    by (inr le) =
+        let same : k ≡ number = omega (arith, lt, le) in
+        subst (λ (n : ℕ). HasPage (reading_of l (seen h)) b n slot) same (here slot (ap (state_of_page b) same ∙ there))

@@ -1,0 +1,93 @@
+use Rattle.std.proofs.Common.{◌≡◌, ℕ, ◌<◌, ◌≤◌, [], length, inl, inr, refl, sym, ap, subst, ◌∙◌, arith}
+use Rattle.std.proofs.lemmas.Bool.{cases_lt, false≢true}
+use Rattle.rep_disk.specs.History.{History, Synced, seen, stable, failed}
+use Rattle.rep_layout.specs.declared.super_body.SuperBody.{SuperBody}
+use Rattle.rep_layout.specs.declared.place.Layout.{Layout}
+use Rattle.rep_layout.specs.Places.{side_of, need_of}
+use Rattle.rep_cells.specs.Device.{disk_of, layout_of}
+use Rattle.rep_cells.specs.Readings.{Reading, reading_of}
+use Rattle.rep_image.specs.Bases.{IsSuperAt}
+use Rattle.rep_recover.specs.Looking.{Counts, HasBadSuper, HasNoSuper}
+use Rattle.rep_recover.specs.Opening.{without_log, IsOpened, Recovers}
+use Rattle.rep_recover.proofs.Opening.{opened_from, recovers_from, refused_behind, refused_supers}
+use Rattle.rep_recover.proofs.open.read_disk.Goals as goal
+
+pub returns-in-Err-clause-refused : goal.returns-in-Err-clause-refused
+returns-in-Err-clause-refused g c =
+    let h : History = g.D.Disk.history c.args.disk in
+    inr (inr (λ honest.
+    let sized : length (stable h) ≡ g.D.Disk.size c.args.disk = g.met.D.Disk.sized c.args.disk honest in
+    let law = c.images_of_a_moment.ensures in
+    let long : length (stable h) ≡ length (seen h) = law.same_size h (stable h) (law.stable_is_one h) in
+    let small : g.D.Disk.size c.args.disk < need_of without_log = c.in-Err.ensures.small.0 refl in
+    inl (omega (arith, sized, long, small))))
+
+pub returns-in-Err-find_synced-clause-refused : goal.returns-in-Err-find_synced-clause-refused
+returns-in-Err-find_synced-clause-refused g c =
+    let disk = disk_of c.in-Ok.cells in
+    let h : History = g.D.Disk.history c.args.disk in
+    let same = c.in-Ok.ensures.disk in
+    let law = c.images_of_a_moment.ensures in
+    let room : need_of without_log ≤ g.D.Disk.size c.args.disk = elim (cases_lt (g.D.Disk.size c.args.disk) (need_of without_log)) [
+      | inl small ↦ absurd (false≢true (c.in-Ok.ensures.small.1 small))
+      | inr le ↦ le
+    ] in
+    let reading : reading_of (layout_of c.in-Ok.cells) (seen (g.D.Disk.history disk)) ≡ reading_of without_log (seen h) =
+    ap (λ (x : Layout). reading_of x (seen (g.D.Disk.history disk))) c.in-Ok.ensures.layout ∙ ap (λ d. reading_of without_log (seen (g.D.Disk.history d))) same in
+    refused_supers (g.D.Disk.honest c.args.disk) _ _ h (g.D.Disk.size c.args.disk) c.in-Err-find_synced.refusal room
+    (λ honest. sym (law.same_size h (stable h) (law.stable_is_one h)) ∙ g.met.D.Disk.sized c.args.disk honest)
+    (λ honest none. subst HasNoSuper reading (none (subst g.D.Disk.honest (sym same) honest)))
+    (λ honest bad. subst (λ d. HasBadSuper (g.D.Disk.size d) (reading_of without_log (seen h))) same (subst (λ (x : Reading). HasBadSuper (g.D.Disk.size disk) x) reading (bad (subst g.D.Disk.honest (sym same) honest))))
+    c.in-Err-find_synced.ensures.refused
+
+pub returns-in-Ok-read_behind-clause-opened : goal.returns-in-Ok-read_behind-clause-opened
+returns-in-Ok-read_behind-clause-opened g c =
+    let b : SuperBody = c.in-Ok-find_synced.found.0 in
+    let size : ℕ = g.D.Disk.size c.args.disk in
+    let o = c.in-Ok-read_behind.behind in
+    let e = c.in-Ok-read_behind.ensures in
+    let l : Layout = layout_of c.read_behind.new.cells in
+    let form = subst (λ d. IsSuperAt (g.D.Disk.size d) (side_of b.number) b) c.in-Ok.ensures.disk c.in-Ok-find_synced.ensures.form in
+    let is = opened_from size b l o.log o.items.items o.certifier.current o.versions form (e.layout ∙ c.relaid-cells.ensures.layout ∙ c.new-layout.ensures) e.any in
+    subst (λ x. IsOpened size x.superblock (layout_of x.cells) x.log x.items.items x.certifier.current x.versions) (sym c.opened.ensures) is
+
+pub returns-in-Ok-read_behind-clause-recovers : goal.returns-in-Ok-read_behind-clause-recovers
+returns-in-Ok-read_behind-clause-recovers g c = λ honest.
+    let b : SuperBody = c.in-Ok-find_synced.found.0 in
+    let old : History = g.D.Disk.history c.args.disk in
+    let first = disk_of c.in-Ok.cells in
+    let laid = disk_of c.relaid-cells.result in
+    let mid : History = g.D.Disk.history laid in
+    let size : ℕ = g.D.Disk.size c.args.disk in
+    let m : Layout = layout_of c.in-Ok.cells in
+    let s = c.in-Ok-find_synced.ensures in
+    let e = c.in-Ok-read_behind.ensures in
+    let o = c.in-Ok-read_behind.behind in
+    let there = subst g.D.Disk.honest (sym c.in-Ok.ensures.disk) honest in
+    let still = subst g.D.Disk.honest (sym c.relaid-cells.ensures.disk) (s.call.stays_honest there) in
+    let synced : mid ≡ Synced old = ap g.D.Disk.history c.relaid-cells.ensures.disk ∙ s.synced there ∙ ap (λ d. Synced (g.D.Disk.history d)) c.in-Ok.ensures.disk in
+    let none : failed mid ≡ [] = ap failed synced in
+    let sized : length (stable mid) ≡ size = g.met.D.Disk.sized laid still ∙ ap g.D.Disk.size c.relaid-cells.ensures.disk ∙ s.call.same_size ∙ ap g.D.Disk.size c.in-Ok.ensures.disk in
+    let counts = subst (λ d. Counts (g.D.Disk.size d) (reading_of m (seen (g.D.Disk.history d))) b c.in-Ok-find_synced.found.1) c.in-Ok.ensures.disk (s.found there) in
+    let is = recovers_from c.pages_are_told.ensures c.found_states_stand.ensures old mid (g.D.Disk.history (disk_of c.read_behind.new.cells)) size m b c.in-Ok-find_synced.found.1 o.log o.items.items o.certifier.current o.versions
+    synced (e.looks.same still) sized counts (e.found still none) in
+    subst (λ x. Recovers old (g.D.Disk.history (disk_of x.cells)) x.superblock x.both x.log x.items.items x.certifier.current x.versions) (sym c.opened.ensures) is
+
+pub returns-in-Err-read_behind-clause-refused : goal.returns-in-Err-read_behind-clause-refused
+returns-in-Err-read_behind-clause-refused g c =
+    let b : SuperBody = c.in-Ok-find_synced.found.0 in
+    let old : History = g.D.Disk.history c.args.disk in
+    let laid = disk_of c.relaid-cells.result in
+    let mid : History = g.D.Disk.history laid in
+    let size : ℕ = g.D.Disk.size c.args.disk in
+    let m : Layout = layout_of c.in-Ok.cells in
+    let s = c.in-Ok-find_synced.ensures in
+    let e = c.in-Err-read_behind.ensures in
+    let synced : g.D.Disk.honest c.args.disk → mid ≡ Synced old =
+    λ honest. ap g.D.Disk.history c.relaid-cells.ensures.disk ∙ s.synced (subst g.D.Disk.honest (sym c.in-Ok.ensures.disk) honest) ∙ ap (λ d. Synced (g.D.Disk.history d)) c.in-Ok.ensures.disk in
+    refused_behind (g.D.Disk.honest c.args.disk) old mid size m b _ c.in-Err-read_behind.refusal synced
+    (λ honest. g.met.D.Disk.sized laid (subst g.D.Disk.honest (sym c.relaid-cells.ensures.disk) (s.call.stays_honest (subst g.D.Disk.honest (sym c.in-Ok.ensures.disk) honest)))
+    ∙ ap g.D.Disk.size c.relaid-cells.ensures.disk ∙ s.call.same_size ∙ ap g.D.Disk.size c.in-Ok.ensures.disk)
+    (λ honest. (c.in-Ok-find_synced.found.1, subst (λ d. Counts (g.D.Disk.size d) (reading_of m (seen (g.D.Disk.history d))) b c.in-Ok-find_synced.found.1) c.in-Ok.ensures.disk (s.found (subst g.D.Disk.honest (sym c.in-Ok.ensures.disk) honest))))
+    (λ part honest why. why (subst g.D.Disk.honest (sym c.relaid-cells.ensures.disk) (s.call.stays_honest (subst g.D.Disk.honest (sym c.in-Ok.ensures.disk) honest))) (ap failed (synced honest)))
+    e.refused

@@ -1,0 +1,51 @@
+-- Items that are judged again behind a base.
+use Rattle.std.specs.Prelude.{◌≡◌, ◌⊎◌, ℕ, ◌+◌, ◌-◌, Bool, true, false, List, length, map, take, Option, None}
+use Rattle.rep_types.specs.declared.key.Key.{Key}
+use Rattle.rep_types.specs.declared.judged.Judged.{Judged}
+use Rattle.rep_types.specs.declared.refusal.Part.TheVariants.{Log as in_log}
+use Rattle.rep_types.specs.declared.refusal.Refusal.{Refusal}
+use Rattle.rep_types.specs.declared.refusal.Refusal.TheVariants.{OutOfMemory, Corrupt}
+use Rattle.rep_types.specs.Entries.{Entry}
+use Rattle.rep_types.specs.Settings.{Setting}
+use Rattle.rep_types.specs.Order.{State, floor, recent}
+use Rattle.rep_versions.specs.Versions.{Kept, IsAdded}
+use Rattle.rep_versions.specs.Following.{AreVersionsOf, effect_of}
+use Rattle.rep_cert.specs.Holdings.{Holding, IsAskable, upto, window_of, verdict_of}
+use Rattle.rep_steps.specs.Nodes.{reached}
+use Rattle.rep_steps.specs.Images.{AreJudgedFrom}
+
+-- a base: its position, its window and its rows
+abbrev pub base_with : ℕ → List Entry → (Key → Option (List ℕ)) → State
+base_with position entries content = record { position = position; content = content; kept = entries }
+
+-- a base whose rows nothing is said of: no verdict and no window depends on them
+abbrev pub bare : ℕ → List Entry → State
+bare position entries = base_with position entries (λ key. None)
+
+-- The window of this position spans these entries.
+abbrev pub AreSpanned : Setting → ℕ → List Entry → Type 0
+AreSpanned p position entries = recent (floor p position) (upto position entries) ≡ entries
+
+-- The item is the next: it has the next seqno, and the verdict that judging it gives.
+pub record IsNext (h : Holding) (j : Judged) : Type 0 where
+  pub seqno : j.seqno ≡ h.delivered + 1
+  pub verdict : j.verdict ≡ verdict_of h j.item
+
+-- The versions with what an item wrote, if it counts.
+abbrev pub Notes : Bool → Judged → Kept → Kept → Type 0
+Notes true j before after = IsAdded j.seqno j.item.writes before after
+Notes false j before after = after ≡ before
+
+-- These items were judged again behind a base, one after another: each has the next seqno and the verdict that judging it gives.
+-- What the certifier then holds are the windows from the base on, and the versions are those of the items.
+pub record HasJudged (p : Setting) (S : State) (items : List Judged) (h : Holding) (kept : Kept) : Type 0 where
+  pub setting : h.setting ≡ p
+  pub made : h.made ≡ S.position
+  pub delivered : h.delivered ≡ S.position + length items
+  pub judged : AreJudgedFrom p S items
+  pub windows : (k : ℕ) → IsAskable h k → window_of h k ≡ (reached p S (take (k - S.position) items)).kept
+  pub versions : AreVersionsOf S.position (map effect_of items) kept
+
+-- A refusal that judging again may answer: no memory, or an item that is not the next.
+abbrev pub RefusesItems : Type 0 → Refusal → Type 0
+RefusesItems Reason e = (e ≡ OutOfMemory) ⊎ ((e ≡ Corrupt in_log) × Reason)

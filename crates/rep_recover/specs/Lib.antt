@@ -1,0 +1,5 @@
+pub mod Going
+pub mod Formatting
+pub mod Judging
+pub mod Looking
+pub mod Opening

@@ -1,0 +1,13 @@
+//! Formatting and opening a device: what a node stands on before its first event.
+#![tactic(auto)]
+
+mod format;
+mod judge;
+mod logs;
+mod open;
+mod pages;
+mod supers;
+mod windows;
+
+pub use format::format_disk;
+pub use open::{Opened, read_disk};
