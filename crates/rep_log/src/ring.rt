@@ -150,7 +150,8 @@ impl Log {
     pub fn phase(&self) -> Phase
         ensures { result ≡ self.now.phase }
     {
-        self.phase
+        let Log { phase, .. } = self;
+        *phase
     }
 
     /// The index of the next block's cell.
