@@ -199,7 +199,8 @@ impl<D: Disk> Engine<D> {
         ensures refused { result ≡ Err (no_checkpoint self.old.halted) }
         ensures same { self.new ≡ self.old }
     {
-        Err(self.no_checkpoint())
+        let refusal = self.no_checkpoint();
+        Err(refusal)
     }
 
     /// Writes a page of the checkpoint. No checkpoint is under way.
