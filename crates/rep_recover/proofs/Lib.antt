@@ -8,3 +8,4 @@ pub mod Spanning
 pub mod Behind
 pub mod Contents
 pub mod Opening
+pub mod Excluding

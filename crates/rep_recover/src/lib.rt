@@ -3,6 +3,7 @@
 
 mod format;
 mod judge;
+mod laws;
 mod logs;
 mod open;
 mod pages;
@@ -10,4 +11,5 @@ mod supers;
 mod windows;
 
 pub use format::format_disk;
+pub use laws::reasons_exclude_meanings;
 pub use open::{Opened, read_disk};
