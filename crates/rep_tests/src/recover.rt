@@ -210,7 +210,8 @@ fn an_item_of_the_log_is_found(rt: HostRuntime) -> Result<(), Fail> {
     );
     let key = Key { table: 0, row: 1 };
     assert!(rt; opened.versions.at(key, 1) == rep_versions::At::Found(&Value::new(b"a")?));
-    let window = opened.certifier.window_at(rt.alloc(), 1)?;
+    let delivered = opened.certifier.delivered();
+    let window = opened.certifier.window_at(rt.alloc(), delivered)?;
     assert_eq!(rt; window.len(), 1);
     Ok(())
 }
