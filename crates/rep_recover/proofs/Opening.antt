@@ -21,7 +21,7 @@ use Rattle.rep_image.specs.Bases.{IsSuperAt, IsChosen}
 use Rattle.rep_image.specs.Meanings.{MeansBy}
 use Rattle.rep_recover.specs.Judging.{bare, base_with}
 use Rattle.rep_recover.specs.Looking.{Counts, HasBadSuper, HasNoSuper, RefusesSupers}
-use Rattle.rep_recover.specs.Opening.{without_log, FailsBehind, IsCorruptIn, IsReason, IsBehind, StandsBehind, RefusesBehind, IsOpened, Recovers, RefusesToOpen}
+use Rattle.rep_recover.specs.Opening.{without_log, FailsBehind, IsCorruptIn, IsReason, IsOfBytes, IsBehind, StandsBehind, RefusesBehind, IsOpened, Recovers, RefusesToOpen}
 use Rattle.rep_recover.proofs.Behind.{no_blocks}
 use Rattle.rep_recover.proofs.Contents.{content, has_content, same_windows, judged_alike, seqnos_follow, rows_there, versions_within}
 
@@ -98,17 +98,23 @@ pub refused_behind :
     → RefusesBehind Reason e → RefusesToOpen IsHonest (seen old) e
 refused_behind IsHonest old mid size m b Reason e synced sized counts fails (inl memory) = inl memory
 refused_behind IsHonest old mid size m b Reason e synced sized counts fails (inr (inl fault)) = inr (inl fault)
-refused_behind IsHonest old mid size m b Reason e synced sized counts fails (inr (inr why)) = inr (inr (λ honest.
-    let long : length (seen old) ≡ size = ap (λ (x : History). length (stable x)) (sym (synced honest)) ∙ sized honest in
-    let chosen = subst (λ (n : ℕ). IsChosen n (reading_of m (seen old)) b) (sym long) (counts honest).1.0 in
-    let failed = subst (λ (x : History). FailsBehind why.0 (reading_of (layout_of b.params) (seen x)) b) (synced honest) (fails why.0 honest why.1.1) in
-    subst (IsReason (seen old)) (sym why.1.0) (corrupt_in why.0 (seen old) b (record { stands = chosen.stands; is_super = chosen.is_super; lesser = chosen.lesser }) failed)))
+refused_behind IsHonest old mid size m b Reason e synced sized counts fails (inr (inr why)) = inr (inr (
+  subst IsOfBytes (sym why.1.0) tt,
+  λ honest.
+      let long : length (seen old) ≡ size = ap (λ (x : History). length (stable x)) (sym (synced honest)) ∙ sized honest in
+      let chosen = subst (λ (n : ℕ). IsChosen n (reading_of m (seen old)) b) (sym long) (counts honest).1.0 in
+      let failed = subst (λ (x : History). FailsBehind why.0 (reading_of (layout_of b.params) (seen x)) b) (synced honest) (fails why.0 honest why.1.1) in
+      subst (IsReason (seen old)) (sym why.1.0) (corrupt_in why.0 (seen old) b (record { stands = chosen.stands; is_super = chosen.is_super; lesser = chosen.lesser }) failed),
+))
 
 pub refused_supers :
     (IsHonest None_open Bad : Type 0) (old : History) (size : ℕ) (e : Refusal) → need_of without_log ≤ size → (IsHonest → length (seen old) ≡ size) → (IsHonest → None_open → HasNoSuper (reading_of without_log (seen old)))
     → (IsHonest → Bad → HasBadSuper size (reading_of without_log (seen old))) → RefusesSupers None_open Bad e → RefusesToOpen IsHonest (seen old) e
 refused_supers IsHonest None_open Bad old size e room sized none bad (inl fault) = inr (inl fault)
-refused_supers IsHonest None_open Bad old size e room sized none bad (inr (inl why)) = inr (inr (λ honest. subst (IsReason (seen old)) (sym why.0) (inr (none honest why.1))))
-refused_supers IsHonest None_open Bad old size e room sized none bad (inr (inr why)) = inr (inr (λ honest.
-    subst (IsReason (seen old)) (sym why.0)
-    (omega (arith, room, sized honest), subst (λ (n : ℕ). HasBadSuper n (reading_of without_log (seen old))) (sym (sized honest)) (bad honest why.1))))
+refused_supers IsHonest None_open Bad old size e room sized none bad (inr (inl why)) = inr (inr (subst IsOfBytes (sym why.0) tt, λ honest. subst (IsReason (seen old)) (sym why.0) (inr (none honest why.1))))
+refused_supers IsHonest None_open Bad old size e room sized none bad (inr (inr why)) = inr (inr (
+  subst IsOfBytes (sym why.0) tt,
+  λ honest.
+      subst (IsReason (seen old)) (sym why.0)
+      (omega (arith, room, sized honest), subst (λ (n : ℕ). HasBadSuper n (reading_of without_log (seen old))) (sym (sized honest)) (bad honest why.1)),
+))

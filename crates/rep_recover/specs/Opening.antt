@@ -133,9 +133,16 @@ pub record Recovers (old new : History) (b : SuperBody) (both : Bool) (log : Sta
   pub windows : (k : ℕ) → IsAskable h k → window_of h k ≡ (reached b.params meaning.base (take (k - b.position) items)).kept
   pub versions : AreVersionsOf b.position (map effect_of items) kept
 
--- A refusal: no memory, the device's failure, or, on an honest device, a reason that stands in its bytes.
+-- the refusals that say of bytes that they aren't of the form
+abbrev pub IsOfBytes : Refusal → Type 0
+IsOfBytes NotFormatted = Unit {0}
+IsOfBytes (Corrupt part) = Unit {0}
+IsOfBytes e = ⊥
+
+-- A refusal: no memory, the device's failure, or one that says of its bytes that they aren't of the form; on an honest device the
+-- reason stands there.
 abbrev pub RefusesToOpen : Type 0 → List ℕ → Refusal → Type 0
-RefusesToOpen IsHonest bytes e = (e ≡ OutOfMemory) ⊎ ((e ≡ DiskFault) ⊎ (IsHonest → IsReason bytes e))
+RefusesToOpen IsHonest bytes e = (e ≡ OutOfMemory) ⊎ ((e ≡ DiskFault) ⊎ (IsOfBytes e × (IsHonest → IsReason bytes e)))
 
 -- Nothing was written: the device was synced, or it was not.
 abbrev pub IsUnwritten : History → History → Type 0

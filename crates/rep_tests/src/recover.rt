@@ -17,21 +17,19 @@ use uuid::Uuid;
 /// The bytes that a window of 4, 4 cells and one table of 126 rows need.
 const NEED: usize = 103_424;
 
-/// Where superblock B, the windows, the log and the pages begin.
-const SUPER_B: usize = 4_096;
+/// Where each superblock, its gate and its window begin.
+const FIRST: [usize; 3] = [0, 3_584, 8_192];
 
-const WINDOW_A: usize = 8_192;
+const SECOND: [usize; 3] = [4_096, 7_680, 31_232];
 
-const WINDOW_B: usize = 31_232;
-
+/// Where the log begins, the gates of its first and its last cell, and the pages.
 const CELLS: usize = 54_272;
 
+const FIRST_CELL_GATE: usize = 61_952;
+
+const LAST_CELL_GATE: usize = 86_528;
+
 const PAGES: usize = 87_040;
-
-/// The first byte of a superblock's gate, and of a cell's.
-const SUPER_GATE: usize = 3_584;
-
-const CELL_GATE: usize = 7_680;
 
 const OPEN: u8 = 0xA5;
 
@@ -103,19 +101,33 @@ fn superblock(number: u64, position: u64, first: PageState) -> Result<SuperBody,
     })
 }
 
-/// Writes the superblock at this offset, with an open gate, and an empty window of its position.
-fn put_base(disk: &mut MemDisk, at: usize, window: usize, base: &SuperBody) -> Result<(), Fail> {
+/// Writes these bytes over others, from this offset on.
+fn put(bytes: &mut [u8], at: usize, part: &[u8]) {
+    for (place, byte) in bytes.iter_mut().skip(at).zip(part) {
+        *place = *byte;
+    }
+}
+
+/// Writes the superblock at these offsets, with an open gate, and an empty window of its position.
+fn put_base(bytes: &mut [u8], at: [usize; 3], base: &SuperBody) -> Result<(), Fail> {
     let body = base.write_body().ok_or("no superblock")?;
-    disk.write_at(at, body.as_slice())?;
-    disk.write_at(at + SUPER_GATE, &[OPEN])?;
+    put(bytes, at[0], body.as_slice());
+    put(bytes, at[1], &[OPEN]);
     let beside = WindowBody {
         number: base.number,
         position: base.position,
         entries: &[],
     };
     let body = beside.write_body(&base.params).ok_or("no window")?;
-    disk.write_at(window, body.as_slice())?;
+    put(bytes, at[2], body.as_slice());
     Ok(())
+}
+
+/// The bytes of a formatted device with this superblock at these offsets.
+fn with_base(alloc: Global, at: [usize; 3], base: &SuperBody) -> Result<Vec<u8>, Fail> {
+    let mut bytes = Vec::from_slice(alloc, formatted(alloc, Some(cluster()))?.bytes())?;
+    put_base(&mut bytes, at, base)?;
+    Ok(bytes)
 }
 
 #[test]
@@ -133,12 +145,10 @@ fn a_device_that_is_too_small_is_left_as_it_is(rt: HostRuntime) -> Result<(), Fa
 #[test]
 fn a_formatted_device_opens_at_nothing(rt: HostRuntime) -> Result<(), Fail> {
     let disk = formatted(rt.alloc(), Some(cluster()))?;
-    assert!(rt; disk.bytes()[PAGES..].iter().all(|byte| *byte == OPEN));
-    for gate in [SUPER_B + SUPER_GATE, CELLS + CELL_GATE, PAGES - 512] {
-        assert!(rt;
-            disk.bytes()[gate..gate + 512].iter().all(|byte| *byte == 0),
-            "{gate}"
-        );
+    assert!(rt; disk.bytes().iter().skip(PAGES).all(|byte| *byte == OPEN));
+    for gate in [SECOND[1], FIRST_CELL_GATE, LAST_CELL_GATE] {
+        let mut sector = disk.bytes().iter().skip(gate).take(512);
+        assert!(rt; sector.all(|byte| *byte == 0), "{gate}");
     }
     let Ok(opened) = read_disk(rt.alloc(), disk) else {
         return Err(Fail::new("no node"));
@@ -200,7 +210,8 @@ fn an_item_of_the_log_is_found(rt: HostRuntime) -> Result<(), Fail> {
     );
     let key = Key { table: 0, row: 1 };
     assert!(rt; opened.versions.at(key, 1) == rep_versions::At::Found(&Value::new(b"a")?));
-    let window = opened.certifier.window_at(rt.alloc(), 1)?;
+    let delivered = opened.certifier.delivered();
+    let window = opened.certifier.window_at(rt.alloc(), delivered)?;
     assert_eq!(rt; window.len(), 1);
     Ok(())
 }
@@ -212,12 +223,12 @@ fn each_part_is_corrupt_at_a_byte_of_its_own(rt: HostRuntime) -> Result<(), Fail
     let cases: [(usize, u8, Option<Refusal>); 9] = [
         (54_324, 2, Some(corrupt(Part::Log))),
         (54_299, 2, Some(corrupt(Part::Log))),
-        (CELLS + CELL_GATE, 0, None),
+        (FIRST_CELL_GATE, 0, None),
         (0, 0, Some(corrupt(Part::Superblock))),
-        (WINDOW_A, 0, Some(corrupt(Part::Window))),
-        (WINDOW_A + 15, 1, Some(corrupt(Part::Window))),
-        (SUPER_GATE, 0, Some(Refusal::NotFormatted)),
-        (SUPER_B + SUPER_GATE, OPEN, Some(corrupt(Part::Superblock))),
+        (8_192, 0, Some(corrupt(Part::Window))),
+        (8_207, 1, Some(corrupt(Part::Window))),
+        (3_584, 0, Some(Refusal::NotFormatted)),
+        (7_680, OPEN, Some(corrupt(Part::Superblock))),
         (PAGES, 0, None),
     ];
     for (at, byte, refusal) in cases {
@@ -225,10 +236,9 @@ fn each_part_is_corrupt_at_a_byte_of_its_own(rt: HostRuntime) -> Result<(), Fail
         assert_eq!(rt; refusal_of(rt.alloc(), &bytes)?, refusal, "{at}");
     }
     // Of several the first is answered: superblock, window, log.
-    let edits = [(54_324, 2), (WINDOW_A, 0), (0, 0)];
-    let both = changed(rt.alloc(), disk.bytes(), &edits[..2])?;
+    let both = changed(rt.alloc(), disk.bytes(), &[(54_324, 2), (8_192, 0)])?;
     assert_eq!(rt; refusal_of(rt.alloc(), &both)?, Some(corrupt(Part::Window)));
-    let all = changed(rt.alloc(), disk.bytes(), &edits)?;
+    let all = changed(rt.alloc(), &both, &[(0, 0)])?;
     assert_eq!(rt;
         refusal_of(rt.alloc(), &all)?,
         Some(corrupt(Part::Superblock))
@@ -239,16 +249,13 @@ fn each_part_is_corrupt_at_a_byte_of_its_own(rt: HostRuntime) -> Result<(), Fail
 // The undefined node's log holds no block, and a superblock whose places have no room is none.
 #[test]
 fn a_cell_without_a_cluster_is_corrupt(rt: HostRuntime) -> Result<(), Fail> {
-    let mut disk = with_item(rt.alloc())?;
-    disk.write_at(16, &[0; 16])?;
+    let mut bytes = Vec::from_slice(rt.alloc(), with_item(rt.alloc())?.bytes())?;
+    put(&mut bytes, 16, &[0; 16]);
+    assert_eq!(rt; refusal_of(rt.alloc(), &bytes)?, Some(corrupt(Part::Log)));
+    let mut small = Vec::from_slice(rt.alloc(), with_item(rt.alloc())?.bytes())?;
+    small.truncate(NEED - 1);
     assert_eq!(rt;
-        refusal_of(rt.alloc(), disk.bytes())?,
-        Some(corrupt(Part::Log))
-    );
-    let whole = with_item(rt.alloc())?;
-    let small = &whole.bytes()[..NEED - 1];
-    assert_eq!(rt;
-        refusal_of(rt.alloc(), small)?,
+        refusal_of(rt.alloc(), &small)?,
         Some(corrupt(Part::Superblock))
     );
     Ok(())
@@ -256,10 +263,9 @@ fn a_cell_without_a_cluster_is_corrupt(rt: HostRuntime) -> Result<(), Fail> {
 
 #[test]
 fn of_two_superblocks_the_greater_counts(rt: HostRuntime) -> Result<(), Fail> {
-    let mut disk = formatted(rt.alloc(), Some(cluster()))?;
     let greater = superblock(1, 3, PageState::Nowhere)?;
-    put_base(&mut disk, SUPER_B, WINDOW_B, &greater)?;
-    let bytes = Vec::from_slice(rt.alloc(), disk.bytes())?;
+    let bytes = with_base(rt.alloc(), SECOND, &greater)?;
+    let disk = MemDisk::from_bytes(rt.alloc(), &bytes)?;
     let Ok(opened) = read_disk(rt.alloc(), disk) else {
         return Err(Fail::new("no node"));
     };
@@ -274,7 +280,7 @@ fn of_two_superblocks_the_greater_counts(rt: HostRuntime) -> Result<(), Fail> {
         refusal_of(rt.alloc(), &lesser)?,
         Some(corrupt(Part::Superblock))
     );
-    let beside = changed(rt.alloc(), &bytes, &[(WINDOW_A, 0)])?;
+    let beside = changed(rt.alloc(), &bytes, &[(8_192, 0)])?;
     assert_eq!(rt; refusal_of(rt.alloc(), &beside)?, None);
     Ok(())
 }
@@ -282,14 +288,9 @@ fn of_two_superblocks_the_greater_counts(rt: HostRuntime) -> Result<(), Fail> {
 // The page is read, and has to be of the form, of its number and at most of the superblock's position.
 #[test]
 fn pages_in_a_slot_are_held_to_their_form(rt: HostRuntime) -> Result<(), Fail> {
-    let mut disk = formatted(rt.alloc(), Some(cluster()))?;
     let base = superblock(1, 3, PageState::In(Slot::Second))?;
-    put_base(&mut disk, SUPER_B, WINDOW_B, &base)?;
-    assert_eq!(rt;
-        refusal_of(rt.alloc(), disk.bytes())?,
-        Some(corrupt(Part::Pages))
-    );
-    let there = PAGES + 4_096;
+    let mut bytes = with_base(rt.alloc(), SECOND, &base)?;
+    assert_eq!(rt; refusal_of(rt.alloc(), &bytes)?, Some(corrupt(Part::Pages)));
     for (number, position, refusal) in [
         (0, 3, None),
         (0, 4, Some(corrupt(Part::Pages))),
@@ -298,9 +299,9 @@ fn pages_in_a_slot_are_held_to_their_form(rt: HostRuntime) -> Result<(), Fail> {
         let mut page = Page::absent(number);
         page.position = position;
         let body = page.write_body(params()?.schema()).ok_or("no page")?;
-        disk.write_at(there, body.as_slice())?;
+        put(&mut bytes, PAGES + 4_096, body.as_slice());
         assert_eq!(rt;
-            refusal_of(rt.alloc(), disk.bytes())?,
+            refusal_of(rt.alloc(), &bytes)?,
             refusal,
             "{number} {position}"
         );
@@ -310,9 +311,8 @@ fn pages_in_a_slot_are_held_to_their_form(rt: HostRuntime) -> Result<(), Fail> {
 
 #[test]
 fn the_last_position_opens_and_takes_no_item(rt: HostRuntime) -> Result<(), Fail> {
-    let mut disk = formatted(rt.alloc(), Some(cluster()))?;
-    let last = superblock(2, LAST, PageState::Nowhere)?;
-    put_base(&mut disk, 0, WINDOW_A, &last)?;
+    let bytes = with_base(rt.alloc(), FIRST, &superblock(2, LAST, PageState::Nowhere)?)?;
+    let disk = MemDisk::from_bytes(rt.alloc(), &bytes)?;
     let Ok(mut opened) = read_disk(rt.alloc(), disk) else {
         return Err(Fail::new("no node"));
     };

@@ -15,12 +15,15 @@ use Rattle.rep_recover.proofs.open.read_disk.Goals as goal
 pub returns-in-Err-clause-refused : goal.returns-in-Err-clause-refused
 returns-in-Err-clause-refused g c =
     let h : History = g.D.Disk.history c.args.disk in
-    inr (inr (λ honest.
-    let sized : length (stable h) ≡ g.D.Disk.size c.args.disk = g.met.D.Disk.sized c.args.disk honest in
-    let law = c.images_of_a_moment.ensures in
-    let long : length (stable h) ≡ length (seen h) = law.same_size h (stable h) (law.stable_is_one h) in
-    let small : g.D.Disk.size c.args.disk < need_of without_log = c.in-Err.ensures.small.0 refl in
-    inl (omega (arith, sized, long, small))))
+    inr (inr (
+      tt,
+      λ honest.
+          let sized : length (stable h) ≡ g.D.Disk.size c.args.disk = g.met.D.Disk.sized c.args.disk honest in
+          let law = c.images_of_a_moment.ensures in
+          let long : length (stable h) ≡ length (seen h) = law.same_size h (stable h) (law.stable_is_one h) in
+          let small : g.D.Disk.size c.args.disk < need_of without_log = c.in-Err.ensures.small.0 refl in
+          inl (omega (arith, sized, long, small)),
+    ))
 
 pub returns-in-Err-find_synced-clause-refused : goal.returns-in-Err-find_synced-clause-refused
 returns-in-Err-find_synced-clause-refused g c =
