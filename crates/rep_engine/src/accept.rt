@@ -101,7 +101,9 @@ impl<D: Disk> Engine<D> {
         ensures count { IfOk result (λ count. count ≡ accepted_in self.old.log.phase self.old.block backlog.old) }
         ensures facts { IfOk result (λ count. facts_of D.failures self.new ≡ record (facts_of D.failures self.old) { ahead = self.old.block ++ take count backlog.old }) }
         ensures backlog { IfOk result (λ count. backlog.new ≡ drop count backlog.old) }
-        ensures disk { self.new.disk ≡ self.old.disk }
+        ensures rest { self.new ≡ record (self.old) { kept = self.new.kept; block = self.new.block } }
+        ensures block { IfOk result (λ count. self.new.block ≡ self.old.block ++ take count backlog.old) }
+        ensures versions { IfOk result (λ count. AddsItems (take count backlog.old) self.old.kept self.new.kept) }
         ensures running { OnOk result (self.old.halted ≡ None) }
         ensures refused { IfErr result (λ e. ((e ≡ is_stopped) × (is_some self.old.halted ≡ true)) ⊎ ((e ≡ OutOfMemory) × (self.old.halted ≡ None) × (is_gathering self.old.log.phase ≡ true))) }
         ensures unchanged { OnErr result ((self.new ≡ self.old) × (backlog.new ≡ backlog.old)) }

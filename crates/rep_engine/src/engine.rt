@@ -1,6 +1,6 @@
 //! What an engine holds, and the steps that write.
 
-ghost use Rattle.std.specs.Prelude.{◌≡◌, ◌≢◌, ◌+◌, ◌-◌, ◌<◌, ◌==◌, [], nat_le, if◌then◌else◌, true, false, length, map, is_some, Some, None, Err, IsErr, IfSome, IfErr, OnOk, OnErr, MatchOption};
+ghost use Rattle.std.specs.Prelude.{◌≡◌, ◌≢◌, ◌⊎◌, ◌+◌, ◌-◌, ◌<◌, ◌==◌, [], nat_le, if◌then◌else◌, true, false, length, map, is_some, Some, None, Err, IsErr, IfSome, IfErr, OnOk, OnErr, MatchOption};
 ghost use Rattle.rep_types.specs.declared.refusal.Refusal.TheVariants.{OutOfMemory, DiskFault, LogFull};
 ghost use Rattle.rep_types.specs.Replies.{reply_of};
 ghost use Rattle.rep_disk.specs.Moments.{LeavesOnly};
@@ -135,6 +135,9 @@ impl<D: Disk> Engine<D> {
     pub fn log(&mut self) -> Result<(), Refusal>
         ensures moves { Moves (facts_of D.failures self.old) to_log (wrote result) (facts_of D.failures self.new) }
         ensures steps { (n : Node) → Holds D.honest D.history D.failures n self.old → (m : Node) × Steps n to_log (wrote result) m × Holds D.honest D.history D.failures m self.new }
+        // Nothing else changes, and where it is refused by anything but the device, nothing does.
+        ensures rest { self.new ≡ record (self.old) { disk = self.new.disk; log = self.new.log; halted = self.new.halted } }
+        ensures unchanged { IfErr result (λ e. (e ≡ DiskFault) ⊎ (self.new ≡ self.old)) }
         // It takes no memory.
         ensures memory { IfErr result (λ e. e ≢ OutOfMemory) }
         ensures leaves { (n : Node) → Holds D.honest D.history D.failures n self.old → LeavesOnly (D.history self.old.disk) (D.history self.new.disk) (IsFrontAt Means n) }
@@ -175,6 +178,9 @@ impl<D: Disk> Engine<D> {
     /// Refuses with `Stopped` where the device has failed before, and with `DiskFault` where it failed: the
     /// engine is then stopped, and otherwise as it was.
     pub fn sync(&mut self) -> Result<Replies, Refusal>
+        // Nothing else changes, and where it is stopped, nothing does.
+        ensures rest { self.new ≡ record (self.old) { disk = self.new.disk; log = self.new.log; block = self.new.block; halted = self.new.halted } }
+        ensures unchanged { IfErr result (λ e. (e ≡ DiskFault) ⊎ (self.new ≡ self.old)) }
         ensures moves { Moves (facts_of D.failures self.old) to_sync (synced result) (facts_of D.failures self.new) }
         ensures steps { (n : Node) → Holds D.honest D.history D.failures n self.old → (m : Node) × Steps n to_sync (synced result) m × Holds D.honest D.history D.failures m self.new }
         ensures leaves { (n : Node) → Holds D.honest D.history D.failures n self.old → LeavesOnly (D.history self.old.disk) (D.history self.new.disk) (IsFrontAt Means n) }

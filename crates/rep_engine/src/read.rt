@@ -57,6 +57,8 @@ impl<D: Disk> Engine<D> {
     /// above what is durable; with `TooOld` below the base; with `DiskFault` where the device failed, and
     /// then the engine is stopped; and with `Corrupt` of the pages where the page is not of its form.
     pub fn read(&mut self, key: Key, s: u64) -> Result<Option<Value>, Refusal>
+        // Nothing changes but the device, and whether it is stopped.
+        ensures rest { self.new ≡ record (self.old) { disk = self.new.disk; halted = self.new.halted } }
         ensures moves { Moves (facts_of D.failures self.old) (Read key s) (row result) (facts_of D.failures self.new) }
         ensures steps { (n : Node) → Holds D.honest D.history D.failures n self.old → (m : Node) × Steps n (Read key s) (row result) m × Holds D.honest D.history D.failures m self.new }
         ensures same { D.honest self.old.disk → D.history self.new.disk ≡ D.history self.old.disk }
