@@ -1,10 +1,11 @@
 # `make run` is the first thing to try; `make test` is all that CI runs.
 
-CRATES := rep_types rep_plain rep_forms rep_record rep_disk rep_layout rep_cells rep_log rep_steps rep_replica replicad
+CRATES := rep_types rep_plain rep_forms rep_record rep_disk rep_layout rep_versions rep_pages rep_cells rep_log rep_steps rep_image \
+	rep_cert rep_backlog rep_engine rep_recover rep_replica replicad
 PROGRAM := crates/replicad/out/replicad
-# What `make bench` needs beside these: the certifier and what times it against the plain node, the versions of rows and what
-# times them, and the readers and what times them against a lock.
-TIMED := rep_cert rep_compare rep_versions rep_timed rep_snap rep_snap_uses rep_snap_timed
+# What `make bench` needs beside these: what times the certifier against the plain node, what times the versions of rows, and
+# the readers with what times them against a lock.
+TIMED := rep_compare rep_timed rep_snap rep_snap_uses rep_snap_timed
 COMPARE := crates/rep_compare/out/rep_compare
 VERSIONS := crates/rep_timed/out/rep_timed
 PEEKS := crates/rep_snap_timed/out/rep_snap_timed

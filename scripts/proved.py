@@ -51,10 +51,15 @@ class Refusing:
     """Runs programs with growths of memory refused. What it needs it makes in this folder."""
 
     def __init__(self, folder):
+        self.folder = folder
         self.library = os.path.join(folder, "refuse_growth.so")
         self.counted = os.path.join(folder, "growths")
         source = os.path.join(SCRIPTS, "refuse_growth.c")
         subprocess.run(["cc", "-O2", "-Wall", "-shared", "-fPIC", "-o", self.library, source], check=True)
+
+    def path(self, name):
+        """A path in the folder."""
+        return os.path.join(self.folder, name)
 
     def environment(self, growth=0, first=0):
         """What has the growth with this number refused, or all from the first on; 0 for none."""

@@ -10,3 +10,4 @@ pub mod Reading
 pub mod Replying
 pub mod Accepting
 pub mod Accepts
+pub mod Ending

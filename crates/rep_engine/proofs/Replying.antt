@@ -1,5 +1,5 @@
 -- Replies, one after another.
-use Rattle.std.proofs.Common.{◌≡◌, ℕ, zero, suc, ◌+◌, ◌-◌, ◌<◌, List, [], ◌∷◌, ◌++◌, length, map, take, drop, slice_get, Some, None, refl, sym, ap, ◌∙◌, append_assoc, arith}
+use Rattle.std.proofs.Common.{◌≡◌, ℕ, zero, suc, ◌+◌, ◌-◌, ◌<◌, List, [], ◌∷◌, ◌++◌, length, map, take, drop, slice_get, Some, refl, sym, ap, ◌∙◌, append_assoc, arith}
 use Rattle.rep_types.specs.declared.judged.Judged.{Judged}
 use Rattle.rep_types.specs.declared.reply.Reply.{Reply}
 use Rattle.rep_types.specs.Replies.{reply_of}
@@ -22,10 +22,11 @@ pub one_more_reply : (before : List Reply) (js : List Judged) (i : ℕ) (j : Jud
 one_more_reply before js i j is =
     append_assoc before (map reply_of (take i js)) (reply_of j ∷ []) ∙ ap (λ rest. before ++ rest) (sym (ap (map reply_of) (take_one_more js i j is) ∙ replies-append (take i js) (j ∷ [])))
 
-pub there_is_one : (js : List Judged) (i : ℕ) → slice_get js i ≡ None → i < length js → ⊥
-there_is_one [] i is lt = omega (arith, lt)
-there_is_one (j ∷ js) zero is lt = absurd cc
-there_is_one (j ∷ js) (suc i) is lt = there_is_one js i is (omega (arith, lt))
+-- there is an item at each place
+pub one_there : (js : List Judged) (i : ℕ) → i < length js → (j : Judged) × (slice_get js i ≡ Some j)
+one_there [] i lt = absurd (omega (arith, lt))
+one_there (j ∷ js) zero lt = (j, refl)
+one_there (j ∷ js) (suc i) lt = one_there js i (omega (arith, lt))
 
 -- what comes behind a place begins with the item there
 drop_at : (js : List Judged) (i : ℕ) (j : Judged) → slice_get js i ≡ Some j → drop i js ≡ j ∷ drop (suc i) js

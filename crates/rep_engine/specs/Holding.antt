@@ -11,7 +11,7 @@ use Rattle.rep_log.specs.Standing.{stands_at}
 use Rattle.rep_steps.specs.declared.answer.Answer.{Answer}
 use Rattle.rep_steps.specs.declared.answer.Answer.TheVariants.{Wrote, Synced, Row, Refused}
 use Rattle.rep_steps.specs.Nodes.{Node, IsNode}
-use Rattle.rep_steps.specs.Images.{IsFrontAt}
+use Rattle.rep_steps.specs.Images.{IsFrontAt, IsEndOf}
 use Rattle.rep_image.specs.Meanings.{Means}
 use Rattle.rep_image.specs.Standing.{StandsAs}
 use Rattle.rep_engine.specs.Engines.{Engine, facts_of}
@@ -35,6 +35,11 @@ pub record Holds {D : Type 0} (honest : D → Type 0) (history : D → History) 
   pub node : IsNode n
   pub runs : e.halted ≡ None → Stands history n e
   pub images : (image : List ℕ) → IsImage (history e.disk) image → IsFrontAt Means n image
+
+-- More is so while it isn't stopped: each image means a front that ends exactly at what is durable, or, where a log's gate is opening,
+-- at that with its block. So what was only accepted, and what was only written, doesn't come back.
+abbrev pub LeavesItsEnds : {D : Type 0} → (D → Type 0) → (D → History) → (D → ℕ) → Engine D → Type 0
+LeavesItsEnds honest history failures e = (n : Node) → Holds honest history failures n e → e.halted ≡ None → (image : List ℕ) → IsImage (history e.disk) image → IsEndOf Means n image
 
 -- ---- what the calls answer, as a replica does
 

@@ -1,6 +1,6 @@
 //! How items come from the backlog.
 
-ghost use Rattle.std.specs.Prelude.{◌≡◌, ℕ, None, ◌⊎◌, ◌+◌, ◌-◌, ◌≤◌, ◌<◌, ◌==◌, ◌++◌, [], length, take, drop, map, is_some, true, Ok, Err, IfOk, IfErr, OnOk, OnErr, MatchOption};
+ghost use Rattle.std.specs.Prelude.{◌≡◌, ℕ, None, Some, slice_get, ◌∷◌, ◌⊎◌, ◌+◌, ◌-◌, ◌≤◌, ◌<◌, ◌==◌, ◌++◌, [], length, take, drop, map, is_some, true, Ok, Err, IfOk, IfErr, OnOk, OnErr, MatchOption};
 ghost use Rattle.rep_types.specs.declared.refusal.Refusal.TheVariants.{OutOfMemory};
 ghost use Rattle.rep_types.specs.Replies.{reply_of};
 ghost use Rattle.rep_types.specs.Order.{counts};
@@ -19,7 +19,7 @@ use crate::engine::Engine;
 use rep_backlog::Backlog;
 use rep_disk::Disk;
 use rep_log::{Phase, Step};
-use rep_record::fronts_are_determined;
+use rep_record::{BlockBuilder, fronts_are_determined};
 use rep_steps::Replies;
 use rep_types::{Judged, Refusal};
 use rep_versions::{Versions, add_is_taken_back, versions_follow_the_items};
@@ -65,6 +65,17 @@ fn add_items(
     Ok(())
 }
 
+/// Adds the reply to the origin of the item at this place.
+fn add_reply(replies: &mut Replies, backlog: &Backlog, i: usize)
+    requires within { i < length backlog.now }
+    requires room { length replies.old < 64 }
+    ensures { (j : Judged) → slice_get backlog.now i ≡ Some j → replies.new ≡ replies.old ++ reply_of j ∷ [] }
+{
+    if let Some(judged) = backlog.get(i) {
+        replies.push(judged.reply());
+    }
+}
+
 /// Adds the replies to the origins of the first so many items.
 fn add_replies(replies: &mut Replies, backlog: &Backlog, count: u16)
     requires within { count ≤ length backlog.now }
@@ -72,10 +83,16 @@ fn add_replies(replies: &mut Replies, backlog: &Backlog, count: u16)
     ensures { replies.new ≡ replies.old ++ map reply_of (take count backlog.now) }
 {
     for i in 0..usize::from(count) {
-        if let Some(judged) = backlog.get(i) {
-            replies.push(judged.reply());
-        }
+        add_reply(replies, backlog, i);
     }
+}
+
+/// Moves the next items out of the backlog into the block, the longest front that fits: each once, in order.
+fn move_items(block: &mut BlockBuilder, backlog: &mut Backlog)
+    ensures gathered { block.new ≡ block.old ++ take (fitting block.old backlog.old) backlog.old }
+    ensures rest { backlog.new ≡ drop (fitting block.old backlog.old) backlog.old }
+{
+    backlog.drain(block);
 }
 
 impl<D: Disk> Engine<D> {
@@ -119,7 +136,7 @@ impl<D: Disk> Engine<D> {
         add_items(&mut self.versions, backlog, 0, count)?;
         add_replies(&mut self.replies, backlog, count);
         if count > 0 {
-            backlog.drain(&mut self.block);
+            move_items(&mut self.block, backlog);
         }
         Ok(count)
     }

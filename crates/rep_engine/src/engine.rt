@@ -3,16 +3,17 @@
 ghost use Rattle.std.specs.Prelude.{◌≡◌, ◌≢◌, ◌⊎◌, ◌+◌, ◌-◌, ◌<◌, ◌==◌, [], nat_le, if◌then◌else◌, true, false, length, map, is_some, Some, None, Err, IsErr, IfSome, IfErr, OnOk, OnErr, MatchOption};
 ghost use Rattle.rep_types.specs.declared.refusal.Refusal.TheVariants.{OutOfMemory, DiskFault, LogFull};
 ghost use Rattle.rep_types.specs.Replies.{reply_of};
+ghost use Rattle.rep_disk.specs.Calls.{IsCall};
 ghost use Rattle.rep_disk.specs.Moments.{LeavesOnly};
 ghost use Rattle.rep_cells.specs.Device.{disk_of, layout_of};
 ghost use Rattle.rep_steps.specs.declared.event.Event.TheVariants.{Log as to_log, Sync as to_sync};
-ghost use Rattle.rep_steps.specs.Standings.{gathered, block_refusal, log_refusal};
+ghost use Rattle.rep_steps.specs.Standings.{delivered, gathered, block_refusal, log_refusal};
 ghost use Rattle.rep_steps.specs.Moves.{Moves};
 ghost use Rattle.rep_steps.specs.Nodes.{Node, Steps};
 ghost use Rattle.rep_steps.specs.Images.{IsFrontAt};
 ghost use Rattle.rep_image.specs.Meanings.{Means};
 ghost use Rattle.rep_engine.specs.Engines.{IsEngine, facts_of, phase_at, durable_of, gtid_of};
-ghost use Rattle.rep_log.specs.Moves.{after_sync, SyncsLog};
+ghost use Rattle.rep_log.specs.Moves.{after_sync, fault_of, SyncsLog};
 ghost use Rattle.rep_engine.specs.Writing.{left_of, told_of, no_checkpoint};
 ghost use Rattle.rep_engine.specs.Holding.{Holds, wrote, synced};
 
@@ -133,6 +134,7 @@ impl<D: Disk> Engine<D> {
     /// or a write awaits its sync; with `LogFull` where the next cell is live, its block still needed; and with
     /// `DiskFault` where the device failed: the engine is then stopped, and otherwise as it was.
     pub fn log(&mut self) -> Result<(), Refusal>
+        ensures call { IsCall D.size D.failures D.honest self.old.disk self.new.disk (fault_of result) }
         ensures moves { Moves (facts_of D.failures self.old) to_log (wrote result) (facts_of D.failures self.new) }
         ensures steps { (n : Node) → Holds D.honest D.history D.failures n self.old → (m : Node) × Steps n to_log (wrote result) m × Holds D.honest D.history D.failures m self.new }
         // Nothing else changes, and where it is refused by anything but the device, nothing does.
@@ -178,6 +180,7 @@ impl<D: Disk> Engine<D> {
     /// Refuses with `Stopped` where the device has failed before, and with `DiskFault` where it failed: the
     /// engine is then stopped, and otherwise as it was.
     pub fn sync(&mut self) -> Result<Replies, Refusal>
+        ensures call { IsCall D.size D.failures D.honest self.old.disk self.new.disk (fault_of result) }
         // Nothing else changes, and where it is stopped, nothing does.
         ensures rest { self.new ≡ record (self.old) { disk = self.new.disk; log = self.new.log; block = self.new.block; halted = self.new.halted } }
         ensures unchanged { IfErr result (λ e. (e ≡ DiskFault) ⊎ (self.new ≡ self.old)) }
@@ -251,6 +254,14 @@ impl<D: Disk> Engine<D> {
         ensures engine { IsEngine self.now.layout self.now.superblock self.now.log self.now.kept self.now.block }
     {
         self.log.durable()
+    }
+
+    /// The seqno of the last item that was accepted, durable or not: the next one that `accept` takes has the
+    /// seqno behind it.
+    pub fn delivered(&self) -> u64
+        ensures { result ≡ delivered (facts_of D.failures self.now) }
+    {
+        self.log.durable() + u64::from(self.block.len())
     }
 
     /// The GTID of what is durable: the state UUID and the seqno of the last durable item; that of a node without

@@ -4,7 +4,9 @@
 
 mod accept;
 mod engine;
+mod laws;
 mod read;
 mod write;
 
 pub use engine::Engine;
+pub use laws::running_engines_leave_their_ends;

@@ -1,11 +1,14 @@
 //! Reads of rows.
 
 ghost use Rattle.std.specs.Prelude.{◌≡◌, None};
+ghost use Rattle.rep_disk.specs.Calls.{IsCall};
 ghost use Rattle.rep_disk.specs.Moments.{LeavesOnly};
+ghost use Rattle.rep_log.specs.Moves.{fault_of};
 ghost use Rattle.rep_steps.specs.declared.event.Event.TheVariants.{Read};
 ghost use Rattle.rep_steps.specs.Standings.{read_refusal};
 ghost use Rattle.rep_steps.specs.Moves.{Moves};
 ghost use Rattle.rep_steps.specs.Nodes.{Node, Steps};
+ghost use Rattle.rep_versions.specs.Versions.{IsAnswer};
 ghost use Rattle.rep_engine.specs.Engines.{facts_of};
 ghost use Rattle.rep_engine.specs.Reading.{ReadsRow};
 ghost use Rattle.rep_engine.specs.Holding.{Holds, row};
@@ -37,6 +40,13 @@ impl<D: Disk> Engine<D> {
         None
     }
 
+    /// What the items behind the base made of the row, in the state after so many items.
+    fn version_of(&self, key: Key, s: u64) -> At<'_>
+        ensures { IsAnswer self.now.kept key s result }
+    {
+        self.versions.at(key, s)
+    }
+
     /// What the row is at the base. Where the device fails, the engine is stopped.
     fn read_base(&mut self, key: Key) -> Result<Option<Value>, Refusal>
         requires { self.old.halted ≡ None }
@@ -57,7 +67,8 @@ impl<D: Disk> Engine<D> {
     /// above what is durable; with `TooOld` below the base; with `DiskFault` where the device failed, and
     /// then the engine is stopped; and with `Corrupt` of the pages where the page is not of its form.
     pub fn read(&mut self, key: Key, s: u64) -> Result<Option<Value>, Refusal>
-        // Nothing changes but the device, and whether it is stopped.
+        // The device is asked at most, and nothing else changes but whether it is stopped.
+        ensures call { IsCall D.size D.failures D.honest self.old.disk self.new.disk (fault_of result) }
         ensures rest { self.new ≡ record (self.old) { disk = self.new.disk; halted = self.new.halted } }
         ensures moves { Moves (facts_of D.failures self.old) (Read key s) (row result) (facts_of D.failures self.new) }
         ensures steps { (n : Node) → Holds D.honest D.history D.failures n self.old → (m : Node) × Steps n (Read key s) (row result) m × Holds D.honest D.history D.failures m self.new }
@@ -71,7 +82,7 @@ impl<D: Disk> Engine<D> {
         if let Some(refusal) = self.read_refusal(key, s) {
             return Err(refusal);
         }
-        match self.versions.at(key, s) {
+        match self.version_of(key, s) {
             At::Found(value) => Ok(Some(value.copied())),
             At::Deleted => Ok(None),
             At::Below => self.read_base(key),

@@ -1,22 +1,51 @@
-//! A replica in memory.
+//! A replica on a device in memory. A write or a sync without room for its record is a failure of the device, and
+//! then the replica begins on another one.
 
 use crate::items::{ROWS, item, params};
+use rep_disk::{Loss, MemDisk};
+use rep_layout::need;
+use rep_recover::format_disk;
 use rep_replica::Replica;
 use rep_steps::{Answer, Event};
-use rep_types::{Entry, Refusal};
-use std::alloc::Global;
+use rep_types::{Entry, Key, Refusal};
+use std::alloc::{AllocError, Global};
 use uuid::Uuid;
 
 /// The bytes of the replica's state UUID.
 const STATE: [u8; 16] = [0x11; 16];
 
-/// A step, made again where there was no memory for it; the first one leaves the replica as it was.
-fn step(replica: &mut Replica, event: &Event, again: Event) -> Result<(), Refusal> {
-    let Ok(event) = event.clone() else {
-        return Err(Refusal::OutOfMemory);
+fn device(alloc: Global, size: usize) -> Result<MemDisk, AllocError> {
+    match MemDisk::new(alloc, size) {
+        Err(_) => MemDisk::new(alloc, size),
+        made => made,
+    }
+}
+
+/// A device that was formatted.
+fn formatted(alloc: Global) -> Result<MemDisk, Refusal> {
+    let params = params()?;
+    let disk = device(alloc, need(&params) as usize)?;
+    let (disk, outcome) = format_disk(disk, &params, Some(Uuid::from_bytes(STATE)));
+    outcome?;
+    Ok(disk)
+}
+
+/// The replica on the device, opened again where there was no memory for it.
+fn opened(alloc: Global, disk: MemDisk) -> Result<Replica<MemDisk>, Refusal> {
+    let opened = match Replica::open(alloc, disk) {
+        Err((disk, Refusal::OutOfMemory)) => Replica::open(alloc, disk),
+        opened => opened,
     };
-    let answer = match replica.step(event) {
-        Answer::Refused(Refusal::OutOfMemory) => replica.step(again),
+    match opened {
+        Ok(replica) => Ok(replica),
+        Err((_, refusal)) => Err(refusal),
+    }
+}
+
+/// A step, made again where there was no memory for it; the first one leaves the replica as it was.
+fn step(replica: &mut Replica<MemDisk>, event: &Event) -> Result<(), Refusal> {
+    let answer = match replica.step(event.copied()) {
+        Answer::Refused(Refusal::OutOfMemory) => replica.step(event.copied()),
         answer => answer,
     };
     match answer {
@@ -25,33 +54,77 @@ fn step(replica: &mut Replica, event: &Event, again: Event) -> Result<(), Refusa
     }
 }
 
-fn run(replica: &mut Replica, alloc: Global, events: &[Event]) -> Result<Vec<Answer>, Refusal> {
+fn run(
+    replica: &mut Replica<MemDisk>,
+    alloc: Global,
+    events: &[Event],
+) -> Result<Vec<Answer>, Refusal> {
     match replica.run(alloc, events) {
         Err(Refusal::OutOfMemory) => replica.run(alloc, events),
         answers => answers,
     }
 }
 
-fn window(alloc: Global, replica: &Replica) -> Result<Vec<Entry>, Refusal> {
+fn window(alloc: Global, replica: &Replica<MemDisk>) -> Result<Vec<Entry>, Refusal> {
     match replica.window(alloc) {
         Err(Refusal::OutOfMemory) => replica.window(alloc),
         entries => entries,
     }
 }
 
-/// How many items are delivered and durable, and how many entries the window then has.
-pub(crate) fn replica(alloc: Global) -> Result<(u64, u64, usize), Refusal> {
-    let mut replica = Replica::fresh(alloc, params()?, Uuid::from_bytes(STATE));
+/// A replica to which an item for each row was delivered and is durable, opened again after a stop.
+fn served(alloc: Global) -> Result<Replica<MemDisk>, Refusal> {
+    let mut replica = opened(alloc, formatted(alloc)?)?;
     for (before, row) in ROWS.iter().enumerate() {
         let seqno = before as u64 + 1;
-        let event = Event::Deliver(seqno, item(*row, 0)?);
-        step(&mut replica, &event, Event::Deliver(seqno, item(*row, 0)?))?;
+        step(&mut replica, &Event::Deliver(seqno, item(*row, 0)?))?;
     }
-    let _ = run(
-        &mut replica,
-        alloc,
-        &[Event::Log, Event::Sync, Event::Log, Event::Sync],
-    )?;
-    let entries = window(alloc, &replica)?.len();
-    Ok((replica.delivered(), replica.durable(), entries))
+    for event in [Event::Log, Event::Sync, Event::Log, Event::Sync] {
+        step(&mut replica, &event)?;
+    }
+    let mut disk = replica.into_disk();
+    disk.crash(Loss::Drop);
+    opened(alloc, disk)
+}
+
+/// How many rows are there, and how many entries the window has.
+fn looked_at(
+    alloc: Global,
+    replica: &mut Replica<MemDisk>,
+) -> Result<(u64, u64, usize, usize), Refusal> {
+    let durable = replica.durable();
+    let mut reads = Vec::new(alloc);
+    reserve(&mut reads)?;
+    for row in ROWS {
+        reads.push(Event::Read(Key { table: 0, row }, durable))?;
+    }
+    let answers = run(replica, alloc, &reads)?;
+    let mut rows = 0usize;
+    for answer in answers {
+        if let Answer::Row(Some(_)) = answer {
+            rows = rows.saturating_add(1);
+        }
+    }
+    let entries = window(alloc, replica)?.len();
+    Ok((replica.delivered(), durable, rows, entries))
+}
+
+/// Room for the reads, asked for again where there was none.
+fn reserve(reads: &mut Vec<Event>) -> Result<(), AllocError> {
+    if reads.reserve(ROWS.len()).is_err() {
+        reads.reserve(ROWS.len())?;
+    }
+    Ok(())
+}
+
+fn served_and_looked_at(alloc: Global) -> Result<(u64, u64, usize, usize), Refusal> {
+    looked_at(alloc, &mut served(alloc)?)
+}
+
+/// How many items are delivered and durable, how many reads then find a row, and how many entries the window has.
+pub(crate) fn replica(alloc: Global) -> Result<(u64, u64, usize, usize), Refusal> {
+    match served_and_looked_at(alloc) {
+        Err(Refusal::DiskFault) => served_and_looked_at(alloc),
+        answer => answer,
+    }
 }

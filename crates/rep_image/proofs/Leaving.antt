@@ -13,8 +13,8 @@ use Rattle.rep_log.specs.Standing.{Standing}
 use Rattle.rep_log.specs.Laws.{MayHold}
 use Rattle.rep_steps.specs.Standings.{underway}
 use Rattle.rep_steps.specs.Nodes.{Node, IsNode, advanced}
-use Rattle.rep_steps.specs.Images.{AreJudgedFrom}
-use Rattle.rep_image.specs.Standing.{StandsAs, ImagesMeanWhatStands, NodesLeaveTheirFronts, with_blocks, base_of}
+use Rattle.rep_steps.specs.Images.{AreJudgedFrom, Ends}
+use Rattle.rep_image.specs.Standing.{StandsAs, ImagesMeanWhatStands, NodesLeaveTheirEnds, NodesLeaveTheirFronts, with_blocks, base_of}
 
 -- the first items are judged too
 first_judged : (p : Setting) (S : State) (k : ℕ) (js : List Judged) → AreJudgedFrom p S js → AreJudgedFrom p S (take k js)
@@ -27,15 +27,16 @@ records-append [] more = refl
 records-append (block ∷ blocks) more = ap (λ js. block ++ js) (records-append blocks more) ∙ sym (append_assoc block (records_of blocks) (records_of more))
 
 -- what the log may hold are the first items, up to an end
-record Ends (n : Node) (held : List (List Judged)) : Type 0 where
+record HeldEnds (n : Node) (held : List (List Judged)) : Type 0 where
   end : ℕ
+  ends : Ends n end
   least : n.facts.durable ≤ end
   most : end ≤ n.facts.base + length n.items
   items : records_of held ≡ take (end - n.facts.base) n.items
 
 module _ (n : Node) (size : ℕ) (b : SuperBody) (log : Standing) (blocks : List (List Judged)) (sealed : List Judged) (s : States) (h : IsNode n) (stands : StandsAs n size b log blocks sealed s) where
-  ends : (held : List (List Judged)) → MayHold log.phase blocks sealed held → Ends n held
-  ends held (inl same) = record { end = n.facts.durable; least = omega arith; most = h.enough; items = ap records_of same ∙ stands.durable }
+  ends : (held : List (List Judged)) → MayHold log.phase blocks sealed held → HeldEnds n held
+  ends held (inl same) = record { end = n.facts.durable; ends = inl refl; least = omega arith; most = h.enough; items = ap records_of same ∙ stands.durable }
   ends held (inr more) =
       let k = more.0 in
       let phase : n.facts.phase ≡ Opening k = sym stands.phase ∙ more.1 in
@@ -48,13 +49,14 @@ module _ (n : Node) (size : ℕ) (b : SuperBody) (log : Standing) (blocks : List
       ∙ ap (λ js. js ++ sealed) stands.durable ∙ ap (λ js. take past n.items ++ js) coming ∙ sym (take-add past k n.items) in
       record {
         end = n.facts.durable + k;
+        ends = inr (k, phase, refl);
         least = omega arith;
         most = omega (arith, block, ap length h.ahead, length-drop past n.items, h.enough, h.facts.based);
         items = all ∙ ap (λ i. take i n.items) (omega (arith, h.facts.based));
       }
 
-pub leave_fronts : ImagesMeanWhatStands → NodesLeaveTheirFronts
-leave_fronts law image n b log blocks sealed s h stands allowed =
+pub leave_ends : ImagesMeanWhatStands → NodesLeaveTheirEnds
+leave_ends law image n b log blocks sealed s h stands allowed =
     let means = law image b (base_of n) log blocks sealed s stands.stands allowed in
     let held = means.0 in
     let e = ends n (length image) b log blocks sealed s h stands held means.1 in
@@ -63,7 +65,7 @@ leave_fronts law image n b log blocks sealed s h stands allowed =
       meaning = with_blocks (base_of n) held;
       reads = means.2 (λ nil. stands.undefined nil held means.1) judged;
       end = e.end;
-      least = e.least;
+      ends = e.ends;
       front = record {
         uuid_is = refl;
         setting_is = refl;
@@ -74,3 +76,13 @@ leave_fronts law image n b log blocks sealed s h stands allowed =
         tail_is = e.items ∙ ap (λ i. take i n.items) (omega (arith, h.position));
       };
     }
+
+-- such an end has what is durable
+least_end : (n : Node) (end : ℕ) → Ends n end → n.facts.durable ≤ end
+least_end n end (inl same) = omega (arith, same)
+least_end n end (inr more) = omega (arith, more.2)
+
+pub leave_fronts : NodesLeaveTheirEnds → NodesLeaveTheirFronts
+leave_fronts law image n b log blocks sealed s h stands allowed =
+    let e = law image n b log blocks sealed s h stands allowed in
+    record { meaning = e.meaning; reads = e.reads; end = e.end; least = least_end n e.end e.ends; front = e.front }

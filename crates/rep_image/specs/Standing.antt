@@ -14,7 +14,7 @@ use Rattle.rep_log.specs.Standing.{Standing, LogIs}
 use Rattle.rep_log.specs.Laws.{MayHold}
 use Rattle.rep_steps.specs.Standings.{underway}
 use Rattle.rep_steps.specs.Nodes.{Node, IsNode}
-use Rattle.rep_steps.specs.Images.{Meaning, AreJudgedFrom, IsFrontAt}
+use Rattle.rep_steps.specs.Images.{Meaning, AreJudgedFrom, IsFrontAt, IsEndOf}
 use Rattle.rep_image.specs.Bases.{other, IsSuperAt, IsLesser, HaveContent}
 use Rattle.rep_image.specs.Meanings.{Means}
 
@@ -64,6 +64,14 @@ pub record StandsAs (n : Node) (size : ℕ) (b : SuperBody) (log : Standing) (bl
   pub coming : sealed ≡ take (underway n.facts.phase) n.facts.ahead
   pub judged : AreJudgedFrom n.facts.setting n.base n.items
   pub undefined : IsNil b.uuid → (held : List (List Judged)) → MayHold log.phase blocks sealed held → held ≡ []
+
+-- Each image of a node that stands on a device means a front of it that ends at what is durable, or, where a log's gate is opening,
+-- at that with its block.
+abbrev pub NodesLeaveTheirEnds : Type 0
+NodesLeaveTheirEnds =
+    (image : List ℕ) (n : Node) (b : SuperBody) (log : Standing) (blocks : List (List Judged)) (sealed : List Judged) (s : States)
+    → IsNode n → StandsAs n (length image) b log blocks sealed s → Allowed (layout_of b.params) s (reading_of (layout_of b.params) image)
+    → IsEndOf Means n image
 
 -- Each image of a node that stands on a device means a front of it that has what is durable.
 abbrev pub NodesLeaveTheirFronts : Type 0

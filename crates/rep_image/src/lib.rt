@@ -5,5 +5,5 @@ mod laws;
 
 pub use laws::{
     images_mean_one_thing, images_mean_what_stands, images_stand_for_orders,
-    nodes_leave_their_fronts,
+    nodes_leave_their_ends, nodes_leave_their_fronts,
 };

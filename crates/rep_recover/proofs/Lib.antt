@@ -9,3 +9,4 @@ pub mod Behind
 pub mod Contents
 pub mod Opening
 pub mod Excluding
+pub mod Starting

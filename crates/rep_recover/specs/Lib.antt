@@ -3,3 +3,4 @@ pub mod Formatting
 pub mod Judging
 pub mod Looking
 pub mod Opening
+pub mod Starting

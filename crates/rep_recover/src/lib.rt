@@ -1,6 +1,7 @@
 //! Formatting and opening a device: what a node stands on before its first event.
 #![tactic(auto)]
 
+mod disk;
 mod format;
 mod judge;
 mod laws;
@@ -10,6 +11,7 @@ mod pages;
 mod supers;
 mod windows;
 
+pub use disk::open_disk;
 pub use format::format_disk;
 pub use laws::reasons_exclude_meanings;
 pub use open::{Opened, read_disk};

@@ -1,3 +1,9 @@
-pub mod Blocks
-pub mod Keeps
-pub mod Runs
+pub mod Lists
+pub mod Widening
+pub mod Keeping
+pub mod Gathering
+pub mod Delivering
+pub mod Stepping
+pub mod Running
+pub mod Opening
+pub mod Lives

@@ -1,3 +1,5 @@
-pub mod Nodes
-pub mod Runs
-pub mod Kept
+pub mod Replicas
+pub mod Holding
+pub mod Running
+pub mod Opening
+pub mod Lives

@@ -1,9 +1,11 @@
-//! A replica: one node of the database, in one thread, as a state that events move.
+//! A replica: one node of the database on a disk, in one thread, as a state that events move.
 #![tactic(auto)]
 
 mod laws;
-mod phase;
+mod open;
 mod replica;
+mod run;
+mod step;
 
-pub use laws::runs_come_to;
+pub use laws::{lives_follow_the_order, running_replicas_leave_their_ends};
 pub use replica::Replica;

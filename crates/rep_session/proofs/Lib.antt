@@ -2,3 +2,4 @@ pub mod Keys
 pub mod Ascending
 pub mod Stepping
 pub mod Coming
+pub mod Following

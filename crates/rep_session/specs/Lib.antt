@@ -1,3 +1,4 @@
 pub mod Sessions
 pub mod Rows
 pub mod Runs
+pub mod Forgetting

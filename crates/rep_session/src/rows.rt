@@ -6,8 +6,9 @@ ghost use Rattle.rep_types.specs.declared.refusal.Refusal.{Refusal};
 ghost use Rattle.rep_types.specs.Settings.{Setting};
 ghost use Rattle.rep_types.specs.Order.{Order, read};
 
+use rep_disk::Disk;
 use rep_replica::Replica;
-use rep_steps::{Answer, Event};
+use rep_steps::steps_follow_the_order;
 use rep_types::{Key, Refusal, Schema, Value};
 
 /// The rows of a database at each position of its order, as far as they are known to who has them: a
@@ -50,22 +51,28 @@ pub trait Rows {
     ghost reads_the_order: { (a b : Self) (key : Key) (s : ℕ) (row : Option (List ℕ)) (p : Setting) (L : Order) → read_gives a key s (Ok row) b → are_of b p L → row ≡ read p L key s };
 }
 
-/// The rows of a replica, up to what is durable. It is refused, in this order, with `BadKey` outside the
-/// schema, `NotYet` above what is durable, and `TooOld` below the base.
-impl Rows for Replica {
-    ghost use Rattle.rep_session.specs.Rows.{tables_of, IsFront, IsRead, AreOf, read_forgets_nothing, read_is_of_the_order};
+/// The rows of a replica on a disk, up to what is durable. A read is refused, in this order, with `Stopped`;
+/// with `BadKey` outside the schema; with `NotYet` above what is durable; with `TooOld` below the base; with
+/// `DiskFault` where the device failed, and then the replica is stopped; and with `Corrupt` of the pages where the page that is
+/// read is not of its form.
+///
+/// On any device a read is a step of the replica. On an honest one the rows are those of each order that begins
+/// with the durable items of a node that the replica stands for; whether it is stopped does not matter to that.
+impl<D: Disk> Rows for Replica<D> {
+    ghost use Rattle.rep_session.specs.Rows.{tables_of, IsFront, IsRead, AreOf};
+    ghost use Rattle.rep_session.specs.Forgetting.{read_forgets_nothing, read_is_of_the_order};
 
     ghost tables = { tables_of };
 
     ghost front_gives = { IsFront };
 
-    ghost read_gives = { IsRead };
+    ghost read_gives = { IsRead D.size D.failures D.honest D.history };
 
-    ghost are_of = { AreOf };
+    ghost are_of = { AreOf D.honest D.history D.failures };
 
-    ghost forgets_nothing = { read_forgets_nothing };
+    ghost forgets_nothing = { read_forgets_nothing D.size D.failures D.honest D.history };
 
-    ghost reads_the_order = { read_is_of_the_order };
+    ghost reads_the_order = { read_is_of_the_order D.size D.failures D.honest D.history };
 
     fn schema(&self) -> &Schema {
         self.params().schema()
@@ -76,12 +83,7 @@ impl Rows for Replica {
     }
 
     fn read_at(&mut self, key: Key, s: u64) -> Result<Option<Value>, Refusal> {
-        match self.step(Event::Read(key, s)) {
-            Answer::Row(row) => Ok(row),
-            Answer::Refused(refusal) => Err(refusal),
-            Answer::Gave(_) | Answer::Wrote | Answer::Began(_) | Answer::Synced(_) => {
-                unreachable!()
-            }
-        }
+        steps_follow_the_order();
+        self.read(key, s)
     }
 }

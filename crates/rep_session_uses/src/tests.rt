@@ -1,6 +1,8 @@
-//! Rows are moved and swapped in the replica in memory, and beside an item that changes one of them.
+//! Rows are moved and swapped in a replica on a disk in memory, and beside an item that changes one of them.
 
 use crate::{move_row, sessions_run_alone, swap_rows};
+use rep_disk::MemDisk;
+use rep_recover::format_disk;
 use rep_replica::Replica;
 use rep_session::Finished;
 use rep_steps::{Answer, Event};
@@ -20,19 +22,23 @@ fn put(key: Key, byte: u8, seen: u64) -> Result<WriteSet, Refusal> {
     WriteSet::new(0, 0, seen, &[], &[Write { key, value }])
 }
 
-/// A replica with a table of 126 rows, before any delivery.
-fn fresh(alloc: Global) -> Result<Replica, Fail> {
-    let Ok(uuid) = Uuid::try_parse_ascii(b"11111111-1111-4111-8111-111111111111") else {
-        return Err(Fail::new("the UUID is no UUID"));
-    };
-    if uuid.is_nil() {
-        return Err(Fail::new("the UUID is nil"));
+/// The bytes that four cells of the log and one table of 126 rows need.
+const NEED: usize = 103_424;
+
+/// A replica on a formatted disk in memory, with a table of 126 rows, before any delivery.
+fn fresh(alloc: Global) -> Result<Replica<MemDisk>, Fail> {
+    let params = Params::new(4, 4, &[126])?;
+    let cluster = Uuid::from_bytes([0x11; 16]);
+    let (disk, answer) = format_disk(MemDisk::new(alloc, NEED)?, &params, Some(cluster));
+    answer?;
+    match Replica::open(alloc, disk) {
+        Ok(replica) => Ok(replica),
+        Err((_, refusal)) => Err(Fail::from(refusal)),
     }
-    Ok(Replica::fresh(alloc, Params::new(4, 4, &[126])?, uuid))
 }
 
 /// Delivers the item, and makes all durable that was delivered.
-fn deliver(replica: &mut Replica, item: WriteSet) -> Answer {
+fn deliver(replica: &mut Replica<MemDisk>, item: WriteSet) -> Answer {
     let seqno = replica.delivered().saturating_add(1);
     let verdict = replica.step(Event::Deliver(seqno, item));
     for event in [Event::Log, Event::Sync, Event::Log, Event::Sync] {
@@ -42,7 +48,7 @@ fn deliver(replica: &mut Replica, item: WriteSet) -> Answer {
 }
 
 /// A replica with one durable item, which put `a` under the row 1.
-fn with_a_row(alloc: Global) -> Result<Replica, Fail> {
+fn with_a_row(alloc: Global) -> Result<Replica<MemDisk>, Fail> {
     let mut rows = fresh(alloc)?;
     if deliver(&mut rows, put(row(1), b'a', 0)?) != Answer::Gave(Verdict::Commit) {
         return Err(Fail::new("the first item does not commit"));
@@ -60,7 +66,7 @@ fn written(ends: Result<Finished, Refusal>) -> Result<WriteSet, Fail> {
 
 /// Whether the rows 1 and 2 are these bytes in the state after so many items.
 fn stand(
-    rows: &mut Replica,
+    rows: &mut Replica<MemDisk>,
     s: u64,
     first: Option<&[u8]>,
     second: Option<&[u8]>,
@@ -78,7 +84,7 @@ fn stand(
 
 #[test]
 fn a_row_is_moved(rt: HostRuntime) -> Result<(), Fail> {
-    sessions_run_alone::<Replica>();
+    sessions_run_alone::<Replica<MemDisk>>();
     let mut rows = with_a_row(rt.alloc())?;
     let item = written(move_row(&mut rows, 7, 9, row(1), row(2)))?;
     assert_eq!(rt; deliver(&mut rows, item), Answer::Gave(Verdict::Commit));

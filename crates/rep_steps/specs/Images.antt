@@ -77,6 +77,15 @@ pub record IsFrontAt (means : List ℕ → Meaning → Type 0) (n : Node) (image
   pub least : n.facts.durable ≤ end
   pub front : IsFront n end meaning
 
+-- An image of a node means a front of it that ends where the node's log does: exactly at what is durable, or, where a gate is
+-- opening, at that with its block. So none of what was only delivered comes back.
+pub record IsEndOf (means : List ℕ → Meaning → Type 0) (n : Node) (image : List ℕ) : Type 0 where
+  pub meaning : Meaning
+  pub reads : means image meaning
+  pub end : ℕ
+  pub ends : Ends n end
+  pub front : IsFront n end meaning
+
 -- An image stands for a front of the order that has its first d items.
 pub record IsFrontOf (means : List ℕ → Meaning → Type 0) (uuid : List ℕ) (p : Setting) (L : Order) (d : ℕ) (image : List ℕ) : Type 0 where
   pub meaning : Meaning

@@ -19,6 +19,8 @@ mod log_scan;
 #[cfg(test)]
 mod log_stops;
 #[cfg(test)]
+mod opening;
+#[cfg(test)]
 mod pages;
 #[cfg(test)]
 mod plain;
@@ -27,11 +29,7 @@ mod record;
 #[cfg(test)]
 mod recover;
 #[cfg(test)]
-mod replica;
-#[cfg(test)]
 mod saved;
-#[cfg(test)]
-mod session;
 #[cfg(test)]
 mod types;
 #[cfg(test)]

@@ -15,40 +15,40 @@ use std::test::Fail;
 use uuid::Uuid;
 
 /// The bytes that a window of 4, 4 cells and one table of 126 rows need.
-const NEED: usize = 103_424;
+pub(crate) const NEED: usize = 103_424;
 
 /// Where each superblock, its gate and its window begin.
-const FIRST: [usize; 3] = [0, 3_584, 8_192];
+pub(crate) const FIRST: [usize; 3] = [0, 3_584, 8_192];
 
-const SECOND: [usize; 3] = [4_096, 7_680, 31_232];
+pub(crate) const SECOND: [usize; 3] = [4_096, 7_680, 31_232];
 
 /// Where the log begins, the gates of its first and its last cell, and the pages.
-const CELLS: usize = 54_272;
+pub(crate) const CELLS: usize = 54_272;
 
-const FIRST_CELL_GATE: usize = 61_952;
+pub(crate) const FIRST_CELL_GATE: usize = 61_952;
 
 const LAST_CELL_GATE: usize = 86_528;
 
-const PAGES: usize = 87_040;
+pub(crate) const PAGES: usize = 87_040;
 
 const OPEN: u8 = 0xA5;
 
-const LAST: u64 = 1 << 60;
+pub(crate) const LAST: u64 = 1 << 60;
 
-fn params() -> Result<Params, Refusal> {
+pub(crate) fn params() -> Result<Params, Refusal> {
     Params::new(4, 4, &[126])
 }
 
-fn cluster() -> Uuid {
+pub(crate) fn cluster() -> Uuid {
     Uuid::from_bytes([0x11; 16])
 }
 
-fn corrupt(part: Part) -> Refusal {
+pub(crate) fn corrupt(part: Part) -> Refusal {
     Refusal::Corrupt { part }
 }
 
 /// A device of bytes that look like open gates, formatted.
-fn formatted(alloc: Global, uuid: Option<Uuid>) -> Result<MemDisk, Fail> {
+pub(crate) fn formatted(alloc: Global, uuid: Option<Uuid>) -> Result<MemDisk, Fail> {
     let noise = vec![in alloc; OPEN; NEED + 7]?;
     let (disk, answer) = format_disk(MemDisk::from_bytes(alloc, &noise)?, &params()?, uuid);
     answer?;
@@ -56,7 +56,7 @@ fn formatted(alloc: Global, uuid: Option<Uuid>) -> Result<MemDisk, Fail> {
 }
 
 /// The device with one committed item in its log, which puts a value at the row 1.
-fn with_item(alloc: Global) -> Result<MemDisk, Fail> {
+pub(crate) fn with_item(alloc: Global) -> Result<MemDisk, Fail> {
     let Ok(mut opened) = read_disk(alloc, formatted(alloc, Some(cluster()))?) else {
         return Err(Fail::new("no node"));
     };
@@ -87,7 +87,7 @@ fn refusal_of(alloc: Global, bytes: &[u8]) -> Result<Option<Refusal>, Fail> {
 }
 
 /// A superblock of this number and position, with the first page in this state.
-fn superblock(number: u64, position: u64, first: PageState) -> Result<SuperBody, Fail> {
+pub(crate) fn superblock(number: u64, position: u64, first: PageState) -> Result<SuperBody, Fail> {
     let mut pages = ArrayVec::new();
     pages.push(first);
     pages.push(PageState::Nowhere);
@@ -102,14 +102,14 @@ fn superblock(number: u64, position: u64, first: PageState) -> Result<SuperBody,
 }
 
 /// Writes these bytes over others, from this offset on.
-fn put(bytes: &mut [u8], at: usize, part: &[u8]) {
+pub(crate) fn put(bytes: &mut [u8], at: usize, part: &[u8]) {
     for (place, byte) in bytes.iter_mut().skip(at).zip(part) {
         *place = *byte;
     }
 }
 
 /// Writes the superblock at these offsets, with an open gate, and an empty window of its position.
-fn put_base(bytes: &mut [u8], at: [usize; 3], base: &SuperBody) -> Result<(), Fail> {
+pub(crate) fn put_base(bytes: &mut [u8], at: [usize; 3], base: &SuperBody) -> Result<(), Fail> {
     let body = base.write_body().ok_or("no superblock")?;
     put(bytes, at[0], body.as_slice());
     put(bytes, at[1], &[OPEN]);
@@ -124,7 +124,7 @@ fn put_base(bytes: &mut [u8], at: [usize; 3], base: &SuperBody) -> Result<(), Fa
 }
 
 /// The bytes of a formatted device with this superblock at these offsets.
-fn with_base(alloc: Global, at: [usize; 3], base: &SuperBody) -> Result<Vec<u8>, Fail> {
+pub(crate) fn with_base(alloc: Global, at: [usize; 3], base: &SuperBody) -> Result<Vec<u8>, Fail> {
     let mut bytes = Vec::from_slice(alloc, formatted(alloc, Some(cluster()))?.bytes())?;
     put_base(&mut bytes, at, base)?;
     Ok(bytes)

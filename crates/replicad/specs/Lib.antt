@@ -1,2 +1,4 @@
+pub mod Formatting
 pub mod Judging
 pub mod OrderText
+pub mod ScriptLines

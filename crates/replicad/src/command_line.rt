@@ -1,56 +1,150 @@
 //! The command line.
 
-use clap::Command;
+use crate::format_options::{FormatOptions, Named, options_of};
 use clap::error::ErrorKind;
+use clap::{Arg, ArgAction, ArgMatches, Command, Error};
 use rep_types::Refusal;
 use std::alloc::{AllocError, Global};
 
 /// The status of a usage fault.
 pub(crate) const USAGE: u8 = 2;
 
+/// An option that takes one value.
+fn option<'a>(alloc: Global, name: &'a str, value: &'a str, help: &'a str) -> Arg<'a> {
+    Arg::new(alloc, name)
+        .long(name)
+        .value_name(value)
+        .action(ArgAction::Set)
+        .help(help)
+}
+
+/// The subcommand that judges an order.
+fn judge_command<'a>(alloc: Global) -> Command<'a> {
+    Command::new(alloc, "judge").about(
+        "Judge an order text from standard input: one verdict line for each item",
+    )
+}
+
+/// The subcommand that makes a disk.
+fn format_command<'a>(alloc: Global) -> Result<Command<'a>, AllocError> {
+    let disk = Arg::new(alloc, "disk")
+        .value_name("DISK")
+        .required(true)
+        .action(ArgAction::Set)
+        .help("The file to make; nothing may be there yet");
+    let window = option(alloc, "window", "W", "Seqnos of the window, 1 to 256");
+    let cells = option(alloc, "cells", "N", "Cells of the log, 4 to 1024");
+    let rows = option(alloc, "rows", "R,R,..", "Rows of each table");
+    let uuid = option(
+        alloc,
+        "uuid",
+        "U",
+        "State UUID; without one the node belongs to no cluster yet",
+    );
+    Command::new(alloc, "format")
+        .about("Make a file and format it as the disk of a new node")
+        .arg(disk)?
+        .arg(window.required(true))?
+        .arg(cells.required(true))?
+        .arg(rows.required(true))?
+        .arg(uuid)
+}
+
+/// The subcommand that runs a script.
+fn run_command<'a>(alloc: Global) -> Result<Command<'a>, AllocError> {
+    let disk = option(alloc, "disk", "FILE", "The disk to run on");
+    Command::new(alloc, "run")
+        .about(
+            "Run a script from standard input on a replica on a new disk in memory, or on a file",
+        )
+        .arg(disk)
+}
+
 /// The command line that the program understands: one level of subcommands.
 fn command<'a>(alloc: Global) -> Result<Command<'a>, AllocError> {
-    let judge = Command::new(alloc, "judge").about(
-        "Judge an order text from standard input: one verdict line for each item",
-    );
-    let run = Command::new(alloc, "run").about(
-        "Run a script from standard input on a replica in memory",
-    );
     Command::new(alloc, "replicad")
         .version("0.1.0")
         .about("One node of a multi-master database")
         .subcommand_required(true)
-        .subcommand(judge)?
-        .subcommand(run)
+        .subcommand(judge_command(alloc))?
+        .subcommand(format_command(alloc)?)?
+        .subcommand(run_command(alloc)?)
 }
 
 /// What the words of a command line ask for.
-pub(crate) enum Task {
+pub(crate) enum Task<'a> {
     /// Judge an order text.
     Judge,
-    /// Run a script.
-    Run,
+    /// Make the file at this path a disk.
+    Format(&'a str, FormatOptions),
+    /// Run a script, on the disk at this path where there is one.
+    Run(Option<&'a str>),
     /// Nothing more: the text was printed, and the program ends with this status.
     Printed(u8),
 }
 
-/// Reads the words of the command line. Help, the version and usage faults are printed here.
-pub(crate) fn task_of<R: Print + Eprint>(
+/// Prints help, the version or a usage fault.
+fn printed<'a, R: Print + Eprint>(rt: &R, error: &Error) -> Result<Task<'a>, Refusal> {
+    if error.kind() == ErrorKind::OutOfMemory {
+        return Err(Refusal::OutOfMemory);
+    }
+    let _ = error.print(rt);
+    Ok(Task::Printed(if error.use_stderr() { USAGE } else { 0 }))
+}
+
+/// The value of an option; nothing where it has none.
+fn value_of<'a>(matches: &ArgMatches<'a>, name: &str) -> &'a str {
+    match matches.get_str(name) {
+        Some(value) => value,
+        None => "",
+    }
+}
+
+/// Prints that the value of this option of `format` is not of its form.
+fn printed_wrong<'a, R: Print + Eprint>(
     rt: &R,
     alloc: Global,
-    words: &[String],
-) -> Result<Task, Refusal> {
+    option: Named,
+    value: &str,
+) -> Result<Task<'a>, Refusal> {
+    let name = option.name();
+    let value_name = option.value_name();
+    let form = option.form();
+    let message = format!(in alloc;
+        "invalid value '{value}' for '--{name} <{value_name}>': it is not {form}"
+    )?;
+    let mut command = format_command(alloc)?.bin_name("replicad format")?;
+    let error = command.error(ErrorKind::ValueValidation, &message)?;
+    printed(rt, &error)
+}
+
+/// The task of `format` with these words behind it.
+fn format_task<'a, R: Print + Eprint>(
+    rt: &R,
+    alloc: Global,
+    matches: &ArgMatches<'a>,
+) -> Result<Task<'a>, Refusal> {
+    let window = value_of(matches, "window");
+    let cells = value_of(matches, "cells");
+    let rows = value_of(matches, "rows");
+    match options_of(window, cells, rows, matches.get_str("uuid")) {
+        Ok(options) => Ok(Task::Format(value_of(matches, "disk"), options)),
+        Err(option) => printed_wrong(rt, alloc, option, value_of(matches, option.name())),
+    }
+}
+
+/// Reads the words of the command line. Help, the version and usage faults are printed here.
+pub(crate) fn task_of<'a, R: Print + Eprint>(
+    rt: &R,
+    alloc: Global,
+    words: &'a [String],
+) -> Result<Task<'a>, Refusal> {
     match command(alloc)?.try_get_matches_from(words) {
-        Ok(matches) => Ok(match matches.subcommand_name() {
-            Some("run") => Task::Run,
-            _ => Task::Judge,
-        }),
-        Err(error) => {
-            if error.kind() == ErrorKind::OutOfMemory {
-                return Err(Refusal::OutOfMemory);
-            }
-            let _ = error.print(rt);
-            Ok(Task::Printed(if error.use_stderr() { USAGE } else { 0 }))
-        }
+        Ok(matches) => match matches.subcommand() {
+            Some(("format", matches)) => format_task(rt, alloc, matches),
+            Some(("run", matches)) => Ok(Task::Run(matches.get_str("disk"))),
+            _ => Ok(Task::Judge),
+        },
+        Err(error) => printed(rt, &error),
     }
 }

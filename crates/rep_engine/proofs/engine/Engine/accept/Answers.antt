@@ -51,18 +51,18 @@ add_replies-requires-clause-room g c =
 
 -- ---- where some came
 
-taken : (g : _) (c : goal.After-drain g) → c.drain.new.builder ≡ c.self.inside.block ++ take (fitting c.self.inside.block c.args.backlog.now) c.args.backlog.now
-taken g c = c.drain.ensures.gathered ∙ ap (λ k. c.self.inside.block ++ take k c.args.backlog.now) c.drain.ensures.moved
+taken : (g : _) (c : goal.After-move_items g) → c.move_items.new.block ≡ c.self.inside.block ++ take (fitting c.self.inside.block c.args.backlog.now) c.args.backlog.now
+taken g c = c.move_items.ensures.gathered
 
-some_come : (g : _) (c : goal.After-drain g) → 0 < accepted_in c.args.self.now.log.phase c.args.self.now.block c.args.backlog.now
+some_come : (g : _) (c : goal.After-move_items g) → 0 < accepted_in c.args.self.now.log.phase c.args.self.now.block c.args.backlog.now
 some_come g c = let some = c.if-count-gt0.true in let count = c.next_items-count.ensures.count in omega (arith, some, count)
 
-count_is : (g : _) (c : goal.After-drain g) → c.next_items-count.result ≡ fitting c.self.inside.block c.args.backlog.now
+count_is : (g : _) (c : goal.After-move_items g) → c.next_items-count.result ≡ fitting c.self.inside.block c.args.backlog.now
 count_is g c =
     c.next_items-count.ensures.count ∙ (accepted_some c.args.self.now.log.phase c.args.self.now.block c.args.backlog.now [] (some_come g c)).0
     ∙ ap (λ (e : Engine g.row.D.Denot). fitting e.block c.args.backlog.now) (sym c.self.view_is)
 
-engine_then : (g : _) (c : goal.After-drain g) → IsEngine (layout_of c.self.inside.cells) c.self.inside.superblock c.self.inside.log c.add_items.new.versions c.drain.new.builder
+engine_then : (g : _) (c : goal.After-move_items g) → IsEngine (layout_of c.self.inside.cells) c.self.inside.superblock c.self.inside.log c.add_items.new.versions c.move_items.new.block
 engine_then g c =
     let h = c.self.invariant.0 in
     let js = c.args.backlog.now in
@@ -78,7 +78,7 @@ engine_then g c =
     (engine_accepted (layout_of c.self.inside.cells) c.self.inside.superblock c.self.inside.log c.self.inside.versions c.add_items.new.versions block js h c.fronts_are_determined.ensures follow come.limit come.undefined whole adds)
 
 -- the block has what the count says
-block_then : (g : _) (c : goal.After-drain g) → c.drain.new.builder ≡ c.self.inside.block ++ take c.next_items-count.result c.args.backlog.now
+block_then : (g : _) (c : goal.After-move_items g) → c.move_items.new.block ≡ c.self.inside.block ++ take c.next_items-count.result c.args.backlog.now
 block_then g c = taken g c ∙ ap (λ k. c.self.inside.block ++ take k c.args.backlog.now) (sym (count_is g c))
 
 pub invariant_of-self-then-count-gt0 : goal.invariant_of-self-then-count-gt0

@@ -1,6 +1,6 @@
-use Rattle.std.proofs.Common.{◌∙◌, None, Some, refl, sym, ap, subst}
+use Rattle.std.proofs.Common.{◌∙◌, None, Some, refl, sym, ap}
 use Rattle.rep_versions.specs.declared.versions.At.{At}
-use Rattle.rep_versions.specs.Versions.{IsAnswer, told}
+use Rattle.rep_versions.specs.Versions.{told}
 use Rattle.rep_engine.specs.Engines.{Engine}
 use Rattle.rep_engine.proofs.Answering.{none_of}
 use Rattle.rep_engine.proofs.Reading.{row_moves, row_steps, reads_moves, reads_steps}
@@ -14,9 +14,8 @@ returns-in-Found-clause-moves g c =
 pub returns-in-Found-clause-steps : goal.returns-in-Found-clause-steps
 returns-in-Found-clause-steps g c = λ n holds.
     let runs = sym (ap (λ (e : Engine g.row.D.Denot). e.halted) c.self.view_is) ∙ none_of c.self.inside.halted c.if-is_some.ensures in
-    let is : IsAnswer c.args.self.now.kept c.args.key c.args.s c.at.result = subst (λ (e : Engine g.row.D.Denot). IsAnswer e.kept c.args.key c.args.s c.at.result) c.self.view_is c.at.ensures in
     let steps = row_steps g.D.Disk.honest g.D.Disk.history g.D.Disk.size g.D.Disk.failures g.met.D.Disk.sized c.args.self.now c.args.key c.args.s runs (sym c.read_refusal.ensures ∙ c.in_default.is) c.versions_follow_the_items.ensures n holds
-    c.at.result (Some c.copied.result) is (ap Some c.copied.ensures.same ∙ sym (ap (λ (a : At). told a (n.base.content c.args.key)) c.in-Found.is)) in
+    c.version_of.result (Some c.copied.result) c.version_of.ensures (ap Some c.copied.ensures.same ∙ sym (ap (λ (a : At). told a (n.base.content c.args.key)) c.in-Found.is)) in
     (n, steps, holds)
 
 pub returns-in-Deleted-clause-moves : goal.returns-in-Deleted-clause-moves
@@ -27,9 +26,8 @@ returns-in-Deleted-clause-moves g c =
 pub returns-in-Deleted-clause-steps : goal.returns-in-Deleted-clause-steps
 returns-in-Deleted-clause-steps g c = λ n holds.
     let runs = sym (ap (λ (e : Engine g.row.D.Denot). e.halted) c.self.view_is) ∙ none_of c.self.inside.halted c.if-is_some.ensures in
-    let is : IsAnswer c.args.self.now.kept c.args.key c.args.s c.at.result = subst (λ (e : Engine g.row.D.Denot). IsAnswer e.kept c.args.key c.args.s c.at.result) c.self.view_is c.at.ensures in
     let steps = row_steps g.D.Disk.honest g.D.Disk.history g.D.Disk.size g.D.Disk.failures g.met.D.Disk.sized c.args.self.now c.args.key c.args.s runs (sym c.read_refusal.ensures ∙ c.in_default.is) c.versions_follow_the_items.ensures n holds
-    c.at.result None is (sym (ap (λ (a : At). told a (n.base.content c.args.key)) c.in-Deleted.is)) in
+    c.version_of.result None c.version_of.ensures (sym (ap (λ (a : At). told a (n.base.content c.args.key)) c.in-Deleted.is)) in
     (n, steps, holds)
 
 pub returns-in-Below-clause-moves : goal.returns-in-Below-clause-moves
@@ -42,6 +40,5 @@ pub returns-in-Below-clause-steps : goal.returns-in-Below-clause-steps
 returns-in-Below-clause-steps g c = λ n holds.
     let runs = sym (ap (λ (e : Engine g.row.D.Denot). e.halted) c.self.view_is) ∙ none_of c.self.inside.halted c.if-is_some.ensures in
     let read = c.read_base.ensures.read in
-    let is : IsAnswer c.args.self.now.kept c.args.key c.args.s c.at.result = subst (λ (e : Engine g.row.D.Denot). IsAnswer e.kept c.args.key c.args.s c.at.result) c.self.view_is c.at.ensures in
     reads_steps g.D.Disk.honest g.D.Disk.history g.D.Disk.size g.D.Disk.failures g.met.D.Disk.sized c.args.self.now c.args.key c.args.s runs (sym c.read_refusal.ensures ∙ c.in_default.is) c.versions_follow_the_items.ensures n holds
-    c.nodes_stay_nodes.ensures c.at.result is (ap (λ (a : At). told a (n.base.content c.args.key)) c.in-Below.is) c.read_base.result c.read_base.new.self read
+    c.nodes_stay_nodes.ensures c.version_of.result c.version_of.ensures (ap (λ (a : At). told a (n.base.content c.args.key)) c.in-Below.is) c.read_base.result c.read_base.new.self read

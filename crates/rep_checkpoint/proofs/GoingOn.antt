@@ -1,0 +1,167 @@
+-- The write that comes next.
+use Rattle.std.proofs.Common.{◌≡◌, ◌≢◌, refl, sym, ap, subst, ◌∙◌, ℕ, inl, Bool, true, false, List, [], ◌∷◌, Option, None, Some, Result, Ok, Err, OnOk, OnErr, IfErr, IsOk, IsErr}
+use Rattle.rep_types.specs.declared.refusal.Refusal.{Refusal}
+use Rattle.rep_types.specs.declared.refusal.Refusal.TheVariants.{NotDue, DiskFault}
+use Rattle.rep_types.specs.Order.{State}
+use Rattle.rep_disk.specs.History.{History}
+use Rattle.rep_disk.specs.declared.disk.DiskFault.{DiskFault as Fault}
+use Rattle.rep_layout.specs.declared.super_body.SuperBody.{SuperBody}
+use Rattle.rep_layout.specs.declared.place.Side.{Side}
+use Rattle.rep_layout.specs.declared.place.Layout.{Layout}
+use Rattle.rep_layout.specs.declared.place.Place.TheVariants.{Super, Window, Log}
+use Rattle.rep_layout.specs.Supers.{super_bytes}
+use Rattle.rep_layout.specs.Windows.{window_bytes}
+use Rattle.rep_cells.specs.States.{States, State as StateOf, Pending, filling, opening, closing, Moves}
+use Rattle.rep_cells.specs.Calls.{WritesOnly, StepsAt}
+use Rattle.rep_log.specs.Moves.{fault_of}
+use Rattle.rep_steps.specs.Standings.{part_refusal}
+use Rattle.rep_checkpoint.specs.declared.stage.Part.TheVariants.{Flushing, Saving, Ready, SuperFilling, SuperFilled, SuperOpening}
+use Rattle.rep_checkpoint.specs.declared.stage.Stage.{Stage}
+use Rattle.rep_checkpoint.specs.declared.stage.Stage.TheVariants.{Off, Toward, Retiring}
+use Rattle.rep_checkpoint.specs.Next.{Next, is_in, window_of}
+use Rattle.rep_checkpoint.specs.Standing.{Standing, spare_side, stage_in}
+use Rattle.rep_checkpoint.specs.Moves.{next_refusal_at, unless_other, next_refusal, gone_in, gone_on, is_layout}
+use Rattle.rep_checkpoint.specs.States.{CheckpointIs, IsBase, IsFlushing, IsSaving}
+use Rattle.rep_checkpoint.specs.Calls.{next_place, next_step, next_offset, next_bytes, GoesOn}
+use Rattle.rep_checkpoint.proofs.Frames.{super_apart, window_apart, PagesStay, base_as, written_as, saved_as}
+
+-- ---- in the states
+
+module _ {size : ℕ} {b : SuperBody} {x : State} {s t : States} (base : IsBase size b x s) where
+  -- a write of the superblock beside
+  pub super_base : (step : StateOf → StateOf) → Moves s t (Super (spare_side b)) step → IsBase size b x t
+  super_base step moves = base_as (moves.elsewhere _ (super_apart b)) (moves.elsewhere _ (λ e. absurd cc)) (λ number slot there. moves.elsewhere _ (λ e. absurd cc)) base
+
+  -- and of the window beside
+  pub window_base : (step : StateOf → StateOf) → Moves s t (Window (spare_side b)) step → IsBase size b x t
+  window_base step moves = base_as (moves.elsewhere _ (λ e. absurd cc)) (moves.elsewhere _ (window_apart b)) (λ number slot there. moves.elsewhere _ (λ e. absurd cc)) base
+
+-- what was flushed is written where none is left
+pub all_flushed : (next : Next) (y : State) (s t : States) (side : Side) → next.left ≡ [] → PagesStay next.super s t → t (Window side) ≡ Pending (window_bytes (window_of next)) → IsFlushing next y s → IsSaving side next y t
+all_flushed next y s t side none pages window h = record {
+  window = inl window;
+  content = record {
+    pages = λ number slot there. let page = h.pages number slot (ap (λ left. is_in left number) none) there in (page.0, written_as page.0 _ _ (pages number slot there) page.1, page.2);
+    absent = h.absent;
+    outside = h.outside;
+  };
+}
+
+-- nothing is left where the window is due
+none_left : (next : Next) → next_refusal_at (stage_in (Toward next Flushing)) ≡ None → next.left ≡ []
+none_left next e = by next.left e
+  where
+    by : (left : List ℕ) → part_refusal (Rattle.rep_steps.specs.Standings.Flushing left) ≡ None → left ≡ []
+    by [] f = refl
+    by (page ∷ left) f = absurd cc
+
+gone : (size : ℕ) (b : SuperBody) (stage : Stage) (x y : State) (s t : States) → next_refusal_at (stage_in stage) ≡ None → CheckpointIs size (record { base = b; stage = stage }) x y s → Moves s t (next_place b stage) (next_step stage)
+    → CheckpointIs size (record { base = b; stage = gone_in stage }) x y t
+gone size b Off x y s t due is moves = absurd cc
+gone size b (Toward next Flushing) x y s t due is moves = record {
+  base = window_base is.base _ moves;
+  beside = record {
+    follows = is.beside.follows;
+    position = is.beside.position;
+    entries = is.beside.entries;
+    far = all_flushed next y s t (spare_side b) (none_left next due) (λ number slot there. moves.elsewhere _ (λ e. absurd cc)) moves.there is.beside.far;
+    cell = moves.elsewhere _ (λ e. absurd cc) ∙ is.beside.cell;
+  };
+}
+gone size b (Toward next Saving) x y s t due is moves = absurd cc
+gone size b (Toward next Ready) x y s t due is moves = record {
+  base = super_base is.base _ moves;
+  beside = record {
+    follows = is.beside.follows;
+    position = is.beside.position;
+    entries = is.beside.entries;
+    far = saved_as (moves.elsewhere _ (λ e. absurd cc)) (λ number slot there. moves.elsewhere _ (λ e. absurd cc)) is.beside.far;
+    cell = moves.there ∙ ap (filling (super_bytes next.super)) is.beside.cell;
+  };
+}
+gone size b (Toward next SuperFilling) x y s t due is moves = absurd cc
+gone size b (Toward next SuperFilled) x y s t due is moves = record {
+  base = super_base is.base _ moves;
+  beside = record {
+    follows = is.beside.follows;
+    position = is.beside.position;
+    entries = is.beside.entries;
+    far = saved_as (moves.elsewhere _ (λ e. absurd cc)) (λ number slot there. moves.elsewhere _ (λ e. absurd cc)) is.beside.far;
+    cell = moves.there ∙ ap opening is.beside.cell;
+  };
+}
+gone size b (Toward next SuperOpening) x y s t due is moves = absurd cc
+gone size b (Retiring false) x y s t due is moves = record {
+  base = super_base is.base _ moves;
+  beside = record { before = is.beside.before; is_super = is.beside.is_super; lesser = is.beside.lesser; cell = moves.there ∙ ap closing is.beside.cell };
+}
+gone size b (Retiring true) x y s t due is moves = absurd cc
+
+-- the write is elsewhere than the log
+pub no_log : (b : SuperBody) (stage : Stage) (i : ℕ) → Log i ≢ next_place b stage
+no_log b Off i e = absurd cc
+no_log b (Toward next Flushing) i e = absurd cc
+no_log b (Toward next Saving) i e = absurd cc
+no_log b (Toward next Ready) i e = absurd cc
+no_log b (Toward next SuperFilling) i e = absurd cc
+no_log b (Toward next SuperFilled) i e = absurd cc
+no_log b (Toward next SuperOpening) i e = absurd cc
+no_log b (Retiring written) i e = absurd cc
+
+-- ---- as the call makes it
+
+pub ok_as : (result : Result (Unit {0}) Refusal) (P : Type 0) → OnOk (fault_of result) P → OnOk result P
+ok_as (Ok x) P h = h
+ok_as (Err e) P h = tt
+
+pub err_as : (result : Result (Unit {0}) Refusal) (P : Type 0) → IfErr result (λ e. e ≡ DiskFault) → OnErr (fault_of result) P → OnErr result P
+err_as (Ok x) P only h = tt
+err_as (Err e) P only h = subst (λ (f : Refusal). OnErr (fault_of {T = Unit {0}} (Err f)) P) only h
+
+pub if_ok : {T E : Type 0} (result : Result T E) (P : Type 0) → P → OnOk result P
+if_ok (Ok x) P h = h
+if_ok (Err e) P h = tt
+
+-- the refusal that comes on these places
+pub here : (l : Layout) (c : Standing) (refusal : Option Refusal) → unless_other l c refusal ≡ None → refusal ≡ None
+here l c refusal e = by (is_layout l _) e
+  where
+    by : (b : Bool) → Rattle.std.specs.Prelude.cond b refusal (Some NotDue) ≡ None → refusal ≡ None
+    by true f = f
+    by false f = absurd cc
+
+pub no_err : (P : Refusal → Type 0) (result : Result (Unit {0}) Refusal) → IsOk result → IfErr result P
+no_err P (Ok x) ok = tt
+no_err P (Err e) ok = absurd cc
+
+pub no_ok : (P : Type 0) (result : Result (Unit {0}) Refusal) → IsErr result → OnOk result P
+no_ok P (Ok x) err = absurd cc
+no_ok P (Err e) err = tt
+
+pub and_same : (c : Standing) (result : Result (Unit {0}) Refusal) → IfErr result (λ e. e ≡ DiskFault) → IfErr result (λ e. (e ≡ DiskFault) × (c ≡ c))
+and_same c (Ok x) h = tt
+and_same c (Err e) h = (h, refl)
+
+pub goes_on :
+    {D : Type 0} (honest : D → Type 0) (history : D → History) (l : Layout) (c after : Standing) (old new : D) (answer : Result (Unit {0}) Fault) (result : Result (Unit {0}) Refusal)
+    → next_refusal l c ≡ None → fault_of result ≡ answer → OnOk result (after ≡ gone_on c) → IfErr result (λ e. (e ≡ DiskFault) × (after ≡ c)) → IfErr result (λ e. e ≡ DiskFault)
+    → WritesOnly honest history (next_offset l c.base c.stage) (next_bytes c.stage) old new answer → StepsAt honest history l (next_place c.base c.stage) (next_step c.stage) old new answer
+    → GoesOn honest history l c after old new result
+goes_on {D} honest history l c after old new answer result due fault done failed only written steps =
+    let wrote = subst (λ (r : Result (Unit {0}) Fault). WritesOnly honest history (next_offset l c.base c.stage) (next_bytes c.stage) old new r) (sym fault) written in
+    let stepped = subst (λ (r : Result (Unit {0}) Fault). StepsAt honest history l (next_place c.base c.stage) (next_step c.stage) old new r) (sym fault) steps in
+    record {
+      done = done;
+      fault = failed;
+      written = λ h. record { done = ok_as result _ (wrote h).done; failed = err_as result _ only (wrote h).failed };
+      steps = λ h size s x y assigns is.
+          let step = stepped h s assigns in
+          let then = gone size c.base c.stage x y s step.after (here l c _ due) is step.moves in
+          record {
+            states = step.after;
+            elsewhere = λ i. step.moves.elsewhere (Log i) (no_log c.base c.stage i);
+            during_is = then;
+            after_is = if_ok result _ then;
+            reaches = record { ok = ok_as result _ step.reaches.ok; images = step.reaches.images; moments = step.reaches.moments };
+          };
+    }

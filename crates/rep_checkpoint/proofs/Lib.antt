@@ -1,0 +1,10 @@
+pub mod Pages
+pub mod Beginning
+pub mod Frames
+pub mod GoingOn
+pub mod Synced
+pub mod Images
+pub mod Reading
+pub mod Flushing
+pub mod Apart
+pub mod Facts

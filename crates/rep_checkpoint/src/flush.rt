@@ -1,0 +1,162 @@
+//! How the pages of a checkpoint are flushed.
+
+ghost use Rattle.std.specs.Prelude.{◌≡◌, ◌⊎◌, None, IfErr, IfSome};
+ghost use Rattle.rep_types.specs.declared.key.Key.{Key};
+ghost use Rattle.rep_types.specs.declared.refusal.Refusal.TheVariants.{DiskFault, Corrupt};
+ghost use Rattle.rep_types.specs.declared.refusal.Part.TheVariants.{Pages};
+ghost use Rattle.rep_disk.specs.Calls.{IsCall};
+ghost use Rattle.rep_layout.specs.Places.{layout_of as places_of};
+ghost use Rattle.rep_layout.specs.Supers.{IsSuper};
+ghost use Rattle.rep_cells.specs.Device.{disk_of, layout_of};
+ghost use Rattle.rep_log.specs.Moves.{fault_of};
+ghost use Rattle.rep_pages.specs.Pages.{IsFirstRow, IsPage};
+ghost use Rattle.rep_pages.specs.Slots.{state_of_page, spare_slot};
+ghost use Rattle.rep_checkpoint.specs.Moves.{flush_refusal, flushed, position_in};
+ghost use Rattle.rep_checkpoint.specs.Calls.{IsRefused, Flushes};
+ghost use Rattle.rep_checkpoint.specs.Pages.{ReadsPage, PutsPage, MovesPage};
+
+use crate::checkpoint::Checkpoint;
+use crate::going::{is_here, refusal_of};
+use crate::stage::{Part, Stage, is_in};
+use rep_cells::{Cells, images_read_as_allowed};
+use rep_disk::Disk;
+use rep_layout::{Layout, PAGE_BODY, PageState, Place, SuperBody, row_places_are_told};
+use rep_pages::{Page, slot_of, spare_of};
+use rep_types::Refusal;
+use rep_versions::Versions;
+
+/// The base's page of this number, which has no row where it is in no slot.
+fn read_page<D: Disk>(cells: &mut Cells<D>, base: &SuperBody, number: u32) -> Result<Page, Refusal>
+    requires super_body { IsSuper base.now }
+    requires layout { layout_of cells.old ≡ places_of base.now.params }
+    ensures call { IsCall D.size D.failures D.honest (disk_of cells.old) (disk_of cells.new) (fault_of result) }
+    ensures layout { layout_of cells.new ≡ layout_of cells.old }
+    ensures same { D.honest (disk_of cells.old) → D.history (disk_of cells.new) ≡ D.history (disk_of cells.old) }
+    ensures reads { ReadsPage D.honest D.history (layout_of cells.old) base.now number (disk_of cells.old) result }
+    ensures refused { IfErr result (λ e. (e ≡ DiskFault) ⊎ (e ≡ Corrupt Pages)) }
+{
+    let PageState::In(slot) = slot_of(base, number) else {
+        return Ok(Page::absent(number));
+    };
+    let mut room = [0; PAGE_BODY];
+    if cells
+        .read_area(Place::Page(number, slot), &mut room)
+        .is_err()
+    {
+        return Err(Refusal::DiskFault);
+    }
+    Page::read_body(base.params.schema(), number, base.position, &room)
+}
+
+/// Writes a page into the slot in which the base does not have it.
+fn put_page<D: Disk>(cells: &mut Cells<D>, base: &SuperBody, page: &Page) -> Result<(), Refusal>
+    requires layout { layout_of cells.old ≡ places_of base.now.params }
+    requires page { (first : Key) × IsPage base.now.params.rows first page.now }
+    ensures call { IsCall D.size D.failures D.honest (disk_of cells.old) (disk_of cells.new) (fault_of result) }
+    ensures layout { layout_of cells.new ≡ layout_of cells.old }
+    ensures puts { PutsPage D.honest D.history (layout_of cells.old) base.now page.now (spare_slot (state_of_page base.now page.now.number)) (disk_of cells.old) (disk_of cells.new) (fault_of result) }
+    ensures refused { IfErr result (λ e. e ≡ DiskFault) }
+{
+    row_places_are_told();
+    let slot = spare_of(base, page.number);
+    let Some(body) = page.write_body(base.params.schema()) else {
+        unreachable!();
+    };
+    refusal_of(cells.write_area(Place::Page(page.number, slot), body.as_slice()))
+}
+
+/// Writes the base's page of this number, as it is at the position, into the slot in which the base does not
+/// have it.
+fn move_page<D: Disk>(
+    cells: &mut Cells<D>,
+    base: &SuperBody,
+    versions: &Versions,
+    position: u64,
+    number: u32,
+) -> Result<(), Refusal>
+    requires super_body { IsSuper base.now }
+    requires layout { layout_of cells.old ≡ places_of base.now.params }
+    requires page { (first : Key) × IsFirstRow base.now.params.rows number first }
+    ensures call { IsCall D.size D.failures D.honest (disk_of cells.old) (disk_of cells.new) (fault_of result) }
+    ensures layout { layout_of cells.new ≡ layout_of cells.old }
+    ensures moves { MovesPage D.honest D.history (layout_of cells.old) base.now versions.now position number (disk_of cells.old) (disk_of cells.new) result }
+    ensures refused { IfErr result (λ e. (e ≡ DiskFault) ⊎ (e ≡ Corrupt Pages)) }
+{
+    images_read_as_allowed();
+    let old = match read_page(cells, base, number) {
+        Ok(page) => page,
+        Err(refusal) => return Err(refusal),
+    };
+    let page = old.image(base.params.schema(), versions, position);
+    put_page(cells, base, &page)
+}
+
+impl Checkpoint {
+    /// Why a page is not flushed on a device with these places.
+    fn flush_refusal(&self, layout: Layout, page: u32) -> Option<Refusal>
+        ensures { result ≡ flush_refusal layout self.now page }
+    {
+        if !is_here(layout, &self.base) {
+            return Some(Refusal::NotDue);
+        }
+        match &self.stage {
+            Stage::Toward(next, Part::Flushing) => {
+                if is_in(&next.left, page) {
+                    None
+                } else {
+                    Some(Refusal::NotDue)
+                }
+            }
+            Stage::Toward(_, _) | Stage::Off | Stage::Retiring(_) => Some(Refusal::NotDue),
+        }
+    }
+
+    /// The position that the next base is to be at.
+    fn next_position(&self) -> u64
+        ensures { result ≡ position_in self.now.stage }
+    {
+        match &self.stage {
+            Stage::Toward(next, _) => next.superblock.position,
+            Stage::Off | Stage::Retiring(_) => 0,
+        }
+    }
+
+    /// Takes note of a page that was flushed.
+    fn flushed(&mut self, page: u32)
+        ensures { self.new ≡ flushed page self.old }
+    {
+        if let Stage::Toward(next, _) = &mut self.stage {
+            next.flushed(page);
+        }
+    }
+
+    /// Flushes a page that is left: writes its rows as the versions make them of the base's, at the next base's
+    /// position and not later, into the slot in which the base does not have it. One read of the device
+    /// where the base has the page in a slot, one write, and no memory.
+    ///
+    /// Refuses with `NotDue` where the page is not left, and on the places of other parameters; with `Corrupt`
+    /// of the pages where the base's page is not of the form, which an honest device never shows; and with
+    /// `DiskFault` where the device failed. The checkpoint then stands as it did, and on a device that failed
+    /// nothing more is known of what it wrote: whoever calls stops.
+    pub fn flush<D: Disk>(
+        &mut self,
+        cells: &mut Cells<D>,
+        versions: &Versions,
+        page: u32,
+    ) -> Result<(), Refusal>
+        ensures call { IsCall D.size D.failures D.honest (disk_of cells.old) (disk_of cells.new) (fault_of result) }
+        ensures layout { layout_of cells.new ≡ layout_of cells.old }
+        ensures refused { IfSome (flush_refusal (layout_of cells.old) self.old page) (λ e. IsRefused e self.old self.new (disk_of cells.old) (disk_of cells.new) result) }
+        ensures flushes { flush_refusal (layout_of cells.old) self.old page ≡ None → Flushes D.honest D.history (layout_of cells.old) versions.now page self.old self.new (disk_of cells.old) (disk_of cells.new) result }
+    {
+        if let Some(refusal) = self.flush_refusal(cells.layout(), page) {
+            return Err(refusal);
+        }
+        let position = self.next_position();
+        let answer = move_page(cells, &self.base, versions, position, page);
+        if answer.is_ok() {
+            self.flushed(page);
+        }
+        answer
+    }
+}

@@ -1,0 +1,16 @@
+//! The checkpoint of a node on a disk: a base that a superblock names, and how the next one takes its place, so
+//! that a stop at any moment leaves one of them whole.
+#![tactic(auto)]
+
+mod checkpoint;
+mod flush;
+mod going;
+mod laws;
+mod stage;
+
+pub use checkpoint::Checkpoint;
+pub use laws::{
+    the_base_in_every_image, the_base_is_found, the_base_stands_still, the_checkpoint_is_apart,
+    the_log_is_apart, the_stage_is_the_facts,
+};
+pub use stage::{NextBase, Part, Stage, Step};

@@ -1,0 +1,58 @@
+-- What a node goes on with: the engine and the certifier that are made of what an opening finds.
+use Rattle.std.specs.Prelude.{◌≡◌, ℕ, ◌≤◌, Bool, is_some, List, [], None, IsTrue}
+use Rattle.uuid.specs.Parts.{is_nil_bytes}
+use Rattle.rep_types.specs.declared.judged.Judged.{Judged}
+use Rattle.rep_disk.specs.History.{History, Synced, seen}
+use Rattle.rep_layout.specs.declared.super_body.SuperBody.{SuperBody}
+use Rattle.rep_layout.specs.declared.place.Layout.{Layout}
+use Rattle.rep_layout.specs.declared.place.Place.TheVariants.{Super}
+use Rattle.rep_layout.specs.Places.{side_of}
+use Rattle.rep_cells.specs.Readings.{reading_of}
+use Rattle.rep_versions.specs.Versions.{Kept}
+use Rattle.rep_log.specs.declared.phase.Phase.TheVariants.{Resting}
+use Rattle.rep_log.specs.Standing.{Standing as Log}
+use Rattle.rep_cert.specs.Holdings.{Holding, IsAskable, window_of}
+use Rattle.rep_steps.specs.Nodes.{Node, window_at}
+use Rattle.rep_steps.specs.Images.{Meaning, opened, OpensTheOrder}
+use Rattle.rep_image.specs.Bases.{other, IsSuperAt}
+use Rattle.rep_image.specs.Meanings.{Means}
+use Rattle.rep_engine.specs.Engines.{Engine, facts_of, durable_of}
+use Rattle.rep_engine.specs.Holding.{Holds}
+use Rattle.rep_recover.specs.Opening.{IsOpened}
+
+-- the engine of what was found: nothing is gathered, and it isn't stopped
+abbrev pub engine_of : {D : Type 0} → D → Layout → SuperBody → Bool → Log → Kept → Engine D
+engine_of disk l b both log kept = record { disk = disk; layout = l; superblock = b; both = both; log = log; kept = kept; block = []; halted = None }
+
+-- On any device of this size: an engine that has gathered nothing and isn't stopped, whose log is at rest, over a superblock that can
+-- stand on its side; and a certifier of its parameters that was made at the base and to which all that is durable was delivered.
+-- Without a cluster nothing is durable. Log, certifier and versions are those of the items that were found behind the base.
+pub record IsStart {D : Type 0} (size : ℕ) (e : Engine D) (h : Holding) : Type 0 where
+  pub is_super : IsSuperAt size (side_of e.superblock.number) e.superblock
+  pub running : e.halted ≡ None
+  pub empty : e.block ≡ []
+  pub resting : e.log.phase ≡ Resting
+  pub undefined : IsTrue (is_nil_bytes e.superblock.uuid) → durable_of e.log ≡ 0
+  pub setting : h.setting ≡ e.superblock.params
+  pub made : h.made ≡ e.superblock.position
+  pub delivered : h.delivered ≡ durable_of e.log
+  pub based : h.made ≤ durable_of e.log
+  pub items : List Judged
+  pub found : IsOpened size e.superblock e.layout e.log items h e.kept
+
+-- the node that an engine is, where this is what its device's bytes mean
+abbrev pub node_of : {D : Type 0} → (D → ℕ) → Engine D → (ℕ → Bool) → Meaning → Node
+node_of failures e gates meaning = opened (facts_of failures e) gates meaning
+
+-- On an honest device: it was synced, and nothing else; by the engine's superblock its bytes mean something, and what opening makes of
+-- that is a node, of the order that the bytes stand for; the engine stands for that node, and the certifier's windows are the node's.
+pub record OpensNode {D : Type 0} (honest : D → Type 0) (history : D → History) (failures : D → ℕ) (old : History) (e : Engine D) (h : Holding) : Type 0 where
+  pub synced : history e.disk ≡ Synced old
+  pub meaning : Meaning
+  pub means : Means (seen old) meaning
+  pub super_is : means.super ≡ e.superblock
+  pub other_is : e.both ≡ is_some (reading_of e.layout (seen old) (Super (other (side_of e.superblock.number))))
+  pub gates : ℕ → Bool
+  pub opens : OpensTheOrder (facts_of failures e) gates meaning
+  pub holds : Holds honest history failures (node_of failures e gates meaning) e
+  pub windows : (k : ℕ) → IsAskable h k → window_of h k ≡ window_at (node_of failures e gates meaning) k

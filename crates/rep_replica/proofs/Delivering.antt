@@ -1,0 +1,250 @@
+-- An item that is delivered.
+use Rattle.std.proofs.Common.{◌≡◌, ℕ, ◌+◌, ◌-◌, ◌<◌, ◌≤◌, ◌⊎◌, inl, inr, Bool, true, false, if◌then◌else◌, List, [], ◌∷◌, ◌++◌, append_assoc, length, length-append, length-drop, take, drop, Option, None, Some, refl, sym, ap, subst, ◌∙◌, arith}
+use Rattle.std.specs.Prelude.{◌||◌, ◌==◌, nat_le, is_some, MatchOption}
+use Rattle.std.proofs.lemmas.Bool.{cases_lt}
+use Rattle.std.proofs.lemmas.Bool.Decides.{nat_tests}
+use Rattle.std.proofs.lemmas.List.{take-append-le, drop-append-le, take_all}
+use Rattle.uuid.specs.Parts.{is_nil_bytes}
+use Rattle.rep_types.specs.declared.judged.Judged.{Judged}
+use Rattle.rep_types.specs.declared.limits.TheConstants.{MAX_SEQNO, MAX_AHEAD}
+use Rattle.rep_types.specs.declared.refusal.Refusal.{Refusal}
+use Rattle.rep_types.specs.declared.refusal.Refusal.TheVariants.{Stopped}
+use Rattle.rep_types.specs.declared.verdict.Verdict.{Verdict}
+use Rattle.rep_types.specs.Entries.{Entry}
+use Rattle.rep_types.specs.Settings.{Setting}
+use Rattle.rep_types.specs.Transactions.{Transaction, written}
+use Rattle.rep_types.specs.Order.{State, floor, recent, is_commit, judge, window_after}
+use Rattle.rep_disk.specs.History.{History}
+use Rattle.rep_cert.specs.Holdings.{Holding, IsAskable, Admits, window_of, verdict_of}
+use Rattle.rep_steps.specs.declared.event.Event.TheVariants.{Deliver}
+use Rattle.rep_steps.specs.declared.answer.Answer.TheVariants.{Gave}
+use Rattle.rep_steps.specs.Standings.{Standing, delivered, refusal, delivery_refusal}
+use Rattle.rep_steps.specs.Moves.{Found, Moves, next_item, entry_in}
+use Rattle.rep_steps.specs.Nodes.{Node, Steps, NodesStayNodes, reached, window_at, moved, verdict_on}
+use Rattle.rep_steps.specs.Parts.{with_ahead, part_of}
+use Rattle.rep_steps.specs.Images.{AreJudgedFrom}
+use Rattle.rep_engine.specs.Engines.{Engine, facts_of as engine_facts}
+use Rattle.rep_engine.specs.Holding.{Holds as EngineHolds}
+use Rattle.rep_replica.specs.Replicas.{Replica, facts_of, IsReplica}
+use Rattle.rep_replica.specs.Holding.{Holds, IsStep}
+use Rattle.rep_replica.proofs.Lists.{seqnos_more, judged_more, reached_position, reached_more}
+use Rattle.rep_replica.proofs.Widening.{leaves_none}
+
+-- ---- where nothing refuses it
+
+-- the tests that were passed
+tests : (nil last other many : Bool) (a b c d : Refusal) → (if nil then Some a else if last then Some b else if other then Some c else if many then Some d else None) ≡ None → (nil ≡ false) × (last ≡ false) × (many ≡ false)
+tests true last other many a b c d e = absurd cc
+tests false true other many a b c d e = absurd cc
+tests false false true many a b c d e = absurd cc
+tests false false false true a b c d e = absurd cc
+tests false false false false a b c d e = (refl, refl, refl)
+
+running_refusal : (s : Standing) (seqno : ℕ) (w : Transaction) → s.stopped ≡ false → refusal s (Deliver seqno w) ≡ delivery_refusal s seqno
+running_refusal s seqno w runs = ap (λ b. if b then Some Stopped else delivery_refusal s seqno) runs
+
+by_none : (A : Type 0) (B : Refusal → Type 0) (o : Option Refusal) → o ≡ None → A → MatchOption o A B
+by_none A B o none a = subst (λ (o : Option Refusal). MatchOption o A B) (sym none) a
+
+-- ---- the window behind an item that is the next
+
+window_is : (p : Setting) (position : ℕ) (es : List Entry) (j : Judged) → j.seqno ≡ position + 1 → j.verdict ≡ judge p position es j.item
+    → window_after p position es j.item ≡ recent (floor p (position + 1)) (es ++ entry_in j)
+window_is p position es j e f =
+    let F : Verdict → ℕ → List Entry = λ v s. recent (floor p (position + 1)) (es ++ (if is_commit v then (record { seqno = s; keys = written j.item }) ∷ [] else [])) in
+    ap (λ (v : Verdict). F v (position + 1)) (sym f) ∙ ap (F j.verdict) (sym e)
+
+-- ---- the replica with one item more
+
+module _ {D : Type 0} (honest : D → Type 0) (history : D → History) (failures : D → ℕ) (old new : Replica D) (seqno : ℕ) (w : Transaction) (j : Judged)
+    (running : old.stopped ≡ false) (runs : old.engine.halted ≡ None) (none : delivery_refusal (facts_of failures old) seqno ≡ None)
+    (is : IsReplica (engine_facts failures old.engine) old.backlog old.certifier.current old.stopped)
+    (j_is : j ≡ record { seqno = old.certifier.current.delivered + 1; item = w; verdict = verdict_of old.certifier.current w })
+    (admits : Admits old.certifier.current w new.certifier.current)
+    (engine : new.engine ≡ old.engine) (backlog : new.backlog ≡ old.backlog ++ j ∷ []) (stopped : new.stopped ≡ old.stopped) where
+  abbrev h : Holding
+  h = old.certifier.current
+
+  abbrev s : Standing
+  s = facts_of failures old
+
+  count : h.delivered ≡ delivered s
+  count = let go = is.items running in omega (arith, go.count, length-append old.engine.block old.backlog)
+
+  next_is : j ≡ next_item s w (verdict_of h w)
+  next_is = j_is ∙ ap (λ n. record { seqno = n + 1; item = w; verdict = verdict_of h w }) count
+
+  s_runs : s.stopped ≡ false
+  s_runs = ap (λ b. b || is_some old.engine.halted) running ∙ ap is_some runs
+
+  nothing : refusal s (Deliver seqno w) ≡ None
+  nothing = running_refusal s seqno w s_runs ∙ none
+
+  ahead_is : new.engine.block ++ new.backlog ≡ s.ahead ++ j ∷ []
+  ahead_is = ap (λ (e : Engine D). e.block ++ new.backlog) engine ∙ ap (λ (xs : List Judged). old.engine.block ++ xs) backlog ∙ sym (append_assoc old.engine.block old.backlog (j ∷ []))
+
+  facts_are : facts_of failures new ≡ record s { ahead = s.ahead ++ j ∷ [] }
+  facts_are =
+      ap (λ (xs : List Judged). record (engine_facts failures new.engine) { ahead = xs; stopped = new.stopped || is_some new.engine.halted }) ahead_is
+      ∙ ap (λ (e : Engine D). record (engine_facts failures e) { ahead = s.ahead ++ j ∷ []; stopped = new.stopped || is_some e.halted }) engine
+      ∙ ap (λ b. record (engine_facts failures old.engine) { ahead = s.ahead ++ j ∷ []; stopped = b || is_some old.engine.halted }) stopped
+
+  -- ---- on any device
+
+  abbrev found_it : Found
+  found_it = record { verdict = verdict_of h w; stale = false; left = []; row = None }
+
+  pub delivered_moves : Moves s (Deliver seqno w) (Gave (verdict_of h w)) (facts_of failures new)
+  delivered_moves = by_none _ _ (refusal s (Deliver seqno w)) nothing (inl (found_it, refl, facts_are ∙ ap (λ (x : Judged). record s { ahead = s.ahead ++ x ∷ [] }) next_is))
+
+  passed : (is_nil_bytes s.uuid ≡ false) × ((delivered s == MAX_SEQNO) ≡ false) × (nat_le MAX_AHEAD (length s.ahead) ≡ false)
+  passed = tests (is_nil_bytes s.uuid) (delivered s == MAX_SEQNO) _ (nat_le MAX_AHEAD (length s.ahead)) _ _ _ _ none
+
+  many : length s.ahead < MAX_AHEAD
+  many = let few = passed.2 in grind (arith, nat_tests, few)
+
+  limited : delivered s < MAX_SEQNO
+  limited =
+      let go = is.items running in
+      let below : delivered s ≤ MAX_SEQNO = omega (arith, go.come.limit, length-append old.engine.block old.backlog) in
+      let last = passed.1 in
+      grind (arith, nat_tests, last, below)
+
+  pub replica_delivers : IsReplica (engine_facts failures new.engine) new.backlog new.certifier.current new.stopped
+  replica_delivers =
+      subst (λ (e : Engine D). IsReplica (engine_facts failures e) new.backlog new.certifier.current new.stopped) (sym engine)
+      (subst (λ (js : List Judged). IsReplica (engine_facts failures old.engine) js new.certifier.current new.stopped) (sym backlog) (record {
+        setting = admits.setting ∙ is.setting;
+        askable = record {
+          made = omega (arith, admits.made, is.askable.made);
+          near = let go = is.items running in omega (arith, admits.delivered, go.count, many, length-append old.engine.block old.backlog);
+          past = omega (arith, admits.delivered, is.askable.past);
+        };
+        items = λ on.
+            let go = is.items running in
+            let place : j.seqno ≡ old.certifier.current.delivered + 1 = ap (λ (x : Judged). x.seqno) j_is in
+            record {
+              come = record {
+                follow = seqnos_more (delivered (engine_facts failures old.engine) + 1) old.backlog j go.come.follow (omega (arith, place, go.count));
+                limit = omega (arith, length-append old.backlog (j ∷ []), go.count, count, limited);
+                undefined = λ nil. absurd (let never : false ≡ true = sym passed.0 ∙ nil in cc);
+              };
+              count = omega (arith, admits.delivered, go.count, length-append old.backlog (j ∷ []));
+            };
+      }))
+
+  -- ---- of a node
+
+  module _ (stay : NodesStayNodes) (n : Node) (holds : Holds honest history failures n old) where
+    abbrev p : Setting
+    p = n.facts.setting
+
+    abbrev q : ℕ
+    q = holds.taken
+
+    setting_is : h.setting ≡ p
+    setting_is = is.setting ∙ sym (ap (λ (t : Standing). t.setting) holds.facts)
+
+    here : h.delivered ≡ delivered n.facts
+    here = count ∙ sym (ap delivered holds.facts)
+
+    all : delivered n.facts ≡ n.base.position + length n.items
+    all =
+        let rest : length n.facts.ahead ≡ length n.items - (n.facts.durable - n.facts.base) = ap length holds.node.ahead ∙ length-drop (n.facts.durable - n.facts.base) n.items in
+        omega (arith, rest, holds.node.enough, holds.node.position, holds.node.facts.based)
+
+    -- the certifier's window is the node's
+    present : window_of h h.delivered ≡ (reached p n.base n.items).kept
+    present =
+        let on : IsAskable h h.delivered = record { made = omega (arith, is.askable.made, is.askable.past); near = omega arith; past = omega arith } in
+        holds.windows h.delivered (omega (arith, here, all)) on ∙ ap (λ (xs : List Judged). (reached p n.base xs).kept) (take_all (h.delivered - n.base.position) n.items (omega (arith, here, all)))
+
+    window_there : window_at n (delivered n.facts) ≡ (reached p n.base n.items).kept
+    window_there = ap (λ (xs : List Judged). (reached p n.base xs).kept) (take_all (delivered n.facts - n.base.position) n.items (omega (arith, all)))
+
+    verdict_is : verdict_of h w ≡ verdict_on n (Deliver seqno w)
+    verdict_is =
+        ap (λ (r : Setting). judge r h.delivered (window_of h h.delivered) w) setting_is ∙ ap (λ k. judge p k (window_of h h.delivered) w) here
+        ∙ ap (λ (es : List Entry). judge p (delivered n.facts) es w) (present ∙ sym window_there)
+
+    abbrev m : Node
+    m = moved n (Deliver seqno w)
+
+    -- the item is the one that comes next at the node
+    item_is : j ≡ next_item n.facts w (verdict_on n (Deliver seqno w))
+    item_is = next_is ∙ ap (λ (t : Standing). next_item t w (verdict_of h w)) (sym holds.facts) ∙ ap (next_item n.facts w) verdict_is
+
+    items_are : m.items ≡ n.items ++ j ∷ []
+    items_are = ap (λ (x : Judged). n.items ++ x ∷ []) (sym item_is)
+
+    step : Steps n (Deliver seqno w) (Gave (verdict_of h w)) m
+    step = by_none _ _ (refusal n.facts (Deliver seqno w)) (ap (λ (t : Standing). refusal t (Deliver seqno w)) holds.facts ∙ nothing) (inl (ap Gave verdict_is, refl))
+
+    facts_then : m.facts ≡ facts_of failures new
+    facts_then =
+        ap (λ (x : Judged). record n.facts { ahead = n.facts.ahead ++ x ∷ [] }) (sym item_is) ∙ ap (λ (t : Standing). record t { ahead = t.ahead ++ j ∷ [] }) holds.facts ∙ sym facts_are
+
+    place : (reached p n.base n.items).position ≡ h.delivered
+    place = reached_position p n.base n.items ∙ sym (here ∙ all)
+
+    seqno_is : j.seqno ≡ (reached p n.base n.items).position + 1
+    seqno_is = ap (λ (x : Judged). x.seqno) j_is ∙ ap (λ k. k + 1) (sym place)
+
+    verdict_there : j.verdict ≡ judge p (reached p n.base n.items).position (reached p n.base n.items).kept w
+    verdict_there =
+        ap (λ (x : Judged). x.verdict) j_is ∙ ap (λ (r : Setting). judge r h.delivered (window_of h h.delivered) w) setting_is ∙ ap (λ (es : List Entry). judge p h.delivered es w) present
+        ∙ ap (λ k. judge p k (reached p n.base n.items).kept w) (sym place)
+
+    same_item : j.item ≡ w
+    same_item = ap (λ (x : Judged). x.item) j_is
+
+    verdict_here : j.verdict ≡ judge p (reached p n.base n.items).position (reached p n.base n.items).kept j.item
+    verdict_here = verdict_there ∙ ap (judge p (reached p n.base n.items).position (reached p n.base n.items).kept) (sym same_item)
+
+    next_window : window_of new.certifier.current new.certifier.current.delivered ≡ (reached p n.base (n.items ++ j ∷ [])).kept
+    next_window =
+        admits.next ∙ ap (λ (r : Setting). window_after r h.delivered (window_of h h.delivered) w) setting_is ∙ ap (λ (es : List Entry). window_after p h.delivered es w) present
+        ∙ ap (λ k. window_after p k (reached p n.base n.items).kept w) (sym place) ∙ ap (window_after p (reached p n.base n.items).position (reached p n.base n.items).kept) (sym same_item)
+        ∙ window_is p (reached p n.base n.items).position (reached p n.base n.items).kept j seqno_is verdict_here
+        ∙ sym (ap (λ (T : State). T.kept) (reached_more p n.base n.items j))
+
+    windows_more : (k : ℕ) → n.base.position ≤ k → IsAskable new.certifier.current k → window_of new.certifier.current k ≡ (reached p n.base (take (k - n.base.position) (n.items ++ j ∷ []))).kept
+    windows_more k above ask = by (cases_lt h.delivered k)
+      where
+        long : length (n.items ++ j ∷ []) ≡ length n.items + 1
+        long = length-append n.items (j ∷ [])
+
+        by : ((h.delivered < k) ⊎ (k ≤ h.delivered)) → window_of new.certifier.current k ≡ (reached p n.base (take (k - n.base.position) (n.items ++ j ∷ []))).kept
+        by (inl lt) =
+            let last : k ≡ new.certifier.current.delivered = omega (arith, lt, ask.past, admits.delivered) in
+            ap (window_of new.certifier.current) last ∙ next_window ∙ ap (λ (xs : List Judged). (reached p n.base xs).kept) (sym (take_all (k - n.base.position) (n.items ++ j ∷ []) (omega (arith, lt, here, all, long))))
+        by (inr le) =
+            admits.kept k ask le ∙ holds.windows k above (record { made = omega (arith, ask.made, admits.made); near = omega (arith, ask.near, admits.delivered); past = le })
+            ∙ ap (λ (xs : List Judged). (reached p n.base xs).kept) (sym (take-append-le (k - n.base.position) n.items (j ∷ []) (omega (arith, le, here, all))))
+
+    pub delivered_holds : (t : Node) × Steps n (Deliver seqno w) (Gave (verdict_of h w)) t × Holds honest history failures t new
+    delivered_holds =
+        let part : part_of old.engine.block q m ≡ part_of old.engine.block q n =
+        ap (λ (xs : List Judged). record n { facts = with_ahead old.engine.block n.facts; items = xs }) (take-append-le q n.items (next_item n.facts w (verdict_on n (Deliver seqno w)) ∷ []) holds.within) in
+        let there : EngineHolds honest history failures (part_of old.engine.block q m) old.engine = subst (λ (k : Node). EngineHolds honest history failures k old.engine) (sym part) holds.engine in (
+          m,
+          step,
+          record {
+            running = stopped ∙ running;
+            facts = facts_then;
+            node = stay n m (Deliver seqno w) (Gave (verdict_of h w)) holds.node step;
+            judged = subst (AreJudgedFrom p n.base) (sym items_are) (judged_more p n.base n.items j holds.judged (seqno_is, verdict_here, tt));
+            taken = q;
+            within = omega (arith, holds.within, ap length items_are, length-append n.items (j ∷ []));
+            engine = subst (λ (e : Engine D). EngineHolds honest history failures (part_of e.block q m) e) (sym engine) there;
+            waiting = backlog ∙ ap (λ (xs : List Judged). xs ++ j ∷ []) holds.waiting ∙ sym (drop-append-le q n.items (j ∷ []) holds.within) ∙ ap (drop q) (sym items_are);
+            windows = λ k above ask. windows_more k above ask ∙ ap (λ (xs : List Judged). (reached p n.base (take (k - n.base.position) xs)).kept) (sym items_are);
+          },
+        )
+
+  pub delivered_step : NodesStayNodes → IsStep honest history failures old (Deliver seqno w) (Gave (verdict_of h w)) new
+  delivered_step stay = record {
+    moves = delivered_moves;
+    steps = delivered_holds stay;
+    leaves = λ n holds. leaves_none (history old.engine.disk) (history new.engine.disk) (ap (λ (e : Engine D). history e.disk) engine);
+  }

@@ -1,0 +1,177 @@
+-- A step of the engine, as a step of the replica.
+use Rattle.std.proofs.Common.{◌≡◌, inl, inr, ℕ, ◌+◌, ◌-◌, ◌≤◌, Bool, true, false, List, [], ◌++◌, length, take, Option, None, Some, refl, sym, ap, subst, ◌∙◌, arith}
+use Rattle.std.specs.Prelude.{◌==◌, ◌||◌, nat_le, is_some, if◌then◌else◌, MatchOption}
+use Rattle.std.proofs.lemmas.List.{length-take-le}
+use Rattle.rep_types.specs.declared.judged.Judged.{Judged}
+use Rattle.rep_types.specs.declared.key.Key.{Key}
+use Rattle.rep_types.specs.declared.refusal.Refusal.{Refusal}
+use Rattle.rep_types.specs.declared.refusal.Refusal.TheVariants.{Stopped, OutOfMemory, NotDue, LogFull}
+use Rattle.rep_disk.specs.History.{History}
+use Rattle.rep_disk.specs.Moments.{LeavesOnly}
+use Rattle.rep_record.specs.Fronts.{fitting}
+use Rattle.rep_log.specs.declared.phase.Phase.{Phase}
+use Rattle.rep_log.specs.declared.phase.Phase.TheVariants.{Resting, Closing, Filling, Filled, Opening}
+use Rattle.rep_steps.specs.declared.event.Event.{Event}
+use Rattle.rep_steps.specs.declared.event.Event.TheVariants.{Log, Sync, Read}
+use Rattle.rep_steps.specs.declared.answer.Answer.{Answer}
+use Rattle.rep_steps.specs.declared.answer.Answer.TheVariants.{Refused}
+use Rattle.rep_steps.specs.Standings.{Standing, gathered, refusal, refusal_here, log_refusal}
+use Rattle.rep_steps.specs.Moves.{Moves, opening, takes_memory, base_after}
+use Rattle.rep_steps.specs.Nodes.{Node, Steps, NodesStayNodes, passed}
+use Rattle.rep_steps.specs.Parts.{with_ahead, part_of, Widens, PartsStepAsTheWhole}
+use Rattle.rep_steps.specs.Images.{IsFrontAt}
+use Rattle.rep_image.specs.Meanings.{Means}
+use Rattle.rep_engine.specs.Engines.{Engine, IsWhole, facts_of as engine_facts, phase_at, stage_of}
+use Rattle.rep_engine.specs.Holding.{Holds as EngineHolds}
+use Rattle.rep_replica.specs.Replicas.{Replica, facts_of}
+use Rattle.rep_replica.specs.Holding.{Holds, IsStep}
+use Rattle.rep_replica.proofs.Widening.{running_facts, widened, leaves_whole, leaves_none}
+
+-- ---- which refusal it is
+
+by_none : (A : Type 0) (B : Refusal → Type 0) (o : Option Refusal) → o ≡ None → A → MatchOption o A B
+by_none A B o none a = subst (λ (o : Option Refusal). MatchOption o A B) (sym none) a
+
+by_some : (A : Type 0) (B : Refusal → Type 0) (o : Option Refusal) (r : Refusal) → o ≡ Some r → B r → MatchOption o A B
+by_some A B o r some b = subst (λ (o : Option Refusal). MatchOption o A B) (sym some) b
+
+-- the log's refusal, where the next block takes as much
+log_refusal_same : (s : Standing) (ahead : List Judged) → (s.phase ≡ Resting → gathered s ≡ fitting [] ahead) → (phase : Phase) → s.phase ≡ phase → log_refusal (with_ahead ahead s) phase ≡ log_refusal s phase
+log_refusal_same s ahead same Resting is = ap (λ k. if k == 0 then Some NotDue else if nat_le (s.start + s.setting.cells) s.next then Some LogFull else None) (sym (same is))
+log_refusal_same s ahead same Closing is = refl
+log_refusal_same s ahead same (Filling k) is = refl
+log_refusal_same s ahead same (Filled k) is = refl
+log_refusal_same s ahead same (Opening k) is = refl
+
+pub refusal_same : (s : Standing) (ahead : List Judged) → (s.phase ≡ Resting → gathered s ≡ fitting [] ahead) → refusal (with_ahead ahead s) Log ≡ refusal s Log
+refusal_same s ahead same = ap (λ (o : Option Refusal). if s.stopped then Some Stopped else o) (log_refusal_same s ahead same s.phase refl)
+
+-- whose items become durable was gathered
+pub opening_within : (phase : Phase) (block : List Judged) → IsWhole phase block → opening phase ≤ length block
+opening_within Resting block h = omega arith
+opening_within Closing block h = omega arith
+opening_within (Filling n) block h = omega arith
+opening_within (Filled n) block h = omega arith
+opening_within (Opening n) block h = omega (arith, h.all)
+
+-- ---- steps that change nothing
+
+module _ {D : Type 0} (honest : D → Type 0) (history : D → History) (failures : D → ℕ) where
+  -- an event that is refused
+  pub refused_step : (r : Replica D) (e : Event) (refused : Refusal) → refusal (facts_of failures r) e ≡ Some refused → IsStep honest history failures r e (Refused refused) r
+  refused_step r e refused some = record {
+    moves = by_some _ _ (refusal (facts_of failures r) e) refused some (refl, refl);
+    steps = λ n holds. (n, by_some _ _ (refusal n.facts e) refused (ap (λ (s : Standing). refusal s e) holds.facts ∙ some) (refl, refl), holds);
+    leaves = λ n holds. leaves_none (history r.engine.disk) (history r.engine.disk) refl;
+  }
+
+  -- one that wanted memory
+  pub hungry_step : (r : Replica D) (e : Event) → refusal (facts_of failures r) e ≡ None → takes_memory (facts_of failures r) e ≡ true → IsStep honest history failures r e (Refused OutOfMemory) r
+  hungry_step r e none takes = record {
+    moves = by_none _ _ (refusal (facts_of failures r) e) none (inr (inl (inl (takes, refl, refl))));
+    steps = λ n holds.
+        let nothing : refusal n.facts e ≡ None = ap (λ (s : Standing). refusal s e) holds.facts ∙ none in
+        let may : takes_memory n.facts e ≡ true = ap (λ (s : Standing). takes_memory s e) holds.facts ∙ takes in
+        (n, by_none _ _ (refusal n.facts e) nothing (inr (inl (may, refl, refl), refl)), holds);
+    leaves = λ n holds. leaves_none (history r.engine.disk) (history r.engine.disk) refl;
+  }
+
+  -- where it is stopped, every event is refused
+  pub stopped_step : (r : Replica D) (e : Event) → (r.stopped || is_some r.engine.halted) ≡ true → IsStep honest history failures r e (Refused Stopped) r
+  stopped_step r e stopped = refused_step r e Stopped (ap (λ b. if b then Some Stopped else refusal_here (facts_of failures r) e) stopped)
+
+  -- ---- steps of the engine
+
+  -- What the engine's call is: its facts move, and it makes a step of its node.
+  pub record EngineSteps (e : Event) (a : Answer) (old new : Engine D) : Type 0 where
+    pub moves : Moves (engine_facts failures old) e a (engine_facts failures new)
+    pub steps : (n : Node) → EngineHolds honest history failures n old → (m : Node) × Steps n e a m × EngineHolds honest history failures m new
+    pub leaves : (n : Node) → EngineHolds honest history failures n old → LeavesOnly (history old.disk) (history new.disk) (IsFrontAt Means n)
+
+  module _ (stay : NodesStayNodes) (old new : Replica D) (e : Event) (a : Answer) (super : new.engine.superblock ≡ old.engine.superblock) (backlog : new.backlog ≡ old.backlog) (certifier : new.certifier ≡ old.certifier) (stopped : new.stopped ≡ old.stopped) where
+    pub widened_step : Moves (facts_of failures old) e a (facts_of failures new) → EngineSteps e a old.engine new.engine
+        → ((n part : Node) (holds : Holds honest history failures n old) → Steps (part_of old.engine.block holds.taken n) e a part → Widens n part e a holds.taken)
+        → IsStep honest history failures old e a new
+    widened_step moves engine lift = record {
+      moves = moves;
+      steps = λ n holds.
+          let to = engine.steps (part_of old.engine.block holds.taken n) holds.engine in
+          widened honest history failures stay old new n holds e a to.0 (lift n to.0 holds to.1) to.2 super backlog certifier stopped;
+      leaves = λ n holds. leaves_whole n old.engine.block holds.taken (history old.engine.disk) (history new.engine.disk) (engine.leaves (part_of old.engine.block holds.taken n) holds.engine);
+    }
+
+    -- ---- each event
+
+    module _ (parts : PartsStepAsTheWhole) (running : old.stopped ≡ false) (engine : EngineSteps e a old.engine new.engine) where
+      runs_on : new.stopped ≡ false
+      runs_on = stopped ∙ running
+
+      -- the facts on both sides
+      lift_facts : Moves (with_ahead (old.engine.block ++ old.backlog) (engine_facts failures old.engine)) e a (with_ahead (new.engine.block ++ new.backlog) (engine_facts failures new.engine)) → Moves (facts_of failures old) e a (facts_of failures new)
+      lift_facts m =
+          subst (λ (s : Standing). Moves s e a (facts_of failures new)) (sym (running_facts failures old running))
+          (subst (Moves (with_ahead (old.engine.block ++ old.backlog) (engine_facts failures old.engine)) e a) (sym (running_facts failures new runs_on)) m)
+
+  module _ (stay : NodesStayNodes) (parts : PartsStepAsTheWhole) (old new : Replica D) (a : Answer) (super : new.engine.superblock ≡ old.engine.superblock) (backlog : new.backlog ≡ old.backlog) (certifier : new.certifier ≡ old.certifier) (stopped : new.stopped ≡ old.stopped)
+      (running : old.stopped ≡ false) where
+    -- the log, where the next block would take no more
+    pub log_step : new.engine.block ≡ old.engine.block → EngineSteps Log a old.engine new.engine
+        → (phase_at old.engine.log.phase old.engine.halted ≡ Resting → fitting [] old.engine.block ≡ fitting [] (old.engine.block ++ old.backlog))
+        → IsStep honest history failures old Log a new
+    log_step block engine full =
+        let ahead = old.engine.block ++ old.backlog in
+        let same : new.engine.block ++ new.backlog ≡ ahead = ap (λ (xs : List Judged). xs ++ new.backlog) block ∙ ap (λ (ys : List Judged). old.engine.block ++ ys) backlog in
+        let moves : Moves (with_ahead ahead (engine_facts failures old.engine)) Log a (with_ahead ahead (engine_facts failures new.engine)) =
+        parts.log_moves (engine_facts failures old.engine) (engine_facts failures new.engine) a ahead full engine.moves in
+        widened_step stay old new Log a super backlog certifier stopped
+        (lift_facts stay old new Log a super backlog certifier stopped parts running engine
+        (subst (λ (xs : List Judged). Moves (with_ahead ahead (engine_facts failures old.engine)) Log a (with_ahead xs (engine_facts failures new.engine))) (sym same) moves))
+        engine
+        (λ n part holds steps. parts.log n part old.engine.block holds.taken a
+        (λ rests. full (sym (ap (λ (s : Standing). s.phase) holds.facts) ∙ rests) ∙ sym (ap gathered holds.facts)) steps)
+
+    -- a sync, where what becomes durable was taken
+    pub sync_step : (told : opening (phase_at old.engine.log.phase old.engine.halted) ≤ length old.engine.block)
+        → EngineSteps Sync a old.engine new.engine → IsStep honest history failures old Sync a new
+    sync_step told engine =
+        let moves : Moves (with_ahead (old.engine.block ++ old.backlog) (engine_facts failures old.engine)) Sync a (with_ahead (new.engine.block ++ old.backlog) (engine_facts failures new.engine)) =
+        parts.sync_moves (engine_facts failures old.engine) (engine_facts failures new.engine) a old.backlog told engine.moves in
+        widened_step stay old new Sync a super backlog certifier stopped
+        (lift_facts stay old new Sync a super backlog certifier stopped parts running engine
+        (subst (λ (xs : List Judged). Moves (with_ahead (old.engine.block ++ old.backlog) (engine_facts failures old.engine)) Sync a (with_ahead (new.engine.block ++ xs) (engine_facts failures new.engine))) (sym backlog) moves))
+        engine
+        (λ n part holds steps. parts.sync n part old.engine.block old.backlog holds.taken a (ap (λ (s : Standing). s.ahead) holds.facts) (still n holds)
+        (subst (λ phase. opening phase ≤ length old.engine.block) (sym (ap (λ (s : Standing). s.phase) holds.facts)) told) steps)
+      where
+        none_passed : (base : ℕ) (both : Bool) → base_after base (stage_of both) - base ≡ 0
+        none_passed base true = omega arith
+        none_passed base false = omega arith
+
+        still : (n : Node) → Holds honest history failures n old → passed n.facts ≡ 0
+        still n holds = ap passed holds.facts ∙ none_passed old.engine.superblock.position old.engine.both
+
+    -- a read
+    pub read_step : (key : Key) (at : ℕ) → new.engine.block ≡ old.engine.block → EngineSteps (Read key at) a old.engine new.engine → IsStep honest history failures old (Read key at) a new
+    read_step key at block engine =
+        let ahead = old.engine.block ++ old.backlog in
+        let same : new.engine.block ++ new.backlog ≡ ahead = ap (λ (xs : List Judged). xs ++ new.backlog) block ∙ ap (λ (ys : List Judged). old.engine.block ++ ys) backlog in
+        let moves : Moves (with_ahead ahead (engine_facts failures old.engine)) (Read key at) a (with_ahead ahead (engine_facts failures new.engine)) =
+        parts.read_moves (engine_facts failures old.engine) (engine_facts failures new.engine) key at a ahead engine.moves in
+        widened_step stay old new (Read key at) a super backlog certifier stopped
+        (lift_facts stay old new (Read key at) a super backlog certifier stopped parts running engine
+        (subst (λ (xs : List Judged). Moves (with_ahead ahead (engine_facts failures old.engine)) (Read key at) a (with_ahead xs (engine_facts failures new.engine))) (sym same) moves))
+        engine
+        (λ n part holds steps. parts.read n part old.engine.block holds.taken key at a holds.node.position (near n holds) steps)
+      where
+        near : (n : Node) (holds : Holds honest history failures n old) → n.facts.durable - n.facts.base ≤ holds.taken
+        near n holds = let size : length (take holds.taken n.items) ≡ holds.taken = length-take-le holds.taken n.items holds.within in omega (arith, holds.engine.node.enough, size)
+
+  -- ---- where items were accepted before
+
+  pub step_from : (old mid new : Replica D) (e : Event) (a : Answer) → facts_of failures mid ≡ facts_of failures old → ((n : Node) → Holds honest history failures n old → Holds honest history failures n mid) → mid.engine.disk ≡ old.engine.disk
+      → IsStep honest history failures mid e a new → IsStep honest history failures old e a new
+  step_from old mid new e a facts still disk step = record {
+    moves = subst (λ (s : Standing). Moves s e a (facts_of failures new)) facts step.moves;
+    steps = λ n holds. step.steps n (still n holds);
+    leaves = λ n holds. subst (λ d. LeavesOnly (history d) (history new.engine.disk) (IsFrontAt Means n)) disk (step.leaves n (still n holds));
+  }

@@ -1,0 +1,125 @@
+-- A step of what the engine has taken, as a step of the replica.
+use Rattle.std.proofs.Common.{◌≡◌, ◌⊎◌, inl, inr, ℕ, ◌+◌, ◌-◌, ◌≤◌, false, List, ◌++◌, length, length-append, length-drop, take, drop, sym, ap, subst, ◌∙◌, arith}
+use Rattle.std.specs.Prelude.{◌||◌, is_some}
+use Rattle.std.proofs.lemmas.List.{take-append-drop, take-append-le, drop-append-le, length-take-le}
+use Rattle.rep_types.specs.declared.judged.Judged.{Judged}
+use Rattle.rep_types.specs.Settings.{Setting}
+use Rattle.rep_types.specs.Order.{State}
+use Rattle.rep_disk.specs.History.{History}
+use Rattle.rep_disk.specs.Moments.{LeavesOnly}
+use Rattle.rep_layout.specs.declared.super_body.SuperBody.{SuperBody}
+use Rattle.rep_cert.specs.Holdings.{Holdings, IsAskable, window_of}
+use Rattle.rep_steps.specs.declared.event.Event.{Event}
+use Rattle.rep_steps.specs.declared.answer.Answer.{Answer}
+use Rattle.rep_steps.specs.Standings.{Standing}
+use Rattle.rep_steps.specs.Nodes.{Node, IsNode, Steps, NodesStayNodes, reached, window_at}
+use Rattle.rep_steps.specs.Parts.{with_ahead, part_of, Widens}
+use Rattle.rep_steps.specs.Images.{Meaning, IsFront, IsFrontAt, IsEndOf, AreJudgedFrom}
+use Rattle.rep_image.specs.Meanings.{Means}
+use Rattle.rep_engine.specs.Engines.{facts_of as engine_facts}
+use Rattle.rep_engine.specs.Holding.{Holds as EngineHolds}
+use Rattle.rep_replica.specs.Replicas.{Replica, facts_of}
+use Rattle.rep_replica.specs.Holding.{Holds}
+use Rattle.rep_replica.proofs.Lists.{drop_apart}
+
+-- ---- the facts
+
+-- where it was not stopped from outside they are the engine's, with all that was delivered
+pub running_facts : {D : Type 0} (failures : D → ℕ) (r : Replica D) → r.stopped ≡ false → facts_of failures r ≡ with_ahead (r.engine.block ++ r.backlog) (engine_facts failures r.engine)
+running_facts failures r running = ap (λ b. record (engine_facts failures r.engine) { ahead = r.engine.block ++ r.backlog; stopped = b || is_some r.engine.halted }) running
+
+-- what the engine has and what waits is what the node has ahead
+pub ahead_of : (n : Node) (block : List Judged) (q : ℕ) → IsNode n → IsNode (part_of block q n) → q ≤ length n.items → n.facts.ahead ≡ block ++ drop q n.items
+ahead_of n block q node part within =
+    let d = n.facts.durable - n.facts.base in
+    let size : length (take q n.items) ≡ q = length-take-le q n.items within in
+    let near : d ≤ q = omega (arith, part.enough, size) in
+    node.ahead ∙ drop_apart d q n.items near within ∙ ap (λ (xs : List Judged). xs ++ drop q n.items) (sym part.ahead)
+
+-- ---- the node
+
+module _ {D : Type 0} (honest : D → Type 0) (history : D → History) (failures : D → ℕ) (stay : NodesStayNodes) (old new : Replica D) (n : Node) (holds : Holds honest history failures n old) where
+  pub widened : (e : Event) (a : Answer) (part : Node) → Widens n part e a holds.taken → EngineHolds honest history failures part new.engine
+      → new.engine.superblock ≡ old.engine.superblock → new.backlog ≡ old.backlog → new.certifier ≡ old.certifier → new.stopped ≡ old.stopped
+      → (m : Node) × Steps n e a m × Holds honest history failures m new
+  widened e a part w engine super backlog certifier stopped =
+      let to = w.to in
+      let q = holds.taken in
+      let node : IsNode to = stay n to e a holds.node w.steps in
+      let running : new.stopped ≡ false = stopped ∙ holds.running in
+      let block : part.facts.ahead ≡ new.engine.block = ap (λ (s : Standing). s.ahead) engine.facts in
+      let is_part : part ≡ part_of new.engine.block q to = w.is_part ∙ ap (λ (xs : List Judged). part_of xs q to) block in
+      let engine_to : EngineHolds honest history failures (part_of new.engine.block q to) new.engine = subst (λ (p : Node). EngineHolds honest history failures p new.engine) is_part engine in
+      let within : q ≤ length to.items = omega (arith, holds.within, ap length w.items) in
+      let waiting : new.backlog ≡ drop q to.items = backlog ∙ holds.waiting ∙ ap (drop q) (sym w.items) in
+      let ahead : to.facts.ahead ≡ new.engine.block ++ new.backlog = ahead_of to new.engine.block q node engine_to.node within ∙ ap (λ (xs : List Judged). new.engine.block ++ xs) (sym waiting) in
+      let facts : to.facts ≡ facts_of failures new =
+      ap (λ (xs : List Judged). with_ahead xs to.facts) ahead ∙ ap (with_ahead (new.engine.block ++ new.backlog)) engine_to.facts ∙ sym (running_facts failures new running) in
+      let setting : to.facts.setting ≡ n.facts.setting =
+      ap (λ (s : Standing). s.setting) engine_to.facts ∙ ap (λ (b : SuperBody). b.params) super ∙ sym (ap (λ (s : Standing). s.setting) holds.engine.facts) in (
+        to,
+        w.steps,
+        record {
+          running = running;
+          facts = facts;
+          node = node;
+          judged =
+              subst (λ (p : Setting). AreJudgedFrom p to.base to.items) (sym setting)
+              (subst (λ (S : State). AreJudgedFrom n.facts.setting S to.items) (sym w.base) (subst (AreJudgedFrom n.facts.setting n.base) (sym w.items) holds.judged));
+          taken = q;
+          within = within;
+          engine = engine_to;
+          waiting = waiting;
+          windows = λ k le askable.
+              let was : IsAskable old.certifier.current k = subst (λ (h : Holdings). IsAskable h.current k) certifier askable in
+              let above : n.base.position ≤ k = omega (arith, le, ap (λ (S : State). S.position) w.base) in
+              ap (λ (h : Holdings). window_of h.current k) certifier ∙ holds.windows k above was ∙ sym (same_window k to setting w.base w.items);
+        },
+      )
+    where
+      same_window : (k : ℕ) (to : Node) → to.facts.setting ≡ n.facts.setting → to.base ≡ n.base → to.items ≡ n.items → window_at to k ≡ window_at n k
+      same_window k to setting base items =
+          ap (λ (p : Setting). (reached p to.base (take (k - to.base.position) to.items)).kept) setting ∙ ap (λ (S : State). (reached n.facts.setting S (take (k - S.position) to.items)).kept) base
+          ∙ ap (λ (js : List Judged). (reached n.facts.setting n.base (take (k - n.base.position) js)).kept) items
+
+-- ---- what a stop leaves
+
+-- a front of what was taken is a front of all
+wider_front : (n : Node) (block : List Judged) (q end : ℕ) (meaning : Meaning) → IsFront (part_of block q n) end meaning → IsFront n end meaning
+wider_front n block q end meaning f =
+    let front = take q n.items in
+    let rest = drop q n.items in
+    let past = f.past in
+    let all : front ++ rest ≡ n.items = take-append-drop q n.items in
+    let inside : past ≤ length front = omega (arith, f.order, f.within) in
+    let left : length (drop past front) ≡ length front - past = length-drop past front in
+    let most : end - (n.base.position + past) ≤ length (drop past front) = omega (arith, left, f.within, f.order) in
+    let size : length (front ++ rest) ≡ length n.items = ap length all in
+    record {
+      uuid_is = f.uuid_is;
+      setting_is = f.setting_is;
+      past = past;
+      order = f.order;
+      within = omega (arith, f.within, size, length-append front rest);
+      base_is = f.base_is ∙ ap (reached n.facts.setting n.base) (sym (take-append-le past front rest inside) ∙ ap (take past) all);
+      tail_is =
+          f.tail_is ∙ sym (take-append-le (end - (n.base.position + past)) (drop past front) rest most)
+          ∙ ap (take (end - (n.base.position + past))) (sym (drop-append-le past front rest inside) ∙ ap (drop past) all);
+    }
+
+pub whole_front : (n : Node) (block : List Judged) (q : ℕ) (image : List ℕ) → IsFrontAt Means (part_of block q n) image → IsFrontAt Means n image
+whole_front n block q image f = record { meaning = f.meaning; reads = f.reads; end = f.end; least = f.least; front = wider_front n block q f.end f.meaning f.front }
+
+-- and where it ends at what is durable, or with the block whose gate opens, it does so of all
+pub whole_end : (n : Node) (block : List Judged) (q : ℕ) (image : List ℕ) → IsEndOf Means (part_of block q n) image → IsEndOf Means n image
+whole_end n block q image f = record { meaning = f.meaning; reads = f.reads; end = f.end; ends = f.ends; front = wider_front n block q f.end f.meaning f.front }
+
+pub leaves_whole : (n : Node) (block : List Judged) (q : ℕ) (old new : History) → LeavesOnly old new (IsFrontAt Means (part_of block q n)) → LeavesOnly old new (IsFrontAt Means n)
+leaves_whole n block q old new l = record { later = l.later; since = λ t image le since. by image (l.since t image le since) }
+  where
+    by : {A : Type 0} (image : List ℕ) → A ⊎ IsFrontAt Means (part_of block q n) image → A ⊎ IsFrontAt Means n image
+    by image (inl a) = inl a
+    by image (inr p) = inr (whole_front n block q image p)
+
+pub leaves_none : {P : List ℕ → Type 0} → (old new : History) → new ≡ old → LeavesOnly old new P
+leaves_none {P} old new same = subst (λ h. LeavesOnly old h P) (sym same) (record { later = omega arith; since = λ t image le since. inl since })

@@ -1,0 +1,50 @@
+use Rattle.std.proofs.Common.{◌≡◌, ◌+◌, ◌∷◌, [], ◌++◌, None, true, false, Result, Ok, Err, OnOk, refl, sym, ap, subst, ◌∙◌}
+use Rattle.std.specs.Result.{is_ok}
+use Rattle.rep_types.specs.declared.judged.Judged.{Judged}
+use Rattle.rep_cert.specs.Holdings.{verdict_of}
+use Rattle.rep_steps.specs.declared.event.Event.TheVariants.{Deliver}
+use Rattle.rep_steps.specs.declared.answer.Answer.{Answer}
+use Rattle.rep_steps.specs.declared.answer.Answer.TheVariants.{Gave}
+use Rattle.rep_steps.specs.Standings.{delivery_refusal}
+use Rattle.rep_replica.specs.Replicas.{Replica, facts_of}
+use Rattle.rep_replica.specs.Holding.{IsStep}
+use Rattle.rep_replica.proofs.Delivering.{replica_delivers, delivered_step}
+use Rattle.rep_replica.proofs.replica.Replica.deliver.Goals as goal
+
+abbrev old : (g : _) (c : goal.Else-is_err g) → Replica g.row.D.Denot
+old g c = record { engine = c.self.inside.engine; backlog = c.self.inside.backlog; certifier = c.self.inside.certifier; stopped = c.self.inside.stopped }
+
+abbrev new : (g : _) (c : goal.Else-is_err g) → Replica g.row.D.Denot
+new g c = record { engine = c.self.inside.engine; backlog = c.push.new.self; certifier = c.admit.new.self; stopped = c.self.inside.stopped }
+
+abbrev item : (g : _) (c : goal.Else-is_err g) → Judged
+item g c = record { seqno = c.in-Ok.seqno; item = c.args.item; verdict = c.in-Ok.verdict }
+
+running : (g : _) (c : goal.Else-is_err g) → c.self.inside.stopped ≡ false
+running g c = ap (λ (r : Replica g.row.D.Denot). r.stopped) c.self.view_is ∙ c.requires.running.0
+
+runs : (g : _) (c : goal.Else-is_err g) → c.self.inside.engine.halted ≡ None
+runs g c = ap (λ (r : Replica g.row.D.Denot). r.engine.halted) c.self.view_is ∙ c.requires.running.1
+
+none : (g : _) (c : goal.Else-is_err g) → delivery_refusal (facts_of g.D.Disk.failures (old g c)) c.args.seqno ≡ None
+none g c = ap (λ (r : Replica g.row.D.Denot). delivery_refusal (facts_of g.D.Disk.failures r) c.args.seqno) c.self.view_is ∙ sym c.delivery_refusal.ensures ∙ c.in_default.is
+
+item_is : (g : _) (c : goal.Else-is_err g) → item g c ≡ record { seqno = c.self.inside.certifier.current.delivered + 1; item = c.args.item; verdict = verdict_of c.self.inside.certifier.current c.args.item }
+item_is g c = ap (λ n. record { seqno = n; item = c.args.item; verdict = c.in-Ok.verdict }) c.in-Ok.ensures.seqno ∙ ap (λ v. record { seqno = c.self.inside.certifier.current.delivered + 1; item = c.args.item; verdict = v }) c.in-Ok.ensures.verdict
+
+on_ok : {T E P : Type 0} (r : Result T E) → is_ok r ≡ true → OnOk r P → P
+on_ok (Ok x) ok p = p
+on_ok (Err e) ok p = absurd (let never : false ≡ true = ok in cc)
+
+pushed : (g : _) (c : goal.Else-is_err g) → c.push.new.self ≡ c.self.inside.backlog ++ item g c ∷ []
+pushed g c = on_ok c.push.result c.if-is_err.ensures.negation c.push.ensures.pushed
+
+pub invariant_of-self : goal.invariant_of-self
+invariant_of-self g c =
+    replica_delivers g.D.Disk.honest g.D.Disk.history g.D.Disk.failures (old g c) (new g c) c.args.seqno c.args.item (item g c) (running g c) (runs g c) (none g c) c.self.invariant (item_is g c) c.in-Ok.ensures.admitted refl (pushed g c) refl
+
+pub returns : goal.returns
+returns g c =
+    let step = delivered_step g.D.Disk.honest g.D.Disk.history g.D.Disk.failures (old g c) (new g c) c.args.seqno c.args.item (item g c) (running g c) (runs g c) (none g c) c.self.invariant (item_is g c) c.in-Ok.ensures.admitted refl (pushed g c) refl c.nodes_stay_nodes.ensures in
+    subst (λ (r : Replica g.row.D.Denot). IsStep g.D.Disk.honest g.D.Disk.history g.D.Disk.failures r (Deliver c.args.seqno c.args.item) (Gave c.in-Ok.verdict) (new g c)) c.self.view_is
+    (subst (λ (a : Answer). IsStep g.D.Disk.honest g.D.Disk.history g.D.Disk.failures (old g c) (Deliver c.args.seqno c.args.item) a (new g c)) (ap Gave (sym c.in-Ok.ensures.verdict)) step)

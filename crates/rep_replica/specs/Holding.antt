@@ -1,0 +1,41 @@
+-- What a replica stands for on an honest device, and what a step of it is.
+use Rattle.std.specs.Prelude.{◌≡◌, ℕ, ◌≤◌, false, List, length, drop, None}
+use Rattle.rep_disk.specs.History.{History, IsImage}
+use Rattle.rep_disk.specs.Moments.{LeavesOnly}
+use Rattle.rep_cert.specs.Holdings.{IsAskable, window_of}
+use Rattle.rep_steps.specs.declared.event.Event.{Event}
+use Rattle.rep_steps.specs.declared.answer.Answer.{Answer}
+use Rattle.rep_steps.specs.Moves.{Moves}
+use Rattle.rep_steps.specs.Nodes.{Node, IsNode, Steps, window_at}
+use Rattle.rep_steps.specs.Parts.{part_of}
+use Rattle.rep_steps.specs.Images.{IsFrontAt, IsEndOf, AreJudgedFrom}
+use Rattle.rep_image.specs.Meanings.{Means}
+use Rattle.rep_engine.specs.Holding.{Holds as EngineHolds}
+use Rattle.rep_replica.specs.Replicas.{Replica, facts_of}
+
+-- The replica stands for the node, on an honest device: the items were judged one after another from the base on; the engine has
+-- taken so many of them and stands for the node with those, the others wait; and the certifier's windows from the base on are the
+-- node's.
+pub record Holds {D : Type 0} (honest : D → Type 0) (history : D → History) (failures : D → ℕ) (n : Node) (r : Replica D) : Type 0 where
+  pub running : r.stopped ≡ false
+  pub facts : n.facts ≡ facts_of failures r
+  pub node : IsNode n
+  pub judged : AreJudgedFrom n.facts.setting n.base n.items
+  pub taken : ℕ
+  pub within : taken ≤ length n.items
+  pub engine : EngineHolds honest history failures (part_of r.engine.block taken n) r.engine
+  pub waiting : r.backlog ≡ drop taken n.items
+  pub windows : (k : ℕ) → n.base.position ≤ k → IsAskable r.certifier.current k → window_of r.certifier.current k ≡ window_at n k
+
+-- A step of a replica. On any device the facts move, and with them each refusal comes exactly where it says. A replica that stands
+-- for a node makes a step of that node; and a stop at any moment of it leaves images that mean a front of the node with all that is
+-- durable.
+pub record IsStep {D : Type 0} (honest : D → Type 0) (history : D → History) (failures : D → ℕ) (old : Replica D) (e : Event) (a : Answer) (new : Replica D) : Type 0 where
+  pub moves : Moves (facts_of failures old) e a (facts_of failures new)
+  pub steps : (n : Node) → Holds honest history failures n old → (m : Node) × Steps n e a m × Holds honest history failures m new
+  pub leaves : (n : Node) → Holds honest history failures n old → LeavesOnly (history old.engine.disk) (history new.engine.disk) (IsFrontAt Means n)
+
+-- More is so while it isn't stopped: each image means a front that ends exactly at what is durable, or, where a log's gate is opening,
+-- at that with its block. So what was only delivered, and what was only written, doesn't come back.
+abbrev pub LeavesItsEnds : {D : Type 0} → (D → Type 0) → (D → History) → (D → ℕ) → Replica D → Type 0
+LeavesItsEnds honest history failures r = (n : Node) → Holds honest history failures n r → r.engine.halted ≡ None → (image : List ℕ) → IsImage (history r.engine.disk) image → IsEndOf Means n image

@@ -1,0 +1,47 @@
+-- What a replica holds, on any device: its facts, and what is so of it whatever the device does.
+use Rattle.std.specs.Prelude.{◌≡◌, ℕ, ◌+◌, ◌||◌, Bool, false, is_some, List, ◌++◌, length, refl}
+use Rattle.std.specs.Coded.{Coded, codes, code_by, coded×}
+use Rattle.rep_types.specs.declared.judged.Judged.{Judged}
+use Rattle.rep_cert.specs.Holdings.{Holding, Holdings, IsAskable}
+use Rattle.rep_steps.specs.Standings.{Standing, delivered}
+use Rattle.rep_engine.specs.Engines.{Engine, engine_code, facts_of as engine_facts}
+use Rattle.rep_engine.specs.Accepting.{ComeNext}
+
+-- What a replica holds: the engine, the delivered items that the engine has not accepted, what the certifier holds, and whether
+-- it was stopped from outside.
+pub record Replica (D : Type 0) : Type 0 where
+  pub engine : Engine D
+  pub backlog : List Judged
+  pub certifier : Holdings
+  pub stopped : Bool
+
+-- as numbers
+abbrev pub Rest : Type 0
+Rest = List Judged × (Holdings × Bool)
+
+rest_code : Coded Rest
+rest_code = Prim.hlevel codes
+
+pub replica_code : {D : Type 0} → Coded D → Coded (Replica D)
+replica_code {D} code =
+    code_by (Engine D × Rest) (coded× (engine_code code) rest_code)
+    (λ r. (r.engine, (r.backlog, (r.certifier, r.stopped))))
+    (λ c. record { engine = c.0; backlog = c.1.0; certifier = c.1.1.0; stopped = c.1.1.1 }) (λ _. refl)
+
+-- The facts: those of the engine, with all that was delivered and is not durable ahead; it is stopped where the device failed,
+-- or from outside.
+abbrev pub facts_of : {D : Type 0} → (D → ℕ) → Replica D → Standing
+facts_of failures r = record (engine_facts failures r.engine) { ahead = r.engine.block ++ r.backlog; stopped = r.stopped || is_some r.engine.halted }
+
+-- The items that the engine has not accepted come next there, and the last of them was delivered last.
+pub record GoOn (s : Standing) (backlog : List Judged) (h : Holding) : Type 0 where
+  pub come : ComeNext s backlog
+  pub count : h.delivered ≡ delivered s + length backlog
+
+-- What is so of a replica, whatever the device does, by its engine's facts: the parameters are the certifier's, of which the
+-- window at what is durable can be asked; and unless it was stopped from outside, the engine's items and the others are what was
+-- delivered.
+pub record IsReplica (s : Standing) (backlog : List Judged) (h : Holding) (stopped : Bool) : Type 0 where
+  pub setting : h.setting ≡ s.setting
+  pub askable : IsAskable h s.durable
+  pub items : stopped ≡ false → GoOn s backlog h

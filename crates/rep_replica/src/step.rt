@@ -1,0 +1,207 @@
+//! The steps of a replica.
+
+ghost use Rattle.std.specs.Prelude.{◌≡◌, ◌++◌, ◌||◌, [], None, Err, false, true, is_some, IfErr, OnOk};
+ghost use Rattle.rep_types.specs.declared.refusal.Refusal.TheVariants.{OutOfMemory};
+ghost use Rattle.rep_record.specs.Fronts.{fitting};
+ghost use Rattle.rep_disk.specs.Calls.{IsCall};
+ghost use Rattle.rep_log.specs.Moves.{fault_of};
+ghost use Rattle.rep_steps.specs.declared.event.Event.TheVariants.{Deliver, Log, Sync, Read};
+ghost use Rattle.rep_steps.specs.declared.answer.Answer.TheVariants.{Refused};
+ghost use Rattle.rep_steps.specs.Standings.{delivery_refusal};
+ghost use Rattle.rep_steps.specs.Nodes.{Node};
+ghost use Rattle.rep_engine.specs.Accepting.{is_gathering};
+ghost use Rattle.rep_engine.specs.Holding.{wrote, synced, row};
+ghost use Rattle.rep_replica.specs.Replicas.{facts_of};
+ghost use Rattle.rep_replica.specs.Holding.{Holds, IsStep};
+ghost use Rattle.rep_replica.specs.Running.{Takes, MovesOn, is_checkpoint};
+
+use crate::replica::Replica;
+use rep_disk::Disk;
+use rep_log::Phase;
+use rep_record::fronts_are_determined;
+use rep_steps::{Answer, Event, Replies, nodes_stay_nodes, parts_step_as_the_whole};
+use rep_types::{Judged, Key, MAX_AHEAD, MAX_SEQNO, Refusal, Value, WriteSet};
+
+/// What the log's step answers.
+fn wrote(outcome: Result<(), Refusal>) -> Answer
+    ensures { result ≡ wrote outcome }
+{
+    match outcome {
+        Ok(()) => Answer::Wrote,
+        Err(refusal) => Answer::Refused(refusal),
+    }
+}
+
+/// What a sync answers.
+fn synced(outcome: Result<Replies, Refusal>) -> Answer
+    ensures { result ≡ synced outcome }
+{
+    match outcome {
+        Ok(replies) => Answer::Synced(replies),
+        Err(refusal) => Answer::Refused(refusal),
+    }
+}
+
+/// What a read answers.
+fn row(outcome: Result<Option<Value>, Refusal>) -> Answer
+    ensures { result ≡ row outcome }
+{
+    match outcome {
+        Ok(value) => Answer::Row(value),
+        Err(refusal) => Answer::Refused(refusal),
+    }
+}
+
+impl<D: Disk> Replica<D> {
+    /// Why the item with this seqno is refused.
+    fn delivery_refusal(&self, seqno: u64) -> Option<Refusal>
+        requires { self.now.stopped ≡ false }
+        ensures { result ≡ delivery_refusal (facts_of D.failures self.now) seqno }
+    {
+        if self.engine.uuid().is_nil() {
+            return Some(Refusal::Undefined);
+        }
+        let delivered = self.certifier.delivered();
+        if delivered == MAX_SEQNO {
+            return Some(Refusal::Exhausted);
+        }
+        if seqno != delivered + 1 {
+            return Some(Refusal::OutOfOrder {
+                expected: delivered + 1,
+            });
+        }
+        if delivered - self.engine.durable() >= MAX_AHEAD {
+            return Some(Refusal::Backlogged);
+        }
+        None
+    }
+
+    /// Takes the item with this seqno.
+    fn deliver(&mut self, seqno: u64, item: WriteSet) -> Answer
+        requires running { (self.old.stopped ≡ false) × (self.old.engine.halted ≡ None) }
+        ensures { IsStep D.honest D.history D.failures self.old (Deliver seqno item) result self.new }
+    {
+        nodes_stay_nodes();
+        if let Some(refusal) = self.delivery_refusal(seqno) {
+            return Answer::Refused(refusal);
+        }
+        let Ok((seqno, verdict)) = self.certifier.admit(&item) else {
+            unreachable!();
+        };
+        let judged = Judged {
+            seqno,
+            item,
+            verdict,
+        };
+        if self.backlog.push(judged).is_err() {
+            unreachable!();
+        }
+        Answer::Gave(verdict)
+    }
+
+    /// Lets the engine accept what it takes of the items that wait.
+    fn gather(&mut self) -> Result<(), Refusal>
+        requires running { (self.old.stopped ≡ false) × (self.old.engine.halted ≡ None) }
+        ensures facts { facts_of D.failures self.new ≡ facts_of D.failures self.old }
+        ensures holds { (n : Node) → Holds D.honest D.history D.failures n self.old → Holds D.honest D.history D.failures n self.new }
+        ensures engine { self.new.engine ≡ record (self.old.engine) { kept = self.new.engine.kept; block = self.new.engine.block } }
+        ensures gathered { OnOk result (self.old.engine.log.phase ≡ Phase.Resting → fitting [] self.new.engine.block ≡ fitting [] (self.old.engine.block ++ self.old.backlog)) }
+        ensures running { self.new.stopped ≡ false }
+        ensures refused { IfErr result (λ e. (e ≡ OutOfMemory) × (is_gathering self.old.engine.log.phase ≡ true) × (self.new ≡ self.old)) }
+    {
+        fronts_are_determined();
+        self.engine.accept(&mut self.backlog)?;
+        // Tells the proof what holds of the engine.
+        let _durable = self.engine.durable();
+        Ok(())
+    }
+
+    /// Writes what the log has to write next, of what was delivered.
+    fn log(&mut self) -> Answer
+        requires running { (self.old.stopped ≡ false) × (self.old.engine.halted ≡ None) }
+        ensures { IsStep D.honest D.history D.failures self.old Log result self.new }
+    {
+        parts_step_as_the_whole();
+        nodes_stay_nodes();
+        fronts_are_determined();
+        // Tells the proof what holds of the engine.
+        let _durable = self.engine.durable();
+        if let Some(refusal) = self.engine.due(&self.backlog) {
+            return Answer::Refused(refusal);
+        }
+        if let Err(refusal) = self.gather() {
+            return Answer::Refused(refusal);
+        }
+        wrote(self.engine.log())
+    }
+
+    /// Makes stable what was written.
+    fn sync(&mut self) -> Answer
+        requires running { (self.old.stopped ≡ false) × (self.old.engine.halted ≡ None) }
+        ensures { IsStep D.honest D.history D.failures self.old Sync result self.new }
+    {
+        parts_step_as_the_whole();
+        nodes_stay_nodes();
+        // Tells the proof what holds of the engine.
+        let _durable = self.engine.durable();
+        synced(self.engine.sync())
+    }
+
+    /// What stands under the key in the state after so many items, if anything does. It takes no memory.
+    ///
+    /// Refuses with `Stopped`; with `BadKey` outside the schema; with `NotYet` above what is durable; with
+    /// `TooOld` below the base; with `DiskFault` where the device failed, and then the replica is stopped;
+    /// and with `Corrupt` of the pages where the page that is read is not of its form.
+    pub fn read(&mut self, key: Key, s: u64) -> Result<Option<Value>, Refusal>
+        ensures step { IsStep D.honest D.history D.failures self.old (Read key s) (row result) self.new }
+        // The device is asked at most, and nothing else changes but whether it is stopped.
+        ensures call { IsCall D.size D.failures D.honest self.old.engine.disk self.new.engine.disk (fault_of result) }
+        ensures rest { self.new ≡ record (self.old) { engine = record (self.old.engine) { disk = self.new.engine.disk; halted = self.new.engine.halted } } }
+        ensures same { D.honest self.old.engine.disk → D.history self.new.engine.disk ≡ D.history self.old.engine.disk }
+        // Where it is stopped, nothing changes.
+        ensures stopped { (self.old.stopped || is_some self.old.engine.halted) ≡ true → (result ≡ Err Refusal.Stopped) × (self.new ≡ self.old) }
+    {
+        parts_step_as_the_whole();
+        nodes_stay_nodes();
+        if self.is_stopped() {
+            return Err(Refusal::Stopped);
+        }
+        self.engine.read(key, s)
+    }
+
+    /// Does one step, and answers what came of it.
+    ///
+    /// - `Deliver` gives the verdict on the item. It is refused, in this order, with `Undefined` where the node
+    ///   belongs to no cluster, `Exhausted` where no seqno is left, `OutOfOrder` where the seqno is not the next
+    ///   one, and `Backlogged` where 256 items are delivered and not durable.
+    /// - `Log` writes the next thing: the closed gate of a stale cell, a block of the longest front of the items
+    ///   that are not durable which fits (64 records, 7,662 bytes), and, once that is stable, the open gate behind
+    ///   it. It is refused with `NotDue` where there is no such item or what was written awaits its sync, with
+    ///   `LogFull` where the next cell is still needed, with `OutOfMemory`, and with `DiskFault`.
+    /// - `Sync` makes stable what was written. After an open gate it makes the block durable, and
+    ///   replies to the items' origins. It is refused with `DiskFault`.
+    /// - `Check` and `Flush` are refused with `NotDue`: no checkpoint is made yet.
+    /// - `Read` gives the row of the key after the first `s` items. It is refused, in this order, with
+    ///   `BadKey` outside the schema, `NotYet` above what is durable, `TooOld` below the base, `DiskFault`, and
+    ///   `Corrupt` where the page that it reads is not of its form.
+    ///
+    /// A refused step changes nothing, but that after `DiskFault` it is stopped: every event is then refused with
+    /// `Stopped`.
+    pub fn step(&mut self, event: Event) -> Answer
+        ensures moves { MovesOn (facts_of D.failures self.old) event result (facts_of D.failures self.new) }
+        ensures takes { Takes (is_checkpoint event) (self.old.stopped || is_some self.old.engine.halted) self.old result self.new (IsStep D.honest D.history D.failures self.old event result self.new) }
+        // Where it is stopped, nothing changes.
+        ensures stopped { (self.old.stopped || is_some self.old.engine.halted) ≡ true → (result ≡ Refused Refusal.Stopped) × (self.new ≡ self.old) }
+    {
+        if self.is_stopped() {
+            return Answer::Refused(Refusal::Stopped);
+        }
+        match event {
+            Event::Deliver(seqno, item) => self.deliver(seqno, item),
+            Event::Log => self.log(),
+            Event::Sync => self.sync(),
+            Event::Check | Event::Flush(_) => Answer::Refused(Refusal::NotDue),
+            Event::Read(key, s) => row(self.read(key, s)),
+        }
+    }
+}

@@ -1,0 +1,145 @@
+-- A read of a replica forgets nothing of the order, and answers its rows.
+use Rattle.std.specs.Prelude.{◌≡◌, ℕ, ◌||◌, Bool, true, false, is_some, List, length, take, Option, Some, None, Result, Ok, Err, refl}
+use Rattle.std.proofs.Common.{sym, ap, subst, ◌∙◌}
+use Rattle.std.proofs.lemmas.List.{take-take}
+use Rattle.rep_types.specs.declared.key.Key.{Key}
+use Rattle.rep_types.specs.declared.refusal.Refusal.{Refusal}
+use Rattle.rep_types.specs.declared.refusal.Refusal.TheVariants.{Stopped}
+use Rattle.rep_types.specs.Settings.{Setting}
+use Rattle.rep_types.specs.Order.{Order, read, rows}
+use Rattle.rep_disk.specs.History.{History, stable, IsImage}
+use Rattle.rep_cells.specs.Known.{Assigns}
+use Rattle.rep_log.specs.declared.phase.Phase.{Phase}
+use Rattle.rep_steps.specs.Standings.{Standing, IsStanding}
+use Rattle.rep_steps.specs.Nodes.{Node, IsNode}
+use Rattle.rep_steps.specs.Parts.{part_of}
+use Rattle.rep_steps.specs.Images.{IsFrontAt}
+use Rattle.rep_image.specs.Meanings.{Means}
+use Rattle.rep_image.specs.Standing.{StandsAs}
+use Rattle.rep_engine.specs.Engines.{Engine}
+use Rattle.rep_engine.specs.Holding.{Stands, Holds as EngineHolds}
+use Rattle.rep_replica.specs.Replicas.{Replica}
+use Rattle.rep_replica.specs.Holding.{Holds}
+use Rattle.rep_session.specs.Rows.{running, IsRead, AreOf}
+
+-- ---- a device that was asked differs in its count of failures
+
+abbrev counted : ℕ → Standing → Standing
+counted failures s = record s { failures = failures }
+
+abbrev recounted : ℕ → Node → Node
+recounted failures n = record n { facts = counted failures n.facts }
+
+standing_still : (f : ℕ) (s : Standing) → IsStanding s → IsStanding (counted f s)
+standing_still f s h = record {
+  allowed = h.allowed;
+  undefined = h.undefined;
+  based = h.based;
+  near = h.near;
+  limit = h.limit;
+  block = h.block;
+  few = h.few;
+  started = h.started;
+  room = h.room;
+  goal = h.goal;
+}
+
+node_still : (f : ℕ) (n : Node) → IsNode n → IsNode (recounted f n)
+node_still f n h = record { facts = standing_still f n.facts h.facts; position = h.position; enough = h.enough; ahead = h.ahead }
+
+front_still : (f : ℕ) (n : Node) (image : List ℕ) → IsFrontAt Means n image → IsFrontAt Means (recounted f n) image
+front_still f n image h = record { meaning = h.meaning; reads = h.reads; end = h.end; least = h.least; front = h.front }
+
+-- the engine with this device in place of its own
+abbrev upon : {D : Type 0} → D → Engine D → Engine D
+upon disk e = record e { disk = disk; halted = None }
+
+abbrev on_disk : {D : Type 0} → D → Replica D → Replica D
+on_disk disk r = record r { engine = upon disk r.engine; stopped = false }
+
+module _ {D : Type 0} (honest : D → Type 0) (history : D → History) (failures : D → ℕ) (old new : D) (is_honest : honest old) (same : history new ≡ history old) where
+  stands_still : (n : Node) (e : Engine D) → Stands history n (upon new e) → Stands history (recounted (failures old) n) (upon old e)
+  stands_still n e h = record {
+    states = h.states;
+    assigns = subst (λ (past : History). Assigns e.layout past h.states) same h.assigns;
+    blocks = h.blocks;
+    sealed = h.sealed;
+    stands =
+        let at = subst (λ (past : History). StandsAs n (length (stable past)) e.superblock e.log h.blocks h.sealed h.states) same h.stands in
+        record { stands = at.stands; phase = at.phase; durable = at.durable; coming = at.coming; judged = at.judged; undefined = at.undefined };
+    versions = h.versions;
+    gates = h.gates;
+  }
+
+  engine_still : (n : Node) (e : Engine D) → EngineHolds honest history failures n (upon new e) → EngineHolds honest history failures (recounted (failures old) n) (upon old e)
+  engine_still n e h = record {
+    is_honest = is_honest;
+    facts = ap (counted (failures old)) h.facts;
+    node = node_still (failures old) n h.node;
+    runs = λ none. stands_still n e (h.runs refl);
+    images = λ image is. front_still (failures old) n image (h.images image (subst (λ (past : History). IsImage past image) (sym same) is));
+  }
+
+  holds_still : (n : Node) (r : Replica D) → Holds honest history failures n (on_disk new r) → Holds honest history failures (recounted (failures old) n) (on_disk old r)
+  holds_still n r h = record {
+    running = refl;
+    facts = ap (counted (failures old)) h.facts;
+    node = node_still (failures old) n h.node;
+    judged = h.judged;
+    taken = h.taken;
+    within = h.within;
+    engine = engine_still (part_of r.engine.block h.taken n) r.engine h.engine;
+    waiting = h.waiting;
+    windows = h.windows;
+  }
+
+  are_still : (r : Replica D) (p : Setting) (L : Order) → AreOf honest history failures (on_disk new r) p L → AreOf honest history failures (on_disk old r) p L
+  are_still r p L h = record {
+    node = recounted (failures old) h.node;
+    order = h.order;
+    holds = holds_still h.node r h.holds;
+    is_of = record { within = h.is_of.within; base = h.is_of.base; items = h.is_of.items };
+    setting = h.setting;
+    durable = h.durable;
+  }
+
+-- ---- the laws of rows
+
+module _ {D : Type 0} (size failures : D → ℕ) (honest : D → Type 0) (history : D → History) where
+  -- of a stopped replica it is said as of the same one that runs
+  as_running : (r : Replica D) (p : Setting) (L : Order) → AreOf honest history failures r p L → AreOf honest history failures (running r) p L
+  as_running r p L h = record { node = h.node; order = h.order; holds = h.holds; is_of = h.is_of; setting = h.setting; durable = h.durable }
+
+  as_stopped : (r : Replica D) (p : Setting) (L : Order) → AreOf honest history failures (running r) p L → AreOf honest history failures r p L
+  as_stopped r p L h = record { node = h.node; order = h.order; holds = h.holds; is_of = h.is_of; setting = h.setting; durable = h.durable }
+
+  -- an order that the replica is of behind a read is one that it was of before
+  pub read_forgets_nothing : (a b : Replica D) (key : Key) (s : ℕ) (answer : Result (Option (List ℕ)) Refusal) (p : Setting) (L : Order) → IsRead size failures honest history a key s answer b → AreOf honest history failures b p L → AreOf honest history failures a p L
+  read_forgets_nothing a b key s answer p L h of =
+      let new = b.engine.disk in
+      let old = a.engine.disk in
+      let was_honest : honest old = h.call.was_honest of.holds.engine.is_honest in
+      let then : AreOf honest history failures (running b) p L = as_running b p L of in
+      let moved : AreOf honest history failures (on_disk new a) p L = subst (λ (r : Replica D). AreOf honest history failures (running r) p L) h.rest then in
+      as_stopped a p L (are_still honest history failures old new was_honest (h.same was_honest) a p L moved)
+
+  -- where a row is answered, it runs
+  runs : (a : Replica D) (stopped : Bool) (halted : Option Phase) → a.stopped ≡ stopped → a.engine.halted ≡ halted → ((stopped || is_some halted) ≡ true → ⊥) → running a ≡ a
+  runs a true halted is_stopped is_halted never = absurd (never refl)
+  runs a false (Some phase) is_stopped is_halted never = absurd (never refl)
+  runs a false None is_stopped is_halted never = ap (λ (stopped : Bool). record a { engine = record a.engine { halted = None }; stopped = stopped }) (sym is_stopped) ∙ ap (λ (halted : Option Phase). record a { engine = record a.engine { halted = halted } }) (sym is_halted)
+
+  -- a row that it answers is the row of each order that begins with what is durable there
+  pub read_is_of_the_order : (a b : Replica D) (key : Key) (s : ℕ) (row : Option (List ℕ)) (p : Setting) (L : Order) → IsRead size failures honest history a key s (Ok row) b → AreOf honest history failures b p L → row ≡ read p L key s
+  read_is_of_the_order a b key s row p L h behind =
+      let of : AreOf honest history failures a p L = read_forgets_nothing a b key s (Ok row) p L h behind in
+      let same : running a ≡ a = runs a a.stopped a.engine.halted refl refl (λ stopped. never (h.stopped stopped).0) in
+      let holds : Holds honest history failures of.node a = subst (Holds honest history failures of.node) same of.holds in
+      let found = h.follows of.node of.order row holds of.is_of refl in
+      let d = of.node.facts.durable in
+      let front : (K : Order) → take s (take d K) ≡ take s K = λ K. take-take s d K found.0 in
+      let items : take s of.order ≡ take s L = sym (front of.order) ∙ ap (take s) (sym of.durable) ∙ front L in
+      found.1 ∙ ap (λ (K : Order). rows of.node.facts.setting K key) items ∙ ap (λ (q : Setting). rows q (take s L) key) of.setting
+    where
+      never : (let answer : Result (Option (List ℕ)) Refusal = Ok row in answer ≡ Err Stopped) → ⊥
+      never e = cc
