@@ -8,3 +8,4 @@ pub mod Reading
 pub mod Flushing
 pub mod Apart
 pub mod Facts
+pub mod Leaving

@@ -5,3 +5,4 @@ pub mod States
 pub mod Calls
 pub mod Pages
 pub mod Laws
+pub mod Nodes

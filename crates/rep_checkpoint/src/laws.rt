@@ -1,8 +1,10 @@
 //! Laws of the checkpoint, each as the contract of a function that does nothing.
 
+ghost use Rattle.rep_checkpoint.specs.Nodes.{NodesLeaveTheirEnds, NodesLeaveTheirFronts};
 ghost use Rattle.rep_checkpoint.specs.Laws.{TheBaseInEveryImage, TheBaseStandsStill, TheBaseIsFound, TheLogIsApart, TheCheckpointIsApart, TheStageIsTheFacts};
 
 use rep_layout::turns_are_taken;
+use rep_log::the_log_in_every_image;
 
 /// In every image, so after a stop, the base is the one that stands, or the next one while its superblock's gate
 /// opens; and it is whole: superblock, window and pages.
@@ -36,3 +38,21 @@ pub fn the_checkpoint_is_apart()
 pub fn the_stage_is_the_facts()
     ensures { TheStageIsTheFacts }
 {}
+
+/// Where a node stands on a device, whether a checkpoint is under way or not, every image means a front of it
+/// that ends exactly at what is durable, or, while the gate of a block is opening, at that with the whole block:
+/// nothing else that was delivered. While a superblock's gate opens, the base of what an image means is the old
+/// one or the next one.
+pub fn nodes_leave_their_ends()
+    ensures { NodesLeaveTheirEnds }
+{
+    the_base_in_every_image();
+    the_log_in_every_image();
+}
+
+/// Where a node so stands, every image means a front of it that has what is durable.
+pub fn nodes_leave_their_fronts()
+    ensures { NodesLeaveTheirFronts }
+{
+    nodes_leave_their_ends();
+}

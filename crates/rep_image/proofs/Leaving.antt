@@ -5,48 +5,47 @@ use Rattle.std.proofs.lemmas.List.{length-drop}
 use Rattle.rep_types.specs.declared.judged.Judged.{Judged}
 use Rattle.rep_types.specs.Settings.{Setting}
 use Rattle.rep_types.specs.Order.{State}
-use Rattle.rep_layout.specs.declared.super_body.SuperBody.{SuperBody}
+use Rattle.rep_log.specs.declared.phase.Phase.{Phase}
 use Rattle.rep_log.specs.declared.phase.Phase.TheVariants.{Opening}
-use Rattle.rep_cells.specs.States.{States}
 use Rattle.rep_log.specs.Tail.{records_of}
-use Rattle.rep_log.specs.Standing.{Standing}
 use Rattle.rep_log.specs.Laws.{MayHold}
 use Rattle.rep_steps.specs.Standings.{underway}
 use Rattle.rep_steps.specs.Nodes.{Node, IsNode, advanced}
 use Rattle.rep_steps.specs.Images.{AreJudgedFrom, Ends}
-use Rattle.rep_image.specs.Standing.{StandsAs, ImagesMeanWhatStands, NodesLeaveTheirEnds, NodesLeaveTheirFronts, with_blocks, base_of}
+use Rattle.rep_image.specs.Standing.{ImagesMeanWhatStands, NodesLeaveTheirEnds, NodesLeaveTheirFronts, with_blocks, base_of}
 
 -- the first items are judged too
-first_judged : (p : Setting) (S : State) (k : ℕ) (js : List Judged) → AreJudgedFrom p S js → AreJudgedFrom p S (take k js)
+pub first_judged : (p : Setting) (S : State) (k : ℕ) (js : List Judged) → AreJudgedFrom p S js → AreJudgedFrom p S (take k js)
 first_judged p S zero js h = tt
 first_judged p S (suc k) [] h = tt
 first_judged p S (suc k) (j ∷ js) h = (h.0, h.1, first_judged p (advanced p S j) k js h.2)
 
-records-append : (blocks more : List (List Judged)) → records_of (blocks ++ more) ≡ records_of blocks ++ records_of more
+pub records-append : (blocks more : List (List Judged)) → records_of (blocks ++ more) ≡ records_of blocks ++ records_of more
 records-append [] more = refl
 records-append (block ∷ blocks) more = ap (λ js. block ++ js) (records-append blocks more) ∙ sym (append_assoc block (records_of blocks) (records_of more))
 
 -- what the log may hold are the first items, up to an end
-record HeldEnds (n : Node) (held : List (List Judged)) : Type 0 where
-  end : ℕ
-  ends : Ends n end
-  least : n.facts.durable ≤ end
-  most : end ≤ n.facts.base + length n.items
-  items : records_of held ≡ take (end - n.facts.base) n.items
+pub record HeldEnds (n : Node) (held : List (List Judged)) : Type 0 where
+  pub end : ℕ
+  pub ends : Ends n end
+  pub least : n.facts.durable ≤ end
+  pub most : end ≤ n.facts.base + length n.items
+  pub items : records_of held ≡ take (end - n.facts.base) n.items
 
-module _ (n : Node) (size : ℕ) (b : SuperBody) (log : Standing) (blocks : List (List Judged)) (sealed : List Judged) (s : States) (h : IsNode n) (stands : StandsAs n size b log blocks sealed s) where
-  ends : (held : List (List Judged)) → MayHold log.phase blocks sealed held → HeldEnds n held
-  ends held (inl same) = record { end = n.facts.durable; ends = inl refl; least = omega arith; most = h.enough; items = ap records_of same ∙ stands.durable }
-  ends held (inr more) =
+module _ (n : Node) (phase : Phase) (blocks : List (List Judged)) (sealed : List Judged) (h : IsNode n) (same : phase ≡ n.facts.phase)
+    (durable : records_of blocks ≡ take (n.facts.durable - n.facts.base) n.items) (coming : sealed ≡ take (underway n.facts.phase) n.facts.ahead) where
+  pub held_ends : (held : List (List Judged)) → MayHold phase blocks sealed held → HeldEnds n held
+  held_ends held (inl is) = record { end = n.facts.durable; ends = inl refl; least = omega arith; most = h.enough; items = ap records_of is ∙ durable }
+  held_ends held (inr more) =
       let k = more.0 in
-      let phase : n.facts.phase ≡ Opening k = sym stands.phase ∙ more.1 in
+      let phase : n.facts.phase ≡ Opening k = sym same ∙ more.1 in
       let count : underway n.facts.phase ≡ k = ap underway phase in
       let block : k ≤ length n.facts.ahead = subst (λ i. i ≤ length n.facts.ahead) count h.facts.block in
       let past = n.facts.durable - n.facts.base in
-      let coming : sealed ≡ take k (drop past n.items) = stands.coming ∙ ap (λ i. take i n.facts.ahead) count ∙ ap (take k) h.ahead in
+      let rest : sealed ≡ take k (drop past n.items) = coming ∙ ap (λ i. take i n.facts.ahead) count ∙ ap (take k) h.ahead in
       let all : records_of held ≡ take (past + k) n.items =
       ap records_of more.2 ∙ records-append blocks (sealed ∷ []) ∙ ap (λ js. records_of blocks ++ js) (append-nil sealed)
-      ∙ ap (λ js. js ++ sealed) stands.durable ∙ ap (λ js. take past n.items ++ js) coming ∙ sym (take-add past k n.items) in
+      ∙ ap (λ js. js ++ sealed) durable ∙ ap (λ js. take past n.items ++ js) rest ∙ sym (take-add past k n.items) in
       record {
         end = n.facts.durable + k;
         ends = inr (k, phase, refl);
@@ -59,7 +58,7 @@ pub leave_ends : ImagesMeanWhatStands → NodesLeaveTheirEnds
 leave_ends law image n b log blocks sealed s h stands allowed =
     let means = law image b (base_of n) log blocks sealed s stands.stands allowed in
     let held = means.0 in
-    let e = ends n (length image) b log blocks sealed s h stands held means.1 in
+    let e = held_ends n log.phase blocks sealed h stands.phase stands.durable stands.coming held means.1 in
     let judged : AreJudgedFrom n.facts.setting n.base (records_of held) = rw (e.items) (first_judged n.facts.setting n.base (e.end - n.facts.base) n.items stands.judged) in
     record {
       meaning = with_blocks (base_of n) held;
@@ -78,7 +77,7 @@ leave_ends law image n b log blocks sealed s h stands allowed =
     }
 
 -- such an end has what is durable
-least_end : (n : Node) (end : ℕ) → Ends n end → n.facts.durable ≤ end
+pub least_end : (n : Node) (end : ℕ) → Ends n end → n.facts.durable ≤ end
 least_end n end (inl same) = omega (arith, same)
 least_end n end (inr more) = omega (arith, more.2)
 
