@@ -15,7 +15,8 @@ use Rattle.rep_log.specs.Laws.{MayHold, HoldsFrom, TheLogInEveryImage}
 use Rattle.rep_steps.specs.Nodes.{Node, IsNode, advanced, reached}
 use Rattle.rep_steps.specs.Images.{Meaning, AreJudgedFrom, IsEndOf}
 use Rattle.rep_image.specs.Meanings.{Means}
-use Rattle.rep_image.proofs.Leaving.{first_judged, HeldEnds, held_ends, least_end}
+use Rattle.rep_steps.proofs.Judging.{first_judged, later_judged}
+use Rattle.rep_image.proofs.Leaving.{HeldEnds, held_ends, least_end}
 use Rattle.rep_checkpoint.specs.declared.stage.Part.TheVariants.{SuperOpening}
 use Rattle.rep_checkpoint.specs.declared.stage.Stage.{Stage}
 use Rattle.rep_checkpoint.specs.declared.stage.Stage.TheVariants.{Toward}
@@ -26,12 +27,6 @@ use Rattle.rep_checkpoint.specs.Laws.{HasBase, TheBaseInEveryImage}
 use Rattle.rep_checkpoint.specs.Nodes.{IsLedTo, StandsAs, NodesLeaveTheirEnds, NodesLeaveTheirFronts}
 
 -- ---- of items and blocks
-
--- the later items are judged from the state behind the first
-later_judged : (p : Setting) (S : State) (k : ℕ) (js : List Judged) → AreJudgedFrom p S js → AreJudgedFrom p (reached p S (take k js)) (drop k js)
-later_judged p S zero js h = h
-later_judged p S (suc k) [] h = tt
-later_judged p S (suc k) (j ∷ js) h = later_judged p (advanced p S j) k js h.2
 
 -- the seqno behind some blocks counts their records
 seqno_counts : (seqno : ℕ) (blocks : List (List Judged)) → seqno_after seqno blocks ≡ seqno + length (records_of blocks)

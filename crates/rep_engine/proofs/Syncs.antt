@@ -1,5 +1,5 @@
 -- A sync of an engine that stands for a node.
-use Rattle.std.proofs.Common.{◌≡◌, inl, inr, ℕ, ◌+◌, ◌-◌, ◌≤◌, ◌<◌, ◌%◌, Bool, true, false, List, [], ◌∷◌, ◌++◌, append_assoc, append-nil, length, take, drop, map, get_or, cond, eqb, get_or-set_same, get_or-set_other, Option, None, Some, Result, Ok, Err, refl, sym, ap, subst, ◌∙◌, arith, OnOk}
+use Rattle.std.proofs.Common.{◌≡◌, inl, inr, ℕ, ◌+◌, ◌-◌, ◌≤◌, ◌<◌, ◌%◌, Bool, true, false, List, [], ◌∷◌, ◌++◌, append-nil, length, take, drop, map, get_or, cond, eqb, get_or-set_same, get_or-set_other, Option, None, Some, Result, Ok, Err, refl, sym, ap, subst, ◌∙◌, arith, OnOk}
 use Rattle.std.specs.Prelude.{is_some, slice_set, IsOk}
 use Rattle.std.proofs.lemmas.Bool.{eqb-true}
 use Rattle.std.proofs.lemmas.Bool.Decides.{nat_tests}
@@ -40,6 +40,7 @@ use Rattle.rep_cells.specs.Laws.{ImagesReadAsAllowed}
 use Rattle.rep_versions.specs.Following.{AreVersionsOf, effect_of}
 use Rattle.rep_image.specs.Bases.{other, HaveContent}
 use Rattle.rep_image.specs.Standing.{IsBaseAt, StandsAs, NodesLeaveTheirFronts}
+use Rattle.rep_image.proofs.Leaving.{records-append}
 use Rattle.rep_disk.specs.declared.disk.DiskFault.{DiskFault as Fault}
 use Rattle.rep_disk.specs.Calls.{IsCall, Rises}
 use Rattle.rep_disk.specs.Moments.{LeavesOnly}
@@ -98,10 +99,6 @@ log_synced l log first blocks sealed t Closing e is = is
 log_synced l log first blocks sealed t (Filling n) e is = is
 log_synced l log first blocks sealed t (Filled n) e is = is
 log_synced l log first blocks sealed t (Opening n) e is = resealed l (synced_in log (Opening n)) first (blocks ++ sealed ∷ []) sealed t refl is
-
-records-append : (blocks more : List (List Judged)) → records_of (blocks ++ more) ≡ records_of blocks ++ records_of more
-records-append [] more = refl
-records-append (block ∷ blocks) more = ap (λ js. block ++ js) (records-append blocks more) ∙ sym (append_assoc block (records_of blocks) (records_of more))
 
 -- the durable items
 records_synced : (phase : Phase) (blocks : List (List Judged)) (sealed items ahead : List Judged) (past : ℕ) → records_of blocks ≡ take past items → ahead ≡ drop past items → sealed ≡ take (underway phase) ahead

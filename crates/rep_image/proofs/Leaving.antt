@@ -12,13 +12,8 @@ use Rattle.rep_log.specs.Laws.{MayHold}
 use Rattle.rep_steps.specs.Standings.{underway}
 use Rattle.rep_steps.specs.Nodes.{Node, IsNode, advanced}
 use Rattle.rep_steps.specs.Images.{AreJudgedFrom, Ends}
+use Rattle.rep_steps.proofs.Judging.{first_judged}
 use Rattle.rep_image.specs.Standing.{ImagesMeanWhatStands, NodesLeaveTheirEnds, NodesLeaveTheirFronts, with_blocks, base_of}
-
--- the first items are judged too
-pub first_judged : (p : Setting) (S : State) (k : ℕ) (js : List Judged) → AreJudgedFrom p S js → AreJudgedFrom p S (take k js)
-first_judged p S zero js h = tt
-first_judged p S (suc k) [] h = tt
-first_judged p S (suc k) (j ∷ js) h = (h.0, h.1, first_judged p (advanced p S j) k js h.2)
 
 pub records-append : (blocks more : List (List Judged)) → records_of (blocks ++ more) ≡ records_of blocks ++ records_of more
 records-append [] more = refl

@@ -88,7 +88,7 @@ module _ {D : Type 0} (honest : D → Type 0) (history : D → History) (failure
     pub steps : (n : Node) → EngineHolds honest history failures n old → (m : Node) × Steps n e a m × EngineHolds honest history failures m new
     pub leaves : (n : Node) → EngineHolds honest history failures n old → LeavesOnly (history old.disk) (history new.disk) (IsFrontAt Means n)
 
-  module _ (stay : NodesStayNodes) (old new : Replica D) (e : Event) (a : Answer) (super : new.engine.superblock ≡ old.engine.superblock) (backlog : new.backlog ≡ old.backlog) (certifier : new.certifier ≡ old.certifier) (stopped : new.stopped ≡ old.stopped) where
+  module _ (stay : NodesStayNodes) (old new : Replica D) (e : Event) (a : Answer) (params : new.engine.superblock.params ≡ old.engine.superblock.params) (backlog : new.backlog ≡ old.backlog) (certifier : new.certifier ≡ old.certifier) (stopped : new.stopped ≡ old.stopped) where
     pub widened_step : Moves (facts_of failures old) e a (facts_of failures new) → EngineSteps e a old.engine new.engine
         → ((n part : Node) (holds : Holds honest history failures n old) → Steps (part_of old.engine.block holds.taken n) e a part → Widens n part e a holds.taken)
         → IsStep honest history failures old e a new
@@ -96,7 +96,7 @@ module _ {D : Type 0} (honest : D → Type 0) (history : D → History) (failure
       moves = moves;
       steps = λ n holds.
           let to = engine.steps (part_of old.engine.block holds.taken n) holds.engine in
-          widened honest history failures stay old new n holds e a to.0 (lift n to.0 holds to.1) to.2 super backlog certifier stopped;
+          widened honest history failures stay old new n holds e a to.0 (lift n to.0 holds to.1) to.2 params backlog certifier stopped;
       leaves = λ n holds. leaves_whole n old.engine.block holds.taken (history old.engine.disk) (history new.engine.disk) (engine.leaves (part_of old.engine.block holds.taken n) holds.engine);
     }
 
@@ -112,7 +112,7 @@ module _ {D : Type 0} (honest : D → Type 0) (history : D → History) (failure
           subst (λ (s : Standing). Moves s e a (facts_of failures new)) (sym (running_facts failures old running))
           (subst (Moves (with_ahead (old.engine.block ++ old.backlog) (engine_facts failures old.engine)) e a) (sym (running_facts failures new runs_on)) m)
 
-  module _ (stay : NodesStayNodes) (parts : PartsStepAsTheWhole) (old new : Replica D) (a : Answer) (super : new.engine.superblock ≡ old.engine.superblock) (backlog : new.backlog ≡ old.backlog) (certifier : new.certifier ≡ old.certifier) (stopped : new.stopped ≡ old.stopped)
+  module _ (stay : NodesStayNodes) (parts : PartsStepAsTheWhole) (old new : Replica D) (a : Answer) (params : new.engine.superblock.params ≡ old.engine.superblock.params) (backlog : new.backlog ≡ old.backlog) (certifier : new.certifier ≡ old.certifier) (stopped : new.stopped ≡ old.stopped)
       (running : old.stopped ≡ false) where
     -- the log, where the next block would take no more
     pub log_step : new.engine.block ≡ old.engine.block → EngineSteps Log a old.engine new.engine
@@ -123,8 +123,8 @@ module _ {D : Type 0} (honest : D → Type 0) (history : D → History) (failure
         let same : new.engine.block ++ new.backlog ≡ ahead = ap (λ (xs : List Judged). xs ++ new.backlog) block ∙ ap (λ (ys : List Judged). old.engine.block ++ ys) backlog in
         let moves : Moves (with_ahead ahead (engine_facts failures old.engine)) Log a (with_ahead ahead (engine_facts failures new.engine)) =
         parts.log_moves (engine_facts failures old.engine) (engine_facts failures new.engine) a ahead full engine.moves in
-        widened_step stay old new Log a super backlog certifier stopped
-        (lift_facts stay old new Log a super backlog certifier stopped parts running engine
+        widened_step stay old new Log a params backlog certifier stopped
+        (lift_facts stay old new Log a params backlog certifier stopped parts running engine
         (subst (λ (xs : List Judged). Moves (with_ahead ahead (engine_facts failures old.engine)) Log a (with_ahead xs (engine_facts failures new.engine))) (sym same) moves))
         engine
         (λ n part holds steps. parts.log n part old.engine.block holds.taken a
@@ -136,11 +136,11 @@ module _ {D : Type 0} (honest : D → Type 0) (history : D → History) (failure
     sync_step told engine =
         let moves : Moves (with_ahead (old.engine.block ++ old.backlog) (engine_facts failures old.engine)) Sync a (with_ahead (new.engine.block ++ old.backlog) (engine_facts failures new.engine)) =
         parts.sync_moves (engine_facts failures old.engine) (engine_facts failures new.engine) a old.backlog told engine.moves in
-        widened_step stay old new Sync a super backlog certifier stopped
-        (lift_facts stay old new Sync a super backlog certifier stopped parts running engine
+        widened_step stay old new Sync a params backlog certifier stopped
+        (lift_facts stay old new Sync a params backlog certifier stopped parts running engine
         (subst (λ (xs : List Judged). Moves (with_ahead (old.engine.block ++ old.backlog) (engine_facts failures old.engine)) Sync a (with_ahead (new.engine.block ++ xs) (engine_facts failures new.engine))) (sym backlog) moves))
         engine
-        (λ n part holds steps. parts.sync n part old.engine.block old.backlog holds.taken a (ap (λ (s : Standing). s.ahead) holds.facts) (still n holds)
+        (λ n part holds steps. parts.sync n part old.engine.block old.backlog holds.taken a (ap (λ (s : Standing). s.ahead) holds.facts) (omega (arith, still n holds))
         (subst (λ phase. opening phase ≤ length old.engine.block) (sym (ap (λ (s : Standing). s.phase) holds.facts)) told) steps)
       where
         none_passed : (base : ℕ) (both : Bool) → base_after base (stage_of both) - base ≡ 0
@@ -157,8 +157,8 @@ module _ {D : Type 0} (honest : D → Type 0) (history : D → History) (failure
         let same : new.engine.block ++ new.backlog ≡ ahead = ap (λ (xs : List Judged). xs ++ new.backlog) block ∙ ap (λ (ys : List Judged). old.engine.block ++ ys) backlog in
         let moves : Moves (with_ahead ahead (engine_facts failures old.engine)) (Read key at) a (with_ahead ahead (engine_facts failures new.engine)) =
         parts.read_moves (engine_facts failures old.engine) (engine_facts failures new.engine) key at a ahead engine.moves in
-        widened_step stay old new (Read key at) a super backlog certifier stopped
-        (lift_facts stay old new (Read key at) a super backlog certifier stopped parts running engine
+        widened_step stay old new (Read key at) a params backlog certifier stopped
+        (lift_facts stay old new (Read key at) a params backlog certifier stopped parts running engine
         (subst (λ (xs : List Judged). Moves (with_ahead ahead (engine_facts failures old.engine)) (Read key at) a (with_ahead xs (engine_facts failures new.engine))) (sym same) moves))
         engine
         (λ n part holds steps. parts.read n part old.engine.block holds.taken key at a holds.node.position (near n holds) steps)

@@ -1,13 +1,13 @@
 -- A step of what the engine has taken, as a step of the replica.
 use Rattle.std.proofs.Common.{◌≡◌, ◌⊎◌, inl, inr, ℕ, ◌+◌, ◌-◌, ◌≤◌, false, List, ◌++◌, length, length-append, length-drop, take, drop, sym, ap, subst, ◌∙◌, arith}
 use Rattle.std.specs.Prelude.{◌||◌, is_some}
-use Rattle.std.proofs.lemmas.List.{take-append-drop, take-append-le, drop-append-le, length-take-le}
+use Rattle.std.proofs.Math.Seq.{take-add}
+use Rattle.std.proofs.lemmas.List.{take-append-drop, take-append-le, drop-append-le, drop-drop, length-take-le}
 use Rattle.rep_types.specs.declared.judged.Judged.{Judged}
 use Rattle.rep_types.specs.Settings.{Setting}
 use Rattle.rep_types.specs.Order.{State}
 use Rattle.rep_disk.specs.History.{History}
 use Rattle.rep_disk.specs.Moments.{LeavesOnly}
-use Rattle.rep_layout.specs.declared.super_body.SuperBody.{SuperBody}
 use Rattle.rep_cert.specs.Holdings.{Holdings, IsAskable, window_of}
 use Rattle.rep_steps.specs.declared.event.Event.{Event}
 use Rattle.rep_steps.specs.declared.answer.Answer.{Answer}
@@ -16,6 +16,8 @@ use Rattle.rep_steps.specs.Nodes.{Node, IsNode, Steps, NodesStayNodes, reached, 
 use Rattle.rep_steps.specs.Parts.{with_ahead, part_of, Widens}
 use Rattle.rep_steps.specs.Images.{Meaning, IsFront, IsFrontAt, IsEndOf, AreJudgedFrom}
 use Rattle.rep_image.specs.Meanings.{Means}
+use Rattle.rep_steps.proofs.Reaching.{reached_both, reached_position}
+use Rattle.rep_steps.proofs.Judging.{later_judged}
 use Rattle.rep_engine.specs.Engines.{facts_of as engine_facts}
 use Rattle.rep_engine.specs.Holding.{Holds as EngineHolds}
 use Rattle.rep_replica.specs.Replicas.{Replica, facts_of}
@@ -39,24 +41,41 @@ ahead_of n block q node part within =
 -- ---- the node
 
 module _ {D : Type 0} (honest : D → Type 0) (history : D → History) (failures : D → ℕ) (stay : NodesStayNodes) (old new : Replica D) (n : Node) (holds : Holds honest history failures n old) where
+  -- the windows from the later base on are those from the one before
+  same_window : (to : Node) (past : ℕ) → to.facts.setting ≡ n.facts.setting → to.base ≡ reached n.facts.setting n.base (take past n.items) → to.items ≡ drop past n.items → past ≤ length n.items
+      → (k : ℕ) → to.base.position ≤ k → window_at to k ≡ window_at n k
+  same_window to past setting base items few k le =
+      let p = n.facts.setting in
+      let front = take past n.items in
+      let at : to.base.position ≡ n.base.position + past = ap (λ (S : State). S.position) base ∙ reached_position p n.base front ∙ omega (arith, length-take-le past n.items few) in
+      let more = k - (n.base.position + past) in
+      let both : take past n.items ++ take more (drop past n.items) ≡ take (k - n.base.position) n.items = sym (take-add past more n.items) ∙ ap (λ i. take i n.items) (omega (arith, le, at)) in
+      ap (λ (q : Setting). (reached q to.base (take (k - to.base.position) to.items)).kept) setting ∙ ap (λ (js : List Judged). (reached p to.base (take (k - to.base.position) js)).kept) items
+      ∙ ap (λ i. (reached p to.base (take (k - i) (drop past n.items))).kept) at ∙ ap (λ (S : State). (reached p S (take more (drop past n.items))).kept) base
+      ∙ ap (λ (S : State). S.kept) (sym (reached_both p n.base front (take more (drop past n.items)))) ∙ ap (λ (js : List Judged). (reached p n.base js).kept) both
+
   pub widened : (e : Event) (a : Answer) (part : Node) → Widens n part e a holds.taken → EngineHolds honest history failures part new.engine
-      → new.engine.superblock ≡ old.engine.superblock → new.backlog ≡ old.backlog → new.certifier ≡ old.certifier → new.stopped ≡ old.stopped
+      → new.engine.superblock.params ≡ old.engine.superblock.params → new.backlog ≡ old.backlog → new.certifier ≡ old.certifier → new.stopped ≡ old.stopped
       → (m : Node) × Steps n e a m × Holds honest history failures m new
-  widened e a part w engine super backlog certifier stopped =
+  widened e a part w engine params backlog certifier stopped =
       let to = w.to in
-      let q = holds.taken in
+      let past = w.past in
+      let q = holds.taken - past in
       let node : IsNode to = stay n to e a holds.node w.steps in
       let running : new.stopped ≡ false = stopped ∙ holds.running in
       let block : part.facts.ahead ≡ new.engine.block = ap (λ (s : Standing). s.ahead) engine.facts in
       let is_part : part ≡ part_of new.engine.block q to = w.is_part ∙ ap (λ (xs : List Judged). part_of xs q to) block in
       let engine_to : EngineHolds honest history failures (part_of new.engine.block q to) new.engine = subst (λ (p : Node). EngineHolds honest history failures p new.engine) is_part engine in
-      let within : q ≤ length to.items = omega (arith, holds.within, ap length w.items) in
-      let waiting : new.backlog ≡ drop q to.items = backlog ∙ holds.waiting ∙ ap (drop q) (sym w.items) in
+      let few : past ≤ length n.items = omega (arith, w.within, holds.within) in
+      let within : q ≤ length to.items = omega (arith, holds.within, ap length w.items, length-drop past n.items) in
+      let left : drop q to.items ≡ drop holds.taken n.items = ap (drop q) w.items ∙ drop-drop past q n.items ∙ ap (λ i. drop i n.items) (omega (arith, w.within)) in
+      let waiting : new.backlog ≡ drop q to.items = backlog ∙ holds.waiting ∙ sym left in
       let ahead : to.facts.ahead ≡ new.engine.block ++ new.backlog = ahead_of to new.engine.block q node engine_to.node within ∙ ap (λ (xs : List Judged). new.engine.block ++ xs) (sym waiting) in
       let facts : to.facts ≡ facts_of failures new =
       ap (λ (xs : List Judged). with_ahead xs to.facts) ahead ∙ ap (with_ahead (new.engine.block ++ new.backlog)) engine_to.facts ∙ sym (running_facts failures new running) in
       let setting : to.facts.setting ≡ n.facts.setting =
-      ap (λ (s : Standing). s.setting) engine_to.facts ∙ ap (λ (b : SuperBody). b.params) super ∙ sym (ap (λ (s : Standing). s.setting) holds.engine.facts) in (
+      ap (λ (s : Standing). s.setting) engine_to.facts ∙ params ∙ sym (ap (λ (s : Standing). s.setting) holds.engine.facts) in
+      let behind : n.base.position ≤ to.base.position = omega (arith, ap (λ (S : State). S.position) w.base, reached_position n.facts.setting n.base (take past n.items)) in (
         to,
         w.steps,
         record {
@@ -65,22 +84,17 @@ module _ {D : Type 0} (honest : D → Type 0) (history : D → History) (failure
           node = node;
           judged =
               subst (λ (p : Setting). AreJudgedFrom p to.base to.items) (sym setting)
-              (subst (λ (S : State). AreJudgedFrom n.facts.setting S to.items) (sym w.base) (subst (AreJudgedFrom n.facts.setting n.base) (sym w.items) holds.judged));
+              (subst (λ (S : State). AreJudgedFrom n.facts.setting S to.items) (sym w.base)
+              (subst (AreJudgedFrom n.facts.setting (reached n.facts.setting n.base (take past n.items))) (sym w.items) (later_judged n.facts.setting n.base past n.items holds.judged)));
           taken = q;
           within = within;
           engine = engine_to;
           waiting = waiting;
           windows = λ k le askable.
               let was : IsAskable old.certifier.current k = subst (λ (h : Holdings). IsAskable h.current k) certifier askable in
-              let above : n.base.position ≤ k = omega (arith, le, ap (λ (S : State). S.position) w.base) in
-              ap (λ (h : Holdings). window_of h.current k) certifier ∙ holds.windows k above was ∙ sym (same_window k to setting w.base w.items);
+              ap (λ (h : Holdings). window_of h.current k) certifier ∙ holds.windows k (omega (arith, le, behind)) was ∙ sym (same_window to past setting w.base w.items few k le);
         },
       )
-    where
-      same_window : (k : ℕ) (to : Node) → to.facts.setting ≡ n.facts.setting → to.base ≡ n.base → to.items ≡ n.items → window_at to k ≡ window_at n k
-      same_window k to setting base items =
-          ap (λ (p : Setting). (reached p to.base (take (k - to.base.position) to.items)).kept) setting ∙ ap (λ (S : State). (reached n.facts.setting S (take (k - S.position) to.items)).kept) base
-          ∙ ap (λ (js : List Judged). (reached n.facts.setting n.base (take (k - n.base.position) js)).kept) items
 
 -- ---- what a stop leaves
 

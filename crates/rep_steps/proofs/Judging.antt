@@ -7,10 +7,24 @@ use Rattle.rep_types.specs.Settings.{Setting}
 use Rattle.rep_types.specs.Verdicts.{StateIsEnough}
 use Rattle.rep_types.specs.Order.{Order, State, state, history, judge, verdict}
 use Rattle.rep_types.proofs.Histories.{length_history, history_push_judged, history_at_index, judged}
-use Rattle.rep_steps.specs.Nodes.{advanced}
+use Rattle.rep_steps.specs.Nodes.{advanced, reached}
 use Rattle.rep_steps.specs.Images.{Meaning, StandsFor, AreJudgedFrom, write_set_of, JudgedItemsExtendTheOrder}
 use Rattle.rep_steps.proofs.Reaching.{next_judged, advanced_is, next_is, state_next}
 use Rattle.rep_steps.proofs.Running.{behind_of, none_behind}
+
+-- ---- fronts and rests of judged items
+
+-- the first items are judged too
+pub first_judged : (p : Setting) (S : State) (k : ℕ) (js : List Judged) → AreJudgedFrom p S js → AreJudgedFrom p S (take k js)
+first_judged p S zero js h = tt
+first_judged p S (suc k) [] h = tt
+first_judged p S (suc k) (j ∷ js) h = (h.0, h.1, first_judged p (advanced p S j) k js h.2)
+
+-- and so are the others, from the state behind those
+pub later_judged : (p : Setting) (S : State) (k : ℕ) (js : List Judged) → AreJudgedFrom p S js → AreJudgedFrom p (reached p S (take k js)) (drop k js)
+later_judged p S zero js h = h
+later_judged p S (suc k) [] h = tt
+later_judged p S (suc k) (j ∷ js) h = later_judged p (advanced p S j) k js h.2
 
 same_item : (j k : Judged) → j.seqno ≡ k.seqno → j.item ≡ k.item → j.verdict ≡ k.verdict → j ≡ k
 same_item j k e f g = λ i. record { seqno = e i; item = f i; verdict = g i }
