@@ -29,12 +29,12 @@ use Rattle.rep_checkpoint.specs.Nodes.{IsLedTo, StandsAs, NodesLeaveTheirEnds, N
 -- ---- of items and blocks
 
 -- the seqno behind some blocks counts their records
-seqno_counts : (seqno : ℕ) (blocks : List (List Judged)) → seqno_after seqno blocks ≡ seqno + length (records_of blocks)
+pub seqno_counts : (seqno : ℕ) (blocks : List (List Judged)) → seqno_after seqno blocks ≡ seqno + length (records_of blocks)
 seqno_counts seqno [] = omega arith
 seqno_counts seqno (block ∷ blocks) = seqno_counts (seqno + length block) blocks ∙ omega (arith, length-append block (records_of blocks))
 
 -- the records of the later blocks are those behind the records of the first
-records_behind : (k : ℕ) (blocks : List (List Judged)) → drop (length (records_of (take k blocks))) (records_of blocks) ≡ records_of (drop k blocks)
+pub records_behind : (k : ℕ) (blocks : List (List Judged)) → drop (length (records_of (take k blocks))) (records_of blocks) ≡ records_of (drop k blocks)
 records_behind zero blocks = refl
 records_behind (suc k) [] = refl
 records_behind (suc k) (block ∷ blocks) =
@@ -149,7 +149,7 @@ module _ (image : List ℕ) (n : Node) (c : Standing) (log : Log) (blocks : List
 
 module _ (n : Node) (size : ℕ) (c : Standing) (log : Log) (blocks : List (List Judged)) (sealed : List Judged) (s : States) (h : IsNode n) (stands : StandsAs n size c log blocks sealed s) where
   -- the base that stands is led to by no item
-  to_base : IsLedTo n log blocks c.base n.base
+  abbrev pub to_base : IsLedTo n log blocks c.base n.base
   to_base = record {
     past = 0;
     position = omega (arith, stands.checkpoint.base.position);
@@ -174,17 +174,17 @@ leave_ends base law image n c log blocks sealed s h stands allowed =
     let x = told.1 in
     elim told.2 [
       | inl still ↦
-        let led = subst (λ (y : State). IsLedTo n log blocks b y) (sym still.1) (subst (λ (d : SuperBody). IsLedTo n log blocks d n.base) (sym still.0) (to_base n (length image) c log blocks sealed s h stands)) in
-        let params : b.params ≡ c.base.params = ap (λ (d : SuperBody). d.params) still.0 in
-        is_end image n c log blocks sealed s h stands b x (ap (λ (d : SuperBody). d.uuid) still.0) params led logs.0 logs.1
-        (means image n c log blocks sealed s h stands b x (ap (λ (d : SuperBody). d.uuid) still.0) params led logs.0 logs.1 r (ap (λ (p : Setting). reading_of (layout_of p) image) (sym params)) told.3 logs.2)
+          let led = subst (λ (y : State). IsLedTo n log blocks b y) (sym still.1) (subst (λ (d : SuperBody). IsLedTo n log blocks d n.base) (sym still.0) (to_base n (length image) c log blocks sealed s h stands)) in
+          let params : b.params ≡ c.base.params = ap (λ (d : SuperBody). d.params) still.0 in
+          is_end image n c log blocks sealed s h stands b x (ap (λ (d : SuperBody). d.uuid) still.0) params led logs.0 logs.1
+          (means image n c log blocks sealed s h stands b x (ap (λ (d : SuperBody). d.uuid) still.0) params led logs.0 logs.1 r (ap (λ (p : Setting). reading_of (layout_of p) image) (sym params)) told.3 logs.2)
       | inr next ↦
-        let led = subst (λ (y : State). IsLedTo n log blocks b y) (sym next.3) (subst (λ (d : SuperBody). IsLedTo n log blocks d stands.goal) (sym next.2) (stands.toward next.0 SuperOpening next.1)) in
-        let after = follows n (length image) c log blocks sealed s h stands next.0 next.1 in
-        let uuid : b.uuid ≡ c.base.uuid = ap (λ (d : SuperBody). d.uuid) next.2 ∙ after.uuid in
-        let params : b.params ≡ c.base.params = ap (λ (d : SuperBody). d.params) next.2 ∙ after.params in
-        is_end image n c log blocks sealed s h stands b x uuid params led logs.0 logs.1
-        (means image n c log blocks sealed s h stands b x uuid params led logs.0 logs.1 r (ap (λ (p : Setting). reading_of (layout_of p) image) (sym params)) told.3 logs.2)
+          let led = subst (λ (y : State). IsLedTo n log blocks b y) (sym next.3) (subst (λ (d : SuperBody). IsLedTo n log blocks d stands.goal) (sym next.2) (stands.toward next.0 SuperOpening next.1)) in
+          let after = follows n (length image) c log blocks sealed s h stands next.0 next.1 in
+          let uuid : b.uuid ≡ c.base.uuid = ap (λ (d : SuperBody). d.uuid) next.2 ∙ after.uuid in
+          let params : b.params ≡ c.base.params = ap (λ (d : SuperBody). d.params) next.2 ∙ after.params in
+          is_end image n c log blocks sealed s h stands b x uuid params led logs.0 logs.1
+          (means image n c log blocks sealed s h stands b x uuid params led logs.0 logs.1 r (ap (λ (p : Setting). reading_of (layout_of p) image) (sym params)) told.3 logs.2)
     ]
 
 pub leave_fronts : NodesLeaveTheirEnds → NodesLeaveTheirFronts

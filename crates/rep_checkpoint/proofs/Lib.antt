@@ -9,3 +9,4 @@ pub mod Flushing
 pub mod Apart
 pub mod Facts
 pub mod Leaving
+pub mod Settling

@@ -6,19 +6,23 @@ use Rattle.rep_layout.specs.declared.super_body.SuperBody.{SuperBody}
 use Rattle.rep_layout.specs.Places.{layout_of}
 use Rattle.rep_layout.specs.Supers.{IsNil}
 use Rattle.rep_cells.specs.Readings.{reading_of}
-use Rattle.rep_cells.specs.States.{States, Allowed}
+use Rattle.rep_cells.specs.States.{States, Allowed, Syncs}
 use Rattle.rep_log.specs.Tail.{records_of}
 use Rattle.rep_log.specs.Standing.{Standing as Log, LogIs}
 use Rattle.rep_log.specs.Laws.{MayHold}
+use Rattle.rep_log.specs.Moves.{SyncsLog, StartsLater, started, after_sync as log_after_sync}
 use Rattle.rep_steps.specs.Standings.{underway}
-use Rattle.rep_steps.specs.Nodes.{Node, IsNode, reached}
+use Rattle.rep_steps.specs.declared.event.Event.TheVariants.{Sync}
+use Rattle.rep_steps.specs.Nodes.{Node, IsNode, moved, reached}
 use Rattle.rep_steps.specs.Images.{AreJudgedFrom, IsFrontAt, IsEndOf}
 use Rattle.rep_image.specs.Meanings.{Means}
 use Rattle.rep_checkpoint.specs.declared.stage.Part.{Part}
 use Rattle.rep_checkpoint.specs.declared.stage.Stage.TheVariants.{Toward}
 use Rattle.rep_checkpoint.specs.Next.{Next}
-use Rattle.rep_checkpoint.specs.Standing.{Standing}
+use Rattle.rep_checkpoint.specs.Standing.{Standing, stage_of}
+use Rattle.rep_checkpoint.specs.Moves.{after_sync}
 use Rattle.rep_checkpoint.specs.States.{CheckpointIs}
+use Rattle.rep_checkpoint.specs.Calls.{SyncsTo}
 
 -- A base that the node's items lead to: its superblock says the position behind the first of them and names the state there, and
 -- its first cell is the one behind those that hold them. It lies within what is durable.
@@ -62,3 +66,13 @@ NodesLeaveTheirFronts =
     (image : List ℕ) (n : Node) (c : Standing) (log : Log) (blocks : List (List Judged)) (sealed : List Judged) (s : States)
     → IsNode n → StandsAs n (length image) c log blocks sealed s → Allowed (layout_of c.base.params) s (reading_of (layout_of c.base.params) image)
     → IsFrontAt Means n image
+
+-- A sync makes stable what was written, of the log and of the checkpoint together: where a block's gate was opening the block is
+-- durable, and where a superblock's was, its base is the node's, and the log starts at its first cell. So the node after the sync
+-- stands there.
+abbrev pub NodesSettle : Type 0
+NodesSettle =
+    (n : Node) (size : ℕ) (c after : Standing) (log synced next : Log) (blocks : List (List Judged)) (sealed : List Judged) (s t : States)
+    → IsNode n → n.facts.stage ≡ stage_of c → StandsAs n size c log blocks sealed s → Syncs s t
+    → after ≡ after_sync c → SyncsTo c after → synced ≡ log_after_sync log → SyncsLog log synced → next ≡ started after.base.start synced → StartsLater synced next
+    → (held : List (List Judged)) × (coming : List Judged) × StandsAs (moved n Sync) size after next held coming t

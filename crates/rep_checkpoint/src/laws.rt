@@ -1,6 +1,6 @@
 //! Laws of the checkpoint, each as the contract of a function that does nothing.
 
-ghost use Rattle.rep_checkpoint.specs.Nodes.{NodesLeaveTheirEnds, NodesLeaveTheirFronts};
+ghost use Rattle.rep_checkpoint.specs.Nodes.{NodesLeaveTheirEnds, NodesLeaveTheirFronts, NodesSettle};
 ghost use Rattle.rep_checkpoint.specs.Laws.{TheBaseInEveryImage, TheBaseStandsStill, TheBaseIsFound, TheLogIsApart, TheCheckpointIsApart, TheStageIsTheFacts};
 
 use rep_layout::turns_are_taken;
@@ -56,3 +56,9 @@ pub fn nodes_leave_their_fronts()
 {
     nodes_leave_their_ends();
 }
+
+/// Where a node stands on a device before a sync, the node after it stands there when the sync succeeded, whether
+/// it made a block durable, raised the base, or both.
+pub fn nodes_settle()
+    ensures { NodesSettle }
+{}

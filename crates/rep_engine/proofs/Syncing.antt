@@ -13,6 +13,7 @@ use Rattle.rep_log.specs.Moves.{synced_in, after_sync, durable_by}
 use Rattle.rep_steps.specs.declared.event.Event.TheVariants.{Sync}
 use Rattle.rep_steps.specs.Standings.{Stage, Standing}
 use Rattle.rep_steps.specs.Moves.{Found, after, opening, taken, synced_phase, synced_stage, base_after, start_after}
+use Rattle.rep_image.proofs.Settling.{phase_synced, next_synced, start_synced}
 use Rattle.rep_engine.specs.Engines.{Engine, IsEngine, IsWhole, facts_of, durable_of, stage_of, phase_at}
 use Rattle.rep_engine.specs.Writing.{left_of, told_of}
 
@@ -100,27 +101,6 @@ ahead_synced Closing block whole = refl
 ahead_synced (Filling n) block whole = refl
 ahead_synced (Filled n) block whole = refl
 ahead_synced (Opening n) block whole = sym (drop_all n block (omega (arith, whole.all)))
-
-pub phase_synced : (log : Log) (phase : Phase) → log.phase ≡ phase → (synced_in log phase).phase ≡ synced_phase phase
-phase_synced log Resting e = e
-phase_synced log Closing e = refl
-phase_synced log (Filling n) e = refl
-phase_synced log (Filled n) e = e
-phase_synced log (Opening n) e = refl
-
-next_synced : (log : Log) (phase : Phase) → (synced_in log phase).next ≡ log.next + taken phase
-next_synced log Resting = omega arith
-next_synced log Closing = omega arith
-next_synced log (Filling n) = omega arith
-next_synced log (Filled n) = omega arith
-next_synced log (Opening n) = refl
-
-pub start_synced : (log : Log) (phase : Phase) → (synced_in log phase).start ≡ log.start
-start_synced log Resting = refl
-start_synced log Closing = refl
-start_synced log (Filling n) = refl
-start_synced log (Filled n) = refl
-start_synced log (Opening n) = refl
 
 -- no checkpoint goes on
 stage_synced : (both : Bool) → stage_of both ≡ synced_stage (stage_of both)

@@ -40,7 +40,7 @@ use Rattle.rep_cells.specs.Laws.{ImagesReadAsAllowed}
 use Rattle.rep_versions.specs.Following.{AreVersionsOf, effect_of}
 use Rattle.rep_image.specs.Bases.{other, HaveContent}
 use Rattle.rep_image.specs.Standing.{IsBaseAt, StandsAs, NodesLeaveTheirFronts}
-use Rattle.rep_image.proofs.Leaving.{records-append}
+use Rattle.rep_image.proofs.Settling.{left_sealed, log_synced, records_synced, coming_synced, phase_synced, start_synced}
 use Rattle.rep_disk.specs.declared.disk.DiskFault.{DiskFault as Fault}
 use Rattle.rep_disk.specs.Calls.{IsCall, Rises}
 use Rattle.rep_disk.specs.Moments.{LeavesOnly}
@@ -49,7 +49,7 @@ use Rattle.rep_engine.specs.Holding.{Stands as Standing_so, Holds}
 use Rattle.rep_engine.proofs.Steps.{done_moves, done_steps, fault_steps, halted_node, leaves_weaker}
 use Rattle.rep_engine.proofs.Standing.{same_front, nil_bytes, fronts_of}
 use Rattle.rep_engine.specs.Writing.{left_of, told_of}
-use Rattle.rep_engine.proofs.Syncing.{phase_synced, start_synced, base_stays, facts_synced}
+use Rattle.rep_engine.proofs.Syncing.{base_stays, facts_synced}
 
 -- ---- the base
 
@@ -70,54 +70,6 @@ content_synced b content s t syncs h = record {
 }
 
 -- ---- the blocks
-
--- the records on their way after it
-abbrev pub left_sealed : Phase → List Judged → List Judged
-left_sealed (Opening n) sealed = []
-left_sealed phase sealed = sealed
-
--- while nothing is on its way the log may hold any
-resealed : (l : Layout) (log : Log) (first : ℕ) (blocks : List (List Judged)) (sealed : List Judged) (s : States) → log.phase ≡ Resting → LogIs l log first blocks sealed s → LogIs l log first blocks [] s
-resealed l log first blocks sealed s rests is = record {
-  cells = is.cells;
-  some = is.some;
-  known = is.known;
-  starts = is.starts;
-  limit = is.limit;
-  live = is.live;
-  next = is.next;
-  seqno = is.seqno;
-  room = is.room;
-  rest = is.rest;
-  due = subst (λ (p : Phase). IsDue p l (log.next % l.cells) log.next log.seqno [] (s (Rattle.rep_layout.specs.Places.log_of l log.next))) (sym rests) tt;
-}
-
-log_synced : (l : Layout) (log : Log) (first : ℕ) (blocks : List (List Judged)) (sealed : List Judged) (t : States) (phase : Phase) → log.phase ≡ phase → LogIs l (synced_in log phase) first (blocks_synced phase blocks sealed) sealed t
-    → LogIs l (synced_in log phase) first (blocks_synced phase blocks sealed) (left_sealed phase sealed) t
-log_synced l log first blocks sealed t Resting e is = is
-log_synced l log first blocks sealed t Closing e is = is
-log_synced l log first blocks sealed t (Filling n) e is = is
-log_synced l log first blocks sealed t (Filled n) e is = is
-log_synced l log first blocks sealed t (Opening n) e is = resealed l (synced_in log (Opening n)) first (blocks ++ sealed ∷ []) sealed t refl is
-
--- the durable items
-records_synced : (phase : Phase) (blocks : List (List Judged)) (sealed items ahead : List Judged) (past : ℕ) → records_of blocks ≡ take past items → ahead ≡ drop past items → sealed ≡ take (underway phase) ahead
-    → records_of (blocks_synced phase blocks sealed) ≡ take (past + opening phase) items
-records_synced Resting blocks sealed items ahead past held rest coming = held ∙ ap (λ k. take k items) (omega arith)
-records_synced Closing blocks sealed items ahead past held rest coming = held ∙ ap (λ k. take k items) (omega arith)
-records_synced (Filling n) blocks sealed items ahead past held rest coming = held ∙ ap (λ k. take k items) (omega arith)
-records_synced (Filled n) blocks sealed items ahead past held rest coming = held ∙ ap (λ k. take k items) (omega arith)
-records_synced (Opening n) blocks sealed items ahead past held rest coming =
-    records-append blocks (sealed ∷ []) ∙ ap (λ js. records_of blocks ++ js) (append-nil sealed) ∙ ap (λ js. js ++ sealed) held
-    ∙ ap (λ js. take past items ++ js) (coming ∙ ap (take n) rest) ∙ sym (take-add past n items)
-
--- those on their way
-coming_synced : (phase : Phase) (sealed ahead : List Judged) → sealed ≡ take (underway phase) ahead → left_sealed phase sealed ≡ take (underway (synced_phase phase)) (drop (opening phase) ahead)
-coming_synced Resting sealed ahead coming = coming
-coming_synced Closing sealed ahead coming = coming
-coming_synced (Filling n) sealed ahead coming = coming
-coming_synced (Filled n) sealed ahead coming = coming
-coming_synced (Opening n) sealed ahead coming = refl
 
 -- without a cluster nothing is held
 none_synced : (phase : Phase) (blocks held : List (List Judged)) (sealed later block : List Judged) → ((held : List (List Judged)) → MayHold phase blocks sealed held → held ≡ []) → block ≡ [] → IsWhole phase block

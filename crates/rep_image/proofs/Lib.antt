@@ -2,3 +2,4 @@ pub mod Telling
 pub mod Standing
 pub mod WhatStands
 pub mod Leaving
+pub mod Settling
