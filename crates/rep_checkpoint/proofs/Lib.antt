@@ -10,3 +10,5 @@ pub mod Apart
 pub mod Facts
 pub mod Leaving
 pub mod Settling
+pub mod Rows
+pub mod Touched

@@ -1,18 +1,23 @@
 -- How a node stands on a device while its base moves, and what every image then means.
-use Rattle.std.specs.Prelude.{◌≡◌, ℕ, ◌+◌, ◌-◌, ◌≤◌, List, [], length, take}
+use Rattle.std.specs.Prelude.{◌≡◌, ℕ, ◌+◌, ◌-◌, ◌≤◌, List, [], length, map, take, None}
+use Rattle.rep_types.specs.declared.key.Key.{Key}
 use Rattle.rep_types.specs.declared.judged.Judged.{Judged}
+use Rattle.rep_types.specs.Settings.{IsRow}
 use Rattle.rep_types.specs.Order.{State}
 use Rattle.rep_layout.specs.declared.super_body.SuperBody.{SuperBody}
 use Rattle.rep_layout.specs.Places.{layout_of}
 use Rattle.rep_layout.specs.Supers.{IsNil}
 use Rattle.rep_cells.specs.Readings.{reading_of}
 use Rattle.rep_cells.specs.States.{States, Allowed, Syncs}
+use Rattle.rep_versions.specs.Versions.{Kept, ArePages}
+use Rattle.rep_versions.specs.Following.{AreVersionsOf, effect_of}
 use Rattle.rep_log.specs.Tail.{records_of}
 use Rattle.rep_log.specs.Standing.{Standing as Log, LogIs}
 use Rattle.rep_log.specs.Laws.{MayHold}
 use Rattle.rep_log.specs.Moves.{SyncsLog, StartsLater, started, after_sync as log_after_sync}
 use Rattle.rep_steps.specs.Standings.{underway}
 use Rattle.rep_steps.specs.declared.event.Event.TheVariants.{Sync}
+use Rattle.rep_steps.specs.Moves.{touched}
 use Rattle.rep_steps.specs.Nodes.{Node, IsNode, moved, reached}
 use Rattle.rep_steps.specs.Images.{AreJudgedFrom, IsFrontAt, IsEndOf}
 use Rattle.rep_image.specs.Meanings.{Means}
@@ -22,7 +27,7 @@ use Rattle.rep_checkpoint.specs.Next.{Next}
 use Rattle.rep_checkpoint.specs.Standing.{Standing, stage_of}
 use Rattle.rep_checkpoint.specs.Moves.{after_sync}
 use Rattle.rep_checkpoint.specs.States.{CheckpointIs}
-use Rattle.rep_checkpoint.specs.Calls.{SyncsTo}
+use Rattle.rep_checkpoint.specs.Calls.{SyncsTo, AreAt, AreBehind}
 
 -- A base that the node's items lead to: its superblock says the position behind the first of them and names the state there, and
 -- its first cell is the one behind those that hold them. It lies within what is durable.
@@ -76,3 +81,15 @@ NodesSettle =
     → IsNode n → n.facts.stage ≡ stage_of c → StandsAs n size c log blocks sealed s → Syncs s t
     → after ≡ after_sync c → SyncsTo c after → synced ≡ log_after_sync log → SyncsLog log synced → next ≡ started after.base.start synced → StartsLater synced next
     → (held : List (List Judged)) × (coming : List Judged) × StandsAs (moved n Sync) size after next held coming t
+
+-- What the versions of a node's items say of the state that the first of them lead to: they lie behind the base, and make its rows
+-- those of that state, which has none outside the schema; and the pages with a change up to there are those that the items touched.
+pub record LeadsTo (n : Node) (kept : Kept) (past : ℕ) : Type 0 where
+  pub behind : AreBehind n.base.position kept
+  pub rows : AreAt n.facts.setting.rows kept (n.base.position + past) n.base.content (reached n.facts.setting n.base (take past n.items)).content
+  pub pages : (pages : List ℕ) → ArePages kept n.facts.setting.rows n.base.position (n.base.position + past) pages → pages ≡ touched n.facts.setting.rows (take past n.items)
+
+abbrev pub VersionsLeadToTheState : Type 0
+VersionsLeadToTheState =
+    (n : Node) (kept : Kept) (past : ℕ) → AreJudgedFrom n.facts.setting n.base n.items → ((key : Key) → (IsRow n.facts.setting.rows key → ⊥) → n.base.content key ≡ None)
+    → AreVersionsOf n.base.position (map effect_of n.items) kept → LeadsTo n kept past

@@ -1,10 +1,11 @@
 //! Laws of the checkpoint, each as the contract of a function that does nothing.
 
-ghost use Rattle.rep_checkpoint.specs.Nodes.{NodesLeaveTheirEnds, NodesLeaveTheirFronts, NodesSettle};
+ghost use Rattle.rep_checkpoint.specs.Nodes.{NodesLeaveTheirEnds, NodesLeaveTheirFronts, NodesSettle, VersionsLeadToTheState};
 ghost use Rattle.rep_checkpoint.specs.Laws.{TheBaseInEveryImage, TheBaseStandsStill, TheBaseIsFound, TheLogIsApart, TheCheckpointIsApart, TheStageIsTheFacts};
 
-use rep_layout::turns_are_taken;
+use rep_layout::{row_places_are_told, turns_are_taken};
 use rep_log::the_log_in_every_image;
+use rep_versions::versions_follow_the_items;
 
 /// In every image, so after a stop, the base is the one that stands, or the next one while its superblock's gate
 /// opens; and it is whole: superblock, window and pages.
@@ -62,3 +63,13 @@ pub fn nodes_leave_their_fronts()
 pub fn nodes_settle()
     ensures { NodesSettle }
 {}
+
+/// What the versions of a node's items say of the state that the first of them lead to: they make the base's
+/// rows those of that state, and the pages with a change up to there are those that the items touched. So a
+/// checkpoint that flushes these pages from the versions makes that state the base.
+pub fn versions_lead_to_the_state()
+    ensures { VersionsLeadToTheState }
+{
+    row_places_are_told();
+    versions_follow_the_items();
+}

@@ -9,7 +9,6 @@ use Rattle.rep_types.specs.declared.refusal.Refusal.TheVariants.{DiskFault, Corr
 use Rattle.rep_types.specs.declared.refusal.Part.TheVariants.{Pages}
 use Rattle.rep_types.specs.declared.verdict.Verdict.TheVariants.{Commit}
 use Rattle.rep_types.specs.Settings.{Setting, has_row, IsRow}
-use Rattle.rep_types.specs.Order.{State as State_at, counts, content_after}
 use Rattle.rep_disk.specs.Calls.{IsCall, Rises}
 use Rattle.rep_disk.specs.History.{History, stable, IsImage}
 use Rattle.rep_layout.specs.declared.rows.RowPlace.{RowPlace}
@@ -32,6 +31,7 @@ use Rattle.rep_steps.specs.Moves.{Moves}
 use Rattle.rep_steps.specs.Nodes.{Node, Steps, NodesStayNodes, advanced, reached, state_at}
 use Rattle.rep_image.specs.Bases.{HaveContent, IsPageOf}
 use Rattle.rep_image.specs.Standing.{StandsAs}
+use Rattle.rep_checkpoint.proofs.Rows.{content_reached, take_effects}
 use Rattle.rep_engine.specs.Engines.{Engine, facts_of}
 use Rattle.rep_engine.specs.Holding.{Stands, Holds, row}
 use Rattle.rep_engine.specs.Reading.{ReadsRow, halted_by}
@@ -66,19 +66,6 @@ if_ok (Ok x) P ok h = h
 if_ok (Err e) P ok h = absurd cc
 
 -- ---- what the items made of a row
-
-effect_is : (content : Key → Option (List ℕ)) (j : Judged) (b : Bool) → counts j ≡ b → (if b then content_after content j.item.writes else content) ≡ content_after content (effect_of j)
-effect_is content j true is = rw is refl
-effect_is content j false is = rw is refl
-
-content_reached : (p : Setting) (S : State_at) (js : List Judged) → (reached p S js).content ≡ rows_after S.content (map effect_of js)
-content_reached p S [] = refl
-content_reached p S (j ∷ js) = content_reached p (advanced p S j) js ∙ ap (λ c. rows_after c (map effect_of js)) (effect_is S.content j (counts j) refl)
-
-take_effects : (k : ℕ) (js : List Judged) → map effect_of (take k js) ≡ take k (map effect_of js)
-take_effects zero js = refl
-take_effects (suc k) [] = refl
-take_effects (suc k) (j ∷ js) = ap (λ rest. effect_of j ∷ rest) (take_effects k js)
 
 -- the row at a position from the base on
 pub row_is : VersionsFollowTheItems → (n : Node) (kept : Kept) (key : Key) (at : ℕ) (answer : At) → n.base.position ≤ at → AreVersionsOf n.base.position (map effect_of n.items) kept → IsAnswer kept key at answer

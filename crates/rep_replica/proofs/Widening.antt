@@ -68,7 +68,7 @@ module _ {D : Type 0} (honest : D → Type 0) (history : D → History) (failure
       let engine_to : EngineHolds honest history failures (part_of new.engine.block q to) new.engine = subst (λ (p : Node). EngineHolds honest history failures p new.engine) is_part engine in
       let few : past ≤ length n.items = omega (arith, w.within, holds.within) in
       let within : q ≤ length to.items = omega (arith, holds.within, ap length w.items, length-drop past n.items) in
-      let left : drop q to.items ≡ drop holds.taken n.items = ap (drop q) w.items ∙ drop-drop past q n.items ∙ ap (λ i. drop i n.items) (omega (arith, w.within)) in
+      let left : drop q to.items ≡ drop holds.taken n.items = ap (drop q) w.items ∙ drop-drop q past n.items ∙ ap (λ i. drop i n.items) (omega (arith, w.within)) in
       let waiting : new.backlog ≡ drop q to.items = backlog ∙ holds.waiting ∙ sym left in
       let ahead : to.facts.ahead ≡ new.engine.block ++ new.backlog = ahead_of to new.engine.block q node engine_to.node within ∙ ap (λ (xs : List Judged). new.engine.block ++ xs) (sym waiting) in
       let facts : to.facts ≡ facts_of failures new =
