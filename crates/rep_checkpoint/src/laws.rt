@@ -2,6 +2,7 @@
 
 ghost use Rattle.rep_checkpoint.specs.Nodes.{NodesLeaveTheirEnds, NodesLeaveTheirFronts, NodesSettle, VersionsLeadToTheState};
 ghost use Rattle.rep_checkpoint.specs.Laws.{TheBaseInEveryImage, TheBaseStandsStill, TheBaseIsFound, TheLogIsApart, TheCheckpointIsApart, TheStageIsTheFacts};
+ghost use Rattle.rep_checkpoint.specs.Windows.{WindowsGoOn};
 
 use rep_layout::{row_places_are_told, turns_are_taken};
 use rep_log::the_log_in_every_image;
@@ -73,3 +74,11 @@ pub fn versions_lead_to_the_state()
     row_places_are_told();
     versions_follow_the_items();
 }
+
+/// Every window that certification comes to can be written: a window at a position has no more entries than the
+/// window spans, of strictly ascending seqnos, each with 1 to 16 keys that are rows of the schema. The empty window
+/// is one, and so is the window after one more item within the limits of a write set, and what a later position
+/// keeps of it. A window's body on a disk says just such a window, beside a number and a position of 64 bits.
+pub fn windows_go_on()
+    ensures { WindowsGoOn }
+{}
