@@ -75,10 +75,11 @@ pub fn versions_lead_to_the_state()
     versions_follow_the_items();
 }
 
-/// Every window that certification comes to can be written: a window at a position has no more entries than the
-/// window spans, of strictly ascending seqnos, each with 1 to 16 keys that are rows of the schema. The empty window
-/// is one, and so is the window after one more item within the limits of a write set, and what a later position
-/// keeps of it. A window's body on a disk says just such a window, beside a number and a position of 64 bits.
+/// Windows that a disk can hold go on with the order. Such a window has no more entries than a window spans, of
+/// strictly ascending seqnos that it spans, each with 1 to 16 strictly ascending keys that are rows of the schema.
+/// The empty window is one; so is what the floor of a later position keeps of one, and the window after one more
+/// item that keeps the limits of a write set. A window's body says just such a window, beside a number and a
+/// position below 2^64.
 pub fn windows_go_on()
     ensures { WindowsGoOn }
 {}
