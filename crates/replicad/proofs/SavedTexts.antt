@@ -1,17 +1,17 @@
 -- Lemmas on the lines of a saved state that end within some bytes.
-use Rattle.std.proofs.Common.{◌≡◌, ℕ, ◌+◌, ◌-◌, ◌<◌, ◌≤◌, ◌==◌, Bool, true, false, cond, List, [], ◌∷◌, ◌++◌, length, take, get_or, Option, None, Some, Result, Ok, Err, refl, sym, ap, ◌∙◌, arith, inl, subst}
+use Rattle.std.proofs.Common.{◌≡◌, ℕ, ◌+◌, ◌-◌, ◌<◌, ◌≤◌, ◌==◌, Bool, true, false, cond, List, [], ◌∷◌, ◌++◌, length, take, get_or, Option, None, Some, Result, Err, refl, sym, ap, ◌∙◌, arith, inl, subst}
 use Rattle.std.proofs.Math.Seq.{take-length}
 use Rattle.std.proofs.lemmas.List.{take_more, take_all, take-take, length-take-le}
 use Rattle.std.specs.List.{slice_split, onto_first}
 use Rattle.std.specs.Option.{option_map}
 use Rattle.std.specs.Prelude.{ℤ, nat_le, if◌then◌else◌, IfSome}
-use Rattle.std.proofs.lemmas.Bool.{eqb-true, le-leb, lt-leb, leb-true, leb-false}
+use Rattle.std.proofs.lemmas.Bool.{lt-leb, leb-true, leb-false}
 use Rattle.rep_types.specs.declared.refusal.Refusal.{Refusal}
 use Rattle.rep_types.specs.declared.refusal.Refusal.TheVariants.{Malformed, StreamFault}
 use Rattle.rep_record.specs.Words.{cut}
 use Rattle.rep_saved.specs.declared.saved.SavedState.{SavedState}
 use Rattle.rep_saved.specs.Lines.{said, without_return}
-use Rattle.rep_saved.specs.Saved.{Saying, saying, sayings, sayings_of, is_bad, first_bad, whole, unless_bad, saved_in, last_uuid, last_seqno, last_safe}
+use Rattle.rep_saved.specs.Saved.{sayings, sayings_of, is_bad, first_bad, whole, unless_bad, saved_in, last_uuid, last_seqno, last_safe}
 use Rattle.replicad.specs.SavedTexts.{before_lines, ended_lines, fault_of_long, saved_within, ReadsAs}
 
 -- a byte at the end that is no line feed is left out

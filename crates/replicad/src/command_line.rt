@@ -68,12 +68,7 @@ fn run_command<'a>(alloc: Global) -> Result<Command<'a>, AllocError> {
 /// The subcommand that prints the state of a disk.
 fn state_command<'a>(alloc: Global) -> Result<Command<'a>, AllocError> {
     let disk = disk_argument(alloc, "The disk of the node");
-    let saved = option(
-        alloc,
-        "saved",
-        "FILE",
-        "A saved state of the same cluster",
-    );
+    let saved = option(alloc, "saved", "FILE", "A saved state of the same cluster");
     Command::new(alloc, "state")
         .about("Print the saved state of a disk: its cluster and its position")
         .arg(disk)?

@@ -48,8 +48,7 @@ fn a_new_disk_is_at_nothing(rt: HostRuntime) -> Result<(), Fail> {
 fn the_position_is_what_is_durable(rt: HostRuntime) -> Result<(), Fail> {
     let disk = new_disk(rt.alloc(), Some(ones()))?;
     let mut script =
-        b"deliver 1 0 w 0/1=61\ndeliver 2 0 w 0/1=62\nlog\nsync\nlog\nsync\ndeliver 3 2 w 0/1=63\nlog\nsync\n"
-            .as_slice();
+        b"deliver 1 0 w 0/1=61\ndeliver 2 0 w 0/1=62\nlog\nsync\nlog\nsync\ndeliver 3 2 w 0/1=63\nlog\nsync\n".as_slice();
     let mut answers = Vec::new(rt.alloc());
     let (disk, end) = run_on_disk(rt.alloc(), disk, &mut script, &mut answers);
     end?;
@@ -86,9 +85,18 @@ fn a_saved_state_of_the_cluster_or_of_none_says_nothing(rt: HostRuntime) -> Resu
 #[test]
 fn a_saved_state_of_another_cluster_is_refused(rt: HostRuntime) -> Result<(), Fail> {
     let texts: [(Option<_>, &[u8]); 3] = [
-        (Some(ones()), b"uuid: 11111111-1111-4111-8111-111111111112\nseqno: 0\n"),
-        (Some(ones()), b"uuid: 00000000-0000-0000-0000-000000000001\nseqno: -1\n"),
-        (None, b"uuid: 11111111-1111-4111-8111-111111111111\nseqno: -1\n"),
+        (
+            Some(ones()),
+            b"uuid: 11111111-1111-4111-8111-111111111112\nseqno: 0\n",
+        ),
+        (
+            Some(ones()),
+            b"uuid: 00000000-0000-0000-0000-000000000001\nseqno: -1\n",
+        ),
+        (
+            None,
+            b"uuid: 11111111-1111-4111-8111-111111111111\nseqno: -1\n",
+        ),
     ];
     for (uuid, text) in texts {
         let disk = new_disk(rt.alloc(), uuid)?;
@@ -177,7 +185,10 @@ fn a_saved_state_is_read_through_an_interrupt_and_not_through_a_fault(
     let saved = read_saved(rt.alloc(), &mut reader)?;
     assert_eq!(rt; (saved.gtid.uuid(), saved.gtid.seqno()), (ones(), 7));
     let mut reader = text.as_slice().chain(BrokenReader);
-    assert_eq!(rt; read_saved(rt.alloc(), &mut reader), Err(Refusal::StreamFault));
+    assert_eq!(rt;
+        read_saved(rt.alloc(), &mut reader),
+        Err(Refusal::StreamFault)
+    );
     Ok(())
 }
 
