@@ -1,7 +1,6 @@
 -- Lemmas on the lines of a saved state that end within some bytes.
-use Rattle.std.proofs.Common.{◌≡◌, ℕ, ◌+◌, ◌-◌, ◌<◌, ◌≤◌, ◌==◌, Bool, true, false, cond, List, [], ◌∷◌, ◌++◌, length, take, get_or, Option, None, Some, Result, Err, refl, sym, ap, ◌∙◌, arith, inl, subst}
-use Rattle.std.proofs.Math.Seq.{take-length}
-use Rattle.std.proofs.lemmas.List.{take_more, take_all, take-take, length-take-le}
+use Rattle.std.proofs.Common.{◌≡◌, ℕ, ◌+◌, ◌<◌, ◌≤◌, ◌==◌, Bool, true, false, cond, List, [], ◌∷◌, ◌++◌, length, take, Option, None, Some, Result, Err, refl, sym, ap, ◌∙◌, arith, inl, subst}
+use Rattle.std.proofs.lemmas.List.{take_all, take-take, length-take-le}
 use Rattle.std.specs.List.{slice_split, onto_first}
 use Rattle.std.specs.Option.{option_map}
 use Rattle.std.specs.Prelude.{ℤ, nat_le, if◌then◌else◌, IfSome}
@@ -28,12 +27,6 @@ before_some x (y ∷ ys) b = refl
 pub feed_at_end : (xs : List ℕ) (b : ℕ) → (b == 10) ≡ true → ended_lines (xs ++ b ∷ []) ≡ xs ++ b ∷ []
 feed_at_end [] b e = rw e refl
 feed_at_end (x ∷ xs) b e = ap (before_lines x) (feed_at_end xs b e) ∙ before_some x xs b
-
--- a list that is not empty, by its last element
-pub by_last : (xs : List ℕ) → 1 ≤ length xs → xs ≡ take (length xs - 1) xs ++ get_or xs (length xs - 1) 0 ∷ []
-by_last xs some =
-    let n : length xs - 1 + 1 ≡ length xs = omega (arith, some) in
-    sym (take-length xs) ∙ ap (λ k. take k xs) (sym n) ∙ take_more xs (length xs - 1) 0 (omega (arith, some))
 
 -- ---- a line with a bad value begins before the end
 

@@ -1,6 +1,7 @@
 use Rattle.std.proofs.Common.{◌-◌, length, take, get_or, sym, ap, ◌∙◌, eq-eqb, ne_eqb}
 use Rattle.replicad.specs.SavedTexts.{ended_lines}
-use Rattle.replicad.proofs.SavedTexts.{by_last, other_at_end, feed_at_end}
+use Rattle.rep_saved.proofs.Trimmed.{by_last}
+use Rattle.replicad.proofs.SavedTexts.{other_at_end, feed_at_end}
 use Rattle.replicad.proofs.saved_file.ended_lines.Goals as goal
 
 pub returns-then-byte-eq10 : goal.returns-then-byte-eq10
