@@ -3,3 +3,4 @@ pub mod Progress
 pub mod LineEnds
 pub mod SaidLines
 pub mod OrderTexts
+pub mod SavedTexts

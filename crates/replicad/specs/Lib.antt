@@ -1,4 +1,6 @@
 pub mod Formatting
 pub mod Judging
 pub mod OrderText
+pub mod SavedTexts
 pub mod ScriptLines
+pub mod States

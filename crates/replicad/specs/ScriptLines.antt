@@ -5,7 +5,7 @@ use Rattle.rep_types.specs.declared.refusal.Refusal.TheVariants.{Malformed}
 use Rattle.rep_types.specs.Transactions.{Transaction}
 use Rattle.rep_forms.specs.Options.{◌>>=◌}
 use Rattle.rep_record.specs.Words.{words}
-use Rattle.rep_record.specs.Reading.{number_in, given, key_in, is_next, next, behind, tail_in, outcome, item_outcome}
+use Rattle.rep_record.specs.Reading.{number_in, given, key_in, is_next, next, tail_in, outcome, item_outcome}
 use Rattle.rep_disk.specs.declared.memory.Loss.{Loss}
 use Rattle.rep_disk.specs.declared.memory.Loss.TheVariants.{Keep, Drop, Junk}
 use Rattle.rep_steps.specs.declared.event.Event.TheVariants.{Deliver, Log, Sync, Check, Flush, Read}

@@ -25,13 +25,18 @@ fn judge_command<'a>(alloc: Global) -> Command<'a> {
     )
 }
 
-/// The subcommand that makes a disk.
-fn format_command<'a>(alloc: Global) -> Result<Command<'a>, AllocError> {
-    let disk = Arg::new(alloc, "disk")
+/// The argument that names a disk.
+fn disk_argument<'a>(alloc: Global, help: &'a str) -> Arg<'a> {
+    Arg::new(alloc, "disk")
         .value_name("DISK")
         .required(true)
         .action(ArgAction::Set)
-        .help("The file to make; nothing may be there yet");
+        .help(help)
+}
+
+/// The subcommand that makes a disk.
+fn format_command<'a>(alloc: Global) -> Result<Command<'a>, AllocError> {
+    let disk = disk_argument(alloc, "The file to make; nothing may be there yet");
     let window = option(alloc, "window", "W", "Seqnos of the window, 1 to 256");
     let cells = option(alloc, "cells", "N", "Cells of the log, 4 to 1024");
     let rows = option(alloc, "rows", "R,R,..", "Rows of each table");
@@ -60,6 +65,16 @@ fn run_command<'a>(alloc: Global) -> Result<Command<'a>, AllocError> {
         .arg(disk)
 }
 
+/// The subcommand that prints the state of a disk.
+fn state_command<'a>(alloc: Global) -> Result<Command<'a>, AllocError> {
+    let disk = disk_argument(alloc, "The disk of the node");
+    let saved = option(alloc, "saved", "FILE", "A saved state of the same cluster");
+    Command::new(alloc, "state")
+        .about("Print the saved state of a disk: its cluster and its position")
+        .arg(disk)?
+        .arg(saved)
+}
+
 /// The command line that the program understands: one level of subcommands.
 fn command<'a>(alloc: Global) -> Result<Command<'a>, AllocError> {
     Command::new(alloc, "replicad")
@@ -68,7 +83,8 @@ fn command<'a>(alloc: Global) -> Result<Command<'a>, AllocError> {
         .subcommand_required(true)
         .subcommand(judge_command(alloc))?
         .subcommand(format_command(alloc)?)?
-        .subcommand(run_command(alloc)?)
+        .subcommand(run_command(alloc)?)?
+        .subcommand(state_command(alloc)?)
 }
 
 /// What the words of a command line ask for.
@@ -79,6 +95,8 @@ pub(crate) enum Task<'a> {
     Format(&'a str, FormatOptions),
     /// Run a script, on the disk at this path where there is one.
     Run(Option<&'a str>),
+    /// Print the state of the disk at this path, beside the saved state in a file where there is one.
+    State(&'a str, Option<&'a str>),
     /// Nothing more: the text was printed, and the program ends with this status.
     Printed(u8),
 }
@@ -92,7 +110,7 @@ fn printed<'a, R: Print + Eprint>(rt: &R, error: &Error) -> Result<Task<'a>, Ref
     Ok(Task::Printed(if error.use_stderr() { USAGE } else { 0 }))
 }
 
-/// The value of an option; nothing where it has none.
+/// The value of an argument; nothing where it has none.
 fn value_of<'a>(matches: &ArgMatches<'a>, name: &str) -> &'a str {
     match matches.get_str(name) {
         Some(value) => value,
@@ -133,6 +151,11 @@ fn format_task<'a, R: Print + Eprint>(
     }
 }
 
+/// The task of `state` with these words behind it.
+fn state_task<'a>(matches: &ArgMatches<'a>) -> Task<'a> {
+    Task::State(value_of(matches, "disk"), matches.get_str("saved"))
+}
+
 /// Reads the words of the command line. Help, the version and usage faults are printed here.
 pub(crate) fn task_of<'a, R: Print + Eprint>(
     rt: &R,
@@ -143,6 +166,7 @@ pub(crate) fn task_of<'a, R: Print + Eprint>(
         Ok(matches) => match matches.subcommand() {
             Some(("format", matches)) => format_task(rt, alloc, matches),
             Some(("run", matches)) => Ok(Task::Run(matches.get_str("disk"))),
+            Some(("state", matches)) => Ok(state_task(matches)),
             _ => Ok(Task::Judge),
         },
         Err(error) => printed(rt, &error),

@@ -20,8 +20,8 @@ const SCRIPT_UUID: [u8; 16] = [
     0x11, 0x11, 0x11, 0x11, 0x11, 0x11, 0x41, 0x11, 0x81, 0x11, 0x11, 0x11, 0x11, 0x11, 0x11, 0x11,
 ];
 
-/// Opens the disk in memory.
-fn opened(alloc: Global, disk: MemDisk) -> Result<Replica<MemDisk>, Refusal> {
+/// A replica on this disk, which is let go where it is refused.
+pub(crate) fn opened<D: Disk + Drop>(alloc: Global, disk: D) -> Result<Replica<D>, Refusal> {
     match Replica::open(alloc, disk) {
         Ok(replica) => Ok(replica),
         Err((_, refusal)) => Err(refusal),

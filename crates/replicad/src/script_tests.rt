@@ -358,7 +358,7 @@ fn reads_are_of_every_state_behind_a_stop(rt: HostRuntime) -> Result<(), Fail> {
 }
 
 /// A new disk of this state UUID with a window of 4, four cells and one table of 126 rows: 103,424 bytes.
-fn new_disk(alloc: Global, uuid: Option<Uuid>) -> Result<MemDisk, Fail> {
+pub(crate) fn new_disk(alloc: Global, uuid: Option<Uuid>) -> Result<MemDisk, Fail> {
     let params = Params::new(4, 4, &[126])?;
     let disk = MemDisk::new(alloc, 103_424)?;
     let mut written = Vec::new(alloc);
@@ -367,7 +367,8 @@ fn new_disk(alloc: Global, uuid: Option<Uuid>) -> Result<MemDisk, Fail> {
     Ok(disk)
 }
 
-fn ones() -> Uuid {
+/// 11111111-1111-4111-8111-111111111111.
+pub(crate) fn ones() -> Uuid {
     Uuid::from_bytes([
         0x11, 0x11, 0x11, 0x11, 0x11, 0x11, 0x41, 0x11, 0x81, 0x11, 0x11, 0x11, 0x11, 0x11, 0x11,
         0x11,

@@ -235,10 +235,10 @@ fn params_have_a_form_and_limits(rt: HostRuntime) {
 
 /// Gives lines of 4,095 spaces, and then spaces: so many bytes of the first, so many in all.
 #[derive(Drop)]
-struct Blanks {
-    at: u64,
-    lines: u64,
-    end: u64,
+pub(crate) struct Blanks {
+    pub(crate) at: u64,
+    pub(crate) lines: u64,
+    pub(crate) end: u64,
 }
 
 impl Read for Blanks {
