@@ -1,6 +1,6 @@
 -- The images of a node that stands on a device.
-use Rattle.std.proofs.Common.{◌≡◌, refl, sym, ap, subst, ◌∙◌, zero, suc, ℕ, ◌+◌, ◌-◌, ◌≤◌, inl, inr, List, [], ◌∷◌, ◌++◌, append_assoc, length, length-append, take, drop, arith}
-use Rattle.std.proofs.lemmas.List.{length-take-le, take-append-le, take_all, drop-take, drop-append-le, drop_all}
+use Rattle.std.proofs.Common.{◌≡◌, refl, sym, ap, subst, ◌∙◌, zero, suc, ℕ, ◌+◌, ◌-◌, ◌≤◌, inl, inr, List, [], ◌∷◌, ◌++◌, length, length-append, take, drop, arith}
+use Rattle.std.proofs.lemmas.List.{length-take-le, take-append-le, drop-take, drop_all}
 use Rattle.rep_types.specs.declared.judged.Judged.{Judged}
 use Rattle.rep_types.specs.Settings.{Setting}
 use Rattle.rep_types.specs.Order.{State}
@@ -12,7 +12,7 @@ use Rattle.rep_cells.specs.States.{States}
 use Rattle.rep_log.specs.Tail.{seqno_after, records_of, IsLog}
 use Rattle.rep_log.specs.Standing.{Standing as Log}
 use Rattle.rep_log.specs.Laws.{MayHold, HoldsFrom, TheLogInEveryImage}
-use Rattle.rep_steps.specs.Nodes.{Node, IsNode, advanced, reached}
+use Rattle.rep_steps.specs.Nodes.{Node, IsNode, reached}
 use Rattle.rep_steps.specs.Images.{Meaning, AreJudgedFrom, IsEndOf}
 use Rattle.rep_image.specs.Meanings.{Means}
 use Rattle.rep_steps.proofs.Judging.{first_judged, later_judged}

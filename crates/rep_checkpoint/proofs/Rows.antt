@@ -1,5 +1,5 @@
 -- What versions say of the state that a node's items lead to.
-use Rattle.std.proofs.Common.{◌≡◌, ◌⊎◌, inl, inr, ℕ, zero, suc, ◌+◌, ◌-◌, ◌<◌, ◌≤◌, Bool, true, false, List, [], ◌∷◌, ◌++◌, length, take, map, Option, None, Some, refl, sym, ap, subst, ◌∙◌, arith}
+use Rattle.std.proofs.Common.{◌≡◌, ℕ, zero, suc, ◌+◌, ◌-◌, Bool, true, false, List, [], ◌∷◌, take, map, Option, None, Some, refl, sym, ap, ◌∙◌, arith}
 use Rattle.std.specs.Prelude.{if◌then◌else◌, not, nat_lt, nat_le, ◌&&◌, slice_index_or}
 use Rattle.std.specs.Option.{option_or}
 use Rattle.std.specs.List.{list_all}
@@ -9,15 +9,15 @@ use Rattle.rep_types.specs.declared.key.Key.{Key}
 use Rattle.rep_types.specs.declared.judged.Judged.{Judged}
 use Rattle.rep_types.specs.declared.value.Write.{Write}
 use Rattle.rep_types.specs.declared.verdict.Verdict.{Verdict}
-use Rattle.rep_types.specs.declared.verdict.Verdict.TheVariants.{Commit, Conflict, Stale, Future, BadKey}
+use Rattle.rep_types.specs.declared.verdict.Verdict.TheVariants.{Stale, Future, BadKey}
 use Rattle.rep_types.specs.Keys.{key_eq}
 use Rattle.rep_types.specs.Entries.{Entry}
-use Rattle.rep_types.specs.Transactions.{Transaction, named, written}
+use Rattle.rep_types.specs.Transactions.{Transaction, written}
 use Rattle.rep_types.specs.Settings.{Setting, has_row, IsRow}
-use Rattle.rep_types.specs.Order.{State, latest, counts, is_commit, in_schema, judge, content_after, conflict_with, greatest, seqnos_against, floor, verdict_among}
+use Rattle.rep_types.specs.Order.{State, latest, counts, is_commit, in_schema, judge, content_after, conflict_with, greatest, seqnos_against, floor}
 use Rattle.rep_types.proofs.Touches.{key_eq-true}
-use Rattle.rep_versions.specs.Versions.{Kept, version_at, IsRowAt, overlaid}
-use Rattle.rep_versions.specs.Following.{AreVersionsOf, VersionsFollowTheItems, made_by, written_at, effect_of, rows_after}
+use Rattle.rep_versions.specs.Versions.{Kept}
+use Rattle.rep_versions.specs.Following.{AreVersionsOf, VersionsFollowTheItems, made_by, effect_of, rows_after}
 use Rattle.rep_steps.specs.Nodes.{Node, advanced, reached}
 use Rattle.rep_steps.specs.Images.{AreJudgedFrom}
 use Rattle.rep_checkpoint.specs.Calls.{AreAt, AreBehind}

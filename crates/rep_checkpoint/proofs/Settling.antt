@@ -1,11 +1,10 @@
 -- A node after a sync.
-use Rattle.std.proofs.Common.{◌≡◌, ◌≢◌, refl, sym, ap, subst, ◌∙◌, zero, suc, ℕ, ◌+◌, ◌-◌, ◌≤◌, inl, inr, true, false, List, [], ◌∷◌, ◌++◌, length, length-append, take, drop, arith}
+use Rattle.std.proofs.Common.{◌≡◌, refl, sym, ap, subst, ◌∙◌, ℕ, ◌+◌, ◌-◌, ◌≤◌, inl, inr, true, false, List, [], ◌∷◌, ◌++◌, length, length-append, take, drop, arith}
 use Rattle.std.specs.Prelude.{min, max}
 use Rattle.std.proofs.lemmas.List.{length-take-le, take-append-le, drop-take, drop_all}
 use Rattle.rep_types.specs.declared.judged.Judged.{Judged}
 use Rattle.rep_types.specs.Settings.{Setting}
 use Rattle.rep_types.specs.Order.{State}
-use Rattle.rep_layout.specs.declared.place.Layout.{Layout}
 use Rattle.rep_layout.specs.declared.super_body.SuperBody.{SuperBody}
 use Rattle.rep_layout.specs.Places.{layout_of}
 use Rattle.rep_layout.specs.Supers.{IsNil}
@@ -17,11 +16,9 @@ use Rattle.rep_log.specs.Standing.{Standing as Log, LogIs}
 use Rattle.rep_log.specs.Laws.{MayHold}
 use Rattle.rep_log.specs.Moves.{SyncsLog, StartsLater, started, blocks_synced, after_sync as log_after_sync}
 use Rattle.rep_steps.specs.declared.event.Event.TheVariants.{Sync}
-use Rattle.rep_steps.specs.Standings.{Standing as Facts, Stage as StageOf, underway}
+use Rattle.rep_steps.specs.Standings.{underway}
 use Rattle.rep_steps.specs.Moves.{opening, taken, synced_phase, base_after}
 use Rattle.rep_steps.specs.Nodes.{Node, IsNode, moved, passed, reached}
-use Rattle.rep_steps.specs.Images.{AreJudgedFrom}
-use Rattle.rep_steps.proofs.Reaching.{reached_position}
 use Rattle.rep_steps.proofs.Judging.{later_judged}
 use Rattle.rep_image.proofs.Settling.{left_sealed, log_synced, records_synced, coming_synced, phase_synced, next_synced, start_synced}
 use Rattle.rep_checkpoint.specs.declared.stage.Part.{Part}

@@ -1,6 +1,6 @@
 -- The pages with a change are those that the items touched.
-use Rattle.std.proofs.Common.{◌≡◌, ◌⊎◌, inl, inr, ℕ, zero, suc, ◌+◌, ◌-◌, ◌<◌, ◌≤◌, ◌==◌, Bool, true, false, List, [], ◌∷◌, ◌++◌, length, take, map, filter, Option, None, Some, IsSome, refl, sym, ap, subst, ◌∙◌, arith}
-use Rattle.std.specs.Prelude.{if◌then◌else◌, nat_lt, ◌&&◌, ◌||◌, slice_index_or, Contains}
+use Rattle.std.proofs.Common.{◌≡◌, inl, inr, ℕ, zero, suc, ◌+◌, ◌-◌, ◌<◌, ◌≤◌, ◌==◌, Bool, true, false, List, [], ◌∷◌, ◌++◌, take, map, filter, Option, None, Some, IsSome, refl, sym, ap, subst, ◌∙◌, arith}
+use Rattle.std.specs.Prelude.{if◌then◌else◌, ◌&&◌, ◌||◌, slice_index_or, Contains}
 use Rattle.std.specs.Option.{option_or}
 use Rattle.std.specs.List.{list_any, list_all, AllByRecursion}
 use Rattle.std.specs.List.Sorted.{IsStrictlyIncreasing, IsStrictlySortedBy}
@@ -9,7 +9,6 @@ use Rattle.std.specs.declared.cmp.Ordering.TheVariants.{Less}
 use Rattle.std.proofs.lemmas.Bool.{cases_lt}
 use Rattle.std.proofs.lemmas.Bool.Decides.{nat_tests}
 use Rattle.std.proofs.lemmas.Map.Keys.{sorted_from_strictly_increasing}
-use Rattle.std.proofs.lemmas.List.Elements.{Contains-push_cases}
 use Rattle.rep_types.specs.declared.key.Key.{Key}
 use Rattle.rep_types.specs.declared.judged.Judged.{Judged}
 use Rattle.rep_types.specs.declared.value.Write.{Write}
@@ -19,8 +18,7 @@ use Rattle.rep_types.specs.Order.{State, latest, counts, is_commit, judge}
 use Rattle.rep_types.proofs.Touches.{key_eq-true, key_eq_refl}
 use Rattle.rep_types.proofs.Members.{Contains-nothing, Contains-first, Contains-behind, Contains-cons_cases, Contains-filter, Contains-from_filter}
 use Rattle.rep_layout.specs.Rows.{row_place, RowPlacesAreTold}
-use Rattle.rep_versions.specs.declared.versions.VersionKey.{VersionKey}
-use Rattle.rep_versions.specs.Versions.{Kept, version_at, overlaid, IsWithin, HasChange, ArePages}
+use Rattle.rep_versions.specs.Versions.{Kept, version_at, overlaid, HasChange, ArePages}
 use Rattle.rep_versions.specs.Following.{AreVersionsOf, made_by, written_at, effect_of}
 use Rattle.rep_steps.specs.Moves.{below, is_touched, touched}
 use Rattle.rep_steps.specs.Nodes.{advanced}

@@ -1,14 +1,13 @@
 -- Reads of rows.
-use Rattle.std.proofs.Common.{◌≡◌, ◌⊎◌, inl, inr, ℕ, zero, suc, ◌-◌, ◌≤◌, Bool, true, false, List, [], ◌∷◌, length, take, map, Option, None, Some, Result, Ok, Err, refl, sym, ap, subst, ◌∙◌, arith, IfOk, IfErr, IsOk}
+use Rattle.std.proofs.Common.{◌≡◌, ◌⊎◌, inl, inr, ℕ, ◌-◌, ◌≤◌, Bool, true, false, List, [], length, take, map, Option, None, Some, Result, Ok, Err, refl, sym, ap, subst, ◌∙◌, arith, IfOk, IfErr, IsOk}
 use Rattle.std.proofs.lemmas.Bool.Decides.{nat_tests}
 use Rattle.std.specs.Prelude.{is_some, if◌then◌else◌, not, nat_lt}
 use Rattle.rep_types.specs.declared.key.Key.{Key}
-use Rattle.rep_types.specs.declared.judged.Judged.{Judged}
 use Rattle.rep_types.specs.declared.refusal.Refusal.{Refusal}
 use Rattle.rep_types.specs.declared.refusal.Refusal.TheVariants.{DiskFault, Corrupt, BadKey, NotYet, TooOld}
 use Rattle.rep_types.specs.declared.refusal.Part.TheVariants.{Pages}
 use Rattle.rep_types.specs.declared.verdict.Verdict.TheVariants.{Commit}
-use Rattle.rep_types.specs.Settings.{Setting, has_row, IsRow}
+use Rattle.rep_types.specs.Settings.{has_row, IsRow}
 use Rattle.rep_disk.specs.Calls.{IsCall, Rises}
 use Rattle.rep_disk.specs.History.{History, stable, IsImage}
 use Rattle.rep_layout.specs.declared.rows.RowPlace.{RowPlace}
@@ -28,7 +27,7 @@ use Rattle.rep_steps.specs.declared.event.Event.TheVariants.{Read}
 use Rattle.rep_steps.specs.declared.answer.Answer.TheVariants.{Row, Refused}
 use Rattle.rep_steps.specs.Standings.{Standing, read_refusal}
 use Rattle.rep_steps.specs.Moves.{Moves}
-use Rattle.rep_steps.specs.Nodes.{Node, Steps, NodesStayNodes, advanced, reached, state_at}
+use Rattle.rep_steps.specs.Nodes.{Node, Steps, NodesStayNodes, state_at}
 use Rattle.rep_image.specs.Bases.{HaveContent, IsPageOf}
 use Rattle.rep_image.specs.Standing.{StandsAs}
 use Rattle.rep_checkpoint.proofs.Rows.{content_reached, take_effects}

@@ -1,11 +1,10 @@
 -- A sync of an engine that stands for a node.
-use Rattle.std.proofs.Common.{◌≡◌, inl, inr, ℕ, ◌+◌, ◌-◌, ◌≤◌, ◌<◌, ◌%◌, Bool, true, false, List, [], ◌∷◌, ◌++◌, append-nil, length, take, drop, map, get_or, cond, eqb, get_or-set_same, get_or-set_other, Option, None, Some, Result, Ok, Err, refl, sym, ap, subst, ◌∙◌, arith, OnOk}
+use Rattle.std.proofs.Common.{◌≡◌, inl, inr, ℕ, ◌+◌, ◌-◌, ◌≤◌, ◌<◌, ◌%◌, Bool, true, false, List, [], length, take, drop, map, get_or, cond, eqb, get_or-set_same, get_or-set_other, Option, None, Some, Result, Ok, Err, refl, sym, ap, subst, ◌∙◌, arith, OnOk}
 use Rattle.std.specs.Prelude.{is_some, slice_set, IsOk}
 use Rattle.std.proofs.lemmas.Bool.{eqb-true}
 use Rattle.std.proofs.lemmas.Bool.Decides.{nat_tests}
 use Rattle.rep_types.specs.declared.verdict.Verdict.TheVariants.{Commit}
 use Rattle.std.proofs.lemmas.Nat.{mod_below}
-use Rattle.std.proofs.Math.Seq.{take-add}
 use Rattle.std.proofs.lemmas.List.{take_all}
 use Rattle.rep_types.specs.declared.key.Key.{Key}
 use Rattle.rep_types.specs.declared.judged.Judged.{Judged}
@@ -24,8 +23,7 @@ use Rattle.rep_cells.specs.States.{States, Stable, Allows, Syncs, synced}
 use Rattle.rep_cells.specs.Calls.{Settled, Settles}
 use Rattle.rep_log.specs.declared.phase.Phase.{Phase}
 use Rattle.rep_log.specs.declared.phase.Phase.TheVariants.{Resting, Closing, Filling, Filled, Opening}
-use Rattle.rep_log.specs.Tail.{records_of}
-use Rattle.rep_log.specs.Standing.{Standing as Log, LogIs, IsDue, stands_at, index_of}
+use Rattle.rep_log.specs.Standing.{Standing as Log, LogIs, stands_at, index_of}
 use Rattle.rep_log.specs.Laws.{MayHold}
 use Rattle.rep_log.specs.Moves.{SyncsLog, after_sync, synced_in, blocks_synced}
 use Rattle.rep_steps.specs.declared.event.Event.TheVariants.{Sync as to_sync}

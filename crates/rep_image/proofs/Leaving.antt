@@ -1,16 +1,14 @@
 -- The images of a node that stands on a device.
-use Rattle.std.proofs.Common.{◌≡◌, refl, sym, ap, subst, ◌∙◌, zero, suc, ℕ, ◌+◌, ◌-◌, ◌≤◌, inl, inr, List, [], ◌∷◌, ◌++◌, append_assoc, append-nil, length, take, drop, arith}
+use Rattle.std.proofs.Common.{◌≡◌, refl, sym, ap, subst, ◌∙◌, ℕ, ◌+◌, ◌-◌, ◌≤◌, inl, inr, List, [], ◌∷◌, ◌++◌, append_assoc, append-nil, length, take, drop, arith}
 use Rattle.std.proofs.Math.Seq.{take-add}
 use Rattle.std.proofs.lemmas.List.{length-drop}
 use Rattle.rep_types.specs.declared.judged.Judged.{Judged}
-use Rattle.rep_types.specs.Settings.{Setting}
-use Rattle.rep_types.specs.Order.{State}
 use Rattle.rep_log.specs.declared.phase.Phase.{Phase}
 use Rattle.rep_log.specs.declared.phase.Phase.TheVariants.{Opening}
 use Rattle.rep_log.specs.Tail.{records_of}
 use Rattle.rep_log.specs.Laws.{MayHold}
 use Rattle.rep_steps.specs.Standings.{underway}
-use Rattle.rep_steps.specs.Nodes.{Node, IsNode, advanced}
+use Rattle.rep_steps.specs.Nodes.{Node, IsNode}
 use Rattle.rep_steps.specs.Images.{AreJudgedFrom, Ends}
 use Rattle.rep_steps.proofs.Judging.{first_judged}
 use Rattle.rep_image.specs.Standing.{ImagesMeanWhatStands, NodesLeaveTheirEnds, NodesLeaveTheirFronts, with_blocks, base_of}

@@ -1,4 +1,4 @@
-use Rattle.std.proofs.Common.{◌≡◌, sym, ap, subst, ◌∙◌}
+use Rattle.std.proofs.Common.{sym, ap, subst, ◌∙◌}
 use Rattle.rep_disk.specs.History.{IsImage}
 use Rattle.rep_steps.specs.Parts.{part_of}
 use Rattle.rep_replica.specs.Replicas.{Replica}
