@@ -1,0 +1,183 @@
+//! Lives of a node: drawn events, with stops in between, each answer compared with that of the plain node.
+
+use crate::model::{Model, ROWS, params};
+use crate::node::{agrees, formatted, into_disk, opened, shown, step};
+use crate::scripts::LOSSES;
+use arrayvec::ArrayVec;
+use rep_disk::{Loss, MemDisk};
+use rep_replica::Replica;
+use rep_steps::{Answer, Event};
+use rep_types::{Key, Refusal, Value, Verdict, Write, WriteSet};
+use std::alloc::Global;
+use std::process::Abort;
+use std::test::Fail;
+
+/// Draws numbers (a linear congruential generator, with the multiplier of Knuth's MMIX).
+#[derive(Drop)]
+struct Draws {
+    state: u64,
+}
+
+impl Draws {
+    /// A number below the bound, which is not 0.
+    fn below(&mut self, bound: u64) -> u64 {
+        self.state = self
+            .state
+            .wrapping_mul(6364136223846793005)
+            .wrapping_add(1442695040888963407);
+        (self.state >> 33) % bound.max(1)
+    }
+
+    /// A row of the first few, seldom one outside the table.
+    fn row(&mut self, from: u32) -> Key {
+        let row = if self.below(100) == 0 {
+            ROWS
+        } else {
+            from.saturating_add(self.below(4) as u32)
+        };
+        Key { table: 0, row }
+    }
+
+    /// A write: a value of 0 to 62 bytes, or none.
+    fn write(&mut self, from: u32) -> Result<Write, Refusal> {
+        let key = self.row(from);
+        let bytes = [self.below(256) as u8; 62];
+        let length = self.below(84) as usize;
+        let value = match bytes.get(..length) {
+            Some(bytes) => Some(Value::new(bytes)?),
+            None => None,
+        };
+        Ok(Write { key, value })
+    }
+
+    /// An item of the transaction with this number: it had mostly seen some of what was delivered.
+    fn item(&mut self, delivered: u64) -> Result<WriteSet, Refusal> {
+        let last_seen = delivered.saturating_add(1).saturating_sub(self.below(12));
+        let mut reads: ArrayVec<Key, 1> = ArrayVec::new();
+        if self.below(3) == 0 {
+            reads.push(self.row(0));
+        }
+        let mut writes: ArrayVec<Write, 2> = ArrayVec::new();
+        writes.push(self.write(0)?);
+        WriteSet::new(3, delivered, last_seen, reads.as_slice(), writes.as_slice())
+    }
+
+    /// The next event: mostly a delivery of the next item of the order, which is a new one where the order ends.
+    fn event(&mut self, model: &Model) -> Result<Event, Refusal> {
+        let next = model.delivered().saturating_add(1);
+        let drawn = self.below(100);
+        if drawn < 70 {
+            let item = match model.next_item() {
+                Some(item) => item,
+                None => self.item(model.delivered())?,
+            };
+            let seqno = if self.below(50) == 0 {
+                self.below(next)
+            } else {
+                next
+            };
+            return Ok(Event::Deliver(seqno, item));
+        }
+        if drawn < 82 {
+            return Ok(Event::Log);
+        }
+        if drawn < 94 {
+            return Ok(Event::Sync);
+        }
+        let position = self.below(model.durable().saturating_add(2));
+        Ok(Event::Read(self.row(0), position))
+    }
+}
+
+/// What the model says that the event is answered by.
+fn wanted(model: &mut Model, event: Event) -> Result<Answer, Refusal> {
+    match event {
+        Event::Deliver(seqno, item) => model.deliver(seqno, item),
+        Event::Log => Ok(model.log()),
+        Event::Sync => Ok(model.sync()),
+        Event::Read(key, s) => Ok(model.read(key, s)),
+        Event::Check | Event::Flush(_) => Ok(Answer::Refused(Refusal::NotDue)),
+    }
+}
+
+/// Stops the node with this loss and opens it again: it stands where the model says, with the rows and the window of the
+/// plain node.
+fn stopped(
+    rt: &(impl Abort + AllocGlobal),
+    node: Replica<MemDisk>,
+    model: &mut Model,
+    loss: Loss,
+) -> Result<Replica<MemDisk>, Fail> {
+    let mut disk = into_disk(node);
+    disk.crash(loss);
+    model.stop(loss);
+    let mut node = opened(rt.alloc(), disk)?;
+    let shown = shown(&node);
+    assert_eq!(rt;
+        (shown.durable, shown.delivered),
+        (model.durable(), model.durable()),
+        "{loss:?}"
+    );
+    agrees(rt, &mut node, model.plain(), 6)?;
+    Ok(node)
+}
+
+/// How many kinds of answers there are, and which of them this one is. The last is none that a node gives here.
+const KINDS: usize = 17;
+
+fn kind_of(answer: &Answer) -> usize {
+    match answer {
+        Answer::Gave(Verdict::Commit) => 0,
+        Answer::Gave(Verdict::Conflict(_)) => 1,
+        Answer::Gave(Verdict::Stale) => 2,
+        Answer::Gave(Verdict::Future) => 3,
+        Answer::Gave(Verdict::BadKey) => 4,
+        Answer::Wrote => 5,
+        Answer::Synced(replies) if replies.is_empty() => 6,
+        Answer::Synced(_) => 7,
+        Answer::Row(None) => 8,
+        Answer::Row(Some(_)) => 9,
+        Answer::Refused(Refusal::OutOfOrder { .. }) => 10,
+        Answer::Refused(Refusal::Backlogged) => 11,
+        Answer::Refused(Refusal::LogFull) => 12,
+        Answer::Refused(Refusal::NotDue) => 13,
+        Answer::Refused(Refusal::NotYet { .. }) => 14,
+        Answer::Refused(Refusal::BadKey) => 15,
+        Answer::Began(_) | Answer::Refused(_) => 16,
+    }
+}
+
+/// Lives of one node that are drawn from this seed. Notes which kinds of answers there were.
+fn live(rt: &(impl Abort + AllocGlobal), seed: u64, seen: &mut [bool; KINDS]) -> Result<(), Fail> {
+    let mut draws = Draws { state: seed };
+    let mut model = Model::new(rt.alloc())?;
+    let mut node = opened(rt.alloc(), formatted(rt.alloc(), 168_960, &params()?)?)?;
+    for _ in 0..1_500 {
+        if draws.below(300) == 0 {
+            let loss = *LOSSES.get(draws.below(3) as usize).ok_or("no such loss")?;
+            node = stopped(rt, node, &mut model, loss)?;
+            continue;
+        }
+        let event = draws.event(&model)?;
+        let wanted = wanted(&mut model, event.copied())?;
+        let answer = step(&mut node, event);
+        assert_eq!(rt; answer, wanted, "{seed}");
+        if let Some(seen) = seen.get_mut(kind_of(&answer)) {
+            *seen = true;
+        }
+    }
+    let _node = stopped(rt, node, &mut model, Loss::Drop)?;
+    Ok(())
+}
+
+#[test]
+fn lives_of_drawn_events_answer_as_the_plain_node(rt: HostRuntime) -> Result<(), Fail> {
+    let mut seen = [false; KINDS];
+    for seed in 1..9 {
+        live(&rt, seed, &mut seen)?;
+    }
+    for (kind, seen) in seen.iter().enumerate() {
+        assert_eq!(rt; *seen, kind < 16, "{kind}");
+    }
+    Ok(())
+}

@@ -1,0 +1,111 @@
+//! A replica as the tests see it: each call of it stands here once, in a function that promises nothing, so that no test
+//! has to be proved beside its contract.
+
+use rep_disk::{Disk, MemDisk};
+use rep_plain::PlainNode;
+use rep_recover::format_disk;
+use rep_replica::Replica;
+use rep_steps::{Answer, Event};
+use rep_types::{Gtid, Key, Params, Refusal, Value};
+use std::alloc::Global;
+use std::process::Abort;
+use std::test::Fail;
+use uuid::Uuid;
+
+/// The state UUID of the nodes.
+pub(crate) fn cluster() -> Uuid {
+    Uuid::from_bytes([0x11; 16])
+}
+
+/// A disk of so many bytes, formatted for a node with these parameters.
+pub(crate) fn formatted(alloc: Global, size: usize, params: &Params) -> Result<MemDisk, Fail> {
+    let (disk, answer) = format_disk(MemDisk::new(alloc, size)?, params, Some(cluster()));
+    answer?;
+    Ok(disk)
+}
+
+/// Opens the disk.
+pub(crate) fn open<D: Disk>(alloc: Global, disk: D) -> Result<Replica<D>, (D, Refusal)> {
+    Replica::open(alloc, disk)
+}
+
+/// Opens a disk that is to open.
+pub(crate) fn opened<D: Disk + Drop>(alloc: Global, disk: D) -> Result<Replica<D>, Fail> {
+    match open(alloc, disk) {
+        Ok(node) => Ok(node),
+        Err((_, refusal)) => Err(Fail::from(refusal)),
+    }
+}
+
+/// Does one step.
+pub(crate) fn step<D: Disk>(node: &mut Replica<D>, event: Event) -> Answer {
+    node.step(event)
+}
+
+/// Does these steps one after another, and gives their answers.
+pub(crate) fn run<D: Disk>(
+    alloc: Global,
+    node: &mut Replica<D>,
+    events: &[Event],
+) -> Result<Vec<Answer>, Refusal> {
+    node.run(alloc, events)
+}
+
+/// Gives the disk back.
+pub(crate) fn into_disk<D: Disk>(node: Replica<D>) -> D {
+    node.into_disk()
+}
+
+/// What a node says of itself.
+#[derive(Clone, Copy, Debug, PartialEq, Eq)]
+pub(crate) struct Status {
+    pub(crate) gtid: Gtid,
+    pub(crate) base: u64,
+    pub(crate) durable: u64,
+    pub(crate) delivered: u64,
+    pub(crate) is_stopped: bool,
+}
+
+/// What the node says of itself.
+pub(crate) fn shown<D: Disk>(node: &Replica<D>) -> Status {
+    Status {
+        gtid: node.gtid(),
+        base: node.base(),
+        durable: node.durable(),
+        delivered: node.delivered(),
+        is_stopped: node.is_stopped(),
+    }
+}
+
+/// The row under the key after the first `s` items of the plain node.
+fn plain_row(plain: &PlainNode, key: Key, s: u64) -> Option<Value> {
+    if s > plain.position() {
+        return None;
+    }
+    plain.get(key, s).map(|value| value.copied())
+}
+
+/// Compares the node with the plain one: the window at what is durable, and the first so many rows of the first table at
+/// each position up to that.
+pub(crate) fn agrees<D: Disk>(
+    rt: &(impl Abort + AllocGlobal),
+    node: &mut Replica<D>,
+    plain: &PlainNode,
+    rows: u32,
+) -> Result<(), Fail> {
+    let durable = node.durable();
+    assert!(rt; durable <= plain.position());
+    let window = node.window(rt.alloc())?;
+    assert!(rt;
+        window == plain.window_at(rt.alloc(), durable)?,
+        "{durable}"
+    );
+    for s in 0..=durable {
+        for row in 0..rows {
+            let key = Key { table: 0, row };
+            let wanted = Answer::Row(plain_row(plain, key, s));
+            assert_eq!(rt; step(node, Event::Read(key, s)), wanted, "{row} {s}");
+        }
+    }
+    Ok(())
+}
