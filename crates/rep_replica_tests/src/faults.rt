@@ -1,8 +1,8 @@
 //! A device that fails at each call in turn, once or from then on: what is refused, and what opens behind it.
 
-use crate::node::{agrees, into_disk, open, opened, shown, step};
+use crate::node::{agrees, into_disk, open, opened, run, shown};
 use crate::scripts::{LOSSES, Script, new_disk, one_item};
-use crate::stops::{Positions, fed_the_rest};
+use crate::stops::fed_the_rest;
 use rep_disk::{Disk, FaultOnce, FuseDisk, Loss, MemDisk};
 use rep_steps::Answer;
 use rep_types::Refusal;
@@ -17,7 +17,7 @@ enum Failing {
     FromThenOn,
 }
 
-/// What came of a script on a device that fails.
+/// What came of the one item on a device that fails.
 #[derive(Drop)]
 struct Outcome {
     /// The answers, or why the device did not open.
@@ -27,41 +27,35 @@ struct Outcome {
     disk: MemDisk,
 }
 
-/// The events that the failures of the devices are compared at: where the first call of the device fails that the event
-/// makes, and at which position the disk opens then, by the loss of a stop. A failed write changed nothing; behind the
-/// failed sync of an open gate that gate is pending.
-const OPENS_AT: [Positions; 6] = [
-    [0, 0, 0],
-    [0, 0, 0],
-    [0, 0, 0],
-    [0, 0, 0],
-    [1, 0, 0],
-    [1, 1, 1],
-];
+/// At which position the disk opens where the event of this number met the fault, by the number of the stop's loss. A failed
+/// write changed nothing; behind the failed sync of an open gate that gate is pending.
+fn opens_at(event: usize, loss: usize) -> u32 {
+    match (event, loss) {
+        (5, _) | (4, 0) => 1,
+        _ => 0,
+    }
+}
 
-/// Opens the device and runs the script on it, and gives the device back.
+/// Opens the device and makes one item durable on it, and gives the device back.
 fn lived<D: Disk + Drop>(
     alloc: Global,
     disk: D,
-    script: &Script,
 ) -> Result<(Result<Vec<Answer>, Refusal>, D), Fail> {
     let mut node = match open(alloc, disk) {
         Ok(node) => node,
         Err((disk, refusal)) => return Ok((Err(refusal), disk)),
     };
-    let mut answers = Vec::new(alloc);
-    for event in script.events.iter() {
-        answers.push(step(&mut node, event.copied()))?;
-    }
-    Ok((Ok(answers), into_disk(node)))
+    let Script { events, .. } = one_item(alloc)?;
+    let answers = run(alloc, &mut node, events.as_slice());
+    Ok((answers, into_disk(node)))
 }
 
-/// Runs the script on a new disk that fails so at the call of this number.
-fn lived_on(alloc: Global, script: &Script, failing: Failing, call: u64) -> Result<Outcome, Fail> {
+/// Makes one item durable on a new disk that fails so at the call of this number.
+fn lived_on(alloc: Global, failing: Failing, call: u64) -> Result<Outcome, Fail> {
     let disk = new_disk(alloc)?;
     match failing {
         Failing::Once => {
-            let (answers, disk) = lived(alloc, FaultOnce::new(disk, call), script)?;
+            let (answers, disk) = lived(alloc, FaultOnce::new(disk, call))?;
             let failures = disk.failures();
             let disk = disk.into_inner();
             Ok(Outcome {
@@ -71,7 +65,7 @@ fn lived_on(alloc: Global, script: &Script, failing: Failing, call: u64) -> Resu
             })
         }
         Failing::FromThenOn => {
-            let (answers, disk) = lived(alloc, FuseDisk::new(disk, call), script)?;
+            let (answers, disk) = lived(alloc, FuseDisk::new(disk, call))?;
             let failures = disk.failures();
             let disk = disk.into_inner();
             Ok(Outcome {
@@ -83,46 +77,74 @@ fn lived_on(alloc: Global, script: &Script, failing: Failing, call: u64) -> Resu
     }
 }
 
-/// The answers where the event of this number meets a fault: the replica is stopped from then on.
-fn stopped_at(alloc: Global, script: Script, event: usize) -> Result<Vec<Answer>, Fail> {
+/// What the event of this number is answered by where the event of the number `failed` met a fault: the replica is stopped
+/// from then on.
+fn answer_at(wanted: Answer, event: usize, failed: usize) -> Answer {
+    if event < failed {
+        wanted
+    } else if event == failed {
+        Answer::Refused(Refusal::DiskFault)
+    } else {
+        Answer::Refused(Refusal::Stopped)
+    }
+}
+
+/// The answers of the one item where the event of this number met a fault.
+fn stopped_at(alloc: Global, failed: usize) -> Result<Vec<Answer>, Fail> {
+    let Script {
+        answers: wanted,
+        ..
+    } = one_item(alloc)?;
     let mut answers = Vec::new(alloc);
-    for (index, answer) in script.answers.into_iter().enumerate() {
-        answers.push(if index < event {
-            answer
-        } else if index == event {
-            Answer::Refused(Refusal::DiskFault)
-        } else {
-            Answer::Refused(Refusal::Stopped)
-        })?;
+    for (event, answer) in wanted.into_iter().enumerate() {
+        answers.push(answer_at(answer, event, failed))?;
     }
     Ok(answers)
 }
 
+/// The number of the event that met the fault. It is this one, or the next where the device served this one's calls.
+fn event_that_failed(
+    rt: &(impl Abort + AllocGlobal),
+    answers: &[Answer],
+    event: usize,
+) -> Result<usize, Fail> {
+    if event > 0 && answers == stopped_at(rt.alloc(), event)?.as_slice() {
+        return Ok(event);
+    }
+    let next = event.saturating_add(1);
+    assert_eq!(rt; answers, stopped_at(rt.alloc(), next)?.as_slice(), "{next}");
+    Ok(next)
+}
+
+/// Compares a device that did not open: it is as it was.
+fn did_not_open(
+    rt: &(impl Abort + AllocGlobal),
+    disk: &MemDisk,
+    refusal: Refusal,
+) -> Result<(), Fail> {
+    assert_eq!(rt; refusal, Refusal::DiskFault);
+    let formatted = new_disk(rt.alloc())?;
+    assert!(rt; disk.bytes() == formatted.bytes());
+    Ok(())
+}
+
 /// Compares what came of the one item on a device that failed, where the event of this number or the next one met the
-/// fault. Gives that event's number, and 0 where the device did not open, which is then as it was.
+/// fault. Gives that event's number, and 0 where the device did not open.
 fn event_of(
     rt: &(impl Abort + AllocGlobal),
     outcome: &Outcome,
     event: usize,
 ) -> Result<usize, Fail> {
-    let Ok(answers) = &outcome.answers else {
-        assert_eq!(rt; outcome.answers, Err(Refusal::DiskFault));
-        assert_eq!(rt; (event, outcome.failures), (0, 1));
-        assert!(rt; outcome.disk.bytes() == new_disk(rt.alloc())?.bytes());
-        return Ok(0);
+    let failed = match &outcome.answers {
+        Ok(answers) => event_that_failed(rt, answers.as_slice(), event)?,
+        Err(refusal) => {
+            assert_eq!(rt; event, 0);
+            did_not_open(rt, &outcome.disk, *refusal)?;
+            0
+        }
     };
-    let script = one_item(rt.alloc())?;
-    // Each event but the delivery asks one or two things of the device.
-    let same = stopped_at(rt.alloc(), script, event)?;
-    if event > 0 && *answers == same {
-        assert_eq!(rt; outcome.failures, 1);
-        return Ok(event);
-    }
-    let event = event.saturating_add(1);
-    let next = stopped_at(rt.alloc(), one_item(rt.alloc())?, event)?;
-    assert_eq!(rt; *answers, next, "{event}");
-    assert_eq!(rt; outcome.failures, u64::from(event < 5));
-    Ok(event)
+    assert_eq!(rt; outcome.failures, u64::from(failed < 5), "{failed}");
+    Ok(failed)
 }
 
 /// Stops the device with this loss and opens it, at this position; and it goes on there.
@@ -130,38 +152,44 @@ fn goes_on(
     rt: &(impl Abort + AllocGlobal),
     mut disk: MemDisk,
     loss: Loss,
-    position: u64,
+    position: u32,
 ) -> Result<(), Fail> {
     disk.crash(loss);
     let mut node = opened(rt.alloc(), disk)?;
     let shown = shown(&node);
     assert_eq!(rt;
         (shown.durable, shown.delivered, shown.is_stopped),
-        (position, position, false)
+        (u64::from(position), u64::from(position), false)
     );
     let script = one_item(rt.alloc())?;
     agrees(rt, &mut node, &script.plain, 3)?;
     fed_the_rest(rt, &mut node, &script.plain)
 }
 
-/// Runs the one item on devices of which each call in turn fails, up to one that serves them all, and stops each with
-/// the loss of this number.
-fn failed_at_each_call(
+/// Runs the one item on a device that fails so at this call, and stops it with each loss. Gives the number of the event
+/// that met the fault, which is this one or the next.
+fn failed_at(
     rt: &(impl Abort + AllocGlobal),
     failing: Failing,
-    loss: Loss,
-    number: usize,
-) -> Result<(), Fail> {
-    let script = one_item(rt.alloc())?;
+    call: u64,
+    event: usize,
+) -> Result<usize, Fail> {
+    let mut failed = event;
+    for (number, loss) in LOSSES.iter().enumerate() {
+        let outcome = lived_on(rt.alloc(), failing, call)?;
+        failed = event_of(rt, &outcome, event)?;
+        let Outcome { disk, .. } = outcome;
+        goes_on(rt, disk, *loss, opens_at(failed, number))?;
+    }
+    Ok(failed)
+}
+
+/// Fails each call of the device in turn, up to a run that meets no fault.
+fn failed_at_each_call(rt: &(impl Abort + AllocGlobal), failing: Failing) -> Result<(), Fail> {
     let mut event = 0;
     for call in 0..100 {
-        let outcome = lived_on(rt.alloc(), &script, failing, call)?;
-        event = event_of(rt, &outcome, event)?;
-        let positions = OPENS_AT.get(event).ok_or("no such event")?;
-        let position = *positions.get(number).ok_or("no such loss")?;
-        let Outcome { disk, .. } = outcome;
-        goes_on(rt, disk, loss, position)?;
-        if event == script.events.len() {
+        event = failed_at(rt, failing, call, event)?;
+        if event == 5 {
             return Ok(());
         }
     }
@@ -172,18 +200,12 @@ fn failed_at_each_call(
 fn a_fault_at_each_call_stops_the_replica_and_its_disk_goes_on(
     rt: HostRuntime,
 ) -> Result<(), Fail> {
-    for (number, loss) in LOSSES.iter().enumerate() {
-        failed_at_each_call(&rt, Failing::Once, *loss, number)?;
-    }
-    Ok(())
+    failed_at_each_call(&rt, Failing::Once)
 }
 
 #[test]
 fn a_device_that_fails_from_each_call_on_goes_on_once_it_serves(
     rt: HostRuntime,
 ) -> Result<(), Fail> {
-    for (number, loss) in LOSSES.iter().enumerate() {
-        failed_at_each_call(&rt, Failing::FromThenOn, *loss, number)?;
-    }
-    Ok(())
+    failed_at_each_call(&rt, Failing::FromThenOn)
 }

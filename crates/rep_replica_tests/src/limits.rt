@@ -1,14 +1,20 @@
 //! A node at its limits: as many items as may wait, in as many blocks as the log has cells. Memory is there, so no call
 //! answers that it wants any.
 
-use crate::node::{agrees, formatted, into_disk, opened, run, shown, step};
-use rep_disk::Loss;
+use crate::node::{agrees, formatted, into_disk, opened, shown, step};
+use rep_disk::{Loss, MemDisk};
 use rep_plain::PlainNode;
+use rep_replica::Replica;
 use rep_steps::{Answer, Event, Replies};
 use rep_types::{Key, Params, Refusal, Reply, Value, Verdict, Write, WriteSet};
 use std::alloc::Global;
 use std::process::Abort;
 use std::test::Fail;
+
+/// A window of 256, four cells and one table of 126 rows.
+fn params() -> Result<Params, Refusal> {
+    Params::new(256, 4, &[126])
+}
 
 /// The item with this seqno, which had seen the one before it, and puts 62 bytes under one of five rows.
 fn item(seqno: u64) -> Result<WriteSet, Refusal> {
@@ -43,55 +49,59 @@ fn replies_of(block: u64) -> Answer {
     Answer::Synced(replies)
 }
 
-/// 257 deliveries, of which the last finds no place; and what makes the others durable.
-fn events(alloc: Global) -> Result<(Vec<Event>, Vec<Answer>), Fail> {
-    let mut events = Vec::new(alloc);
-    let mut answers = Vec::new(alloc);
+/// The delivery of the item with this seqno.
+fn deliver(node: &mut Replica<MemDisk>, seqno: u64) -> Result<Answer, Fail> {
+    Ok(step(node, Event::Deliver(seqno, item(seqno)?)))
+}
+
+/// Delivers 256 items, and one for which there is no place.
+fn fill(rt: &(impl Abort + AllocGlobal), node: &mut Replica<MemDisk>) -> Result<(), Fail> {
     for seqno in 1..257 {
-        events.push(Event::Deliver(seqno, item(seqno)?))?;
-        answers.push(Answer::Gave(Verdict::Commit))?;
+        assert_eq!(rt;
+            deliver(node, seqno)?,
+            Answer::Gave(Verdict::Commit),
+            "{seqno}"
+        );
     }
-    events.push(Event::Deliver(257, item(257)?))?;
-    answers.push(Answer::Refused(Refusal::Backlogged))?;
-    for block in 0..4 {
-        for answer in [Answer::Synced(Replies::new()), replies_of(block)] {
-            events.push(Event::Log)?;
-            answers.push(Answer::Wrote)?;
-            events.push(Event::Sync)?;
-            answers.push(answer)?;
-        }
+    assert_eq!(rt; deliver(node, 257)?, Answer::Refused(Refusal::Backlogged));
+    Ok(())
+}
+
+/// Makes the block with this number durable.
+fn make_durable(rt: &(impl Abort + AllocGlobal), node: &mut Replica<MemDisk>, block: u64) {
+    for answer in [Answer::Synced(Replies::new()), replies_of(block)] {
+        assert_eq!(rt; step(node, Event::Log), Answer::Wrote, "{block}");
+        assert_eq!(rt; step(node, Event::Sync), answer, "{block}");
     }
-    events.push(Event::Deliver(257, item(257)?))?;
-    answers.push(Answer::Gave(Verdict::Commit))?;
-    events.push(Event::Log)?;
-    answers.push(Answer::Refused(Refusal::LogFull))?;
-    Ok((events, answers))
+}
+
+/// The plain node of the 256 items.
+fn plain_node(alloc: Global) -> Result<PlainNode, Fail> {
+    let mut plain = PlainNode::new(alloc, params()?);
+    for seqno in 1..257 {
+        plain.deliver(item(seqno)?)?;
+    }
+    Ok(plain)
+}
+
+/// Compares a node on a full log with the plain one. The next item is judged, and finds no cell.
+fn is_full(rt: &(impl Abort + AllocGlobal), node: &mut Replica<MemDisk>) -> Result<(), Fail> {
+    assert_eq!(rt; (shown(node).durable, shown(node).delivered), (256, 256));
+    agrees(rt, node, &plain_node(rt.alloc())?, 6)?;
+    assert_eq!(rt; deliver(node, 257)?, Answer::Gave(Verdict::Commit));
+    assert_eq!(rt; step(node, Event::Log), Answer::Refused(Refusal::LogFull));
+    Ok(())
 }
 
 #[test]
 fn a_full_backlog_becomes_durable_in_four_full_blocks(rt: HostRuntime) -> Result<(), Fail> {
-    let params = Params::new(256, 4, &[126])?;
-    let mut plain = PlainNode::new(rt.alloc(), Params::new(256, 4, &[126])?);
-    for seqno in 1..257 {
-        plain.deliver(item(seqno)?)?;
+    let mut node = opened(rt.alloc(), formatted(rt.alloc(), 103_424, &params()?)?)?;
+    fill(&rt, &mut node)?;
+    for block in 0..4 {
+        make_durable(&rt, &mut node, block);
     }
-    let mut node = opened(rt.alloc(), formatted(rt.alloc(), 103_424, &params)?)?;
-    let (events, answers) = events(rt.alloc())?;
-    assert!(rt; run(rt.alloc(), &mut node, events.as_slice())? == answers);
-    assert_eq!(rt; (shown(&node).durable, shown(&node).delivered), (256, 257));
-    agrees(&rt, &mut node, &plain, 6)?;
+    is_full(&rt, &mut node)?;
     let mut disk = into_disk(node);
     disk.crash(Loss::Junk);
-    let mut node = opened(rt.alloc(), disk)?;
-    assert_eq!(rt; (shown(&node).durable, shown(&node).delivered), (256, 256));
-    agrees(&rt, &mut node, &plain, 6)?;
-    assert_eq!(rt;
-        step(&mut node, Event::Deliver(257, item(257)?)),
-        Answer::Gave(Verdict::Commit)
-    );
-    assert_eq!(rt;
-        step(&mut node, Event::Log),
-        Answer::Refused(Refusal::LogFull)
-    );
-    Ok(())
+    is_full(&rt, &mut opened(rt.alloc(), disk)?)
 }

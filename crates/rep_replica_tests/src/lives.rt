@@ -2,7 +2,6 @@
 
 use crate::model::{Model, ROWS, params};
 use crate::node::{agrees, formatted, into_disk, opened, shown, step};
-use crate::scripts::LOSSES;
 use arrayvec::ArrayVec;
 use rep_disk::{Loss, MemDisk};
 use rep_replica::Replica;
@@ -28,12 +27,21 @@ impl Draws {
         (self.state >> 33) % bound.max(1)
     }
 
+    /// What a stop loses.
+    fn loss(&mut self) -> Loss {
+        match self.below(3) {
+            0 => Loss::Keep,
+            1 => Loss::Drop,
+            _ => Loss::Junk,
+        }
+    }
+
     /// A row of the first few, seldom one outside the table.
     fn row(&mut self, from: u32) -> Key {
         let row = if self.below(100) == 0 {
             ROWS
         } else {
-            from.saturating_add(self.below(4) as u32)
+            from.saturating_add((self.below(4) & 3) as u32)
         };
         Key { table: 0, row }
     }
@@ -41,7 +49,7 @@ impl Draws {
     /// A write: a value of 0 to 62 bytes, or none.
     fn write(&mut self, from: u32) -> Result<Write, Refusal> {
         let key = self.row(from);
-        let bytes = [self.below(256) as u8; 62];
+        let bytes = [(self.below(256) & 0xff) as u8; 62];
         let length = self.below(84) as usize;
         let value = match bytes.get(..length) {
             Some(bytes) => Some(Value::new(bytes)?),
@@ -87,6 +95,11 @@ impl Draws {
         let position = self.below(model.durable().saturating_add(2));
         Ok(Event::Read(self.row(0), position))
     }
+}
+
+/// A node on a new disk, which has 168,960 bytes.
+fn new_node(alloc: Global) -> Result<Replica<MemDisk>, Fail> {
+    opened(alloc, formatted(alloc, 168_960, &params()?)?)
 }
 
 /// What the model says that the event is answered by.
@@ -147,21 +160,30 @@ fn kind_of(answer: &Answer) -> usize {
     }
 }
 
+/// Does the next event, and compares the answer.
+fn answered(
+    rt: &(impl Abort + AllocGlobal),
+    node: &mut Replica<MemDisk>,
+    model: &mut Model,
+    draws: &mut Draws,
+) -> Result<Answer, Fail> {
+    let event = draws.event(model)?;
+    let wanted = wanted(model, event.copied())?;
+    let answer = step(node, event);
+    assert_eq!(rt; answer, wanted);
+    Ok(answer)
+}
+
 /// Lives of one node that are drawn from this seed. Notes which kinds of answers there were.
 fn live(rt: &(impl Abort + AllocGlobal), seed: u64, seen: &mut [bool; KINDS]) -> Result<(), Fail> {
     let mut draws = Draws { state: seed };
     let mut model = Model::new(rt.alloc())?;
-    let mut node = opened(rt.alloc(), formatted(rt.alloc(), 168_960, &params()?)?)?;
+    let mut node = new_node(rt.alloc())?;
     for _ in 0..1_500 {
         if draws.below(300) == 0 {
-            let loss = *LOSSES.get(draws.below(3) as usize).ok_or("no such loss")?;
-            node = stopped(rt, node, &mut model, loss)?;
-            continue;
+            node = stopped(rt, node, &mut model, draws.loss())?;
         }
-        let event = draws.event(&model)?;
-        let wanted = wanted(&mut model, event.copied())?;
-        let answer = step(&mut node, event);
-        assert_eq!(rt; answer, wanted, "{seed}");
+        let answer = answered(rt, &mut node, &mut model, &mut draws)?;
         if let Some(seen) = seen.get_mut(kind_of(&answer)) {
             *seen = true;
         }

@@ -1,8 +1,9 @@
 //! Disks that are refused, and disks at the last seqno.
 
 use crate::node::{cluster, into_disk, open, opened, run, shown, step};
-use crate::scripts::{ROW, first, new_disk, one_item};
+use crate::scripts::{ROW, new_disk, one_item};
 use rep_disk::{Disk, MemDisk};
+use rep_replica::Replica;
 use rep_steps::{Answer, Event};
 use rep_types::{Gtid, Part, Refusal, Value, Verdict, Write, WriteSet};
 use std::alloc::Global;
@@ -38,26 +39,36 @@ fn refused(alloc: Global, disk: MemDisk) -> Result<Option<(Refusal, bool)>, Fail
 }
 
 #[test]
-fn a_refused_disk_comes_back_as_it_was(rt: HostRuntime) -> Result<(), Fail> {
+fn a_disk_that_is_not_formatted_comes_back(rt: HostRuntime) -> Result<(), Fail> {
     for size in [0, 54_271, 54_272, 103_424] {
         let disk = MemDisk::new(rt.alloc(), size)?;
         let wanted = Some((Refusal::NotFormatted, true));
         assert_eq!(rt; refused(rt.alloc(), disk)?, wanted, "{size}");
     }
-    let of = |part| Some((Refusal::Corrupt { part }, true));
-    for (at, byte, wanted) in [
-        (3_584, 0, Some((Refusal::NotFormatted, true))),
-        (0, 0, of(Part::Superblock)),
-        (8_192, 0, of(Part::Window)),
-        (54_324, 2, of(Part::Log)),
-        // The first page stands in its first slot, which no page was written to.
-        (128, 1, of(Part::Pages)),
-        // Neither a closed cell's body nor a page in no slot is looked at.
-        (62_464, 1, None),
-        (87_040, 1, None),
+    Ok(())
+}
+
+#[test]
+fn a_disk_of_another_form_comes_back_as_it_was(rt: HostRuntime) -> Result<(), Fail> {
+    for (at, byte, part) in [
+        (0, 0, Part::Superblock),
+        (8_192, 0, Part::Window),
+        (54_324, 2, Part::Log),
+        // The first page stands in its first slot, into which none was written.
+        (128, 1, Part::Pages),
     ] {
         let disk = changed(with_item(rt.alloc())?, at, &[byte])?;
+        let wanted = Some((Refusal::Corrupt { part }, true));
         assert_eq!(rt; refused(rt.alloc(), disk)?, wanted, "{at}");
+    }
+    Ok(())
+}
+
+#[test]
+fn neither_a_closed_cell_nor_a_page_in_no_slot_is_looked_at(rt: HostRuntime) -> Result<(), Fail> {
+    for at in [62_464, 87_040, 103_423] {
+        let disk = changed(with_item(rt.alloc())?, at, &[1])?;
+        assert_eq!(rt; refused(rt.alloc(), disk)?, None, "{at}");
     }
     Ok(())
 }
@@ -75,18 +86,21 @@ fn put(last_seen: u64) -> Result<WriteSet, Refusal> {
     WriteSet::new(0, 0, last_seen, &[], &[Write { key: ROW, value }])
 }
 
-#[test]
-fn no_item_comes_behind_the_last_seqno(rt: HostRuntime) -> Result<(), Fail> {
+/// A node behind the item with the last seqno, on a disk that was opened again.
+fn behind_the_last(rt: &(impl Abort + AllocGlobal)) -> Result<Replica<MemDisk>, Fail> {
     let mut node = opened(rt.alloc(), standing_at(rt.alloc(), LAST - 1)?)?;
-    assert_eq!(rt;
-        step(&mut node, Event::Deliver(LAST, put(LAST - 1)?)),
-        Answer::Gave(Verdict::Commit)
-    );
+    let answer = step(&mut node, Event::Deliver(LAST, put(LAST - 1)?));
+    assert_eq!(rt; answer, Answer::Gave(Verdict::Commit));
     for _ in 0..2 {
         assert_eq!(rt; step(&mut node, Event::Log), Answer::Wrote);
         let _synced = step(&mut node, Event::Sync);
     }
-    let mut node = opened(rt.alloc(), into_disk(node))?;
+    opened(rt.alloc(), into_disk(node))
+}
+
+#[test]
+fn no_item_comes_behind_the_last_seqno(rt: HostRuntime) -> Result<(), Fail> {
+    let mut node = behind_the_last(&rt)?;
     let last = shown(&node);
     assert_eq!(rt;
         (last.base, last.durable, last.delivered),
@@ -97,21 +111,23 @@ fn no_item_comes_behind_the_last_seqno(rt: HostRuntime) -> Result<(), Fail> {
         Gtid::new(cluster(), 1_152_921_504_606_846_976)
     );
     for seqno in [0, LAST, LAST + 1, u64::MAX] {
-        let answer = step(&mut node, Event::Deliver(seqno, first()?));
+        let answer = step(&mut node, Event::Deliver(seqno, put(0)?));
         assert_eq!(rt; answer, Answer::Refused(Refusal::Exhausted), "{seqno}");
     }
+    Ok(())
+}
+
+#[test]
+fn rows_below_the_base_are_too_old(rt: HostRuntime) -> Result<(), Fail> {
+    let mut node = behind_the_last(&rt)?;
     let oldest = LAST - 1;
-    assert_eq!(rt;
-        step(&mut node, Event::Read(ROW, LAST)),
-        Answer::Row(Some(Value::new(b"a")?))
-    );
-    assert_eq!(rt;
-        step(&mut node, Event::Read(ROW, oldest)),
-        Answer::Row(None)
-    );
-    assert_eq!(rt;
-        step(&mut node, Event::Read(ROW, oldest - 1)),
-        Answer::Refused(Refusal::TooOld { oldest })
-    );
+    for (s, wanted) in [
+        (LAST + 1, Answer::Refused(Refusal::NotYet { durable: LAST })),
+        (LAST, Answer::Row(Some(Value::new(b"a")?))),
+        (oldest, Answer::Row(None)),
+        (oldest - 1, Answer::Refused(Refusal::TooOld { oldest })),
+    ] {
+        assert_eq!(rt; step(&mut node, Event::Read(ROW, s)), wanted, "{s}");
+    }
     Ok(())
 }

@@ -11,7 +11,7 @@ use std::process::Abort;
 use std::test::Fail;
 
 /// At which position a disk opens, by the loss of the stop: where it keeps, drops and spoils what is pending.
-pub(crate) type Positions = [u64; 3];
+pub(crate) type Positions = [u32; 3];
 
 /// Those behind each event of the one item, from before the first.
 const OF_ONE: [Positions; 6] = [
@@ -80,9 +80,10 @@ fn stopped_behind(
         disk.crash(*loss);
         let mut node = opened(rt.alloc(), disk)?;
         let shown = shown(&node);
+        let durable = u64::from(position);
         assert_eq!(rt;
             (shown.durable, shown.delivered),
-            (position, position),
+            (durable, durable),
             "{count} {loss:?}"
         );
         assert_eq!(rt;
@@ -92,7 +93,7 @@ fn stopped_behind(
         );
         assert_eq!(rt;
             Some(shown.gtid),
-            Gtid::new(cluster(), position as i64),
+            Gtid::new(cluster(), i64::from(position)),
             "{count} {loss:?}"
         );
         agrees(rt, &mut node, &script.plain, 3)?;
