@@ -1,6 +1,6 @@
 //! A device that fails at each call in turn, once or from then on: what is refused, and what opens behind it.
 
-use crate::node::{agrees, into_disk, open, opened, run, shown};
+use crate::node::{agrees, crashed, into_disk, open, opened, opened_at, run, shown};
 use crate::scripts::{LOSSES, Script, new_disk, one_item};
 use crate::stops::fed_the_rest;
 use rep_disk::{Disk, FaultOnce, FuseDisk, Loss, MemDisk};
@@ -29,7 +29,7 @@ struct Outcome {
 
 /// At which position the disk opens where the event of this number met the fault, by the number of the stop's loss. A failed
 /// write changed nothing; behind the failed sync of an open gate that gate is pending.
-fn opens_at(event: usize, loss: usize) -> u32 {
+fn opens_at(event: usize, loss: usize) -> u64 {
     match (event, loss) {
         (5, _) | (4, 0) => 1,
         _ => 0,
@@ -150,17 +150,12 @@ fn event_of(
 /// Stops the device with this loss and opens it, at this position; and it goes on there.
 fn goes_on(
     rt: &(impl Abort + AllocGlobal),
-    mut disk: MemDisk,
+    disk: MemDisk,
     loss: Loss,
-    position: u32,
+    position: u64,
 ) -> Result<(), Fail> {
-    disk.crash(loss);
-    let mut node = opened(rt.alloc(), disk)?;
-    let shown = shown(&node);
-    assert_eq!(rt;
-        (shown.durable, shown.delivered, shown.is_stopped),
-        (u64::from(position), u64::from(position), false)
-    );
+    let mut node = opened(rt.alloc(), crashed(disk, loss))?;
+    assert_eq!(rt; shown(&node), opened_at(position));
     let script = one_item(rt.alloc())?;
     agrees(rt, &mut node, &script.plain, 3)?;
     fed_the_rest(rt, &mut node, &script.plain)

@@ -1,7 +1,7 @@
 //! A node at its limits: as many items as may wait, in as many blocks as the log has cells. Memory is there, so no call
 //! answers that it wants any.
 
-use crate::node::{agrees, formatted, into_disk, opened, shown, step};
+use crate::node::{agrees, formatted, opened, opened_at, reopened, shown, step};
 use rep_disk::{Loss, MemDisk};
 use rep_plain::PlainNode;
 use rep_replica::Replica;
@@ -86,7 +86,7 @@ fn plain_node(alloc: Global) -> Result<PlainNode, Fail> {
 
 /// Compares a node on a full log with the plain one. The next item is judged, and finds no cell.
 fn is_full(rt: &(impl Abort + AllocGlobal), node: &mut Replica<MemDisk>) -> Result<(), Fail> {
-    assert_eq!(rt; (shown(node).durable, shown(node).delivered), (256, 256));
+    assert_eq!(rt; shown(node), opened_at(256));
     agrees(rt, node, &plain_node(rt.alloc())?, 6)?;
     assert_eq!(rt; deliver(node, 257)?, Answer::Gave(Verdict::Commit));
     assert_eq!(rt; step(node, Event::Log), Answer::Refused(Refusal::LogFull));
@@ -101,7 +101,5 @@ fn a_full_backlog_becomes_durable_in_four_full_blocks(rt: HostRuntime) -> Result
         make_durable(&rt, &mut node, block);
     }
     is_full(&rt, &mut node)?;
-    let mut disk = into_disk(node);
-    disk.crash(Loss::Junk);
-    is_full(&rt, &mut opened(rt.alloc(), disk)?)
+    is_full(&rt, &mut reopened(rt.alloc(), node, Loss::Junk)?)
 }

@@ -1,7 +1,7 @@
 //! Lives of a node: drawn events, with stops in between, each answer compared with that of the plain node.
 
 use crate::model::{Model, ROWS, params};
-use crate::node::{agrees, formatted, into_disk, opened, shown, step};
+use crate::node::{agrees, formatted, opened, opened_at, reopened, shown, step};
 use arrayvec::ArrayVec;
 use rep_disk::{Loss, MemDisk};
 use rep_replica::Replica;
@@ -121,16 +121,9 @@ fn stopped(
     model: &mut Model,
     loss: Loss,
 ) -> Result<Replica<MemDisk>, Fail> {
-    let mut disk = into_disk(node);
-    disk.crash(loss);
+    let mut node = reopened(rt.alloc(), node, loss)?;
     model.stop(loss);
-    let mut node = opened(rt.alloc(), disk)?;
-    let shown = shown(&node);
-    assert_eq!(rt;
-        (shown.durable, shown.delivered),
-        (model.durable(), model.durable()),
-        "{loss:?}"
-    );
+    assert_eq!(rt; shown(&node), opened_at(model.durable()));
     agrees(rt, &mut node, model.plain(), 6)?;
     Ok(node)
 }

@@ -1,7 +1,7 @@
 //! A replica as the tests see it: each call of it stands here once, in a function that promises nothing, so that no test
 //! has to be proved beside its contract.
 
-use rep_disk::{Disk, MemDisk};
+use rep_disk::{Disk, Loss, MemDisk};
 use rep_plain::PlainNode;
 use rep_recover::format_disk;
 use rep_replica::Replica;
@@ -56,20 +56,50 @@ pub(crate) fn into_disk<D: Disk>(node: Replica<D>) -> D {
     node.into_disk()
 }
 
+/// The disk as a stop leaves it.
+pub(crate) fn crashed(mut disk: MemDisk, loss: Loss) -> MemDisk {
+    disk.crash(loss);
+    disk
+}
+
+/// Stops the node with this loss, and opens its disk again.
+pub(crate) fn reopened(
+    alloc: Global,
+    node: Replica<MemDisk>,
+    loss: Loss,
+) -> Result<Replica<MemDisk>, Fail> {
+    opened(alloc, crashed(into_disk(node), loss))
+}
+
 /// What a node says of itself.
 #[derive(Clone, Copy, Debug, PartialEq, Eq)]
 pub(crate) struct Status {
-    pub(crate) gtid: Gtid,
+    pub(crate) gtid: Option<Gtid>,
     pub(crate) base: u64,
     pub(crate) durable: u64,
     pub(crate) delivered: u64,
     pub(crate) is_stopped: bool,
 }
 
+/// What a node says of itself that was opened at this position, over no base.
+pub(crate) fn opened_at(position: u64) -> Status {
+    let gtid = match i64::try_from(position) {
+        Ok(seqno) => Gtid::new(cluster(), seqno),
+        Err(_) => None,
+    };
+    Status {
+        gtid,
+        base: 0,
+        durable: position,
+        delivered: position,
+        is_stopped: false,
+    }
+}
+
 /// What the node says of itself.
 pub(crate) fn shown<D: Disk>(node: &Replica<D>) -> Status {
     Status {
-        gtid: node.gtid(),
+        gtid: Some(node.gtid()),
         base: node.base(),
         durable: node.durable(),
         delivered: node.delivered(),

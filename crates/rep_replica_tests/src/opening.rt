@@ -1,11 +1,11 @@
 //! Disks that are refused, and disks at the last seqno.
 
-use crate::node::{cluster, into_disk, open, opened, run, shown, step};
+use crate::node::{Status, into_disk, open, opened, opened_at, run, shown, step};
 use crate::scripts::{ROW, new_disk, one_item};
 use rep_disk::{Disk, MemDisk};
 use rep_replica::Replica;
 use rep_steps::{Answer, Event};
-use rep_types::{Gtid, Part, Refusal, Value, Verdict, Write, WriteSet};
+use rep_types::{Part, Refusal, Value, Verdict, Write, WriteSet};
 use std::alloc::Global;
 use std::process::Abort;
 use std::test::Fail;
@@ -101,15 +101,11 @@ fn behind_the_last(rt: &(impl Abort + AllocGlobal)) -> Result<Replica<MemDisk>, 
 #[test]
 fn no_item_comes_behind_the_last_seqno(rt: HostRuntime) -> Result<(), Fail> {
     let mut node = behind_the_last(&rt)?;
-    let last = shown(&node);
-    assert_eq!(rt;
-        (last.base, last.durable, last.delivered),
-        (LAST - 1, LAST, LAST)
-    );
-    assert_eq!(rt;
-        Some(last.gtid),
-        Gtid::new(cluster(), 1_152_921_504_606_846_976)
-    );
+    let last = Status {
+        base: LAST - 1,
+        ..opened_at(LAST)
+    };
+    assert_eq!(rt; shown(&node), last);
     for seqno in [0, LAST, LAST + 1, u64::MAX] {
         let answer = step(&mut node, Event::Deliver(seqno, put(0)?));
         assert_eq!(rt; answer, Answer::Refused(Refusal::Exhausted), "{seqno}");

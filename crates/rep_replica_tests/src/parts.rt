@@ -1,11 +1,12 @@
 //! A replica that is taken apart and put together again.
 
-use crate::node::{into_disk, opened, run, shown, step};
+use crate::node::{Status, into_disk, opened, opened_at, run, shown, step};
 use crate::scripts::{ROW, Script, first, new_disk, two_items};
 use rep_disk::{Disk, MemDisk};
 use rep_replica::Replica;
 use rep_steps::{Answer, Event};
 use rep_types::Refusal;
+use std::alloc::Global;
 use std::process::Abort;
 use std::test::Fail;
 
@@ -41,34 +42,37 @@ fn a_node_that_was_taken_apart_goes_on_the_same(rt: HostRuntime) -> Result<(), F
     Ok(())
 }
 
-/// Compares what the node says of itself behind the two items.
-fn is_behind_both(rt: &impl Abort, node: &Replica<MemDisk>, is_stopped: bool) {
-    let shown = shown(node);
-    assert_eq!(rt;
-        (shown.durable, shown.delivered, shown.is_stopped),
-        (2, 2, is_stopped)
-    );
+/// A node with the two items, put together as stopped.
+fn stopped_behind_both(alloc: Global) -> Result<Replica<MemDisk>, Fail> {
+    let mut node = opened(alloc, new_disk(alloc)?)?;
+    let Script { events, .. } = two_items(alloc)?;
+    let _answers = run(alloc, &mut node, events.as_slice())?;
+    Ok(together_again(node, true))
 }
 
 #[test]
 fn a_node_that_is_put_together_as_stopped_refuses_everything(rt: HostRuntime) -> Result<(), Fail> {
-    let script = two_items(rt.alloc())?;
-    let mut node = opened(rt.alloc(), new_disk(rt.alloc())?)?;
-    let _answers = run(rt.alloc(), &mut node, script.events.as_slice())?;
-    let mut node = together_again(node, true);
-    let deliver = Event::Deliver(3, first()?);
-    for event in [
-        deliver,
-        Event::Log,
-        Event::Sync,
-        Event::Check,
-        Event::Flush(0),
-        Event::Read(ROW, 1),
-    ] {
-        assert_eq!(rt; step(&mut node, event), Answer::Refused(Refusal::Stopped));
-    }
-    is_behind_both(&rt, &node, true);
-    // Its disk is as it was.
-    is_behind_both(&rt, &opened(rt.alloc(), into_disk(node))?, false);
+    let mut node = stopped_behind_both(rt.alloc())?;
+    let stopped = Answer::Refused(Refusal::Stopped);
+    assert_eq!(rt; step(&mut node, Event::Deliver(3, first()?)), stopped);
+    assert_eq!(rt; step(&mut node, Event::Log), stopped);
+    assert_eq!(rt; step(&mut node, Event::Sync), stopped);
+    assert_eq!(rt; step(&mut node, Event::Check), stopped);
+    assert_eq!(rt; step(&mut node, Event::Flush(0)), stopped);
+    assert_eq!(rt; step(&mut node, Event::Read(ROW, 1)), stopped);
+    Ok(())
+}
+
+#[test]
+fn a_node_that_was_put_together_as_stopped_opens_as_it_was(rt: HostRuntime) -> Result<(), Fail> {
+    let node = stopped_behind_both(rt.alloc())?;
+    let both = opened_at(2);
+    let stopped = Status {
+        is_stopped: true,
+        ..both
+    };
+    assert_eq!(rt; shown(&node), stopped);
+    let node = opened(rt.alloc(), into_disk(node))?;
+    assert_eq!(rt; shown(&node), both);
     Ok(())
 }

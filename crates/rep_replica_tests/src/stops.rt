@@ -1,17 +1,16 @@
 //! Stops behind each event, with each loss.
 
-use crate::node::{agrees, cluster, into_disk, opened, run, shown, step};
+use crate::node::{agrees, opened, opened_at, reopened, run, shown, step};
 use crate::scripts::{LOSSES, Script, new_disk, one_item, two_items};
 use rep_disk::MemDisk;
 use rep_plain::PlainNode;
 use rep_replica::Replica;
 use rep_steps::{Answer, Event};
-use rep_types::Gtid;
 use std::process::Abort;
 use std::test::Fail;
 
 /// At which position a disk opens, by the loss of the stop: where it keeps, drops and spoils what is pending.
-pub(crate) type Positions = [u32; 3];
+pub(crate) type Positions = [u64; 3];
 
 /// Those behind each event of the one item, from before the first.
 const OF_ONE: [Positions; 6] = [
@@ -76,26 +75,9 @@ fn stopped_behind(
     positions: Positions,
 ) -> Result<(), Fail> {
     for (loss, position) in LOSSES.iter().zip(positions) {
-        let mut disk = into_disk(ran(rt, script, count)?);
-        disk.crash(*loss);
-        let mut node = opened(rt.alloc(), disk)?;
-        let shown = shown(&node);
-        let durable = u64::from(position);
-        assert_eq!(rt;
-            (shown.durable, shown.delivered),
-            (durable, durable),
-            "{count} {loss:?}"
-        );
-        assert_eq!(rt;
-            (shown.base, shown.is_stopped),
-            (0, false),
-            "{count} {loss:?}"
-        );
-        assert_eq!(rt;
-            Some(shown.gtid),
-            Gtid::new(cluster(), i64::from(position)),
-            "{count} {loss:?}"
-        );
+        let node = ran(rt, script, count)?;
+        let mut node = reopened(rt.alloc(), node, *loss)?;
+        assert_eq!(rt; shown(&node), opened_at(position), "{count}");
         agrees(rt, &mut node, &script.plain, 3)?;
         fed_the_rest(rt, &mut node, &script.plain)?;
     }
