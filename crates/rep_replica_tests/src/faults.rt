@@ -11,7 +11,7 @@ use std::process::Abort;
 use std::test::Fail;
 
 /// Which calls of a device fail.
-#[derive(Clone, Copy, Debug, PartialEq, Eq)]
+#[derive(Clone, Copy)]
 enum Failing {
     Once,
     FromThenOn,
@@ -27,11 +27,11 @@ struct Outcome {
     disk: MemDisk,
 }
 
-/// At which position the disk opens where the event of this number met the fault, by the number of the stop's loss. A failed
+/// At which position the disk opens behind a stop with this loss, where the event of this number met the fault. A failed
 /// write changed nothing; behind the failed sync of an open gate that gate is pending.
-fn opens_at(event: usize, loss: usize) -> u64 {
+fn opens_at(event: usize, loss: Loss) -> u64 {
     match (event, loss) {
-        (5, _) | (4, 0) => 1,
+        (5, _) | (4, Loss::Keep) => 1,
         _ => 0,
     }
 }
@@ -170,11 +170,11 @@ fn failed_at(
     event: usize,
 ) -> Result<usize, Fail> {
     let mut failed = event;
-    for (number, loss) in LOSSES.iter().enumerate() {
+    for loss in LOSSES {
         let outcome = lived_on(rt.alloc(), failing, call)?;
         failed = event_of(rt, &outcome, event)?;
         let Outcome { disk, .. } = outcome;
-        goes_on(rt, disk, *loss, opens_at(failed, number))?;
+        goes_on(rt, disk, loss, opens_at(failed, loss))?;
     }
     Ok(failed)
 }

@@ -11,10 +11,12 @@ use std::alloc::Global;
 use std::process::Abort;
 use std::test::Fail;
 
-/// Draws numbers (a linear congruential generator, with the multiplier of Knuth's MMIX).
+/// Draws numbers (a linear congruential generator, with the multiplier of Knuth's MMIX), items and events.
 #[derive(Drop)]
 struct Draws {
     state: u64,
+    /// How many of 100 events are deliveries: the more, the longer the blocks.
+    deliveries: u64,
 }
 
 impl Draws {
@@ -58,42 +60,51 @@ impl Draws {
         Ok(Write { key, value })
     }
 
-    /// An item of the transaction with this number: it had mostly seen some of what was delivered.
+    /// The item behind so many: it had mostly seen some of them, reads at most one row and writes one or two.
     fn item(&mut self, delivered: u64) -> Result<WriteSet, Refusal> {
         let last_seen = delivered.saturating_add(1).saturating_sub(self.below(12));
         let mut reads: ArrayVec<Key, 1> = ArrayVec::new();
         if self.below(3) == 0 {
             reads.push(self.row(0));
         }
+        let first = self.write(0)?;
+        let is_last = first.key.row == ROWS || self.below(2) == 0;
         let mut writes: ArrayVec<Write, 2> = ArrayVec::new();
-        writes.push(self.write(0)?);
+        writes.push(first);
+        if !is_last {
+            writes.push(self.write(4)?);
+        }
         WriteSet::new(3, delivered, last_seen, reads.as_slice(), writes.as_slice())
     }
 
-    /// The next event: mostly a delivery of the next item of the order, which is a new one where the order ends.
-    fn event(&mut self, model: &Model) -> Result<Event, Refusal> {
+    /// The delivery of the next item of the order, which is a new one where the order ends; seldom of an earlier one.
+    fn delivery(&mut self, model: &Model) -> Result<Event, Refusal> {
         let next = model.delivered().saturating_add(1);
-        let drawn = self.below(100);
-        if drawn < 70 {
-            let item = match model.next_item() {
-                Some(item) => item,
-                None => self.item(model.delivered())?,
-            };
-            let seqno = if self.below(50) == 0 {
-                self.below(next)
-            } else {
-                next
-            };
-            return Ok(Event::Deliver(seqno, item));
+        let item = match model.next_item() {
+            Some(item) => item,
+            None => self.item(model.delivered())?,
+        };
+        let seqno = if self.below(50) == 0 {
+            self.below(next)
+        } else {
+            next
+        };
+        Ok(Event::Deliver(seqno, item))
+    }
+
+    /// The next event.
+    fn event(&mut self, model: &Model) -> Result<Event, Refusal> {
+        if self.below(100) < self.deliveries {
+            return self.delivery(model);
         }
-        if drawn < 82 {
-            return Ok(Event::Log);
+        match self.below(5) {
+            0 | 1 => Ok(Event::Log),
+            2 | 3 => Ok(Event::Sync),
+            _ => {
+                let position = self.below(model.durable().saturating_add(2));
+                Ok(Event::Read(self.row(0), position))
+            }
         }
-        if drawn < 94 {
-            return Ok(Event::Sync);
-        }
-        let position = self.below(model.durable().saturating_add(2));
-        Ok(Event::Read(self.row(0), position))
     }
 }
 
@@ -124,7 +135,7 @@ fn stopped(
     let mut node = reopened(rt.alloc(), node, loss)?;
     model.stop(loss);
     assert_eq!(rt; shown(&node), opened_at(model.durable()));
-    agrees(rt, &mut node, model.plain(), 6)?;
+    agrees(rt, &mut node, model.plain(), 9)?;
     Ok(node)
 }
 
@@ -169,7 +180,10 @@ fn answered(
 
 /// Lives of one node that are drawn from this seed. Notes which kinds of answers there were.
 fn live(rt: &(impl Abort + AllocGlobal), seed: u64, seen: &mut [bool; KINDS]) -> Result<(), Fail> {
-    let mut draws = Draws { state: seed };
+    let mut draws = Draws {
+        state: seed,
+        deliveries: seed.saturating_mul(6).saturating_add(40),
+    };
     let mut model = Model::new(rt.alloc())?;
     let mut node = new_node(rt.alloc())?;
     for _ in 0..1_500 {

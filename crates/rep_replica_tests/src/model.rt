@@ -1,10 +1,11 @@
 //! What a node on a disk is to answer: the plain node judges and reads, and a few numbers say where the log stands. A block
 //! takes four events: its body is written and made stable, and then its gate.
 
+use crate::node::plain_row;
 use rep_disk::Loss;
 use rep_plain::PlainNode;
 use rep_steps::{Answer, Replies};
-use rep_types::{Judged, Key, Params, Refusal, Reply, Value, WriteSet};
+use rep_types::{Judged, Key, Params, Refusal, Reply, WriteSet};
 use std::alloc::Global;
 
 /// How many rows the one table has.
@@ -14,7 +15,7 @@ pub(crate) const ROWS: u32 = 70;
 pub(crate) const CELLS: u32 = 12;
 
 /// Where the next block stands.
-#[derive(Clone, Copy, Debug, PartialEq, Eq)]
+#[derive(Clone, Copy)]
 enum Stage {
     Gathering,
     BodyWritten,
@@ -188,16 +189,16 @@ impl Model {
         if key.table != 0 || key.row >= ROWS {
             return Answer::Refused(Refusal::BadKey);
         }
-        if s > self.durable || s > self.plain.position() {
+        if s > self.durable {
             let durable = self.durable;
             return Answer::Refused(Refusal::NotYet { durable });
         }
-        Answer::Row(self.plain.get(key, s).map(|value| value.copied()))
+        plain_row(&self.plain, key, s)
     }
 
     /// The node is stopped and opened again: a pending gate counts where the loss keeps it.
     pub(crate) fn stop(&mut self, loss: Loss) {
-        if self.stage == Stage::GateWritten && loss == Loss::Keep {
+        if let (Stage::GateWritten, Loss::Keep) = (self.stage, loss) {
             self.take_block();
         }
         self.stage = Stage::Gathering;

@@ -6,7 +6,7 @@ use rep_plain::PlainNode;
 use rep_recover::format_disk;
 use rep_replica::Replica;
 use rep_steps::{Answer, Event};
-use rep_types::{Gtid, Key, Params, Refusal, Value};
+use rep_types::{Gtid, Key, Params, Refusal};
 use std::alloc::Global;
 use std::process::Abort;
 use std::test::Fail;
@@ -107,12 +107,15 @@ pub(crate) fn shown<D: Disk>(node: &Replica<D>) -> Status {
     }
 }
 
-/// The row under the key after the first `s` items of the plain node.
-fn plain_row(plain: &PlainNode, key: Key, s: u64) -> Option<Value> {
+/// What a read of the key after the first `s` items of the plain node is answered by.
+pub(crate) fn plain_row(plain: &PlainNode, key: Key, s: u64) -> Answer {
     if s > plain.position() {
-        return None;
+        return Answer::Row(None);
     }
-    plain.get(key, s).map(|value| value.copied())
+    match plain.get(key, s) {
+        Some(value) => Answer::Row(Some(value.copied())),
+        None => Answer::Row(None),
+    }
 }
 
 /// Compares the node with the plain one: the window at what is durable, and the first so many rows of the first table at
@@ -133,8 +136,8 @@ pub(crate) fn agrees<D: Disk>(
     for s in 0..=durable {
         for row in 0..rows {
             let key = Key { table: 0, row };
-            let wanted = Answer::Row(plain_row(plain, key, s));
-            assert_eq!(rt; step(node, Event::Read(key, s)), wanted, "{row} {s}");
+            let answer = step(node, Event::Read(key, s));
+            assert_eq!(rt; answer, plain_row(plain, key, s), "{row} {s}");
         }
     }
     Ok(())

@@ -21,7 +21,7 @@ fn with_item(alloc: Global) -> Result<MemDisk, Fail> {
 }
 
 /// The disk with these bytes at this offset.
-fn changed(mut disk: MemDisk, at: usize, bytes: &[u8]) -> Result<MemDisk, Fail> {
+pub(crate) fn changed(mut disk: MemDisk, at: usize, bytes: &[u8]) -> Result<MemDisk, Fail> {
     if at > disk.size() || bytes.len() > disk.size().saturating_sub(at) {
         return Err(Fail::new("past the end"));
     }
@@ -74,14 +74,14 @@ fn neither_a_closed_cell_nor_a_page_in_no_slot_is_looked_at(rt: HostRuntime) -> 
 }
 
 /// A disk without items whose base stands at this position.
-fn standing_at(alloc: Global, position: u64) -> Result<MemDisk, Fail> {
+pub(crate) fn standing_at(alloc: Global, position: u64) -> Result<MemDisk, Fail> {
     let bytes = position.to_be_bytes();
     let disk = changed(new_disk(alloc)?, 72, &bytes)?;
     changed(disk, 8_208, &bytes)
 }
 
 /// An item that had seen so many, and puts `a` under the row 1.
-fn put(last_seen: u64) -> Result<WriteSet, Refusal> {
+pub(crate) fn put(last_seen: u64) -> Result<WriteSet, Refusal> {
     let value = Some(Value::new(b"a")?);
     WriteSet::new(0, 0, last_seen, &[], &[Write { key: ROW, value }])
 }

@@ -10,7 +10,7 @@ use std::process::Abort;
 use std::test::Fail;
 
 /// At which position a disk opens, by the loss of the stop: where it keeps, drops and spoils what is pending.
-pub(crate) type Positions = [u64; 3];
+type Positions = [u64; 3];
 
 /// Those behind each event of the one item, from before the first.
 const OF_ONE: [Positions; 6] = [
