@@ -56,22 +56,18 @@ fn lived_on(alloc: Global, failing: Failing, call: u64) -> Result<Outcome, Fail>
     match failing {
         Failing::Once => {
             let (answers, disk) = lived(alloc, FaultOnce::new(disk, call))?;
-            let failures = disk.failures();
-            let disk = disk.into_inner();
             Ok(Outcome {
                 answers,
-                failures,
-                disk,
+                failures: disk.failures(),
+                disk: disk.into_inner(),
             })
         }
         Failing::FromThenOn => {
             let (answers, disk) = lived(alloc, FuseDisk::new(disk, call))?;
-            let failures = disk.failures();
-            let disk = disk.into_inner();
             Ok(Outcome {
                 answers,
-                failures,
-                disk,
+                failures: disk.failures(),
+                disk: disk.into_inner(),
             })
         }
     }

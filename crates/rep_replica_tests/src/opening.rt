@@ -1,11 +1,11 @@
 //! Disks that are refused, and disks at the last seqno.
 
 use crate::node::{Status, into_disk, open, opened, opened_at, run, shown, step};
-use crate::scripts::{ROW, new_disk, one_item};
+use crate::scripts::{ROW, new_disk, one_item, put};
 use rep_disk::{Disk, MemDisk};
 use rep_replica::Replica;
 use rep_steps::{Answer, Event};
-use rep_types::{Part, Refusal, Value, Verdict, Write, WriteSet};
+use rep_types::{Part, Refusal, Value, Verdict};
 use std::alloc::Global;
 use std::process::Abort;
 use std::test::Fail;
@@ -80,16 +80,10 @@ pub(crate) fn standing_at(alloc: Global, position: u64) -> Result<MemDisk, Fail>
     changed(disk, 8_208, &bytes)
 }
 
-/// An item that had seen so many, and puts `a` under the row 1.
-pub(crate) fn put(last_seen: u64) -> Result<WriteSet, Refusal> {
-    let value = Some(Value::new(b"a")?);
-    WriteSet::new(0, 0, last_seen, &[], &[Write { key: ROW, value }])
-}
-
 /// A node behind the item with the last seqno, on a disk that was opened again.
 fn behind_the_last(rt: &(impl Abort + AllocGlobal)) -> Result<Replica<MemDisk>, Fail> {
     let mut node = opened(rt.alloc(), standing_at(rt.alloc(), LAST - 1)?)?;
-    let answer = step(&mut node, Event::Deliver(LAST, put(LAST - 1)?));
+    let answer = step(&mut node, Event::Deliver(LAST, put(LAST - 1, 8, b'a')?));
     assert_eq!(rt; answer, Answer::Gave(Verdict::Commit));
     for _ in 0..2 {
         assert_eq!(rt; step(&mut node, Event::Log), Answer::Wrote);
@@ -107,7 +101,7 @@ fn no_item_comes_behind_the_last_seqno(rt: HostRuntime) -> Result<(), Fail> {
     };
     assert_eq!(rt; shown(&node), last);
     for seqno in [0, LAST, LAST + 1, u64::MAX] {
-        let answer = step(&mut node, Event::Deliver(seqno, put(0)?));
+        let answer = step(&mut node, Event::Deliver(seqno, put(0, 8, b'a')?));
         assert_eq!(rt; answer, Answer::Refused(Refusal::Exhausted), "{seqno}");
     }
     Ok(())

@@ -1,8 +1,8 @@
 //! Rows that stand in a page of the base, on a disk whose bytes are written by hand.
 
 use crate::node::{Status, into_disk, open, opened, opened_at, shown, step};
-use crate::opening::{changed, put, standing_at};
-use crate::scripts::ROW;
+use crate::opening::{changed, standing_at};
+use crate::scripts::{ROW, put};
 use rep_disk::{Disk, FaultOnce, MemDisk};
 use rep_replica::Replica;
 use rep_steps::{Answer, Event};
@@ -26,7 +26,7 @@ fn in_the_page() -> Result<Answer, Refusal> {
 
 /// Makes durable a second item, which puts `a` under the row 1.
 fn write_over<D: Disk>(rt: &impl Abort, node: &mut Replica<D>) -> Result<(), Refusal> {
-    let answer = step(node, Event::Deliver(2, put(1)?));
+    let answer = step(node, Event::Deliver(2, put(1, 9, b'a')?));
     assert_eq!(rt; answer, Answer::Gave(Verdict::Commit));
     for _ in 0..2 {
         assert_eq!(rt; step(node, Event::Log), Answer::Wrote);
@@ -78,7 +78,10 @@ fn a_read_that_meets_a_fault_stops_the_replica(rt: HostRuntime) -> Result<(), Fa
     assert_eq!(rt; step(&mut node, Event::Read(ROW, 1)), fault);
     let stopped = Answer::Refused(Refusal::Stopped);
     assert_eq!(rt; step(&mut node, Event::Read(ROW, 1)), stopped);
-    assert_eq!(rt; step(&mut node, Event::Deliver(2, put(1)?)), stopped);
+    assert_eq!(rt;
+        step(&mut node, Event::Deliver(2, put(1, 9, b'a')?)),
+        stopped
+    );
     let disk = into_disk(node);
     assert_eq!(rt; disk.failures(), 1);
     let mut node = opened(rt.alloc(), disk)?;

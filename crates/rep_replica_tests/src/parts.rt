@@ -1,7 +1,7 @@
 //! A replica that is taken apart and put together again.
 
 use crate::node::{Status, into_disk, opened, opened_at, run, shown, step};
-use crate::scripts::{ROW, Script, first, new_disk, two_items};
+use crate::scripts::{ROW, Script, new_disk, put, two_items};
 use rep_disk::{Disk, MemDisk};
 use rep_replica::Replica;
 use rep_steps::{Answer, Event};
@@ -54,7 +54,10 @@ fn stopped_behind_both(alloc: Global) -> Result<Replica<MemDisk>, Fail> {
 fn a_node_that_is_put_together_as_stopped_refuses_everything(rt: HostRuntime) -> Result<(), Fail> {
     let mut node = stopped_behind_both(rt.alloc())?;
     let stopped = Answer::Refused(Refusal::Stopped);
-    assert_eq!(rt; step(&mut node, Event::Deliver(3, first()?)), stopped);
+    assert_eq!(rt;
+        step(&mut node, Event::Deliver(3, put(0, 9, b'c')?)),
+        stopped
+    );
     assert_eq!(rt; step(&mut node, Event::Log), stopped);
     assert_eq!(rt; step(&mut node, Event::Sync), stopped);
     assert_eq!(rt; step(&mut node, Event::Check), stopped);

@@ -25,22 +25,12 @@ pub(crate) fn new_disk(alloc: Global) -> Result<MemDisk, Fail> {
 pub(crate) const ROW: Key = Key { table: 0, row: 1 };
 
 /// A write set that puts one byte under the row 1, and had seen so many items.
-fn put(last_seen: u64, trx: u64, byte: u8) -> Result<WriteSet, Refusal> {
+pub(crate) fn put(last_seen: u64, trx: u64, byte: u8) -> Result<WriteSet, Refusal> {
     let write = Write {
         key: ROW,
         value: Some(Value::new(&[byte])?),
     };
     WriteSet::new(7, trx, last_seen, &[], &[write])
-}
-
-/// The first item of the order, which had seen nothing.
-pub(crate) fn first() -> Result<WriteSet, Refusal> {
-    put(0, 8, b'a')
-}
-
-/// The second, which had not seen the first and so is refused.
-pub(crate) fn second() -> Result<WriteSet, Refusal> {
-    put(0, 9, b'b')
 }
 
 /// Events, what each is answered by where nothing stands in its way, and the plain node of what they deliver.
@@ -67,54 +57,52 @@ fn replies(count: usize) -> Answer {
     Answer::Synced(replies)
 }
 
-/// One item, made durable.
-pub(crate) fn one_item(alloc: Global) -> Result<Script, Fail> {
-    let mut plain = PlainNode::new(alloc, params()?);
-    plain.deliver(first()?)?;
-    let commit = Answer::Gave(Verdict::Commit);
-    Ok(Script {
-        events: vec![in alloc;
-            Event::Deliver(1, first()?),
-            Event::Log,
-            Event::Sync,
-            Event::Log,
-            Event::Sync,
-        ]?,
-        answers: vec![in alloc;
-            commit,
-            Answer::Wrote,
-            replies(0),
-            Answer::Wrote,
-            replies(1),
-        ]?,
-        plain,
-    })
+impl Script {
+    /// Nothing happens.
+    fn new(alloc: Global) -> Result<Script, Fail> {
+        Ok(Script {
+            events: Vec::new(alloc),
+            answers: Vec::new(alloc),
+            plain: PlainNode::new(alloc, params()?),
+        })
+    }
+
+    /// An event, and its answer.
+    fn push(&mut self, event: Event, answer: Answer) -> Result<(), Fail> {
+        self.events.push(event)?;
+        self.answers.push(answer)?;
+        Ok(())
+    }
+
+    /// The item comes with this seqno, and has this verdict.
+    fn deliver(&mut self, seqno: u64, item: WriteSet, verdict: Verdict) -> Result<(), Fail> {
+        self.plain.deliver(item.copied())?;
+        self.push(Event::Deliver(seqno, item), Answer::Gave(verdict))
+    }
+
+    /// So many items become durable in one block: its body is written and made stable, and then its gate.
+    fn make_durable(&mut self, count: usize) -> Result<(), Fail> {
+        for synced in [0, count] {
+            self.push(Event::Log, Answer::Wrote)?;
+            self.push(Event::Sync, replies(synced))?;
+        }
+        Ok(())
+    }
 }
 
-/// Two items that write one row, made durable in one block.
+/// One item, made durable: five events.
+pub(crate) fn one_item(alloc: Global) -> Result<Script, Fail> {
+    let mut script = Script::new(alloc)?;
+    script.deliver(1, put(0, 8, b'a')?, Verdict::Commit)?;
+    script.make_durable(1)?;
+    Ok(script)
+}
+
+/// Two items that write one row, of which the second had not seen the first, made durable in one block: six events.
 pub(crate) fn two_items(alloc: Global) -> Result<Script, Fail> {
-    let mut plain = PlainNode::new(alloc, params()?);
-    plain.deliver(first()?)?;
-    plain.deliver(second()?)?;
-    let commit = Answer::Gave(Verdict::Commit);
-    let conflict = Answer::Gave(Verdict::Conflict(1));
-    Ok(Script {
-        events: vec![in alloc;
-            Event::Deliver(1, first()?),
-            Event::Deliver(2, second()?),
-            Event::Log,
-            Event::Sync,
-            Event::Log,
-            Event::Sync,
-        ]?,
-        answers: vec![in alloc;
-            commit,
-            conflict,
-            Answer::Wrote,
-            replies(0),
-            Answer::Wrote,
-            replies(2),
-        ]?,
-        plain,
-    })
+    let mut script = Script::new(alloc)?;
+    script.deliver(1, put(0, 8, b'a')?, Verdict::Commit)?;
+    script.deliver(2, put(0, 9, b'b')?, Verdict::Conflict(1))?;
+    script.make_durable(2)?;
+    Ok(script)
 }
