@@ -60,20 +60,30 @@ impl Draws {
         Ok(Write { key, value })
     }
 
-    /// The item behind so many: it had mostly seen some of them, reads at most one row and writes one or two.
+    /// What an item writes: one to four rows, mostly all four, of which only the last may be outside the table.
+    fn writes(&mut self) -> Result<ArrayVec<Write, 4>, Refusal> {
+        let mut writes: ArrayVec<Write, 4> = ArrayVec::new();
+        for from in [0, 4, 8, 12] {
+            let write = self.write(from)?;
+            let is_last = write.key.row == ROWS || self.below(4) == 0;
+            if !writes.is_full() {
+                writes.push(write);
+            }
+            if is_last {
+                break;
+            }
+        }
+        Ok(writes)
+    }
+
+    /// The item behind so many: it had mostly seen some of them, and reads at most one row.
     fn item(&mut self, delivered: u64) -> Result<WriteSet, Refusal> {
         let last_seen = delivered.saturating_add(1).saturating_sub(self.below(12));
         let mut reads: ArrayVec<Key, 1> = ArrayVec::new();
         if self.below(3) == 0 {
             reads.push(self.row(0));
         }
-        let first = self.write(0)?;
-        let is_last = first.key.row == ROWS || self.below(2) == 0;
-        let mut writes: ArrayVec<Write, 2> = ArrayVec::new();
-        writes.push(first);
-        if !is_last {
-            writes.push(self.write(4)?);
-        }
+        let writes = self.writes()?;
         WriteSet::new(3, delivered, last_seen, reads.as_slice(), writes.as_slice())
     }
 
@@ -135,7 +145,7 @@ fn stopped(
     let mut node = reopened(rt.alloc(), node, loss)?;
     model.stop(loss);
     assert_eq!(rt; shown(&node), opened_at(model.durable()));
-    agrees(rt, &mut node, model.plain(), 9)?;
+    agrees(rt, &mut node, model.plain(), 16)?;
     Ok(node)
 }
 
