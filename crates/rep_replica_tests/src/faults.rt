@@ -1,10 +1,10 @@
 //! A device that fails at each call in turn, once or from then on: what is refused, and what opens behind it.
 
-use crate::node::{agrees, crashed, into_disk, open, opened, opened_at, run, shown};
+use crate::node::{agrees, crashed, into_disk, open, opened, opened_at, run, stands};
 use crate::scripts::{LOSSES, Script, new_disk, one_item};
 use crate::stops::fed_the_rest;
 use rep_disk::{Disk, FaultOnce, FuseDisk, Loss, MemDisk};
-use rep_steps::Answer;
+use rep_steps::{Answer, Event};
 use rep_types::Refusal;
 use std::alloc::Global;
 use std::process::Abort;
@@ -36,26 +36,24 @@ fn opens_at(event: usize, loss: Loss) -> u64 {
     }
 }
 
-/// Opens the device and makes one item durable on it, and gives the device back.
-fn lived<D: Disk + Drop>(
-    alloc: Global,
-    disk: D,
-) -> Result<(Result<Vec<Answer>, Refusal>, D), Fail> {
-    let mut node = match open(alloc, disk) {
-        Ok(node) => node,
-        Err((disk, refusal)) => return Ok((Err(refusal), disk)),
-    };
-    let Script { events, .. } = one_item(alloc)?;
-    let answers = run(alloc, &mut node, events.as_slice());
-    Ok((answers, into_disk(node)))
+/// Opens the device and runs these events on it, and gives the device back.
+fn lived<D: Disk>(alloc: Global, disk: D, events: &[Event]) -> (Result<Vec<Answer>, Refusal>, D) {
+    match open(alloc, disk) {
+        Ok(mut node) => {
+            let answers = run(alloc, &mut node, events);
+            (answers, into_disk(node))
+        }
+        Err((disk, refusal)) => (Err(refusal), disk),
+    }
 }
 
 /// Makes one item durable on a new disk that fails so at the call of this number.
 fn lived_on(alloc: Global, failing: Failing, call: u64) -> Result<Outcome, Fail> {
+    let Script { events, .. } = one_item(alloc)?;
     let disk = new_disk(alloc)?;
     match failing {
         Failing::Once => {
-            let (answers, disk) = lived(alloc, FaultOnce::new(disk, call))?;
+            let (answers, disk) = lived(alloc, FaultOnce::new(disk, call), events.as_slice());
             Ok(Outcome {
                 answers,
                 failures: disk.failures(),
@@ -63,7 +61,7 @@ fn lived_on(alloc: Global, failing: Failing, call: u64) -> Result<Outcome, Fail>
             })
         }
         Failing::FromThenOn => {
-            let (answers, disk) = lived(alloc, FuseDisk::new(disk, call))?;
+            let (answers, disk) = lived(alloc, FuseDisk::new(disk, call), events.as_slice());
             Ok(Outcome {
                 answers,
                 failures: disk.failures(),
@@ -85,17 +83,17 @@ fn answer_at(wanted: Answer, event: usize, failed: usize) -> Answer {
     }
 }
 
-/// The answers of the one item where the event of this number met a fault.
-fn stopped_at(alloc: Global, failed: usize) -> Result<Vec<Answer>, Fail> {
+/// Whether the answers are those of the one item where the event of this number met a fault.
+fn are_of_a_fault_at(alloc: Global, answers: &[Answer], failed: usize) -> Result<bool, Fail> {
     let Script {
-        answers: wanted,
+        answers: served,
         ..
     } = one_item(alloc)?;
-    let mut answers = Vec::new(alloc);
-    for (event, answer) in wanted.into_iter().enumerate() {
-        answers.push(answer_at(answer, event, failed))?;
+    let mut right = answers.len() == served.len();
+    for (event, (answer, wanted)) in answers.iter().zip(served).enumerate() {
+        right = right && *answer == answer_at(wanted, event, failed);
     }
-    Ok(answers)
+    Ok(right)
 }
 
 /// The number of the event that met the fault. It is this one, or the next where the device served this one's calls.
@@ -104,28 +102,16 @@ fn event_that_failed(
     answers: &[Answer],
     event: usize,
 ) -> Result<usize, Fail> {
-    if event > 0 && answers == stopped_at(rt.alloc(), event)?.as_slice() {
+    if event > 0 && are_of_a_fault_at(rt.alloc(), answers, event)? {
         return Ok(event);
     }
     let next = event.saturating_add(1);
-    assert_eq!(rt; answers, stopped_at(rt.alloc(), next)?.as_slice(), "{next}");
+    assert!(rt; are_of_a_fault_at(rt.alloc(), answers, next)?, "{next}");
     Ok(next)
 }
 
-/// Compares a device that did not open: it is as it was.
-fn did_not_open(
-    rt: &(impl Abort + AllocGlobal),
-    disk: &MemDisk,
-    refusal: Refusal,
-) -> Result<(), Fail> {
-    assert_eq!(rt; refusal, Refusal::DiskFault);
-    let formatted = new_disk(rt.alloc())?;
-    assert!(rt; disk.bytes() == formatted.bytes());
-    Ok(())
-}
-
 /// Compares what came of the one item on a device that failed, where the event of this number or the next one met the
-/// fault. Gives that event's number, and 0 where the device did not open.
+/// fault. Gives that event's number, and 0 where the device did not open: it is then as it was.
 fn event_of(
     rt: &(impl Abort + AllocGlobal),
     outcome: &Outcome,
@@ -134,12 +120,12 @@ fn event_of(
     let failed = match &outcome.answers {
         Ok(answers) => event_that_failed(rt, answers.as_slice(), event)?,
         Err(refusal) => {
-            assert_eq!(rt; event, 0);
-            did_not_open(rt, &outcome.disk, *refusal)?;
+            assert!(rt; *refusal == Refusal::DiskFault && event == 0);
+            assert!(rt; outcome.disk.bytes() == new_disk(rt.alloc())?.bytes());
             0
         }
     };
-    assert_eq!(rt; outcome.failures, u64::from(failed < 5), "{failed}");
+    assert!(rt; outcome.failures == u64::from(failed < 5), "{failed}");
     Ok(failed)
 }
 
@@ -151,7 +137,7 @@ fn goes_on(
     position: u64,
 ) -> Result<(), Fail> {
     let mut node = opened(rt.alloc(), crashed(disk, loss))?;
-    assert_eq!(rt; shown(&node), opened_at(position));
+    stands(rt, &node, opened_at(position));
     let script = one_item(rt.alloc())?;
     agrees(rt, &mut node, &script.plain, 3)?;
     fed_the_rest(rt, &mut node, &script.plain)

@@ -1,7 +1,7 @@
 //! Lives of a node: drawn events, with stops in between, each answer compared with that of the plain node.
 
 use crate::model::{Model, ROWS, params};
-use crate::node::{agrees, formatted, opened, opened_at, reopened, shown, step};
+use crate::node::{agrees, formatted, opened, opened_at, reopened, stands, step};
 use arrayvec::ArrayVec;
 use rep_disk::{Loss, MemDisk};
 use rep_replica::Replica;
@@ -144,7 +144,7 @@ fn stopped(
 ) -> Result<Replica<MemDisk>, Fail> {
     let mut node = reopened(rt.alloc(), node, loss)?;
     model.stop(loss);
-    assert_eq!(rt; shown(&node), opened_at(model.durable()));
+    stands(rt, &node, opened_at(model.durable()));
     agrees(rt, &mut node, model.plain(), 16)?;
     Ok(node)
 }

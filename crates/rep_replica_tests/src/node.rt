@@ -5,8 +5,8 @@ use rep_disk::{Disk, Loss, MemDisk};
 use rep_plain::PlainNode;
 use rep_recover::format_disk;
 use rep_replica::Replica;
-use rep_steps::{Answer, Event};
-use rep_types::{Gtid, Key, Params, Refusal};
+use rep_steps::{Answer, Event, Replies};
+use rep_types::{Gtid, Key, Params, Refusal, Verdict, WriteSet};
 use std::alloc::Global;
 use std::process::Abort;
 use std::test::Fail;
@@ -107,6 +107,39 @@ pub(crate) fn shown<D: Disk>(node: &Replica<D>) -> Status {
     }
 }
 
+/// Does one step, and compares its answer.
+pub(crate) fn answers<D: Disk>(
+    rt: &impl Abort,
+    node: &mut Replica<D>,
+    event: Event,
+    wanted: Answer,
+) {
+    assert_eq!(rt; step(node, event), wanted);
+}
+
+/// Delivers the item, and compares its verdict.
+pub(crate) fn gives<D: Disk>(
+    rt: &impl Abort,
+    node: &mut Replica<D>,
+    (seqno, item): (u64, WriteSet),
+    verdict: Verdict,
+) {
+    answers(rt, node, Event::Deliver(seqno, item), Answer::Gave(verdict));
+}
+
+/// Does the four steps that make a block durable, and compares their answers: the last are these replies.
+pub(crate) fn makes_durable<D: Disk>(rt: &impl Abort, node: &mut Replica<D>, replies: Replies) {
+    for synced in [Replies::new(), replies] {
+        answers(rt, node, Event::Log, Answer::Wrote);
+        answers(rt, node, Event::Sync, Answer::Synced(synced));
+    }
+}
+
+/// Compares what the node says of itself.
+pub(crate) fn stands<D: Disk>(rt: &impl Abort, node: &Replica<D>, wanted: Status) {
+    assert_eq!(rt; shown(node), wanted);
+}
+
 /// What a read of the key after the first `s` items of the plain node is answered by.
 pub(crate) fn plain_row(plain: &PlainNode, key: Key, s: u64) -> Answer {
     if s > plain.position() {
@@ -129,15 +162,11 @@ pub(crate) fn agrees<D: Disk>(
     let durable = node.durable();
     assert!(rt; durable <= plain.position());
     let window = node.window(rt.alloc())?;
-    assert!(rt;
-        window == plain.window_at(rt.alloc(), durable)?,
-        "{durable}"
-    );
+    assert!(rt; window == plain.window_at(rt.alloc(), durable)?);
     for s in 0..=durable {
         for row in 0..rows {
             let key = Key { table: 0, row };
-            let answer = step(node, Event::Read(key, s));
-            assert_eq!(rt; answer, plain_row(plain, key, s), "{row} {s}");
+            answers(rt, node, Event::Read(key, s), plain_row(plain, key, s));
         }
     }
     Ok(())

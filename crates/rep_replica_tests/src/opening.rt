@@ -1,10 +1,12 @@
 //! Disks that are refused, and disks at the last seqno.
 
-use crate::node::{Status, into_disk, open, opened, opened_at, run, shown, step};
-use crate::scripts::{ROW, new_disk, one_item, put};
+use crate::node::{
+    Status, answers, gives, into_disk, makes_durable, open, opened, opened_at, stands,
+};
+use crate::scripts::{ROW, new_disk, one_item, put, reply_to};
 use rep_disk::{Disk, MemDisk};
 use rep_replica::Replica;
-use rep_steps::{Answer, Event};
+use rep_steps::{Answer, Event, Replies};
 use rep_types::{Part, Refusal, Value, Verdict};
 use std::alloc::Global;
 use std::process::Abort;
@@ -14,10 +16,9 @@ use std::test::Fail;
 const LAST: u64 = 1_152_921_504_606_846_976;
 
 /// A disk with one durable item.
-fn with_item(alloc: Global) -> Result<MemDisk, Fail> {
-    let mut node = opened(alloc, new_disk(alloc)?)?;
-    let _answers = run(alloc, &mut node, one_item(alloc)?.events.as_slice())?;
-    Ok(into_disk(node))
+fn with_item(rt: &(impl Abort + AllocGlobal)) -> Result<MemDisk, Fail> {
+    let script = one_item(rt.alloc())?;
+    Ok(into_disk(script.ran(rt, script.events.len())?))
 }
 
 /// The disk with these bytes at this offset.
@@ -57,7 +58,7 @@ fn a_disk_of_another_form_comes_back_as_it_was(rt: HostRuntime) -> Result<(), Fa
         // The first page stands in its first slot, into which none was written.
         (128, 1, Part::Pages),
     ] {
-        let disk = changed(with_item(rt.alloc())?, at, &[byte])?;
+        let disk = changed(with_item(&rt)?, at, &[byte])?;
         let wanted = Some((Refusal::Corrupt { part }, true));
         assert_eq!(rt; refused(rt.alloc(), disk)?, wanted, "{at}");
     }
@@ -67,7 +68,7 @@ fn a_disk_of_another_form_comes_back_as_it_was(rt: HostRuntime) -> Result<(), Fa
 #[test]
 fn neither_a_closed_cell_nor_a_page_in_no_slot_is_looked_at(rt: HostRuntime) -> Result<(), Fail> {
     for at in [62_464, 87_040, 103_423] {
-        let disk = changed(with_item(rt.alloc())?, at, &[1])?;
+        let disk = changed(with_item(&rt)?, at, &[1])?;
         assert_eq!(rt; refused(rt.alloc(), disk)?, None, "{at}");
     }
     Ok(())
@@ -82,13 +83,12 @@ pub(crate) fn standing_at(alloc: Global, position: u64) -> Result<MemDisk, Fail>
 
 /// A node behind the item with the last seqno, on a disk that was opened again.
 fn behind_the_last(rt: &(impl Abort + AllocGlobal)) -> Result<Replica<MemDisk>, Fail> {
+    let item = put(LAST - 1, 8, b'a')?;
+    let mut replies = Replies::new();
+    replies.push(reply_to(LAST, 8, Verdict::Commit));
     let mut node = opened(rt.alloc(), standing_at(rt.alloc(), LAST - 1)?)?;
-    let answer = step(&mut node, Event::Deliver(LAST, put(LAST - 1, 8, b'a')?));
-    assert_eq!(rt; answer, Answer::Gave(Verdict::Commit));
-    for _ in 0..2 {
-        assert_eq!(rt; step(&mut node, Event::Log), Answer::Wrote);
-        let _synced = step(&mut node, Event::Sync);
-    }
+    gives(rt, &mut node, (LAST, item), Verdict::Commit);
+    makes_durable(rt, &mut node, replies);
     opened(rt.alloc(), into_disk(node))
 }
 
@@ -99,25 +99,33 @@ fn no_item_comes_behind_the_last_seqno(rt: HostRuntime) -> Result<(), Fail> {
         base: LAST - 1,
         ..opened_at(LAST)
     };
-    assert_eq!(rt; shown(&node), last);
+    stands(&rt, &node, last);
     for seqno in [0, LAST, LAST + 1, u64::MAX] {
-        let answer = step(&mut node, Event::Deliver(seqno, put(0, 8, b'a')?));
-        assert_eq!(rt; answer, Answer::Refused(Refusal::Exhausted), "{seqno}");
+        let delivery = Event::Deliver(seqno, put(0, 8, b'a')?);
+        answers(
+            &rt,
+            &mut node,
+            delivery,
+            Answer::Refused(Refusal::Exhausted),
+        );
     }
     Ok(())
 }
 
 #[test]
 fn rows_below_the_base_are_too_old(rt: HostRuntime) -> Result<(), Fail> {
+    let row = Answer::Row(Some(Value::new(b"a")?));
     let mut node = behind_the_last(&rt)?;
-    let oldest = LAST - 1;
-    for (s, wanted) in [
-        (LAST + 1, Answer::Refused(Refusal::NotYet { durable: LAST })),
-        (LAST, Answer::Row(Some(Value::new(b"a")?))),
-        (oldest, Answer::Row(None)),
-        (oldest - 1, Answer::Refused(Refusal::TooOld { oldest })),
-    ] {
-        assert_eq!(rt; step(&mut node, Event::Read(ROW, s)), wanted, "{s}");
-    }
+    let not_yet = Answer::Refused(Refusal::NotYet { durable: LAST });
+    answers(&rt, &mut node, Event::Read(ROW, LAST + 1), not_yet);
+    answers(&rt, &mut node, Event::Read(ROW, LAST), row);
+    answers(
+        &rt,
+        &mut node,
+        Event::Read(ROW, LAST - 1),
+        Answer::Row(None),
+    );
+    let too_old = Answer::Refused(Refusal::TooOld { oldest: LAST - 1 });
+    answers(&rt, &mut node, Event::Read(ROW, LAST - 2), too_old);
     Ok(())
 }

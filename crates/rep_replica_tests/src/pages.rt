@@ -1,11 +1,13 @@
 //! Rows that stand in a page of the base, on a disk whose bytes are written by hand.
 
-use crate::node::{Status, into_disk, open, opened, opened_at, shown, step};
+use crate::node::{
+    Status, answers, gives, into_disk, makes_durable, open, opened, opened_at, stands,
+};
 use crate::opening::{changed, standing_at};
-use crate::scripts::{ROW, put};
+use crate::scripts::{ROW, put, reply_to};
 use rep_disk::{Disk, FaultOnce, MemDisk};
 use rep_replica::Replica;
-use rep_steps::{Answer, Event};
+use rep_steps::{Answer, Event, Replies};
 use rep_types::{Key, Refusal, Value, Verdict};
 use std::alloc::Global;
 use std::process::Abort;
@@ -24,40 +26,42 @@ fn in_the_page() -> Result<Answer, Refusal> {
     Ok(Answer::Row(Some(Value::new(b"b")?)))
 }
 
-/// Makes durable a second item, which puts `a` under the row 1.
-fn write_over<D: Disk>(rt: &impl Abort, node: &mut Replica<D>) -> Result<(), Refusal> {
-    let answer = step(node, Event::Deliver(2, put(1, 9, b'a')?));
-    assert_eq!(rt; answer, Answer::Gave(Verdict::Commit));
-    for _ in 0..2 {
-        assert_eq!(rt; step(node, Event::Log), Answer::Wrote);
-        let _synced = step(node, Event::Sync);
-    }
-    Ok(())
+/// A node on this disk behind a second item, which puts `a` under the row 1.
+fn written_over(rt: &(impl Abort + AllocGlobal)) -> Result<Replica<MemDisk>, Fail> {
+    let item = put(1, 9, b'a')?;
+    let mut replies = Replies::new();
+    replies.push(reply_to(2, 9, Verdict::Commit));
+    let mut node = opened(rt.alloc(), with_a_page(rt.alloc())?)?;
+    gives(rt, &mut node, (2, item), Verdict::Commit);
+    makes_durable(rt, &mut node, replies);
+    Ok(node)
 }
 
 #[test]
 fn rows_are_those_of_the_base_until_they_are_written(rt: HostRuntime) -> Result<(), Fail> {
-    let mut node = opened(rt.alloc(), with_a_page(rt.alloc())?)?;
+    let written = Answer::Row(Some(Value::new(b"a")?));
+    let in_the_page = in_the_page()?;
+    let mut node = written_over(&rt)?;
     let based = Status {
         base: 1,
-        ..opened_at(1)
+        ..opened_at(2)
     };
-    assert_eq!(rt; shown(&node), based);
-    write_over(&rt, &mut node)?;
-    assert_eq!(rt; step(&mut node, Event::Read(ROW, 1)), in_the_page()?);
-    let written = Answer::Row(Some(Value::new(b"a")?));
-    assert_eq!(rt; step(&mut node, Event::Read(ROW, 2)), written);
-    // One row of the page, and one of a page that stands in no slot.
-    for row in [2, 63] {
-        let key = Key { table: 0, row };
-        assert_eq!(rt;
-            step(&mut node, Event::Read(key, 2)),
-            Answer::Row(None),
-            "{row}"
-        );
-    }
+    stands(&rt, &node, based);
+    answers(&rt, &mut node, Event::Read(ROW, 2), written);
+    answers(&rt, &mut node, Event::Read(ROW, 1), in_the_page);
     let too_old = Answer::Refused(Refusal::TooOld { oldest: 1 });
-    assert_eq!(rt; step(&mut node, Event::Read(ROW, 0)), too_old);
+    answers(&rt, &mut node, Event::Read(ROW, 0), too_old);
+    Ok(())
+}
+
+#[test]
+fn rows_that_no_page_has_are_absent(rt: HostRuntime) -> Result<(), Fail> {
+    let mut node = opened(rt.alloc(), with_a_page(rt.alloc())?)?;
+    // Of the page, and of one that stands in no slot.
+    for row in [0, 2, 62, 63, 125] {
+        let key = Key { table: 0, row };
+        answers(&rt, &mut node, Event::Read(key, 1), Answer::Row(None));
+    }
     Ok(())
 }
 
@@ -73,18 +77,24 @@ fn failing_at_the_first_read(alloc: Global) -> Result<Replica<FaultOnce<MemDisk>
 
 #[test]
 fn a_read_that_meets_a_fault_stops_the_replica(rt: HostRuntime) -> Result<(), Fail> {
+    let in_the_page = in_the_page()?;
     let mut node = failing_at_the_first_read(rt.alloc())?;
-    let fault = Answer::Refused(Refusal::DiskFault);
-    assert_eq!(rt; step(&mut node, Event::Read(ROW, 1)), fault);
-    let stopped = Answer::Refused(Refusal::Stopped);
-    assert_eq!(rt; step(&mut node, Event::Read(ROW, 1)), stopped);
-    assert_eq!(rt;
-        step(&mut node, Event::Deliver(2, put(1, 9, b'a')?)),
-        stopped
+    let read = Event::Read(ROW, 1);
+    answers(
+        &rt,
+        &mut node,
+        read.copied(),
+        Answer::Refused(Refusal::DiskFault),
+    );
+    answers(
+        &rt,
+        &mut node,
+        read.copied(),
+        Answer::Refused(Refusal::Stopped),
     );
     let disk = into_disk(node);
-    assert_eq!(rt; disk.failures(), 1);
+    assert!(rt; disk.failures() == 1);
     let mut node = opened(rt.alloc(), disk)?;
-    assert_eq!(rt; step(&mut node, Event::Read(ROW, 1)), in_the_page()?);
+    answers(&rt, &mut node, read, in_the_page);
     Ok(())
 }

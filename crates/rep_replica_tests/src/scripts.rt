@@ -1,11 +1,13 @@
 //! The events that the tests stop, and at which the device fails: one item that is made durable, and two in one block.
 
-use crate::node::formatted;
+use crate::node::{formatted, opened, step};
 use rep_disk::{Loss, MemDisk};
 use rep_plain::PlainNode;
+use rep_replica::Replica;
 use rep_steps::{Answer, Event, Replies};
 use rep_types::{Key, Params, Refusal, Reply, Value, Verdict, Write, WriteSet};
 use std::alloc::Global;
+use std::process::Abort;
 use std::test::Fail;
 
 /// What a stop may make of the pending ranges.
@@ -41,20 +43,30 @@ pub(crate) struct Script {
     pub(crate) plain: PlainNode,
 }
 
-/// What a sync answers that makes durable the first item, and the second where there is one.
-fn replies(count: usize) -> Answer {
-    let mut replies = Replies::new();
-    for (seqno, verdict, trx) in [(1, Verdict::Commit, 8), (2, Verdict::Conflict(1), 9)] {
-        if replies.len() < count.min(2) {
-            replies.push(Reply {
-                seqno,
-                verdict,
-                source: 7,
-                trx,
-            });
-        }
+/// The reply to the origin of an item that `put` made.
+pub(crate) fn reply_to(seqno: u64, trx: u64, verdict: Verdict) -> Reply {
+    Reply {
+        seqno,
+        verdict,
+        source: 7,
+        trx,
     }
-    Answer::Synced(replies)
+}
+
+/// The reply to the first item alone.
+pub(crate) fn reply_to_one() -> Replies {
+    let mut replies = Replies::new();
+    replies.push(reply_to(1, 8, Verdict::Commit));
+    replies
+}
+
+/// The replies to both items.
+fn replies_to_both() -> Replies {
+    let mut replies = reply_to_one();
+    if replies.len() < 64 {
+        replies.push(reply_to(2, 9, Verdict::Conflict(1)));
+    }
+    replies
 }
 
 impl Script {
@@ -80,13 +92,26 @@ impl Script {
         self.push(Event::Deliver(seqno, item), Answer::Gave(verdict))
     }
 
-    /// So many items become durable in one block: its body is written and made stable, and then its gate.
-    fn make_durable(&mut self, count: usize) -> Result<(), Fail> {
-        for synced in [0, count] {
-            self.push(Event::Log, Answer::Wrote)?;
-            self.push(Event::Sync, replies(synced))?;
+    /// What was delivered becomes durable in one block: its body is written and made stable, and then its gate.
+    fn make_durable(&mut self, replies: Replies) -> Result<(), Fail> {
+        self.push(Event::Log, Answer::Wrote)?;
+        self.push(Event::Sync, Answer::Synced(Replies::new()))?;
+        self.push(Event::Log, Answer::Wrote)?;
+        self.push(Event::Sync, Answer::Synced(replies))
+    }
+
+    /// Runs the first so many events on a new disk, and compares their answers.
+    pub(crate) fn ran(
+        &self,
+        rt: &(impl Abort + AllocGlobal),
+        count: usize,
+    ) -> Result<Replica<MemDisk>, Fail> {
+        let mut node = opened(rt.alloc(), new_disk(rt.alloc())?)?;
+        let answered = self.events.iter().zip(self.answers.iter());
+        for (event, answer) in answered.take(count) {
+            assert!(rt; step(&mut node, event.copied()) == *answer);
         }
-        Ok(())
+        Ok(node)
     }
 }
 
@@ -94,7 +119,7 @@ impl Script {
 pub(crate) fn one_item(alloc: Global) -> Result<Script, Fail> {
     let mut script = Script::new(alloc)?;
     script.deliver(1, put(0, 8, b'a')?, Verdict::Commit)?;
-    script.make_durable(1)?;
+    script.make_durable(reply_to_one())?;
     Ok(script)
 }
 
@@ -103,6 +128,6 @@ pub(crate) fn two_items(alloc: Global) -> Result<Script, Fail> {
     let mut script = Script::new(alloc)?;
     script.deliver(1, put(0, 8, b'a')?, Verdict::Commit)?;
     script.deliver(2, put(0, 9, b'b')?, Verdict::Conflict(1))?;
-    script.make_durable(2)?;
+    script.make_durable(replies_to_both())?;
     Ok(script)
 }

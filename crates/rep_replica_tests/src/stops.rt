@@ -1,11 +1,11 @@
 //! Stops behind each event, with each loss.
 
-use crate::node::{agrees, opened, opened_at, reopened, run, shown, step};
-use crate::scripts::{LOSSES, Script, new_disk, one_item, two_items};
+use crate::node::{agrees, gives, opened_at, reopened, shown, stands, step};
+use crate::scripts::{LOSSES, Script, one_item, two_items};
 use rep_disk::MemDisk;
 use rep_plain::PlainNode;
 use rep_replica::Replica;
-use rep_steps::{Answer, Event};
+use rep_steps::Event;
 use std::process::Abort;
 use std::test::Fail;
 
@@ -33,19 +33,6 @@ const OF_TWO: [Positions; 7] = [
     [2, 2, 2],
 ];
 
-/// Runs the first so many events of the script on a new disk, and compares their answers.
-fn ran(
-    rt: &(impl Abort + AllocGlobal),
-    script: &Script,
-    count: usize,
-) -> Result<Replica<MemDisk>, Fail> {
-    let mut node = opened(rt.alloc(), new_disk(rt.alloc())?)?;
-    let count = count.min(script.events.len()).min(script.answers.len());
-    let answers = run(rt.alloc(), &mut node, &script.events[..count])?;
-    assert_eq!(rt; answers.as_slice(), &script.answers[..count]);
-    Ok(node)
-}
-
 /// Delivers to the node the items of the order that it has not, and makes them durable.
 pub(crate) fn fed_the_rest(
     rt: &(impl Abort + AllocGlobal),
@@ -55,15 +42,15 @@ pub(crate) fn fed_the_rest(
     let position = shown(node).durable;
     for judged in plain.items() {
         if judged.seqno > position {
-            let answer = step(node, Event::Deliver(judged.seqno, judged.item.copied()));
-            assert_eq!(rt; answer, Answer::Gave(judged.verdict));
+            let item = (judged.seqno, judged.item.copied());
+            gives(rt, node, item, judged.verdict);
         }
     }
     for _ in 0..2 {
         let _logged = step(node, Event::Log);
         let _synced = step(node, Event::Sync);
     }
-    assert_eq!(rt; shown(node).durable, plain.position());
+    stands(rt, node, opened_at(plain.position()));
     agrees(rt, node, plain, 3)
 }
 
@@ -75,9 +62,8 @@ fn stopped_behind(
     positions: Positions,
 ) -> Result<(), Fail> {
     for (loss, position) in LOSSES.iter().zip(positions) {
-        let node = ran(rt, script, count)?;
-        let mut node = reopened(rt.alloc(), node, *loss)?;
-        assert_eq!(rt; shown(&node), opened_at(position), "{count}");
+        let mut node = reopened(rt.alloc(), script.ran(rt, count)?, *loss)?;
+        stands(rt, &node, opened_at(position));
         agrees(rt, &mut node, &script.plain, 3)?;
         fed_the_rest(rt, &mut node, &script.plain)?;
     }
