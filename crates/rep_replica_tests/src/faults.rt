@@ -1,7 +1,7 @@
 //! A device that fails at each call in turn, once or from then on: what is refused, and what opens behind it.
 
 use crate::node::{agrees, crashed, into_disk, open, opened, opened_at, run, stands};
-use crate::scripts::{LOSSES, Script, new_disk, one_item};
+use crate::scripts::{LOSSES, new_disk, one_item};
 use crate::stops::fed_the_rest;
 use rep_disk::{Disk, FaultOnce, FuseDisk, Loss, MemDisk};
 use rep_steps::{Answer, Event};
@@ -29,7 +29,7 @@ struct Outcome {
 
 /// At which position the disk opens behind a stop with this loss, where the event of this number met the fault. A failed
 /// write changed nothing; behind the failed sync of an open gate that gate is pending.
-fn opens_at(event: usize, loss: Loss) -> u64 {
+fn position_of(event: usize, loss: Loss) -> u64 {
     match (event, loss) {
         (5, _) | (4, Loss::Keep) => 1,
         _ => 0,
@@ -47,13 +47,12 @@ fn lived<D: Disk>(alloc: Global, disk: D, events: &[Event]) -> (Result<Vec<Answe
     }
 }
 
-/// Makes one item durable on a new disk that fails so at the call of this number.
-fn lived_on(alloc: Global, failing: Failing, call: u64) -> Result<Outcome, Fail> {
-    let Script { events, .. } = one_item(alloc)?;
+/// Runs these events on a new disk that fails so at the call of this number.
+fn lived_on(alloc: Global, failing: Failing, call: u64, events: &[Event]) -> Result<Outcome, Fail> {
     let disk = new_disk(alloc)?;
     match failing {
         Failing::Once => {
-            let (answers, disk) = lived(alloc, FaultOnce::new(disk, call), events.as_slice());
+            let (answers, disk) = lived(alloc, FaultOnce::new(disk, call), events);
             Ok(Outcome {
                 answers,
                 failures: disk.failures(),
@@ -61,7 +60,7 @@ fn lived_on(alloc: Global, failing: Failing, call: u64) -> Result<Outcome, Fail>
             })
         }
         Failing::FromThenOn => {
-            let (answers, disk) = lived(alloc, FuseDisk::new(disk, call), events.as_slice());
+            let (answers, disk) = lived(alloc, FuseDisk::new(disk, call), events);
             Ok(Outcome {
                 answers,
                 failures: disk.failures(),
@@ -71,43 +70,21 @@ fn lived_on(alloc: Global, failing: Failing, call: u64) -> Result<Outcome, Fail>
     }
 }
 
-/// What the event of this number is answered by where the event of the number `failed` met a fault: the replica is stopped
-/// from then on.
-fn answer_at(wanted: Answer, event: usize, failed: usize) -> Answer {
-    if event < failed {
-        wanted
-    } else if event == failed {
-        Answer::Refused(Refusal::DiskFault)
-    } else {
-        Answer::Refused(Refusal::Stopped)
-    }
-}
-
-/// Whether the answers are those of the one item where the event of this number met a fault.
-fn are_of_a_fault_at(alloc: Global, answers: &[Answer], failed: usize) -> Result<bool, Fail> {
-    let Script {
-        answers: served,
-        ..
-    } = one_item(alloc)?;
+/// Whether these are the answers where the event of the number `failed` met a fault: up to it they are those of a device
+/// that serves, and from then on the replica is stopped.
+fn are_of_a_fault_at(answers: &[Answer], served: &[Answer], failed: usize) -> bool {
     let mut right = answers.len() == served.len();
     for (event, (answer, wanted)) in answers.iter().zip(served).enumerate() {
-        right = right && *answer == answer_at(wanted, event, failed);
+        let is_right = if event < failed {
+            answer == wanted
+        } else if event == failed {
+            *answer == Answer::Refused(Refusal::DiskFault)
+        } else {
+            *answer == Answer::Refused(Refusal::Stopped)
+        };
+        right = right && is_right;
     }
-    Ok(right)
-}
-
-/// The number of the event that met the fault. It is this one, or the next where the device served this one's calls.
-fn event_that_failed(
-    rt: &(impl Abort + AllocGlobal),
-    answers: &[Answer],
-    event: usize,
-) -> Result<usize, Fail> {
-    if event > 0 && are_of_a_fault_at(rt.alloc(), answers, event)? {
-        return Ok(event);
-    }
-    let next = event.saturating_add(1);
-    assert!(rt; are_of_a_fault_at(rt.alloc(), answers, next)?, "{next}");
-    Ok(next)
+    right
 }
 
 /// Compares what came of the one item on a device that failed, where the event of this number or the next one met the
@@ -115,10 +92,16 @@ fn event_that_failed(
 fn event_of(
     rt: &(impl Abort + AllocGlobal),
     outcome: &Outcome,
+    served: &[Answer],
     event: usize,
 ) -> Result<usize, Fail> {
+    let next = event.saturating_add(1);
     let failed = match &outcome.answers {
-        Ok(answers) => event_that_failed(rt, answers.as_slice(), event)?,
+        Ok(answers) if event > 0 && are_of_a_fault_at(answers, served, event) => event,
+        Ok(answers) => {
+            assert!(rt; are_of_a_fault_at(answers, served, next), "{next}");
+            next
+        }
         Err(refusal) => {
             assert!(rt; *refusal == Refusal::DiskFault && event == 0);
             assert!(rt; outcome.disk.bytes() == new_disk(rt.alloc())?.bytes());
@@ -129,34 +112,24 @@ fn event_of(
     Ok(failed)
 }
 
-/// Stops the device with this loss and opens it, at this position; and it goes on there.
-fn goes_on(
-    rt: &(impl Abort + AllocGlobal),
-    disk: MemDisk,
-    loss: Loss,
-    position: u64,
-) -> Result<(), Fail> {
-    let mut node = opened(rt.alloc(), crashed(disk, loss))?;
-    stands(rt, &node, opened_at(position));
-    let script = one_item(rt.alloc())?;
-    agrees(rt, &mut node, &script.plain, 3)?;
-    fed_the_rest(rt, &mut node, &script.plain)
-}
-
-/// Runs the one item on a device that fails so at this call, and stops it with each loss. Gives the number of the event
-/// that met the fault, which is this one or the next.
+/// Makes the one item durable on a device that fails so at this call, stops it with each loss, opens it, and goes on
+/// there. Gives the number of the event that met the fault, which is this one or the next.
 fn failed_at(
     rt: &(impl Abort + AllocGlobal),
     failing: Failing,
     call: u64,
     event: usize,
 ) -> Result<usize, Fail> {
+    let script = one_item(rt.alloc())?;
     let mut failed = event;
     for loss in LOSSES {
-        let outcome = lived_on(rt.alloc(), failing, call)?;
-        failed = event_of(rt, &outcome, event)?;
+        let outcome = lived_on(rt.alloc(), failing, call, &script.events)?;
+        failed = event_of(rt, &outcome, &script.answers, event)?;
         let Outcome { disk, .. } = outcome;
-        goes_on(rt, disk, loss, opens_at(failed, loss))?;
+        let mut node = opened(rt.alloc(), crashed(disk, loss))?;
+        stands(rt, &node, opened_at(position_of(failed, loss)));
+        agrees(rt, &mut node, &script.plain, 3)?;
+        fed_the_rest(rt, &mut node, &script.plain)?;
     }
     Ok(failed)
 }

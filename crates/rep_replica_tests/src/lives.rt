@@ -38,38 +38,16 @@ impl Draws {
         }
     }
 
-    /// A row of the first few, seldom one outside the table.
-    fn row(&mut self, from: u32) -> Key {
-        let row = if self.below(100) == 0 {
-            ROWS
-        } else {
-            from.saturating_add((self.below(4) & 3) as u32)
-        };
-        Key { table: 0, row }
-    }
-
-    /// A write: a value of 0 to 62 bytes, or none.
-    fn write(&mut self, from: u32) -> Result<Write, Refusal> {
-        let key = self.row(from);
-        let bytes = [(self.below(256) & 0xff) as u8; 62];
-        let length = self.below(84) as usize;
-        let value = match bytes.get(..length) {
-            Some(bytes) => Some(Value::new(bytes)?),
-            None => None,
-        };
-        Ok(Write { key, value })
-    }
-
     /// What an item writes: one to four rows, mostly all four, of which only the last may be outside the table.
     fn writes(&mut self) -> Result<ArrayVec<Write, 4>, Refusal> {
         let mut writes: ArrayVec<Write, 4> = ArrayVec::new();
         for from in [0, 4, 8, 12] {
-            let write = self.write(from)?;
-            let is_last = write.key.row == ROWS || self.below(4) == 0;
+            let key = row_of(self.below(400), from);
+            let value = value_of(self.below(65_536))?;
             if !writes.is_full() {
-                writes.push(write);
+                writes.push(Write { key, value });
             }
-            if is_last {
+            if key.row == ROWS || self.below(4) == 0 {
                 break;
             }
         }
@@ -81,57 +59,62 @@ impl Draws {
         let last_seen = delivered.saturating_add(1).saturating_sub(self.below(12));
         let mut reads: ArrayVec<Key, 1> = ArrayVec::new();
         if self.below(3) == 0 {
-            reads.push(self.row(0));
+            reads.push(row_of(self.below(400), 0));
         }
         let writes = self.writes()?;
         WriteSet::new(3, delivered, last_seen, reads.as_slice(), writes.as_slice())
     }
 
-    /// The delivery of the next item of the order, which is a new one where the order ends; seldom of an earlier one.
-    fn delivery(&mut self, model: &Model) -> Result<Event, Refusal> {
-        let next = model.delivered().saturating_add(1);
-        let item = match model.next_item() {
-            Some(item) => item,
-            None => self.item(model.delivered())?,
-        };
-        let seqno = if self.below(50) == 0 {
-            self.below(next)
-        } else {
-            next
-        };
-        Ok(Event::Deliver(seqno, item))
-    }
-
-    /// The next event.
+    /// The next event. A delivery is of the next item of the order, which is a new one where the order ends; seldom it has
+    /// an earlier seqno.
     fn event(&mut self, model: &Model) -> Result<Event, Refusal> {
+        let next = model.delivered().saturating_add(1);
         if self.below(100) < self.deliveries {
-            return self.delivery(model);
+            let item = match model.next_item() {
+                Some(item) => item,
+                None => self.item(model.delivered())?,
+            };
+            let is_out_of_order = self.below(50) == 0;
+            let seqno = if is_out_of_order {
+                self.below(next)
+            } else {
+                next
+            };
+            return Ok(Event::Deliver(seqno, item));
         }
         match self.below(5) {
             0 | 1 => Ok(Event::Log),
             2 | 3 => Ok(Event::Sync),
             _ => {
                 let position = self.below(model.durable().saturating_add(2));
-                Ok(Event::Read(self.row(0), position))
+                Ok(Event::Read(row_of(self.below(400), 0), position))
             }
         }
+    }
+}
+
+/// One of four rows from this one on, seldom one outside the table.
+fn row_of(drawn: u64, from: u32) -> Key {
+    let row = if drawn < 4 {
+        ROWS
+    } else {
+        from.saturating_add((drawn & 3) as u32)
+    };
+    Key { table: 0, row }
+}
+
+/// A value of 0 to 62 bytes, or none.
+fn value_of(drawn: u64) -> Result<Option<Value>, Refusal> {
+    let bytes = [(drawn & 0xff) as u8; 62];
+    match bytes.get(..(drawn % 84) as usize) {
+        Some(bytes) => Ok(Some(Value::new(bytes)?)),
+        None => Ok(None),
     }
 }
 
 /// A node on a new disk, which has 168,960 bytes.
 fn new_node(alloc: Global) -> Result<Replica<MemDisk>, Fail> {
     opened(alloc, formatted(alloc, 168_960, &params()?)?)
-}
-
-/// What the model says that the event is answered by.
-fn wanted(model: &mut Model, event: Event) -> Result<Answer, Refusal> {
-    match event {
-        Event::Deliver(seqno, item) => model.deliver(seqno, item),
-        Event::Log => Ok(model.log()),
-        Event::Sync => Ok(model.sync()),
-        Event::Read(key, s) => Ok(model.read(key, s)),
-        Event::Check | Event::Flush(_) => Ok(Answer::Refused(Refusal::NotDue)),
-    }
 }
 
 /// Stops the node with this loss and opens it again: it stands where the model says, with the rows and the window of the
@@ -174,20 +157,6 @@ fn kind_of(answer: &Answer) -> usize {
     }
 }
 
-/// Does the next event, and compares the answer.
-fn answered(
-    rt: &(impl Abort + AllocGlobal),
-    node: &mut Replica<MemDisk>,
-    model: &mut Model,
-    draws: &mut Draws,
-) -> Result<Answer, Fail> {
-    let event = draws.event(model)?;
-    let wanted = wanted(model, event.copied())?;
-    let answer = step(node, event);
-    assert_eq!(rt; answer, wanted);
-    Ok(answer)
-}
-
 /// Lives of one node that are drawn from this seed. Notes which kinds of answers there were.
 fn live(rt: &(impl Abort + AllocGlobal), seed: u64, seen: &mut [bool; KINDS]) -> Result<(), Fail> {
     let mut draws = Draws {
@@ -200,7 +169,10 @@ fn live(rt: &(impl Abort + AllocGlobal), seed: u64, seen: &mut [bool; KINDS]) ->
         if draws.below(300) == 0 {
             node = stopped(rt, node, &mut model, draws.loss())?;
         }
-        let answer = answered(rt, &mut node, &mut model, &mut draws)?;
+        let event = draws.event(&model)?;
+        let wanted = model.answer(event.copied())?;
+        let answer = step(&mut node, event);
+        assert!(rt; answer == wanted, "{seed} {answer:?}");
         if let Some(seen) = seen.get_mut(kind_of(&answer)) {
             *seen = true;
         }

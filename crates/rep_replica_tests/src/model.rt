@@ -4,7 +4,7 @@
 use crate::node::plain_row;
 use rep_disk::Loss;
 use rep_plain::PlainNode;
-use rep_steps::{Answer, Replies};
+use rep_steps::{Answer, Event, Replies};
 use rep_types::{Judged, Key, Params, Refusal, Reply, WriteSet};
 use std::alloc::Global;
 
@@ -107,7 +107,7 @@ impl Model {
     }
 
     /// What the delivery of the item under this seqno is answered by. Where the order ends it grows by the item.
-    pub(crate) fn deliver(&mut self, seqno: u64, item: WriteSet) -> Result<Answer, Refusal> {
+    fn deliver(&mut self, seqno: u64, item: WriteSet) -> Result<Answer, Refusal> {
         let expected = self.delivered.saturating_add(1);
         if seqno != expected {
             return Ok(Answer::Refused(Refusal::OutOfOrder { expected }));
@@ -142,7 +142,7 @@ impl Model {
     }
 
     /// What a step of the log is answered by.
-    pub(crate) fn log(&mut self) -> Answer {
+    fn log(&mut self) -> Answer {
         match self.stage {
             Stage::Gathering if self.delivered == self.durable => Answer::Refused(Refusal::NotDue),
             Stage::Gathering if self.blocks == CELLS => Answer::Refused(Refusal::LogFull),
@@ -167,7 +167,7 @@ impl Model {
     }
 
     /// What a sync is answered by.
-    pub(crate) fn sync(&mut self) -> Answer {
+    fn sync(&mut self) -> Answer {
         let mut replies = Replies::new();
         match self.stage {
             Stage::BodyWritten => self.stage = Stage::BodyStable,
@@ -185,7 +185,7 @@ impl Model {
     }
 
     /// What a read is answered by.
-    pub(crate) fn read(&self, key: Key, s: u64) -> Answer {
+    fn read(&self, key: Key, s: u64) -> Answer {
         if key.table != 0 || key.row >= ROWS {
             return Answer::Refused(Refusal::BadKey);
         }
@@ -194,6 +194,17 @@ impl Model {
             return Answer::Refused(Refusal::NotYet { durable });
         }
         plain_row(&self.plain, key, s)
+    }
+
+    /// What the event is answered by.
+    pub(crate) fn answer(&mut self, event: Event) -> Result<Answer, Refusal> {
+        match event {
+            Event::Deliver(seqno, item) => self.deliver(seqno, item),
+            Event::Log => Ok(self.log()),
+            Event::Sync => Ok(self.sync()),
+            Event::Read(key, s) => Ok(self.read(key, s)),
+            Event::Check | Event::Flush(_) => Ok(Answer::Refused(Refusal::NotDue)),
+        }
     }
 
     /// The node is stopped and opened again: a pending gate counts where the loss keeps it.

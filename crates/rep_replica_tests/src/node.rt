@@ -12,14 +12,13 @@ use std::process::Abort;
 use std::test::Fail;
 use uuid::Uuid;
 
-/// The state UUID of the nodes.
-pub(crate) fn cluster() -> Uuid {
-    Uuid::from_bytes([0x11; 16])
-}
+/// The bytes of the state UUID of the nodes.
+const CLUSTER: [u8; 16] = [0x11; 16];
 
 /// A disk of so many bytes, formatted for a node with these parameters.
 pub(crate) fn formatted(alloc: Global, size: usize, params: &Params) -> Result<MemDisk, Fail> {
-    let (disk, answer) = format_disk(MemDisk::new(alloc, size)?, params, Some(cluster()));
+    let cluster = Uuid::from_bytes(CLUSTER);
+    let (disk, answer) = format_disk(MemDisk::new(alloc, size)?, params, Some(cluster));
     answer?;
     Ok(disk)
 }
@@ -31,7 +30,7 @@ pub(crate) fn open<D: Disk>(alloc: Global, disk: D) -> Result<Replica<D>, (D, Re
 
 /// Opens a disk that is to open.
 pub(crate) fn opened<D: Disk + Drop>(alloc: Global, disk: D) -> Result<Replica<D>, Fail> {
-    match open(alloc, disk) {
+    match Replica::open(alloc, disk) {
         Ok(node) => Ok(node),
         Err((_, refusal)) => Err(Fail::from(refusal)),
     }
@@ -84,7 +83,7 @@ pub(crate) struct Status {
 /// What a node says of itself that was opened at this position, over no base.
 pub(crate) fn opened_at(position: u64) -> Status {
     let gtid = match i64::try_from(position) {
-        Ok(seqno) => Gtid::new(cluster(), seqno),
+        Ok(seqno) => Gtid::new(Uuid::from_bytes(CLUSTER), seqno),
         Err(_) => None,
     };
     Status {
@@ -114,7 +113,7 @@ pub(crate) fn answers<D: Disk>(
     event: Event,
     wanted: Answer,
 ) {
-    assert_eq!(rt; step(node, event), wanted);
+    assert_eq!(rt; node.step(event), wanted);
 }
 
 /// Delivers the item, and compares its verdict.
@@ -124,7 +123,10 @@ pub(crate) fn gives<D: Disk>(
     (seqno, item): (u64, WriteSet),
     verdict: Verdict,
 ) {
-    answers(rt, node, Event::Deliver(seqno, item), Answer::Gave(verdict));
+    assert_eq!(rt;
+        node.step(Event::Deliver(seqno, item)),
+        Answer::Gave(verdict)
+    );
 }
 
 /// Does the four steps that make a block durable, and compares their answers: the last are these replies.
