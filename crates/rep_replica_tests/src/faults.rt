@@ -1,0 +1,161 @@
+//! A device that fails at each call in turn, once or from then on: what is refused, and what opens behind it.
+
+use crate::node::{agrees, crashed, into_disk, open, opened, opened_at, run, stands};
+use crate::scripts::{LOSSES, new_disk, one_item};
+use crate::stops::fed_the_rest;
+use rep_disk::{Disk, FaultOnce, FuseDisk, Loss, MemDisk};
+use rep_steps::{Answer, Event};
+use rep_types::Refusal;
+use std::alloc::Global;
+use std::process::Abort;
+use std::test::Fail;
+
+/// Which calls of a device fail.
+#[derive(Clone, Copy)]
+enum Failing {
+    Once,
+    FromThenOn,
+}
+
+/// What came of the one item on a device that fails.
+#[derive(Drop)]
+struct Outcome {
+    /// The answers, or why the device did not open.
+    answers: Result<Vec<Answer>, Refusal>,
+    /// How often the device had failed then.
+    failures: u64,
+    disk: MemDisk,
+}
+
+/// At which position the disk opens behind a stop with this loss, where the event of this number met the fault. A failed
+/// write changed nothing; behind the failed sync of an open gate that gate is pending.
+fn position_of(event: usize, loss: Loss) -> u64 {
+    match (event, loss) {
+        (5, _) | (4, Loss::Keep) => 1,
+        _ => 0,
+    }
+}
+
+/// Opens the device and runs these events on it, and gives the device back.
+fn lived<D: Disk>(alloc: Global, disk: D, events: &[Event]) -> (Result<Vec<Answer>, Refusal>, D) {
+    match open(alloc, disk) {
+        Ok(mut node) => {
+            let answers = run(alloc, &mut node, events);
+            (answers, into_disk(node))
+        }
+        Err((disk, refusal)) => (Err(refusal), disk),
+    }
+}
+
+/// Runs these events on a new disk that fails so at the call of this number.
+fn lived_on(alloc: Global, failing: Failing, call: u64, events: &[Event]) -> Result<Outcome, Fail> {
+    let disk = new_disk(alloc)?;
+    match failing {
+        Failing::Once => {
+            let (answers, disk) = lived(alloc, FaultOnce::new(disk, call), events);
+            Ok(Outcome {
+                answers,
+                failures: disk.failures(),
+                disk: disk.into_inner(),
+            })
+        }
+        Failing::FromThenOn => {
+            let (answers, disk) = lived(alloc, FuseDisk::new(disk, call), events);
+            Ok(Outcome {
+                answers,
+                failures: disk.failures(),
+                disk: disk.into_inner(),
+            })
+        }
+    }
+}
+
+/// Whether these are the answers where the event of the number `failed` met a fault: up to it they are those of a device
+/// that serves, and from then on the replica is stopped.
+fn are_of_a_fault_at(answers: &[Answer], served: &[Answer], failed: usize) -> bool {
+    let mut right = answers.len() == served.len();
+    for (event, (answer, wanted)) in answers.iter().zip(served).enumerate() {
+        let is_right = if event < failed {
+            answer == wanted
+        } else if event == failed {
+            *answer == Answer::Refused(Refusal::DiskFault)
+        } else {
+            *answer == Answer::Refused(Refusal::Stopped)
+        };
+        right = right && is_right;
+    }
+    right
+}
+
+/// Compares what came of the one item on a device that failed, where the event of this number or the next one met the
+/// fault. Gives that event's number, and 0 where the device did not open: it is then as it was.
+fn event_of(
+    rt: &(impl Abort + AllocGlobal),
+    outcome: &Outcome,
+    served: &[Answer],
+    event: usize,
+) -> Result<usize, Fail> {
+    let next = event.saturating_add(1);
+    let failed = match &outcome.answers {
+        Ok(answers) if event > 0 && are_of_a_fault_at(answers, served, event) => event,
+        Ok(answers) => {
+            assert!(rt; are_of_a_fault_at(answers, served, next), "{next}");
+            next
+        }
+        Err(refusal) => {
+            assert!(rt; *refusal == Refusal::DiskFault && event == 0);
+            assert!(rt; outcome.disk.bytes() == new_disk(rt.alloc())?.bytes());
+            0
+        }
+    };
+    assert!(rt; outcome.failures == u64::from(failed < 5), "{failed}");
+    Ok(failed)
+}
+
+/// Makes the one item durable on a device that fails so at this call, stops it with each loss, opens it, and goes on
+/// there. Gives the number of the event that met the fault, which is this one or the next.
+fn failed_at(
+    rt: &(impl Abort + AllocGlobal),
+    failing: Failing,
+    call: u64,
+    event: usize,
+) -> Result<usize, Fail> {
+    let script = one_item(rt.alloc())?;
+    let mut failed = event;
+    for loss in LOSSES {
+        let outcome = lived_on(rt.alloc(), failing, call, &script.events)?;
+        failed = event_of(rt, &outcome, &script.answers, event)?;
+        let Outcome { disk, .. } = outcome;
+        let mut node = opened(rt.alloc(), crashed(disk, loss))?;
+        stands(rt, &node, opened_at(position_of(failed, loss)));
+        agrees(rt, &mut node, &script.plain, 3)?;
+        fed_the_rest(rt, &mut node, &script.plain)?;
+    }
+    Ok(failed)
+}
+
+/// Fails each call of the device in turn, up to a run that meets no fault.
+fn failed_at_each_call(rt: &(impl Abort + AllocGlobal), failing: Failing) -> Result<(), Fail> {
+    let mut event = 0;
+    for call in 0..100 {
+        event = failed_at(rt, failing, call, event)?;
+        if event == 5 {
+            return Ok(());
+        }
+    }
+    Err(Fail::new("each run met a fault"))
+}
+
+#[test]
+fn a_fault_at_each_call_stops_the_replica_and_its_disk_goes_on(
+    rt: HostRuntime,
+) -> Result<(), Fail> {
+    failed_at_each_call(&rt, Failing::Once)
+}
+
+#[test]
+fn a_device_that_fails_from_each_call_on_goes_on_once_it_serves(
+    rt: HostRuntime,
+) -> Result<(), Fail> {
+    failed_at_each_call(&rt, Failing::FromThenOn)
+}

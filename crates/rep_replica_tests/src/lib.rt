@@ -1,0 +1,25 @@
+//! Tests of a replica on a disk in memory: stops behind each event, a device that fails at each call, lives of drawn events
+//! beside the plain node, and replicas that are taken apart. They stand in a crate of their own so that the replica is
+//! proved once.
+#![tactic(auto)]
+
+#[cfg(test)]
+mod faults;
+#[cfg(test)]
+mod limits;
+#[cfg(test)]
+mod lives;
+#[cfg(test)]
+mod model;
+#[cfg(test)]
+mod node;
+#[cfg(test)]
+mod opening;
+#[cfg(test)]
+mod pages;
+#[cfg(test)]
+mod parts;
+#[cfg(test)]
+mod scripts;
+#[cfg(test)]
+mod stops;

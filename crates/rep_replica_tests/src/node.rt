@@ -1,0 +1,175 @@
+//! A replica as the tests see it: each call of it stands here once, in a function that promises nothing, so that no test
+//! has to be proved beside its contract.
+
+use rep_disk::{Disk, Loss, MemDisk};
+use rep_plain::PlainNode;
+use rep_recover::format_disk;
+use rep_replica::Replica;
+use rep_steps::{Answer, Event, Replies};
+use rep_types::{Gtid, Key, Params, Refusal, Verdict, WriteSet};
+use std::alloc::Global;
+use std::process::Abort;
+use std::test::Fail;
+use uuid::Uuid;
+
+/// The bytes of the state UUID of the nodes.
+const CLUSTER: [u8; 16] = [0x11; 16];
+
+/// A disk of so many bytes, formatted for a node with these parameters.
+pub(crate) fn formatted(alloc: Global, size: usize, params: &Params) -> Result<MemDisk, Fail> {
+    let cluster = Uuid::from_bytes(CLUSTER);
+    let (disk, answer) = format_disk(MemDisk::new(alloc, size)?, params, Some(cluster));
+    answer?;
+    Ok(disk)
+}
+
+/// Opens the disk.
+pub(crate) fn open<D: Disk>(alloc: Global, disk: D) -> Result<Replica<D>, (D, Refusal)> {
+    Replica::open(alloc, disk)
+}
+
+/// Opens a disk that is to open.
+pub(crate) fn opened<D: Disk + Drop>(alloc: Global, disk: D) -> Result<Replica<D>, Fail> {
+    match Replica::open(alloc, disk) {
+        Ok(node) => Ok(node),
+        Err((_, refusal)) => Err(Fail::from(refusal)),
+    }
+}
+
+/// Does one step.
+pub(crate) fn step<D: Disk>(node: &mut Replica<D>, event: Event) -> Answer {
+    node.step(event)
+}
+
+/// Does these steps one after another, and gives their answers.
+pub(crate) fn run<D: Disk>(
+    alloc: Global,
+    node: &mut Replica<D>,
+    events: &[Event],
+) -> Result<Vec<Answer>, Refusal> {
+    node.run(alloc, events)
+}
+
+/// Gives the disk back.
+pub(crate) fn into_disk<D: Disk>(node: Replica<D>) -> D {
+    node.into_disk()
+}
+
+/// The disk as a stop leaves it.
+pub(crate) fn crashed(mut disk: MemDisk, loss: Loss) -> MemDisk {
+    disk.crash(loss);
+    disk
+}
+
+/// Stops the node with this loss, and opens its disk again.
+pub(crate) fn reopened(
+    alloc: Global,
+    node: Replica<MemDisk>,
+    loss: Loss,
+) -> Result<Replica<MemDisk>, Fail> {
+    opened(alloc, crashed(into_disk(node), loss))
+}
+
+/// What a node says of itself.
+#[derive(Clone, Copy, Debug, PartialEq, Eq)]
+pub(crate) struct Status {
+    pub(crate) gtid: Option<Gtid>,
+    pub(crate) base: u64,
+    pub(crate) durable: u64,
+    pub(crate) delivered: u64,
+    pub(crate) is_stopped: bool,
+}
+
+/// What a node says of itself that was opened at this position, over no base.
+pub(crate) fn opened_at(position: u64) -> Status {
+    let gtid = match i64::try_from(position) {
+        Ok(seqno) => Gtid::new(Uuid::from_bytes(CLUSTER), seqno),
+        Err(_) => None,
+    };
+    Status {
+        gtid,
+        base: 0,
+        durable: position,
+        delivered: position,
+        is_stopped: false,
+    }
+}
+
+/// What the node says of itself.
+pub(crate) fn shown<D: Disk>(node: &Replica<D>) -> Status {
+    Status {
+        gtid: Some(node.gtid()),
+        base: node.base(),
+        durable: node.durable(),
+        delivered: node.delivered(),
+        is_stopped: node.is_stopped(),
+    }
+}
+
+/// Does one step, and compares its answer.
+pub(crate) fn answers<D: Disk>(
+    rt: &impl Abort,
+    node: &mut Replica<D>,
+    event: Event,
+    wanted: Answer,
+) {
+    assert_eq!(rt; node.step(event), wanted);
+}
+
+/// Delivers the item, and compares its verdict.
+pub(crate) fn gives<D: Disk>(
+    rt: &impl Abort,
+    node: &mut Replica<D>,
+    (seqno, item): (u64, WriteSet),
+    verdict: Verdict,
+) {
+    assert_eq!(rt;
+        node.step(Event::Deliver(seqno, item)),
+        Answer::Gave(verdict)
+    );
+}
+
+/// Does the four steps that make a block durable, and compares their answers: the last are these replies.
+pub(crate) fn makes_durable<D: Disk>(rt: &impl Abort, node: &mut Replica<D>, replies: Replies) {
+    for synced in [Replies::new(), replies] {
+        answers(rt, node, Event::Log, Answer::Wrote);
+        answers(rt, node, Event::Sync, Answer::Synced(synced));
+    }
+}
+
+/// Compares what the node says of itself.
+pub(crate) fn stands<D: Disk>(rt: &impl Abort, node: &Replica<D>, wanted: Status) {
+    assert_eq!(rt; shown(node), wanted);
+}
+
+/// What a read of the key after the first `s` items of the plain node is answered by.
+pub(crate) fn plain_row(plain: &PlainNode, key: Key, s: u64) -> Answer {
+    if s > plain.position() {
+        return Answer::Row(None);
+    }
+    match plain.get(key, s) {
+        Some(value) => Answer::Row(Some(value.copied())),
+        None => Answer::Row(None),
+    }
+}
+
+/// Compares the node with the plain one: the window at what is durable, and the first so many rows of the first table at
+/// each position up to that.
+pub(crate) fn agrees<D: Disk>(
+    rt: &(impl Abort + AllocGlobal),
+    node: &mut Replica<D>,
+    plain: &PlainNode,
+    rows: u32,
+) -> Result<(), Fail> {
+    let durable = node.durable();
+    assert!(rt; durable <= plain.position());
+    let window = node.window(rt.alloc())?;
+    assert!(rt; window == plain.window_at(rt.alloc(), durable)?);
+    for s in 0..=durable {
+        for row in 0..rows {
+            let key = Key { table: 0, row };
+            answers(rt, node, Event::Read(key, s), plain_row(plain, key, s));
+        }
+    }
+    Ok(())
+}
