@@ -4,8 +4,8 @@ ghost use Rattle.rep_engine.specs.Holding.{LeavesItsEnds};
 
 use crate::engine::Engine;
 use rep_cells::images_read_as_allowed;
+use rep_checkpoint::nodes_leave_their_ends;
 use rep_disk::Disk;
-use rep_image::nodes_leave_their_ends;
 
 /// Where an engine on an honest device is not stopped, every image of the device means a front of what the
 /// engine stands for that ends exactly at what is durable, or, while the gate of a block is opening, at that with
