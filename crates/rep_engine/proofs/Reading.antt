@@ -186,4 +186,4 @@ module _ {D : Type 0} (honest : D → Type 0) (history : D → History) (size fa
         → ReadsRow size failures honest history key old new result → (m : Node) × Steps n (Read key at) (row result) m × Holds honest history failures m new
     reads_steps nodes answer is below result new h =
         subst (λ e. (m : Node) × Steps n (Read key at) (row result) m × Holds honest history failures m e) (sym h.after)
-        (base_steps nodes answer is below result new.disk h.call (h.same holds.is_honest) h.refused (h.read holds.is_honest there.states n.base.content there.assigns there.stands.content))
+        (base_steps nodes answer is below result new.disk h.call (h.same holds.is_honest) h.refused (h.read holds.is_honest there.states n.base.content there.assigns there.stands.checkpoint.base.content))

@@ -11,7 +11,7 @@ use Rattle.rep_engine.proofs.write.base_row.Goals as goal
 
 pub returns-in_err-page-clause-read : goal.returns-in_err-page-clause-read
 returns-in_err-page-clause-read g c = λ honest s content assigns have.
-    let b = c.args.checkpoint.base.now in
+    let b = c.args.superblock.now in
     let page = read_page b s content c.in-Some.place.page c.in-In.slot c.read_area.new.room have (sym c.slot_of.ensures ∙ c.in-In.is)
     (λ sure. if_ok c.read_area.result _ c.if-is_err.ensures.negation (c.read_area.ensures.shown honest s assigns sure)) in
     let body = subst (λ rows. IsPageBody rows page.page c.read_area.new.room) (sym c.schema-schema.ensures) page.is_page in
@@ -20,7 +20,7 @@ returns-in_err-page-clause-read g c = λ honest s content assigns have.
 
 pub returns-clause-read : goal.returns-clause-read
 returns-clause-read g c = λ honest s content assigns have.
-    let b = c.args.checkpoint.base.now in
+    let b = c.args.superblock.now in
     let page = read_page b s content c.in-Some.place.page c.in-In.slot c.read_area.new.room have (sym c.slot_of.ensures ∙ c.in-In.is)
     (λ sure. if_ok c.read_area.result _ c.if-is_err.ensures.negation (c.read_area.ensures.shown honest s assigns sure)) in
     let body = subst (λ rows. IsPageBody rows page.page c.read_area.new.room) (sym c.schema-schema.ensures) page.is_page in
