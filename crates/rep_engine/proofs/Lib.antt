@@ -11,3 +11,4 @@ pub mod Replying
 pub mod Accepting
 pub mod Accepts
 pub mod Ending
+pub mod Checking

@@ -3,7 +3,7 @@ use Rattle.std.specs.Prelude.{◌≡◌, ◌≢◌, ℕ, Bool, true, false, List
 use Rattle.rep_types.specs.declared.key.Key.{Key}
 use Rattle.rep_types.specs.declared.judged.Judged.{Judged}
 use Rattle.rep_types.specs.declared.refusal.Refusal.{Refusal}
-use Rattle.rep_types.specs.declared.refusal.Refusal.TheVariants.{Stopped, NotDue, DiskFault, Corrupt}
+use Rattle.rep_types.specs.declared.refusal.Refusal.TheVariants.{DiskFault, Corrupt}
 use Rattle.rep_types.specs.declared.refusal.Part.TheVariants.{Pages}
 use Rattle.rep_disk.specs.History.{History}
 use Rattle.rep_layout.specs.declared.place.Layout.{Layout}
@@ -71,8 +71,3 @@ abbrev pub ReadsBase : {D : Type 0} → (D → Type 0) → (D → History) → L
 ReadsBase honest history l b key old result = honest old → (s : States) (content : Key → Option (List ℕ)) → Assigns l (history old) s
     → HaveContent b (λ number slot body. s (Page number slot) ≡ Stable body) content
     → IfOk result (λ value. value ≡ content key) × (result ≢ Err (Corrupt Pages))
-
--- what a checkpoint's step answers while there is none
-abbrev pub no_checkpoint : Option Phase → Refusal
-no_checkpoint None = NotDue
-no_checkpoint (Some before) = Stopped

@@ -16,12 +16,11 @@ ghost use Rattle.rep_engine.specs.Engines.{IsEngine, facts_of, phase_at, durable
 ghost use Rattle.rep_log.specs.Moves.{after_sync, started, fault_of, SyncsLog, StartsLater};
 ghost use Rattle.rep_checkpoint.specs.Moves.{after_sync as checkpoint_after, is_opening};
 ghost use Rattle.rep_checkpoint.specs.Calls.{SyncsTo};
-ghost use Rattle.rep_engine.specs.Writing.{left_of, told_of, PrunesIf, no_checkpoint};
+ghost use Rattle.rep_engine.specs.Writing.{left_of, told_of, PrunesIf};
 ghost use Rattle.rep_engine.specs.Holding.{Holds, wrote, synced};
 
 use crate::write::write_next;
 use rep_cells::{Cells, images_read_as_allowed};
-use rep_cert::Certifier;
 use rep_checkpoint::{
     Checkpoint, nodes_leave_their_fronts, nodes_settle, the_log_is_apart, the_stage_is_the_facts,
 };
@@ -31,6 +30,7 @@ use rep_record::BlockBuilder;
 use rep_steps::{Replies, nodes_stay_nodes};
 use rep_types::{Gtid, Params, Refusal};
 use rep_versions::{Versions, versions_follow_the_items};
+use std::alloc::Global;
 use std::marker::Model;
 use uuid::Uuid;
 
@@ -51,6 +51,8 @@ fn prune_if(versions: &mut Versions, rose: bool, position: u64)
 /// device fails, the engine is stopped, and refuses everything.
 #[derive(Drop)]
 pub struct Engine<D: Disk> {
+    /// Where a checkpoint takes its memory.
+    pub(crate) alloc: Global,
     pub(crate) cells: Cells<D>,
     pub(crate) checkpoint: Checkpoint,
     pub(crate) log: Log,
@@ -82,6 +84,7 @@ impl<D: Disk> Engine<D> {
     /// The engine over what an opening found on a device: the checkpoint at its base, the log behind the base,
     /// and the versions of what its items wrote.
     pub fn open(
+        alloc: Global,
         cells: Cells<D>,
         checkpoint: Checkpoint,
         log: Log,
@@ -91,6 +94,7 @@ impl<D: Disk> Engine<D> {
         ensures { result ≡ record { disk = disk_of cells; layout = layout_of cells; checkpoint = checkpoint; log = log; kept = versions; block = []; halted = None } }
     {
         Engine {
+            alloc,
             cells,
             checkpoint,
             log,
@@ -232,38 +236,6 @@ impl<D: Disk> Engine<D> {
         let replies = self.settle();
         self.raise();
         Ok(replies)
-    }
-
-    /// Takes the checkpoint's next step. No checkpoint begins yet, and none goes on.
-    ///
-    /// Refuses with `Stopped` where the device has failed before, and else with `NotDue`.
-    pub fn check(&mut self, _certifier: &Certifier) -> Result<Option<u64>, Refusal>
-        ensures refused { result ≡ Err (no_checkpoint self.old.halted) }
-        ensures same { self.new ≡ self.old }
-    {
-        let refusal = self.no_checkpoint();
-        Err(refusal)
-    }
-
-    /// Writes a page of the checkpoint. No checkpoint is under way.
-    ///
-    /// Refuses with `Stopped` where the device has failed before, and else with `NotDue`.
-    pub fn flush(&mut self, _page: u64) -> Result<(), Refusal>
-        ensures refused { result ≡ Err (no_checkpoint self.old.halted) }
-        ensures same { self.new ≡ self.old }
-    {
-        Err(self.no_checkpoint())
-    }
-
-    /// What a checkpoint's step answers while there is none.
-    fn no_checkpoint(&self) -> Refusal
-        ensures { result ≡ no_checkpoint self.now.halted }
-    {
-        if self.is_stopped() {
-            Refusal::Stopped
-        } else {
-            Refusal::NotDue
-        }
     }
 
     /// Whether the device has failed: the engine then refuses everything.

@@ -1,8 +1,9 @@
-//! The engine of a node on a disk: what was accepted goes into the log, becomes durable, and is read, over
-//! a base that stands still.
+//! The engine of a node on a disk: what was accepted goes into the log, becomes durable, and is read; and a
+//! checkpoint raises the base that the log goes on behind.
 #![tactic(auto)]
 
 mod accept;
+mod check;
 mod engine;
 mod laws;
 mod read;

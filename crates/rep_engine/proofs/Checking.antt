@@ -1,0 +1,205 @@
+-- The steps of a checkpoint, of an engine that stands for a node.
+use Rattle.std.proofs.Common.{◌≡◌, ◌≢◌, ℕ, ◌+◌, ◌-◌, ◌<◌, ◌≤◌, Bool, true, false, List, [], length, take, map, Option, None, Some, Result, Ok, Err, refl, sym, ap, subst, ◌∙◌, arith, OnOk, IfErr}
+use Rattle.std.specs.Prelude.{is_some, nat_le, if◌then◌else◌, IsTrue}
+use Rattle.std.proofs.lemmas.Bool.Decides.{nat_tests}
+use Rattle.std.proofs.lemmas.List.{take_all, length-take-le}
+use Rattle.rep_types.specs.declared.judged.Judged.{Judged}
+use Rattle.rep_types.specs.declared.key.Key.{Key}
+use Rattle.rep_types.specs.declared.refusal.Refusal.{Refusal}
+use Rattle.rep_types.specs.declared.refusal.Refusal.TheVariants.{DiskFault, NotDue}
+use Rattle.rep_types.specs.declared.verdict.Verdict.TheVariants.{Commit}
+use Rattle.rep_types.specs.Entries.{Entry}
+use Rattle.rep_types.specs.Settings.{Setting, IsRow}
+use Rattle.rep_types.specs.Order.{State}
+use Rattle.rep_disk.specs.History.{History, stable, IsImage}
+use Rattle.rep_disk.specs.Calls.{IsCall, Rises}
+use Rattle.rep_disk.specs.Moments.{LeavesOnly}
+use Rattle.rep_layout.specs.declared.place.Layout.{Layout}
+use Rattle.rep_layout.specs.Places.{layout_of}
+use Rattle.rep_cert.specs.Holdings.{Holding, window_of}
+use Rattle.rep_log.specs.Standing.{Standing as Log, stands_at}
+use Rattle.rep_log.specs.Tail.{records_of}
+use Rattle.rep_steps.specs.declared.event.Event.TheVariants.{Check}
+use Rattle.rep_steps.specs.declared.answer.Answer.{Answer}
+use Rattle.rep_steps.specs.declared.answer.Answer.TheVariants.{Began, Wrote, Refused}
+use Rattle.rep_steps.specs.Standings.{Standing, Stage as StageOf, Off as is_off, HasGoal, check_refusal, refusal_here}
+use Rattle.rep_steps.specs.Moves.{Found, Moves, answer, after, check_answer, checked as checked_at, takes_device, touched}
+use Rattle.rep_steps.specs.Nodes.{Node, IsNode, Steps, NodesStayNodes, found, moved, reached, state_at, window_at}
+use Rattle.rep_steps.specs.Images.{IsFrontAt}
+use Rattle.rep_steps.proofs.Reaching.{reached_position}
+use Rattle.rep_image.specs.Meanings.{Means}
+use Rattle.rep_versions.specs.Versions.{ArePages}
+use Rattle.rep_versions.specs.Following.{AreVersionsOf, effect_of}
+use Rattle.rep_checkpoint.specs.declared.stage.Part.{Part}
+use Rattle.rep_checkpoint.specs.declared.stage.Part.TheVariants.{Flushing}
+use Rattle.rep_checkpoint.specs.declared.stage.Stage.{Stage}
+use Rattle.rep_checkpoint.specs.declared.stage.Stage.TheVariants.{Off, Toward, Retiring}
+use Rattle.rep_checkpoint.specs.Next.{Next}
+use Rattle.rep_checkpoint.specs.Standing.{Standing as Checkpoint, stage_in, stage_of, IsCheckpoint}
+use Rattle.rep_checkpoint.specs.Moves.{begun, next_of}
+use Rattle.rep_checkpoint.specs.Calls.{Begins, AreAt, AreBehind}
+use Rattle.rep_checkpoint.specs.Laws.{TheStageIsTheFacts}
+use Rattle.rep_checkpoint.specs.Nodes.{IsLedTo, StandsAs, LeadsTo, VersionsLeadToTheState}
+use Rattle.rep_engine.specs.Engines.{Engine, IsEngine, facts_of, durable_of, phase_at}
+use Rattle.rep_engine.specs.Holding.{Stands, Holds}
+use Rattle.rep_engine.specs.Checking.{HasBegun}
+use Rattle.rep_engine.proofs.Steps.{done_moves, done_steps}
+use Rattle.rep_engine.proofs.Standing.{same_front}
+
+-- the next base of a stage
+abbrev next_in : Next → Stage → Next
+next_in none Off = none
+next_in none (Toward next part) = next
+next_in none (Retiring written) = none
+
+-- ---- a checkpoint begins
+
+-- what is so of an engine stays so
+pub engine_begun : (l : Layout) (c : Checkpoint) (log : Log) (kept : _) (block : List Judged) (position : ℕ) (entries : _) (left : List ℕ) → IsEngine l c log kept block → IsCheckpoint (begun c position log.next entries left) → position ≡ durable_of log → c.base.position < position
+    → IsEngine l (begun c position log.next entries left) log kept block
+engine_begun l c log kept block position entries left h is at later = record {
+  checkpoint = is;
+  layout = h.layout;
+  cells = h.cells;
+  start = h.start;
+  behind = h.behind;
+  begun = h.begun;
+  room = h.room;
+  goal = record { above = later; within = omega (arith, at); started = h.begun; begun = omega arith };
+  follow = h.follow;
+  fits = h.fits;
+  few = h.few;
+  whole = h.whole;
+  limit = h.limit;
+  undefined = h.undefined;
+  within = h.within;
+}
+
+module _ {D : Type 0} (failures : D → ℕ) (old : Engine D) (entries : List Entry) (left : List ℕ) (runs : old.halted ≡ None) (off : old.checkpoint.stage ≡ Off) (later : old.checkpoint.base.position < durable_of old.log) where
+  abbrev next : Next
+  next = next_of old.checkpoint.base (durable_of old.log) old.log.next entries left
+
+  abbrev d : Checkpoint
+  d = begun old.checkpoint (durable_of old.log) old.log.next entries left
+
+  abbrev new : Engine D
+  new = record old { checkpoint = d }
+
+  abbrev s : Standing
+  s = facts_of failures old
+
+  at_rest : s.stage ≡ is_off
+  at_rest = ap stage_in off
+
+  not_refused : refusal_here s Check ≡ None
+  not_refused =
+      let above : nat_le (durable_of old.log) old.checkpoint.base.position ≡ false = grind (arith, nat_tests, later) in
+      ap (check_refusal s) at_rest ∙ ap (λ t. if t then Some NotDue else None) above
+
+  facts_begun : (f : Found) → f.left ≡ left → facts_of failures new ≡ after s Check f
+  facts_begun f same = ap (λ (ls : List ℕ). record s { stage = checked_at s ls is_off }) (sym same) ∙ ap (λ (stage : StageOf). record s { stage = checked_at s f.left stage }) (sym at_rest)
+
+  -- on any device
+  pub begun_moves : Moves s Check (Began (durable_of old.log)) (facts_of failures new)
+  begun_moves =
+      let f : Found = record { verdict = Commit; stale = false; left = left; row = None } in
+      subst (λ (a : Answer). Moves s Check a (facts_of failures new)) (ap (check_answer s) at_rest) (done_moves s Check f (facts_of failures new) (ap is_some runs) not_refused (facts_begun f refl))
+
+  -- at a node
+  module _ (honest : D → Type 0) (history : D → History) (nodes : NodesStayNodes) (lead : VersionsLeadToTheState) (n : Node) (holds : Holds honest history failures n old) (window : entries ≡ window_at n n.facts.durable)
+      (pages : ArePages old.kept old.checkpoint.base.params.rows old.checkpoint.base.position (durable_of old.log) left) (begins : Begins old.kept old.checkpoint d next) where
+    there : Stands history n old
+    there = holds.runs runs
+
+    abbrev past : ℕ
+    past = n.facts.durable - n.facts.base
+
+    at : n.base.position + past ≡ durable_of old.log
+    at = omega (arith, holds.node.position, holds.node.facts.based, ap (λ (t : Standing). t.durable) holds.facts)
+
+    at_base : n.base.position ≡ old.checkpoint.base.position
+    at_base = there.stands.checkpoint.base.position
+
+    leads : LeadsTo n old.kept past
+    leads = lead n old.kept past there.stands.judged (λ key out. there.stands.checkpoint.base.content.outside key (λ inside. out (subst (λ (p : Setting). IsRow p.rows key) (sym there.stands.setting) inside))) there.versions
+
+    left_is : left ≡ touched n.facts.setting.rows (take past n.items)
+    left_is =
+        leads.pages left
+        (subst (λ i. ArePages old.kept n.facts.setting.rows n.base.position i left) (sym at)
+        (subst (λ i. ArePages old.kept n.facts.setting.rows i (durable_of old.log) left) (sym at_base)
+        (subst (λ (p : Setting). ArePages old.kept p.rows old.checkpoint.base.position (durable_of old.log) left) (sym there.stands.setting) pages)))
+
+    runs_on : n.facts.stopped ≡ false
+    runs_on = ap (λ (t : Standing). t.stopped) holds.facts ∙ ap is_some runs
+
+    stage_is : n.facts.stage ≡ is_off
+    stage_is = ap (λ (t : Standing). t.stage) holds.facts ∙ at_rest
+
+    steps : Steps n Check (Began (durable_of old.log)) (moved n Check)
+    steps =
+        let none : refusal_here n.facts Check ≡ None = ap (λ (t : Standing). refusal_here t Check) holds.facts ∙ not_refused in
+        subst (λ (a : Answer). Steps n Check a (moved n Check)) (ap (check_answer n.facts) stage_is ∙ ap (λ (t : Standing). Began t.durable) holds.facts) (done_steps n Check runs_on none)
+
+    -- the state that it makes the base
+    abbrev goal : State
+    goal = reached n.facts.setting n.base (take past n.items)
+
+    led : IsLedTo (moved n Check) old.log there.blocks next.super goal
+    led = record {
+      past = past;
+      position = sym at;
+      within = omega (arith, ap (λ (t : Standing). t.durable) holds.facts);
+      state = refl;
+      cells = length there.blocks;
+      start = there.stands.log_is.next;
+      few = omega arith;
+      records = ap records_of (take_all (length there.blocks) there.blocks (omega arith)) ∙ there.stands.durable;
+    }
+
+    goal_at : goal.position ≡ next.super.position
+    goal_at = reached_position n.facts.setting n.base (take past n.items) ∙ omega (arith, at, length-take-le past n.items (omega (arith, holds.node.enough)))
+
+    goal_kept : goal.kept ≡ entries
+    goal_kept = ap (λ i. (reached n.facts.setting n.base (take (n.facts.durable - i) n.items)).kept) (sym holds.node.position) ∙ sym window
+
+    stands_so : StandsAs (moved n Check) (length (stable (history old.disk))) d old.log there.blocks there.sealed there.states
+    stands_so =
+        let h = there.stands in record {
+          uuid = h.uuid;
+          setting = h.setting;
+          goal = goal;
+          checkpoint =
+              begins (length (stable (history old.disk))) there.states n.base goal h.goal h.checkpoint
+              (subst (λ i. AreBehind i old.kept) at_base leads.behind) goal_at goal_kept
+              (subst (λ (p : Setting). AreAt p.rows old.kept (durable_of old.log) n.base.content goal.content) h.setting (subst (λ i. AreAt n.facts.setting.rows old.kept i n.base.content goal.content) at leads.rows));
+          toward = λ other part e. subst (λ (k : Next). IsLedTo (moved n Check) old.log there.blocks k.super goal) (ap (next_in next) e) led;
+          start = h.start;
+          log_is = h.log_is;
+          phase = h.phase;
+          durable = h.durable;
+          coming = h.coming;
+          judged = h.judged;
+          undefined = h.undefined;
+        }
+
+    pub begun_holds : (m : Node) × Steps n Check (Began (durable_of old.log)) m × Holds honest history failures m new
+    begun_holds = (
+      moved n Check,
+      steps,
+      record {
+        is_honest = holds.is_honest;
+        facts = ap (λ (t : Standing). after t Check (found n Check)) holds.facts ∙ sym (facts_begun (found n Check) (sym left_is));
+        node = nodes n (moved n Check) Check (Began (durable_of old.log)) holds.node steps;
+        runs = λ on. record {
+          states = there.states;
+          assigns = there.assigns;
+          blocks = there.blocks;
+          sealed = there.sealed;
+          stands = stands_so;
+          versions = there.versions;
+          gates = there.gates;
+        };
+        images = λ image here. same_front n (moved n Check) image refl refl refl refl refl (holds.images image here);
+      },
+    )

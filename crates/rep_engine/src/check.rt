@@ -1,0 +1,50 @@
+//! The steps of a checkpoint: its beginning, its pages, and the writes behind them.
+
+ghost use Rattle.std.specs.Prelude.{◌≡◌, ◌⊎◌, nat_le, true, false, None, IfOk, IfErr, IfSome};
+ghost use Rattle.rep_types.specs.declared.refusal.Refusal.TheVariants.{NotDue, DiskFault, OutOfMemory};
+ghost use Rattle.rep_cert.specs.Holdings.{window_of};
+ghost use Rattle.rep_disk.specs.Calls.{IsCall};
+ghost use Rattle.rep_disk.specs.Moments.{LeavesOnly};
+ghost use Rattle.rep_log.specs.Moves.{fault_of};
+ghost use Rattle.rep_steps.specs.declared.event.Event.TheVariants.{Check as to_check};
+ghost use Rattle.rep_steps.specs.Moves.{Moves};
+ghost use Rattle.rep_steps.specs.Nodes.{Node, Steps, window_at};
+ghost use Rattle.rep_steps.specs.Images.{IsFrontAt};
+ghost use Rattle.rep_image.specs.Meanings.{Means};
+ghost use Rattle.rep_checkpoint.specs.declared.stage.Stage.TheVariants.{Off};
+ghost use Rattle.rep_checkpoint.specs.Moves.{next_refusal};
+ghost use Rattle.rep_checkpoint.specs.Calls.{IsRefused, GoesOn};
+ghost use Rattle.rep_engine.specs.Engines.{facts_of, durable_of};
+ghost use Rattle.rep_engine.specs.Holding.{Holds};
+ghost use Rattle.rep_engine.specs.Reading.{halted_by};
+ghost use Rattle.rep_engine.specs.Checking.{HoldsWindow, HasBegun, checked};
+
+use crate::engine::Engine;
+use rep_cert::Certifier;
+use rep_disk::Disk;
+use rep_types::Refusal;
+
+impl<D: Disk> Engine<D> {
+    /// Begins a checkpoint to what is durable, with the certifier's window there.
+    ///
+    /// Refuses with `NotDue` where the base stands there, and else with `OutOfMemory`.
+    fn begin(&mut self, certifier: &Certifier) -> Result<u64, Refusal>
+        requires off { self.old.checkpoint.stage ≡ Off }
+        requires window { HoldsWindow self.old.checkpoint.base.params (durable_of self.old.log) certifier.now.current }
+        ensures rest { self.new ≡ record (self.old) { checkpoint = self.new.checkpoint } }
+        ensures begun { IfOk result (λ position. HasBegun certifier.now.current self.old self.new position) }
+        ensures refused { IfErr result (λ e. (self.new ≡ self.old) × (((e ≡ NotDue) × (nat_le (durable_of self.old.log) self.old.checkpoint.base.position ≡ true)) ⊎ ((e ≡ OutOfMemory) × (nat_le (durable_of self.old.log) self.old.checkpoint.base.position ≡ false)))) }
+    {
+        let position = self.log.durable();
+        if position <= self.checkpoint.base().position {
+            return Err(Refusal::NotDue);
+        }
+        let window = certifier.window_at(self.alloc, position)?;
+        let start = self.log.next();
+        self.checkpoint
+            .begin(self.alloc, position, start, window, &self.versions)?;
+        // For its clause: what holds of every checkpoint.
+        self.checkpoint.base();
+        Ok(position)
+    }
+}
