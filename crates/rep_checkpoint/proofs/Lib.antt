@@ -12,3 +12,4 @@ pub mod Leaving
 pub mod Settling
 pub mod Rows
 pub mod Touched
+pub mod Windows

@@ -6,3 +6,4 @@ pub mod Calls
 pub mod Pages
 pub mod Laws
 pub mod Nodes
+pub mod Windows

@@ -2,6 +2,7 @@
 
 ghost use Rattle.rep_checkpoint.specs.Nodes.{NodesLeaveTheirEnds, NodesLeaveTheirFronts, NodesSettle, VersionsLeadToTheState};
 ghost use Rattle.rep_checkpoint.specs.Laws.{TheBaseInEveryImage, TheBaseStandsStill, TheBaseIsFound, TheLogIsApart, TheCheckpointIsApart, TheStageIsTheFacts};
+ghost use Rattle.rep_checkpoint.specs.Windows.{WindowsGoOn};
 
 use rep_layout::{row_places_are_told, turns_are_taken};
 use rep_log::the_log_in_every_image;
@@ -73,3 +74,12 @@ pub fn versions_lead_to_the_state()
     row_places_are_told();
     versions_follow_the_items();
 }
+
+/// Windows that a disk can hold go on with the order. Such a window has no more entries than a window spans, of
+/// strictly ascending seqnos that it spans, each with 1 to 16 strictly ascending keys that are rows of the schema.
+/// The empty window is one; so is what the floor of a later position keeps of one, and the window after one more
+/// item that keeps the limits of a write set. A window's body says just such a window, beside a number and a
+/// position below 2^64.
+pub fn windows_go_on()
+    ensures { WindowsGoOn }
+{}

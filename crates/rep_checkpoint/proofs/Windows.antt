@@ -1,0 +1,142 @@
+-- Windows that can be written go on as windows that can.
+use Rattle.std.proofs.Common.{◌≡◌, inl, inr, ℕ, suc, ◌+◌, ◌<◌, ◌≤◌, true, nat_le, List, [], ◌∷◌, ◌++◌, length, map, filter, None, All, refl, sym, subst, append-nil, arith}
+use Rattle.std.specs.List.{list_all, AllByRecursion}
+use Rattle.std.specs.List.Sorted.{IsStrictlyIncreasing}
+use Rattle.std.proofs.lemmas.Bool.{cond_both, leb-true, cases_lt}
+use Rattle.std.proofs.lemmas.List.{map-append, length-map, length_push, get_or_push, get_or_append_left}
+use Rattle.std.proofs.lemmas.List.Elements.{All-get_or, All-map, All-from_recursion}
+use Rattle.std.proofs.lemmas.List.Kept.{IsStrictlyIncreasing-filter}
+use Rattle.rep_types.specs.declared.limits.TheConstants.{MAX_WRITES}
+use Rattle.rep_types.specs.Keys.{disorder}
+use Rattle.rep_types.specs.Entries.{Entry}
+use Rattle.rep_types.specs.Settings.{Setting, has_row}
+use Rattle.rep_types.specs.Transactions.{Transaction, written, key_of, IsWithinLimits}
+use Rattle.rep_types.specs.Order.{floor, recent, judge, is_commit, window_after}
+use Rattle.rep_layout.specs.Windows.{IsEntry, seqno_of}
+use Rattle.rep_checkpoint.specs.Windows.{IsWindowAt, WindowsGoOn}
+use Rattle.rep_checkpoint.proofs.Rows.{commits_inside, writes_inside}
+
+-- ---- seqnos that ascend
+
+-- the seqnos of the entries from a floor on
+seqnos_recent : (lowest : ℕ) (es : List Entry) → map seqno_of (recent lowest es) ≡ filter (nat_le lowest) (map seqno_of es)
+seqnos_recent lowest [] = refl
+seqnos_recent lowest (e ∷ es) = grind (arith, seqnos_recent lowest es)
+
+ascend_recent : (lowest : ℕ) (es : List Entry) → IsStrictlyIncreasing (map seqno_of es) → IsStrictlyIncreasing (map seqno_of (recent lowest es))
+ascend_recent lowest es up = subst IsStrictlyIncreasing (sym (seqnos_recent lowest es)) (IsStrictlyIncreasing-filter (nat_le lowest) (map seqno_of es) up)
+
+-- one number more, above all
+ascend_push : (xs : List ℕ) (y : ℕ) → IsStrictlyIncreasing xs → All (λ (x : ℕ). x < y) xs → IsStrictlyIncreasing (xs ++ y ∷ [])
+ascend_push xs y up below k within =
+    let long = length_push xs y in
+    let low = get_or_append_left xs (y ∷ []) 0 k (omega (arith, within, long)) in
+    elim (cases_lt (k + 1) (length xs)) [
+      | inl inside ↦ rw (low, get_or_append_left xs (y ∷ []) 0 (k + 1) inside) (up k inside)
+      | inr end ↦ rw (low, get_or_push xs y 0 (k + 1) (omega (arith, within, long, end))) (All-get_or (λ (x : ℕ). x < y) xs k 0 (omega (arith, within, long)) below)
+    ]
+
+-- the first of them, and how many are behind it
+spans : (p : Setting) (position : ℕ) (e : Entry) (es : List Entry) → IsStrictlyIncreasing (map seqno_of (e ∷ es)) → AllByRecursion (IsEntry p position) (e ∷ es) → e.seqno + length es ≤ position
+spans p position e [] up all = omega (arith, all.0.past)
+spans p position e (f ∷ es) up all =
+    let first : e.seqno < f.seqno = up 0 (omega arith) in
+    let rest = spans p position f es (λ k lt. grind (arith, up (suc k), lt)) all.1 in
+    omega (arith, first, rest)
+
+few_ascend : (p : Setting) (position : ℕ) (es : List Entry) → IsStrictlyIncreasing (map seqno_of es) → AllByRecursion (IsEntry p position) es → length es ≤ p.window
+few_ascend p position [] up all = omega arith
+few_ascend p position (e ∷ es) up all = let most = spans p position e es up all in omega (arith, most, all.0.near)
+
+-- ---- what the floor keeps of entries that came
+
+-- what an entry of the window of a position is, but for being near it
+record HasCome (p : Setting) (position : ℕ) (e : Entry) : Type 0 where
+  first : 1 ≤ e.seqno
+  past : e.seqno ≤ position
+  some : 1 ≤ length e.keys
+  few : length e.keys ≤ MAX_WRITES
+  ascend : disorder e.keys ≡ None
+  rows : list_all (has_row p.rows) e.keys ≡ true
+
+near : (p : Setting) (position : ℕ) (e : Entry) → HasCome p position e → nat_le (floor p position) e.seqno ≡ true → IsEntry p position e
+near p position e h kept =
+    let high = leb-true (floor p position) e.seqno kept in
+    record { first = h.first; past = h.past; near = omega (arith, high); some = h.some; few = h.few; ascend = h.ascend; rows = h.rows }
+
+entries_near : (p : Setting) (position : ℕ) (es : List Entry) → AllByRecursion (HasCome p position) es → AllByRecursion (IsEntry p position) (recent (floor p position) es)
+entries_near p position [] all = tt
+entries_near p position (e ∷ es) all =
+    let low = floor p position in
+    let rest = entries_near p position es all.1 in
+    cond_both (nat_le low e.seqno) (e ∷ recent low es) (recent low es) (AllByRecursion (IsEntry p position)) (λ kept. (near p position e all.0 kept, rest)) (λ out. rest)
+
+-- so the floor makes a window of them
+kept_is_window : (p : Setting) (position : ℕ) (es : List Entry) → IsStrictlyIncreasing (map seqno_of es) → AllByRecursion (HasCome p position) es → IsWindowAt p position (recent (floor p position) es)
+kept_is_window p position es up all =
+    let kept : List Entry = recent (floor p position) es in
+    let ascend = ascend_recent (floor p position) es up in
+    let entries = entries_near p position es all in
+    record { few = few_ascend p position kept ascend entries; ascend = ascend; entries = entries }
+
+-- ---- a window at a later position, and after one more item
+
+come_later : (p : Setting) (position later : ℕ) → position ≤ later → (es : List Entry) → AllByRecursion (IsEntry p position) es → AllByRecursion (HasCome p later) es
+come_later p position later le [] all = tt
+come_later p position later le (e ∷ es) all = (
+  record { first = all.0.first; past = omega (arith, le, all.0.past); some = all.0.some; few = all.0.few; ascend = all.0.ascend; rows = all.0.rows },
+  come_later p position later le es all.1,
+)
+
+is_later : (p : Setting) (position later : ℕ) (es : List Entry) → position ≤ later → IsWindowAt p position es → IsWindowAt p later (recent (floor p later) es)
+is_later p position later es le h = kept_is_window p later es h.ascend (come_later p position later le es h.entries)
+
+-- the entry of the next item, where it commits
+abbrev own : ℕ → Transaction → Entry
+own position w = record { seqno = position + 1; keys = written w }
+
+own_has_come : (p : Setting) (position : ℕ) (es : List Entry) (w : Transaction) → IsWithinLimits w → is_commit (judge p position es w) ≡ true → HasCome p (position + 1) (own position w)
+own_has_come p position es w limits commits =
+    let long : length (written w) ≡ length w.writes = length-map w.writes key_of in
+    record {
+      first = omega arith;
+      past = omega arith;
+      some = omega (arith, long, limits.some_write);
+      few = omega (arith, long, limits.few_writes);
+      ascend = limits.writes_ascend;
+      rows = writes_inside p w (commits_inside p position es w commits);
+    }
+
+come_push : (p : Setting) (position : ℕ) (es : List Entry) (e : Entry) → AllByRecursion (HasCome p position) es → HasCome p position e → AllByRecursion (HasCome p position) (es ++ e ∷ [])
+come_push p position [] e all h = (h, tt)
+come_push p position (f ∷ es) e all h = (all.0, come_push p position es e all.1 h)
+
+below_next : (p : Setting) (position : ℕ) (es : List Entry) → AllByRecursion (IsEntry p position) es → AllByRecursion (λ (e : Entry). seqno_of e < position + 1) es
+below_next p position [] all = tt
+below_next p position (e ∷ es) all = (omega (arith, all.0.past), below_next p position es all.1)
+
+with_own : (p : Setting) (position : ℕ) (es : List Entry) (w : Transaction) → IsWithinLimits w → IsWindowAt p position es → is_commit (judge p position es w) ≡ true
+    → IsWindowAt p (position + 1) (recent (floor p (position + 1)) (es ++ own position w ∷ []))
+with_own p position es w limits h commits =
+    let below : All (λ (x : ℕ). x < position + 1) (map seqno_of es) =
+    All-map (λ (x : ℕ). x < position + 1) seqno_of es (All-from_recursion (λ (e : Entry). seqno_of e < position + 1) es (below_next p position es h.entries)) in
+    kept_is_window p (position + 1) (es ++ own position w ∷ [])
+    (subst IsStrictlyIncreasing (sym (map-append seqno_of es (own position w ∷ []))) (ascend_push (map seqno_of es) (position + 1) h.ascend below))
+    (come_push p (position + 1) es (own position w) (come_later p position (position + 1) (omega arith) es h.entries) (own_has_come p position es w limits commits))
+
+without_own : (p : Setting) (position : ℕ) (es : List Entry) → IsWindowAt p position es → IsWindowAt p (position + 1) (recent (floor p (position + 1)) (es ++ []))
+without_own p position es h = subst (λ (fs : List Entry). IsWindowAt p (position + 1) (recent (floor p (position + 1)) fs)) (sym (append-nil es)) (is_later p position (position + 1) es (omega arith) h)
+
+is_next : (p : Setting) (position : ℕ) (es : List Entry) (w : Transaction) → IsWithinLimits w → IsWindowAt p position es → IsWindowAt p (position + 1) (window_after p position es w)
+is_next p position es w limits h =
+    cond_both (is_commit (judge p position es w)) (own position w ∷ []) [] (λ (fs : List Entry). IsWindowAt p (position + 1) (recent (floor p (position + 1)) (es ++ fs)))
+    (λ commits. with_own p position es w limits h commits) (λ other. without_own p position es h)
+
+pub go_on : WindowsGoOn
+go_on = record {
+  body = λ p number position es n q h. record { number = n; position = q; few = h.few; ascend = h.ascend; entries = h.entries };
+  at = λ p w h. record { few = h.few; ascend = h.ascend; entries = h.entries };
+  none = λ p position. record { few = omega arith; ascend = λ k lt. absurd (omega (arith, lt)); entries = tt };
+  later = is_later;
+  next = is_next;
+}
