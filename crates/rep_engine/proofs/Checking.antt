@@ -1,5 +1,5 @@
 -- The steps of a checkpoint, of an engine that stands for a node.
-use Rattle.std.proofs.Common.{◌≡◌, ◌≢◌, ℕ, ◌+◌, ◌-◌, ◌<◌, ◌≤◌, Bool, true, false, List, [], length, take, map, Option, None, Some, Result, Ok, Err, refl, sym, ap, subst, ◌∙◌, arith, OnOk, IfErr}
+use Rattle.std.proofs.Common.{◌≡◌, ◌≢◌, ◌⊎◌, inl, inr, IfSome, ℕ, ◌+◌, ◌-◌, ◌<◌, ◌≤◌, Bool, true, false, List, [], length, take, map, Option, None, Some, Result, Ok, Err, refl, sym, ap, subst, ◌∙◌, arith, OnOk, IfErr}
 use Rattle.std.specs.Prelude.{is_some, nat_le, if◌then◌else◌, IsTrue}
 use Rattle.std.proofs.lemmas.Bool.Decides.{nat_tests}
 use Rattle.std.proofs.lemmas.List.{take_all, length-take-le}
@@ -36,15 +36,16 @@ use Rattle.rep_checkpoint.specs.declared.stage.Stage.{Stage}
 use Rattle.rep_checkpoint.specs.declared.stage.Stage.TheVariants.{Off, Toward, Retiring}
 use Rattle.rep_checkpoint.specs.Next.{Next}
 use Rattle.rep_checkpoint.specs.Standing.{Standing as Checkpoint, stage_in, stage_of, IsCheckpoint}
-use Rattle.rep_checkpoint.specs.Moves.{begun, next_of}
-use Rattle.rep_checkpoint.specs.Calls.{Begins, AreAt, AreBehind}
+use Rattle.rep_checkpoint.specs.Moves.{begun, next_of, gone_in, gone_on, next_refusal, CanBegin}
+use Rattle.rep_checkpoint.specs.Windows.{IsWindowAt, WindowsGoOn}
+use Rattle.rep_checkpoint.specs.Calls.{Begins, IsRefused, GoesOn, AreAt, AreBehind}
 use Rattle.rep_checkpoint.specs.Laws.{TheStageIsTheFacts}
 use Rattle.rep_checkpoint.specs.Nodes.{IsLedTo, StandsAs, LeadsTo, VersionsLeadToTheState}
 use Rattle.rep_engine.specs.Engines.{Engine, IsEngine, facts_of, durable_of, phase_at}
 use Rattle.rep_engine.specs.Holding.{Stands, Holds}
 use Rattle.rep_engine.specs.Checking.{HasBegun}
 use Rattle.rep_engine.proofs.Steps.{done_moves, done_steps}
-use Rattle.rep_engine.proofs.Standing.{same_front}
+use Rattle.rep_engine.proofs.Standing.{same_front, nil_bytes}
 
 -- the next base of a stage
 abbrev next_in : Next → Stage → Next
@@ -73,6 +74,18 @@ engine_begun l c log kept block position entries left h is at later = record {
   limit = h.limit;
   undefined = h.undefined;
   within = h.within;
+}
+
+-- and it can begin
+pub can_begin : WindowsGoOn → (l : Layout) (c : Checkpoint) (log : Log) (kept : _) (block : List Judged) (entries : List Entry) → IsEngine l c log kept block → c.stage ≡ Off → c.base.position < durable_of log → log.next < log.seqno → IsWindowAt c.base.params (durable_of log) entries
+    → CanBegin c (durable_of log) log.next entries
+can_begin law l c log kept block entries h off later below window = record {
+  off = off;
+  later = later;
+  limit = omega (arith, h.limit);
+  started = omega (arith, below);
+  defined = λ nil. let none = h.undefined (nil_bytes c.base.uuid nil) in omega (arith, none.0, later);
+  is_window = law.body c.base.params (c.base.number + 1) (durable_of log) entries (omega (arith, h.checkpoint.is_super.number, h.checkpoint.is_super.position)) (omega (arith, h.limit)) window;
 }
 
 module _ {D : Type 0} (failures : D → ℕ) (old : Engine D) (entries : List Entry) (left : List ℕ) (runs : old.halted ≡ None) (off : old.checkpoint.stage ≡ Off) (later : old.checkpoint.base.position < durable_of old.log) where
@@ -203,3 +216,47 @@ module _ {D : Type 0} (failures : D → ℕ) (old : Engine D) (entries : List En
         images = λ image here. same_front n (moved n Check) image refl refl refl refl refl (holds.images image here);
       },
     )
+
+-- ---- a checkpoint goes on
+
+-- its goal stays
+same_goal : (base durable start up : ℕ) (stage : Stage) → HasGoal base durable start up (stage_in stage) → HasGoal base durable start up (stage_in (gone_in stage))
+same_goal base durable start up Off h = tt
+same_goal base durable start up (Toward to part) h = record { above = h.above; within = h.within; started = h.started; begun = h.begun }
+same_goal base durable start up (Retiring written) h = tt
+
+pub engine_gone : (l : Layout) (c d : Checkpoint) (log : Log) (kept : _) (block : List Judged) → IsEngine l c log kept block → IsCheckpoint d → d ≡ gone_on c → IsEngine l d log kept block
+engine_gone l c d log kept block h is same = subst (λ (k : Checkpoint). IsEngine l k log kept block) (sym same) (record {
+  checkpoint = subst IsCheckpoint same is;
+  layout = h.layout;
+  cells = h.cells;
+  start = h.start;
+  behind = h.behind;
+  begun = h.begun;
+  room = h.room;
+  goal = same_goal c.base.position (durable_of log) log.start log.next c.stage h.goal;
+  follow = h.follow;
+  fits = h.fits;
+  few = h.few;
+  whole = h.whole;
+  limit = h.limit;
+  undefined = h.undefined;
+  within = h.within;
+})
+
+-- it goes on, or stands as it did
+went_by : {D : Type 0} (honest : D → Type 0) (history : D → History) (l : Layout) (c d : Checkpoint) (old disk : D) (result : Result (Unit {0}) Refusal) → GoesOn honest history l c d old disk result → (d ≡ c) ⊎ (d ≡ gone_on c)
+went_by honest history l c d old disk (Ok x) h = inr h.done
+went_by honest history l c d old disk (Err e) h = inl h.fault.1
+
+went : {D : Type 0} (honest : D → Type 0) (history : D → History) (l : Layout) (c d : Checkpoint) (old disk : D) (result : Result (Unit {0}) Refusal) (o : Option Refusal)
+    → IfSome o (λ e. IsRefused e c d old disk result) → (o ≡ None → GoesOn honest history l c d old disk result) → (d ≡ c) ⊎ (d ≡ gone_on c)
+went honest history l c d old disk result None refused goes = went_by honest history l c d old disk result (goes refl)
+went honest history l c d old disk result (Some e) refused goes = inl refused.checkpoint
+
+pub engine_went : {D : Type 0} (honest : D → Type 0) (history : D → History) (l : Layout) (c d : Checkpoint) (log : Log) (kept : _) (block : List Judged) (old disk : D) (result : Result (Unit {0}) Refusal)
+    → IsEngine l c log kept block → IsCheckpoint d → IfSome (next_refusal l c) (λ e. IsRefused e c d old disk result) → (next_refusal l c ≡ None → GoesOn honest history l c d old disk result) → IsEngine l d log kept block
+engine_went honest history l c d log kept block old disk result h is refused goes = elim (went honest history l c d old disk result (next_refusal l c) refused goes) [
+  | inl same ↦ subst (λ (k : Checkpoint). IsEngine l k log kept block) (sym same) h
+  | inr on ↦ engine_gone l c d log kept block h is on
+]

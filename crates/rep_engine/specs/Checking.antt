@@ -1,8 +1,7 @@
 -- How a checkpoint begins, and goes on.
-use Rattle.std.specs.Prelude.{◌≡◌, ℕ, ◌<◌, ◌^◌, List, Option, None, Some, Result, Ok, Err}
+use Rattle.std.specs.Prelude.{◌≡◌, ℕ, ◌<◌, List, Option, None, Some, Result, Ok, Err}
 use Rattle.rep_types.specs.declared.refusal.Refusal.{Refusal}
 use Rattle.rep_types.specs.Settings.{Setting}
-use Rattle.rep_layout.specs.Windows.{window, IsWindowBody}
 use Rattle.rep_cert.specs.Holdings.{Holding, IsAskable, window_of}
 use Rattle.rep_versions.specs.Versions.{ArePages}
 use Rattle.rep_steps.specs.declared.answer.Answer.{Answer}
@@ -10,13 +9,14 @@ use Rattle.rep_steps.specs.declared.answer.Answer.TheVariants.{Began, Wrote, Ref
 use Rattle.rep_checkpoint.specs.Standing.{Standing as Checkpoint}
 use Rattle.rep_checkpoint.specs.Moves.{begun, next_of}
 use Rattle.rep_checkpoint.specs.Calls.{Begins}
+use Rattle.rep_checkpoint.specs.Windows.{IsWindowAt}
 use Rattle.rep_engine.specs.Engines.{Engine, durable_of}
 
 -- What the caller owes: the certifier holds the window at what is durable, and a superblock of these parameters can be written with
 -- that window beside it.
 pub record HoldsWindow (p : Setting) (durable : ℕ) (h : Holding) : Type 0 where
   pub askable : IsAskable h durable
-  pub window : (number : ℕ) → number < 2 ^ 64 → IsWindowBody p (window number durable (window_of h durable))
+  pub window : IsWindowAt p durable (window_of h durable)
 
 -- a check's answer, as a replica gives it
 abbrev pub checked : Result (Option ℕ) Refusal → Answer

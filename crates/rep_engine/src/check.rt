@@ -41,10 +41,32 @@ impl<D: Disk> Engine<D> {
         }
         let window = certifier.window_at(self.alloc, position)?;
         let start = self.log.next();
-        self.checkpoint
-            .begin(self.alloc, position, start, window, &self.versions)?;
+        let begun = self
+            .checkpoint
+            .begin(self.alloc, position, start, window, &self.versions);
         // For its clause: what holds of every checkpoint.
         self.checkpoint.base();
+        if let Err(refusal) = begun {
+            return Err(refusal);
+        }
         Ok(position)
+    }
+
+    /// Takes a checkpoint that is under way on by its next write. Where the device fails, the engine is stopped.
+    fn go_on(&mut self) -> Result<(), Refusal>
+        requires { self.old.halted ≡ None }
+        ensures call { IsCall D.size D.failures D.honest self.old.disk self.new.disk (fault_of result) }
+        ensures rest { self.new ≡ record (self.old) { disk = self.new.disk; checkpoint = self.new.checkpoint; halted = self.new.halted } }
+        ensures halted { self.new.halted ≡ halted_by self.old.log.phase result }
+        ensures refused { IfSome (next_refusal self.old.layout self.old.checkpoint) (λ e. IsRefused e self.old.checkpoint self.new.checkpoint self.old.disk self.new.disk result) }
+        ensures goes { next_refusal self.old.layout self.old.checkpoint ≡ None → GoesOn D.honest D.history self.old.layout self.old.checkpoint self.new.checkpoint self.old.disk self.new.disk result }
+    {
+        let outcome = self.checkpoint.next(&mut self.cells);
+        // For its clause: what holds of every checkpoint.
+        self.checkpoint.base();
+        if outcome == Err(Refusal::DiskFault) {
+            self.halted = Some(self.log.phase());
+        }
+        outcome
     }
 }
