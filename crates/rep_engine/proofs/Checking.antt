@@ -1,6 +1,6 @@
 -- The steps of a checkpoint, of an engine that stands for a node.
 use Rattle.std.proofs.Common.{◌≡◌, ◌≢◌, ◌⊎◌, inl, inr, IfSome, ℕ, ◌+◌, ◌-◌, ◌<◌, ◌≤◌, Bool, true, false, List, [], length, take, map, Option, None, Some, Result, Ok, Err, refl, sym, ap, subst, ◌∙◌, arith, OnOk, IfErr}
-use Rattle.std.specs.Prelude.{is_some, nat_le, if◌then◌else◌, IsTrue}
+use Rattle.std.specs.Prelude.{is_some, nat_le, if◌then◌else◌, not, IsTrue}
 use Rattle.std.proofs.lemmas.Bool.Decides.{nat_tests}
 use Rattle.std.proofs.lemmas.List.{take_all, length-take-le}
 use Rattle.rep_types.specs.declared.judged.Judged.{Judged}
@@ -19,11 +19,12 @@ use Rattle.rep_layout.specs.Places.{layout_of}
 use Rattle.rep_cert.specs.Holdings.{Holding, window_of}
 use Rattle.rep_log.specs.Standing.{Standing as Log, stands_at}
 use Rattle.rep_log.specs.Tail.{records_of}
+use Rattle.rep_log.specs.Moves.{fault_of}
 use Rattle.rep_steps.specs.declared.event.Event.TheVariants.{Check}
 use Rattle.rep_steps.specs.declared.answer.Answer.{Answer}
 use Rattle.rep_steps.specs.declared.answer.Answer.TheVariants.{Began, Wrote, Refused}
 use Rattle.rep_steps.specs.Standings.{Standing, Stage as StageOf, Off as is_off, HasGoal, check_refusal, refusal_here}
-use Rattle.rep_steps.specs.Moves.{Found, Moves, answer, after, check_answer, checked as checked_at, takes_device, touched}
+use Rattle.rep_steps.specs.Moves.{Found, Moves, answer, after, check_answer, checked as checked_at, is_off as is_none_under_way, takes_device, touched}
 use Rattle.rep_steps.specs.Nodes.{Node, IsNode, Steps, NodesStayNodes, found, moved, reached, state_at, window_at}
 use Rattle.rep_steps.specs.Images.{IsFrontAt}
 use Rattle.rep_steps.proofs.Reaching.{reached_position}
@@ -36,14 +37,14 @@ use Rattle.rep_checkpoint.specs.declared.stage.Stage.{Stage}
 use Rattle.rep_checkpoint.specs.declared.stage.Stage.TheVariants.{Off, Toward, Retiring}
 use Rattle.rep_checkpoint.specs.Next.{Next}
 use Rattle.rep_checkpoint.specs.Standing.{Standing as Checkpoint, stage_in, stage_of, IsCheckpoint}
-use Rattle.rep_checkpoint.specs.Moves.{begun, next_of, gone_in, gone_on, next_refusal, CanBegin}
+use Rattle.rep_checkpoint.specs.Moves.{begun, next_of, gone_in, gone_on, next_refusal, next_refusal_at, CanBegin}
 use Rattle.rep_checkpoint.specs.Windows.{IsWindowAt, WindowsGoOn}
 use Rattle.rep_checkpoint.specs.Calls.{Begins, IsRefused, GoesOn, AreAt, AreBehind}
 use Rattle.rep_checkpoint.specs.Laws.{TheStageIsTheFacts}
 use Rattle.rep_checkpoint.specs.Nodes.{IsLedTo, StandsAs, LeadsTo, VersionsLeadToTheState}
 use Rattle.rep_engine.specs.Engines.{Engine, IsEngine, facts_of, durable_of, phase_at}
 use Rattle.rep_engine.specs.Holding.{Stands, Holds}
-use Rattle.rep_engine.specs.Checking.{HasBegun}
+use Rattle.rep_engine.specs.Reading.{halted_by}
 use Rattle.rep_engine.proofs.Steps.{done_moves, done_steps}
 use Rattle.rep_engine.proofs.Standing.{same_front, nil_bytes}
 
@@ -260,3 +261,37 @@ engine_went honest history l c d log kept block old disk result h is refused goe
   | inl same ↦ subst (λ (k : Checkpoint). IsEngine l k log kept block) (sym same) h
   | inr on ↦ engine_gone l c d log kept block h is on
 ]
+
+-- what is due, by the facts
+
+-- nothing where the checkpoint waits for a page or a sync
+pub waits : (laws : TheStageIsTheFacts) (s : Standing) (c : Checkpoint) → s.stage ≡ stage_of c → (c.stage ≢ Off) → next_refusal_at (stage_of c) ≡ Some NotDue → check_refusal s s.stage ≡ Some NotDue
+waits laws s c at not some = ap (check_refusal s) at ∙ sym (laws.refused s c not) ∙ some
+
+-- whose answer it is
+wrote_by : (s : Standing) (stage : Stage) → stage ≢ Off → check_answer s (stage_in stage) ≡ Wrote
+wrote_by s Off not = absurd (not refl)
+wrote_by s (Toward to part) not = refl
+wrote_by s (Retiring written) not = refl
+
+device_by : (stage : Stage) → stage ≢ Off → not (is_none_under_way (stage_in stage)) ≡ true
+device_by Off not = absurd (not refl)
+device_by (Toward to part) not = refl
+device_by (Retiring written) not = refl
+
+-- the next base is the one that it was
+gone_toward : (stage : Stage) (to : Next) (part : Part) → gone_in stage ≡ Toward to part → (before : Part) × (stage ≡ Toward to before)
+gone_toward Off to part e = absurd cc
+gone_toward (Toward old before) to part e = (before, ap (λ (k : Next). Toward k before) (ap (next_in old) e))
+gone_toward (Retiring written) to part e = absurd cc
+
+module _ {D : Type 0} (honest : D → Type 0) (history : D → History) (size failures : D → ℕ) (sized : (disk : D) → honest disk → length (stable (history disk)) ≡ size disk) (laws : TheStageIsTheFacts)
+    (old after_it : Engine D) (result : Result (Unit {0}) Refusal) (h : IsEngine old.layout old.checkpoint old.log old.kept old.block) (runs : old.halted ≡ None) (under : old.checkpoint.stage ≢ Off)
+    (none : next_refusal_at (stage_of old.checkpoint) ≡ None) (call : IsCall size failures honest old.disk after_it.disk (fault_of result))
+    (rest : after_it ≡ record old { disk = after_it.disk; checkpoint = after_it.checkpoint; halted = after_it.halted }) (halted : after_it.halted ≡ halted_by old.log.phase result)
+    (goes : GoesOn honest history old.layout old.checkpoint after_it.checkpoint old.disk after_it.disk result) where
+  abbrev was : Standing
+  was = facts_of failures old
+
+  check_none : refusal_here was Check ≡ None
+  check_none = sym (laws.refused was old.checkpoint under) ∙ none

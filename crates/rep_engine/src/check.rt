@@ -21,7 +21,12 @@ ghost use Rattle.rep_engine.specs.Checking.{HoldsWindow, HasBegun, checked};
 
 use crate::engine::Engine;
 use rep_cert::Certifier;
+use rep_checkpoint::{
+    Step, nodes_leave_their_fronts, the_checkpoint_is_apart, the_stage_is_the_facts,
+    versions_lead_to_the_state, windows_go_on,
+};
 use rep_disk::Disk;
+use rep_steps::nodes_stay_nodes;
 use rep_types::Refusal;
 
 impl<D: Disk> Engine<D> {
@@ -68,5 +73,45 @@ impl<D: Disk> Engine<D> {
             self.halted = Some(self.log.phase());
         }
         outcome
+    }
+
+    /// Takes the checkpoint's next step: where none is under way, begins one to what is durable and says its
+    /// position; behind the last page writes the window, then the superblock, and then its open gate; and once
+    /// the base rose, the closed gate of the superblock before it. One write at most. Memory is taken where it
+    /// begins, and nowhere else.
+    ///
+    /// Refuses with `Stopped` where the device has failed before; with `NotDue` where the base stands at what
+    /// is durable, pages are left to be flushed, or a write awaits its sync; with `OutOfMemory` where one would
+    /// begin; and with `DiskFault` where the device failed: the engine is then stopped, and otherwise as it was.
+    pub fn check(&mut self, certifier: &Certifier) -> Result<Option<u64>, Refusal>
+        requires window { HoldsWindow self.old.checkpoint.base.params (durable_of self.old.log) certifier.now.current }
+        ensures call { IsCall D.size D.failures D.honest self.old.disk self.new.disk (fault_of result) }
+        // Nothing else changes, and where it is refused by anything but the device, nothing does.
+        ensures rest { self.new ≡ record (self.old) { disk = self.new.disk; checkpoint = self.new.checkpoint; halted = self.new.halted } }
+        ensures params { self.new.checkpoint.base.params ≡ self.old.checkpoint.base.params }
+        ensures unchanged { IfErr result (λ e. (e ≡ DiskFault) ⊎ (self.new ≡ self.old)) }
+        ensures moves { Moves (facts_of D.failures self.old) to_check (checked result) (facts_of D.failures self.new) }
+        ensures steps { (n : Node) → Holds D.honest D.history D.failures n self.old → window_of certifier.now.current (durable_of self.old.log) ≡ window_at n n.facts.durable → (m : Node) × Steps n to_check (checked result) m × Holds D.honest D.history D.failures m self.new }
+        ensures leaves { (n : Node) → Holds D.honest D.history D.failures n self.old → LeavesOnly (D.history self.old.disk) (D.history self.new.disk) (IsFrontAt Means n) }
+    {
+        nodes_stay_nodes();
+        nodes_leave_their_fronts();
+        the_checkpoint_is_apart();
+        the_stage_is_the_facts();
+        versions_lead_to_the_state();
+        if self.halted.is_some() {
+            return Err(Refusal::Stopped);
+        }
+        match self.checkpoint.step_due() {
+            Step::Begin => match self.begin(certifier) {
+                Ok(position) => Ok(Some(position)),
+                Err(refusal) => Err(refusal),
+            },
+            Step::Next => match self.go_on() {
+                Ok(()) => Ok(None),
+                Err(refusal) => Err(refusal),
+            },
+            Step::Flush(_) | Step::Sync => Err(Refusal::NotDue),
+        }
     }
 }
