@@ -111,7 +111,8 @@ impl<D: Disk> Engine<D> {
                 Ok(()) => Ok(None),
                 Err(refusal) => Err(refusal),
             },
-            Step::Flush(_) | Step::Sync => Err(Refusal::NotDue),
+            Step::Flush(_) => Err(Refusal::NotDue),
+            Step::Sync => Err(Refusal::NotDue),
         }
     }
 }

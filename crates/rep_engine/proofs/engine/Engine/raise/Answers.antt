@@ -12,9 +12,9 @@ use Rattle.rep_engine.proofs.engine.Engine.raise.Goals as goal
 pub invariant_of-self : goal.invariant_of-self
 invariant_of-self g c = (
   engine_raised (layout_of c.self.inside.cells) c.self.inside.checkpoint c.synced-rose.new.self c.self.inside.log c.start_at.new.self c.self.inside.versions c.prune_if.new.versions c.self.inside.block c.synced-rose.result c.self.invariant.0 c.synced-rose.ensures.after
-  c.base-base.ensures.checkpoint c.synced-rose.ensures.rose
-  (subst (λ (b : SuperBody). PrunesIf c.synced-rose.result b.position c.self.inside.versions c.prune_if.new.versions) c.base-base.ensures.base c.prune_if.ensures)
-  (c.start_at.ensures.after ∙ ap (λ (b : SuperBody). started b.start c.self.inside.log) c.base-base.ensures.base),
+      c.base-base.ensures.checkpoint c.synced-rose.ensures.rose
+      (subst (λ (b : SuperBody). PrunesIf c.synced-rose.result b.position c.self.inside.versions c.prune_if.new.versions) c.base-base.ensures.base c.prune_if.ensures)
+      (c.start_at.ensures.after ∙ ap (λ (b : SuperBody). started b.start c.self.inside.log) c.base-base.ensures.base),
   c.self.invariant.1,
 )
 
