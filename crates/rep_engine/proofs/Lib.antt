@@ -12,3 +12,4 @@ pub mod Accepting
 pub mod Accepts
 pub mod Ending
 pub mod Checking
+pub mod Flushing

@@ -5,6 +5,7 @@
 mod accept;
 mod check;
 mod engine;
+mod flush;
 mod laws;
 mod read;
 mod write;
