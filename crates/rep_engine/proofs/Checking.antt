@@ -53,7 +53,7 @@ use Rattle.rep_engine.proofs.Steps.{done_moves, fault_moves, refused_steps, hung
 use Rattle.rep_engine.proofs.Standing.{same_front, fronts_of, nil_bytes}
 
 -- the next base of a stage
-abbrev next_in : Next → Stage → Next
+abbrev pub next_in : Next → Stage → Next
 next_in none Off = none
 next_in none (Toward next part) = next
 next_in none (Retiring written) = none
