@@ -7,12 +7,17 @@ use Rattle.rep_types.specs.declared.refusal.Refusal.{Refusal}
 use Rattle.rep_types.specs.declared.refusal.Refusal.TheVariants.{DiskFault, NotDue, Corrupt}
 use Rattle.rep_types.specs.declared.refusal.Part.TheVariants.{Pages}
 use Rattle.rep_types.specs.declared.verdict.Verdict.TheVariants.{Commit}
-use Rattle.rep_types.specs.Settings.{Setting, IsRow}
+use Rattle.std.proofs.lemmas.Bool.Decides.{nat_tests}
+use Rattle.rep_types.specs.declared.limits.TheConstants.{MAX_PAGES}
+use Rattle.rep_types.specs.Settings.{Setting, IsRow, is_setting, pages_of}
 use Rattle.rep_types.specs.Order.{State}
 use Rattle.rep_disk.specs.History.{History, stable, IsImage}
 use Rattle.rep_disk.specs.Calls.{IsCall, Rises}
 use Rattle.rep_disk.specs.Moments.{LeavesOnly}
 use Rattle.rep_layout.specs.declared.place.Layout.{Layout}
+use Rattle.rep_layout.specs.declared.rows.RowPlace.{RowPlace}
+use Rattle.rep_layout.specs.declared.super_body.SuperBody.{SuperBody}
+use Rattle.rep_layout.specs.Rows.{RowPlacesAreTold}
 use Rattle.rep_layout.specs.Places.{layout_of}
 use Rattle.rep_cells.specs.Known.{Assigns}
 use Rattle.rep_cells.specs.States.{States}
@@ -30,8 +35,8 @@ use Rattle.rep_checkpoint.specs.declared.stage.Part.{Part}
 use Rattle.rep_checkpoint.specs.declared.stage.Part.TheVariants.{Flushing, Saving, Ready, SuperFilling, SuperFilled, SuperOpening}
 use Rattle.rep_checkpoint.specs.declared.stage.Stage.{Stage}
 use Rattle.rep_checkpoint.specs.declared.stage.Stage.TheVariants.{Off, Toward, Retiring}
-use Rattle.rep_checkpoint.specs.Next.{Next}
-use Rattle.rep_checkpoint.specs.Standing.{Standing as Checkpoint, stage_in, stage_of, IsCheckpoint}
+use Rattle.rep_checkpoint.specs.Next.{Next, is_in}
+use Rattle.rep_checkpoint.specs.Standing.{Standing as Checkpoint, stage_in, stage_of, IsNext, IsCheckpoint}
 use Rattle.rep_checkpoint.specs.Moves.{flushed, flushed_in, flush_refusal, position_in}
 use Rattle.rep_checkpoint.specs.Calls.{IsRefused, Flushes, AreAt, Steps as CheckpointSteps}
 use Rattle.rep_checkpoint.specs.Laws.{TheStageIsTheFacts, TheCheckpointIsApart}
@@ -149,15 +154,15 @@ module _ {D : Type 0} (honest : D → Type 0) (history : D → History) (size fa
       let goes = h.flushes (here old.layout c (flush_refusal_at (stage_of c) page) h.engine.layout ∙ none) in
       elim goes.fault.0 [
         | inl fault ↦
-          let call = subst (λ (r : Refusal). IsCall size failures honest old.disk dk (fault_of {T = Unit {0}} (Err r))) fault h.call in
-          let still = subst (λ (r : Refusal). hl ≡ halted_by {T = Unit {0}} old.log.phase (Err r)) fault h.halted in
-          subst (λ (r : Refusal). Moves was (Flush page) (Refused r) (facts_of failures to)) (sym fault)
-          (fault_moves was (Flush page) (facts_of failures to) (ap is_some h.runs) none refl (call.cause refl) (rw goes.fault.1 (rw still (rw h.runs refl))))
+            let call = subst (λ (r : Refusal). IsCall size failures honest old.disk dk (fault_of {T = Unit {0}} (Err r))) fault h.call in
+            let still = subst (λ (r : Refusal). hl ≡ halted_by {T = Unit {0}} old.log.phase (Err r)) fault h.halted in
+            subst (λ (r : Refusal). Moves was (Flush page) (Refused r) (facts_of failures to)) (sym fault)
+            (fault_moves was (Flush page) (facts_of failures to) (ap is_some h.runs) none refl (call.cause refl) (rw goes.fault.1 (rw still (rw h.runs refl))))
         | inr bad ↦
-          let call = subst (λ (r : Refusal). IsCall size failures honest old.disk dk (fault_of {T = Unit {0}} (Err r))) bad h.call in
-          let still = subst (λ (r : Refusal). hl ≡ halted_by {T = Unit {0}} old.log.phase (Err r)) bad h.halted in
-          subst (λ (r : Refusal). Moves was (Flush page) (Refused r) (facts_of failures to)) (sym bad)
-          (corrupt_moves was (Flush page) (facts_of failures to) (ap is_some h.runs) none refl (facts_same h.runs goes.fault.1 (call.no_cause refl) still))
+            let call = subst (λ (r : Refusal). IsCall size failures honest old.disk dk (fault_of {T = Unit {0}} (Err r))) bad h.call in
+            let still = subst (λ (r : Refusal). hl ≡ halted_by {T = Unit {0}} old.log.phase (Err r)) bad h.halted in
+            subst (λ (r : Refusal). Moves was (Flush page) (Refused r) (facts_of failures to)) (sym bad)
+            (corrupt_moves was (Flush page) (facts_of failures to) (ap is_some h.runs) none refl (facts_same h.runs goes.fault.1 (call.no_cause refl) still))
       ]
 
   -- and where it wasn't
@@ -366,12 +371,12 @@ left_holds honest history size failures sized laws old dk d hl page (Err e) h no
     let there_now = holds.runs h.runs in
     elim did.fault.0 [
       | inl fault ↦
-        let call = subst (λ (r : Refusal). IsCall size failures honest old.disk dk (fault_of {T = Unit {0}} (Err r))) fault h.call in
-        let still = subst (λ (r : Refusal). hl ≡ halted_by {T = Unit {0}} old.log.phase (Err r)) fault h.halted in
-        let came = holds_halted honest history size failures sized laws old dk d hl page n holds nodes law apart lead (Err e) h none did.fault.1 (call.cause refl) still in
-        (came.0, subst (λ (r : Refusal). Steps n (Flush page) (Refused r) came.0) (sym fault) came.1, came.2)
+          let call = subst (λ (r : Refusal). IsCall size failures honest old.disk dk (fault_of {T = Unit {0}} (Err r))) fault h.call in
+          let still = subst (λ (r : Refusal). hl ≡ halted_by {T = Unit {0}} old.log.phase (Err r)) fault h.halted in
+          let came = holds_halted honest history size failures sized laws old dk d hl page n holds nodes law apart lead (Err e) h none did.fault.1 (call.cause refl) still in
+          (came.0, subst (λ (r : Refusal). Steps n (Flush page) (Refused r) came.0) (sym fault) came.1, came.2)
       | inr bad ↦
-        absurd (did.whole holds.is_honest (length (stable (history old.disk))) there_now.states n.base there_now.stands.goal (subst (λ (k : Layout). Assigns k (history old.disk) there_now.states) h.engine.layout there_now.assigns) there_now.stands.checkpoint (ap Err bad))
+          absurd (did.whole holds.is_honest (length (stable (history old.disk))) there_now.states n.base there_now.stands.goal (subst (λ (k : Layout). Assigns k (history old.disk) there_now.states) h.engine.layout there_now.assigns) there_now.stands.checkpoint (ap Err bad))
     ]
 
 pub flush_holds : {D : Type 0} (honest : D → Type 0) (history : D → History) (size failures : D → ℕ) (sized : (disk : D) → honest disk → length (stable (history disk)) ≡ size disk) (laws : TheStageIsTheFacts)
@@ -380,3 +385,30 @@ pub flush_holds : {D : Type 0} (honest : D → Type 0) (history : D → History)
     → (m : Node) × Steps n (Flush page) (wrote result) m × Holds honest history failures m (record old { disk = dk; checkpoint = d; halted = hl })
 flush_holds honest history size failures sized laws old dk d hl page result h nodes law apart lead n holds None none = left_holds honest history size failures sized laws old dk d hl page result h nodes law apart lead n holds none
 flush_holds honest history size failures sized laws old dk d hl page result h nodes law apart lead n holds (Some r) some = other_holds honest history size failures sized laws old dk d hl page n holds result h r (only_not_due page old.checkpoint.stage r some) some
+
+-- ---- no page has so great a number
+
+few_pages : (p : Setting) → is_setting p ≡ true → pages_of p.rows ≤ MAX_PAGES
+few_pages p allowed = grind (arith, nat_tests)
+
+too_far_by : (places : RowPlacesAreTold) (b : SuperBody) (to : Next) (page : ℕ) → IsTrue (is_setting b.params) → IsNext b to → 4294967296 ≤ page → (t : Bool) → is_in to.left page ≡ t → t ≡ false
+too_far_by places b to page allowed follows far true is =
+    let first = follows.pages page is in
+    let inside = places.within b.params.rows first.0 first.1.row in
+    absurd (omega (arith, inside, ap (λ (r : RowPlace). r.page) first.1.there, few_pages b.params allowed, far))
+too_far_by places b to page allowed follows far false is = refl
+
+pub too_far : (places : RowPlacesAreTold) (b : SuperBody) (stage : Stage) (page : ℕ) → IsCheckpoint (record { base = b; stage = stage }) → 4294967296 ≤ page → flush_refusal_at (stage_in stage) page ≡ Some NotDue
+too_far places b Off page h far = refl
+too_far places b (Toward next Flushing) page h far = ap (λ t. if t then None else Some NotDue) (too_far_by places b next page h.is_super.setting h.going far (is_in next.left page) refl)
+too_far places b (Toward next Saving) page h far = refl
+too_far places b (Toward next Ready) page h far = refl
+too_far places b (Toward next SuperFilling) page h far = refl
+too_far places b (Toward next SuperFilled) page h far = refl
+too_far places b (Toward next SuperOpening) page h far = refl
+too_far places b (Retiring written) page h far = refl
+
+pub far_steps : {D : Type 0} (honest : D → Type 0) (history : D → History) (failures : D → ℕ) (places : RowPlacesAreTold) (old : Engine D) (page : ℕ) (n : Node) → Holds honest history failures n old → old.halted ≡ None → IsCheckpoint old.checkpoint → 4294967296 ≤ page
+    → Steps n (Flush page) (Refused NotDue) n
+far_steps honest history failures places old page n holds runs h far =
+    refused_steps n (Flush page) NotDue (ap (λ (t : Standing). t.stopped) holds.facts ∙ ap is_some runs) (ap (λ (t : Standing). refusal_here t (Flush page)) holds.facts ∙ too_far places old.checkpoint.base old.checkpoint.stage page h far)

@@ -36,9 +36,7 @@ impl<D: Disk> Engine<D> {
         ensures refused { IfSome (flush_refusal self.old.layout self.old.checkpoint page) (λ e. IsRefused e self.old.checkpoint self.new.checkpoint self.old.disk self.new.disk result) }
         ensures flushes { flush_refusal self.old.layout self.old.checkpoint page ≡ None → Flushes D.honest D.history self.old.layout self.old.kept page self.old.checkpoint self.new.checkpoint self.old.disk self.new.disk result }
     {
-        let outcome = self
-            .checkpoint
-            .flush(&mut self.cells, &self.versions, page);
+        let outcome = self.checkpoint.flush(&mut self.cells, &self.versions, page);
         // For its clause: what holds of every checkpoint.
         self.checkpoint.base();
         if outcome == Err(Refusal::DiskFault) {
