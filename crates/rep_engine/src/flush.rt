@@ -28,7 +28,7 @@ use rep_types::Refusal;
 
 impl<D: Disk> Engine<D> {
     /// Flushes a page that the checkpoint may have left. Where the device fails, the engine is stopped.
-    fn flush_page(&mut self, page: u32) -> Result<(), Refusal>
+    pub(crate) fn flush_page(&mut self, page: u32) -> Result<(), Refusal>
         requires { self.old.halted ≡ None }
         ensures call { IsCall D.size D.failures D.honest self.old.disk self.new.disk (fault_of result) }
         ensures rest { self.new ≡ record (self.old) { disk = self.new.disk; checkpoint = self.new.checkpoint; halted = self.new.halted } }
