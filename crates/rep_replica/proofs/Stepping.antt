@@ -88,7 +88,7 @@ module _ {D : Type 0} (honest : D → Type 0) (history : D → History) (failure
     pub steps : (n : Node) → EngineHolds honest history failures n old → (m : Node) × Steps n e a m × EngineHolds honest history failures m new
     pub leaves : (n : Node) → EngineHolds honest history failures n old → LeavesOnly (history old.disk) (history new.disk) (IsFrontAt Means n)
 
-  module _ (stay : NodesStayNodes) (old new : Replica D) (e : Event) (a : Answer) (params : new.engine.superblock.params ≡ old.engine.superblock.params) (backlog : new.backlog ≡ old.backlog) (certifier : new.certifier ≡ old.certifier) (stopped : new.stopped ≡ old.stopped) where
+  module _ (stay : NodesStayNodes) (old new : Replica D) (e : Event) (a : Answer) (params : new.engine.checkpoint.base.params ≡ old.engine.checkpoint.base.params) (backlog : new.backlog ≡ old.backlog) (certifier : new.certifier ≡ old.certifier) (stopped : new.stopped ≡ old.stopped) where
     pub widened_step : Moves (facts_of failures old) e a (facts_of failures new) → EngineSteps e a old.engine new.engine
         → ((n part : Node) (holds : Holds honest history failures n old) → Steps (part_of old.engine.block holds.taken n) e a part → Widens n part e a holds.taken)
         → IsStep honest history failures old e a new
@@ -112,7 +112,7 @@ module _ {D : Type 0} (honest : D → Type 0) (history : D → History) (failure
           subst (λ (s : Standing). Moves s e a (facts_of failures new)) (sym (running_facts failures old running))
           (subst (Moves (with_ahead (old.engine.block ++ old.backlog) (engine_facts failures old.engine)) e a) (sym (running_facts failures new runs_on)) m)
 
-  module _ (stay : NodesStayNodes) (parts : PartsStepAsTheWhole) (old new : Replica D) (a : Answer) (params : new.engine.superblock.params ≡ old.engine.superblock.params) (backlog : new.backlog ≡ old.backlog) (certifier : new.certifier ≡ old.certifier) (stopped : new.stopped ≡ old.stopped)
+  module _ (stay : NodesStayNodes) (parts : PartsStepAsTheWhole) (old new : Replica D) (a : Answer) (params : new.engine.checkpoint.base.params ≡ old.engine.checkpoint.base.params) (backlog : new.backlog ≡ old.backlog) (certifier : new.certifier ≡ old.certifier) (stopped : new.stopped ≡ old.stopped)
       (running : old.stopped ≡ false) where
     -- the log, where the next block would take no more
     pub log_step : new.engine.block ≡ old.engine.block → EngineSteps Log a old.engine new.engine
@@ -148,7 +148,7 @@ module _ {D : Type 0} (honest : D → Type 0) (history : D → History) (failure
         none_passed base false = omega arith
 
         still : (n : Node) → Holds honest history failures n old → passed n.facts ≡ 0
-        still n holds = ap passed holds.facts ∙ none_passed old.engine.superblock.position old.engine.both
+        still n holds = ap passed holds.facts ∙ none_passed old.engine.checkpoint.base.position old.engine.both
 
     -- a read
     pub read_step : (key : Key) (at : ℕ) → new.engine.block ≡ old.engine.block → EngineSteps (Read key at) a old.engine new.engine → IsStep honest history failures old (Read key at) a new
