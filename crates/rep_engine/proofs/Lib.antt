@@ -13,3 +13,4 @@ pub mod Accepts
 pub mod Ending
 pub mod Checking
 pub mod Flushing
+pub mod Windows

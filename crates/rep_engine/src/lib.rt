@@ -11,4 +11,4 @@ mod read;
 mod write;
 
 pub use engine::Engine;
-pub use laws::running_engines_leave_their_ends;
+pub use laws::{certifiers_hold_windows, running_engines_leave_their_ends};
