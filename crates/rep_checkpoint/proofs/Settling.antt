@@ -161,9 +161,6 @@ module _ (n : Node) (size : ℕ) (c after : Standing) (log synced next : Log) (b
       subst (λ (k : Log). LogIs (layout_of c.base.params) k first all coming t) (sym synced_is)
       (log_synced (layout_of c.base.params) log first blocks sealed t log.phase refl (subst (λ (k : Log). LogIs (layout_of c.base.params) k first all sealed t) synced_is held))
 
-  past : ℕ
-  past = led.past
-
   count : length (records_of (take led.cells all)) ≡ led.past
   count =
       ap (λ bs. length (records_of bs)) (front_synced led.cells log.phase blocks sealed led.few) ∙ ap length led.records

@@ -23,7 +23,7 @@ use Rattle.rep_engine.specs.Accepting.{AddsWhere, AddsItems}
 -- ---- what a block takes
 
 -- items that were taken stay taken, and what comes behind them goes on from there
-fitting_append : (b xs ys : List Judged) → fitting b xs ≡ length xs → fitting b (xs ++ ys) ≡ length xs + fitting (b ++ xs) ys
+pub fitting_append : (b xs ys : List Judged) → fitting b xs ≡ length xs → fitting b (xs ++ ys) ≡ length xs + fitting (b ++ xs) ys
 fitting_append b [] ys e = let same = ap (λ (c : List Judged). fitting c ys) (sym (append-nil b)) in omega (arith, same)
 fitting_append b (x ∷ xs) ys e = by (has_room b x) refl (fitting_append (b ++ x ∷ []) xs ys)
   where

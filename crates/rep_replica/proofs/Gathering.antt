@@ -17,23 +17,11 @@ use Rattle.rep_engine.specs.Engines.{Engine, facts_of as engine_facts}
 use Rattle.rep_engine.specs.Accepting.{accepted_in}
 use Rattle.rep_engine.specs.Holding.{Holds as EngineHolds, with_items}
 use Rattle.rep_replica.specs.Replicas.{Replica, facts_of}
+use Rattle.rep_engine.proofs.Accepting.{fitting_append}
 use Rattle.rep_replica.specs.Holding.{Holds}
 use Rattle.rep_replica.proofs.Lists.{take_plus, judged_front, judged_behind}
 
 -- ---- a block that takes no more
-
--- items that were taken stay taken, and what comes behind them goes on from there
-fitting_behind : (b xs ys : List Judged) → fitting b xs ≡ length xs → fitting b (xs ++ ys) ≡ length xs + fitting (b ++ xs) ys
-fitting_behind b [] ys e = let same = ap (λ (c : List Judged). fitting c ys) (sym (append-nil b)) in omega (arith, same)
-fitting_behind b (x ∷ xs) ys e = by (has_room b x) refl (fitting_behind (b ++ x ∷ []) xs ys)
-  where
-    by : (room : Bool) → has_room b x ≡ room → (fitting (b ++ x ∷ []) xs ≡ length xs → fitting (b ++ x ∷ []) (xs ++ ys) ≡ length xs + fitting ((b ++ x ∷ []) ++ xs) ys) → fitting b ((x ∷ xs) ++ ys) ≡ length (x ∷ xs) + fitting (b ++ (x ∷ xs)) ys
-    by true room further =
-        let one : fitting b (x ∷ xs) ≡ fitting (b ++ x ∷ []) xs + 1 = rw room refl in
-        let rest = further (omega (arith, one, e)) in
-        let all : fitting b ((x ∷ xs) ++ ys) ≡ fitting (b ++ x ∷ []) (xs ++ ys) + 1 = rw room refl in
-        omega (arith, all, rest, ap (λ (c : List Judged). fitting c ys) (append_assoc b (x ∷ []) xs))
-    by false room further = let none : fitting b (x ∷ xs) ≡ 0 = rw room refl in absurd (omega (arith, none, e))
 
 -- the first item that it did not take stops it
 stops_there : (block js : List Judged) (k : ℕ) → IsLongestFront block js k → fitting (block ++ take k js) (drop k js) ≡ 0
@@ -57,7 +45,7 @@ takes_no_more fronts phase block js more k count is fits rests =
     let none : fitting more (drop k js) ≡ 0 = ap (λ (xs : List Judged). fitting xs (drop k js)) is ∙ stops_there block js k front in
     let all : more ++ drop k js ≡ block ++ js =
     ap (λ (xs : List Judged). xs ++ drop k js) is ∙ append_assoc block (take k js) (drop k js) ∙ ap (λ (xs : List Judged). block ++ xs) (take-append-drop k js) in
-    let whole : fitting [] (block ++ js) ≡ length more + fitting more (drop k js) = ap (fitting []) (sym all) ∙ fitting_behind [] more (drop k js) fits in
+    let whole : fitting [] (block ++ js) ≡ length more + fitting more (drop k js) = ap (fitting []) (sym all) ∙ fitting_append [] more (drop k js) fits in
     omega (arith, whole, none, fits)
 
 -- the front that is taken is taken whole
@@ -80,7 +68,7 @@ takes_as_all fronts phase block js fits rests =
     let taken : fitting block (take k js) ≡ k = ap (λ n. fitting block (take n js)) at ∙ fitting_front block js ∙ sym at in
     let size : length (take k js) ≡ k = length-take-le k js (omega (arith, at, (fronts.right block js).within)) in
     let whole : fitting [] (block ++ take k js) ≡ length (block ++ take k js) =
-    fitting_behind [] block (take k js) fits ∙ omega (arith, taken, size, length-append block (take k js)) in
+    fitting_append [] block (take k js) fits ∙ omega (arith, taken, size, length-append block (take k js)) in
     takes_no_more fronts phase block js (block ++ take k js) k refl refl whole rests
 
 -- what is accepted is of what waits

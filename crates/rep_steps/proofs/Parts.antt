@@ -31,6 +31,19 @@ take_less (suc k) (suc q) (j ∷ js) le = ap (λ rest. j ∷ rest) (take_less k 
 is_part_of : (me to : Node) (block : List Judged) (q : ℕ) → me ≡ part_of block q to → me ≡ part_of me.facts.ahead q to
 is_part_of me to block q is = is ∙ ap (λ (xs : List Judged). part_of xs q to) (sym (ap (λ (k : Node). k.facts.ahead) is))
 
+-- a step that moves neither base nor items
+widens : (n me : Node) (e : Event) (block : List Judged) (q : ℕ) (a : Answer) (facts : Standing) → Steps n e a (record n { facts = facts }) → me ≡ part_of block q (record n { facts = facts }) → Widens n me e a q
+widens n me e block q a facts steps is = record {
+  to = record n { facts = facts };
+  steps = steps;
+  past = 0;
+  most = omega arith;
+  within = omega arith;
+  is_part = is_part_of me (record n { facts = facts }) block q is ∙ ap (λ i. part_of me.facts.ahead i (record n { facts = facts })) (omega arith);
+  items = refl;
+  base = refl;
+}
+
 -- ---- events that leave what is ahead, and the base
 
 module _ (n me : Node) (e : Event) (block : List Judged) (q : ℕ) (a : Answer) (l : LeavesAhead n.facts e block) (same : (m : Node) → moved m e ≡ record m { facts = after m.facts e (found m e) })
@@ -42,31 +55,18 @@ module _ (n me : Node) (e : Event) (block : List Judged) (q : ℕ) (a : Answer) 
   abbrev Comes : Node → Option Refusal → Type 0
   Comes to o = MatchOption o (((a ≡ answer n.facts e (found n e)) × (to ≡ moved n e)) ⊎ (Fails n.facts e a to.facts × (to ≡ record n { facts = to.facts }))) (λ r. (a ≡ Refused r) × (to ≡ n))
 
-  -- with neither base nor items moved
-  widens : (facts : Standing) → Steps n e a (record n { facts = facts }) → me ≡ part_of block q (record n { facts = facts }) → Widens n me e a q
-  widens facts steps is = record {
-    to = record n { facts = facts };
-    steps = steps;
-    past = 0;
-    most = omega arith;
-    within = omega arith;
-    is_part = is_part_of me (record n { facts = facts }) block q is ∙ ap (λ i. part_of me.facts.ahead i (record n { facts = facts })) (omega arith);
-    items = refl;
-    base = refl;
-  }
-
   lifted_by : (o : Option Refusal) → refusal n.facts e ≡ o
       → MatchOption o (((a ≡ answer part.facts e (found part e)) × (me ≡ moved part e)) ⊎ (Fails part.facts e a me.facts × (me ≡ record part { facts = me.facts }))) (λ r. (a ≡ Refused r) × (me ≡ part)) → Widens n me e a q
   lifted_by None is (inl d) =
       let facts = after n.facts e (found n e) in
-      widens facts (subst (Comes (record n { facts = facts })) (sym is) (inl (d.0 ∙ l.answered (found part e) ∙ told is, sym (same n))))
+      widens n me e block q a facts (subst (Comes (record n { facts = facts })) (sym is) (inl (d.0 ∙ l.answered (found part e) ∙ told is, sym (same n))))
       (d.1 ∙ same part ∙ ap (λ (s : Standing). record part { facts = s }) (l.moved (found part e) ∙ ap (with_ahead block) left))
   lifted_by None is (inr (inl m, same_me)) =
-      widens n.facts (subst (Comes n) (sym is) (inr (inl (subst (λ b. IsTrue b) l.memory m.0, m.1, refl), refl))) (same_me ∙ ap (λ (s : Standing). record part { facts = s }) m.2)
+      widens n me e block q a n.facts (subst (Comes n) (sym is) (inr (inl (subst (λ b. IsTrue b) l.memory m.0, m.1, refl), refl))) (same_me ∙ ap (λ (s : Standing). record part { facts = s }) m.2)
   lifted_by None is (inr (inr d, same_me)) =
       let facts : Standing = record n.facts { failures = me.facts.failures; stopped = true } in
-      widens facts (subst (Comes (record n { facts = facts })) (sym is) (inr (inr (subst (λ b. IsTrue b) l.device d.0, d.1, d.2, refl), refl))) (same_me ∙ ap (λ (s : Standing). record part { facts = s }) d.3)
-  lifted_by (Some r) is m = widens n.facts (subst (Comes n) (sym is) (m.0, refl)) m.1
+      widens n me e block q a facts (subst (Comes (record n { facts = facts })) (sym is) (inr (inr (subst (λ b. IsTrue b) l.device d.0, d.1, d.2, refl), refl))) (same_me ∙ ap (λ (s : Standing). record part { facts = s }) d.3)
+  lifted_by (Some r) is m = widens n me e block q a n.facts (subst (Comes n) (sym is) (m.0, refl)) m.1
 
   pub lifted : Steps part e a me → Widens n me e a q
   lifted m =
@@ -130,19 +130,6 @@ module _ (n me : Node) (block more : List Judged) (q : ℕ) (a : Answer) (ahead 
   abbrev Comes_to : Node → Bool → Type 0
   Comes_to to stopped = MatchOption (if stopped then Some Stopped else None) (((a ≡ answer n.facts Sync (found n Sync)) × (to ≡ moved n Sync)) ⊎ (Fails n.facts Sync a to.facts × (to ≡ record n { facts = to.facts }))) (λ r. (a ≡ Refused r) × (to ≡ n))
 
-  -- one that moves neither base nor items
-  stays : (facts : Standing) → Steps n Sync a (record n { facts = facts }) → me ≡ part_of block q (record n { facts = facts }) → Widens n me Sync a q
-  stays facts steps is = record {
-    to = record n { facts = facts };
-    steps = steps;
-    past = 0;
-    most = omega arith;
-    within = omega arith;
-    is_part = is_part_of me (record n { facts = facts }) block q is ∙ ap (λ i. part_of me.facts.ahead i (record n { facts = facts })) (omega arith);
-    items = refl;
-    base = refl;
-  }
-
   sync_by : (stopped : Bool) → n.facts.stopped ≡ stopped
       → MatchOption (if stopped then Some Stopped else None) (((a ≡ Synced (map reply_of (take (opening n.facts.phase) block))) × (me ≡ moved (part_of block q n) Sync)) ⊎ (Fails (with_ahead block n.facts) Sync a me.facts × (me ≡ record (part_of block q n) { facts = me.facts })))
       (λ r. (a ≡ Refused r) × (me ≡ part_of block q n))
@@ -160,8 +147,8 @@ module _ (n me : Node) (block more : List Judged) (q : ℕ) (a : Answer) (ahead 
   sync_by false is (inr (inl m, same_me)) = absurd (let never : false ≡ true = m.0 in cc)
   sync_by false is (inr (inr d, same_me)) =
       let facts : Standing = record n.facts { failures = me.facts.failures; stopped = true } in
-      stays facts (subst (Comes_to (record n { facts = facts })) (sym is) (inr (inr (d.0, d.1, d.2, refl), refl))) (same_me ∙ ap (λ (s : Standing). record (part_of block q n) { facts = s }) d.3)
-  sync_by true is m = stays n.facts (subst (Comes_to n) (sym is) (m.0, refl)) m.1
+      widens n me Sync block q a facts (subst (Comes_to (record n { facts = facts })) (sym is) (inr (inr (d.0, d.1, d.2, refl), refl))) (same_me ∙ ap (λ (s : Standing). record (part_of block q n) { facts = s }) d.3)
+  sync_by true is m = widens n me Sync block q a n.facts (subst (Comes_to n) (sym is) (m.0, refl)) m.1
 
   pub sync_lifted : Steps (part_of block q n) Sync a me → Widens n me Sync a q
   sync_lifted m = sync_by n.facts.stopped refl m
