@@ -11,3 +11,6 @@ pub mod Replying
 pub mod Accepting
 pub mod Accepts
 pub mod Ending
+pub mod Checking
+pub mod Flushing
+pub mod Windows

@@ -15,13 +15,13 @@ use Rattle.rep_steps.specs.declared.event.Event.{Event}
 use Rattle.rep_steps.specs.declared.event.Event.TheVariants.{Log, Sync, Read}
 use Rattle.rep_steps.specs.declared.answer.Answer.{Answer}
 use Rattle.rep_steps.specs.declared.answer.Answer.TheVariants.{Refused}
-use Rattle.rep_steps.specs.Standings.{Standing, gathered, refusal, refusal_here, log_refusal}
+use Rattle.rep_steps.specs.Standings.{Stage, Off, Toward, Retiring, Flushing, Saving, Ready, SuperFilling, SuperFilled, SuperOpening, HasGoal, Standing, gathered, refusal, refusal_here, log_refusal}
 use Rattle.rep_steps.specs.Moves.{Moves, opening, takes_memory, base_after}
 use Rattle.rep_steps.specs.Nodes.{Node, Steps, NodesStayNodes, passed}
 use Rattle.rep_steps.specs.Parts.{with_ahead, part_of, Widens, PartsStepAsTheWhole}
 use Rattle.rep_steps.specs.Images.{IsFrontAt}
 use Rattle.rep_image.specs.Meanings.{Means}
-use Rattle.rep_engine.specs.Engines.{Engine, IsWhole, facts_of as engine_facts, phase_at, stage_of}
+use Rattle.rep_engine.specs.Engines.{Engine, IsWhole, facts_of as engine_facts, phase_at}
 use Rattle.rep_engine.specs.Holding.{Holds as EngineHolds}
 use Rattle.rep_replica.specs.Replicas.{Replica, facts_of}
 use Rattle.rep_replica.specs.Holding.{Holds, IsStep}
@@ -53,6 +53,17 @@ opening_within Closing block h = omega arith
 opening_within (Filling n) block h = omega arith
 opening_within (Filled n) block h = omega arith
 opening_within (Opening n) block h = omega (arith, h.all)
+
+-- what a sync leaves behind the base was durable
+passed_by : (base durable start next : ℕ) (stage : Stage) → HasGoal base durable start next stage → base ≤ durable → base_after base stage - base ≤ durable - base
+passed_by base durable start next Off h le = omega arith
+passed_by base durable start next (Toward goal (Flushing left)) h le = omega arith
+passed_by base durable start next (Toward goal Saving) h le = omega arith
+passed_by base durable start next (Toward goal Ready) h le = omega arith
+passed_by base durable start next (Toward goal SuperFilling) h le = omega arith
+passed_by base durable start next (Toward goal SuperFilled) h le = omega arith
+passed_by base durable start next (Toward goal SuperOpening) h le = omega (arith, h.within)
+passed_by base durable start next (Retiring written) h le = omega arith
 
 -- ---- steps that change nothing
 
@@ -88,7 +99,7 @@ module _ {D : Type 0} (honest : D → Type 0) (history : D → History) (failure
     pub steps : (n : Node) → EngineHolds honest history failures n old → (m : Node) × Steps n e a m × EngineHolds honest history failures m new
     pub leaves : (n : Node) → EngineHolds honest history failures n old → LeavesOnly (history old.disk) (history new.disk) (IsFrontAt Means n)
 
-  module _ (stay : NodesStayNodes) (old new : Replica D) (e : Event) (a : Answer) (params : new.engine.superblock.params ≡ old.engine.superblock.params) (backlog : new.backlog ≡ old.backlog) (certifier : new.certifier ≡ old.certifier) (stopped : new.stopped ≡ old.stopped) where
+  module _ (stay : NodesStayNodes) (old new : Replica D) (e : Event) (a : Answer) (params : new.engine.checkpoint.base.params ≡ old.engine.checkpoint.base.params) (backlog : new.backlog ≡ old.backlog) (certifier : new.certifier ≡ old.certifier) (stopped : new.stopped ≡ old.stopped) where
     pub widened_step : Moves (facts_of failures old) e a (facts_of failures new) → EngineSteps e a old.engine new.engine
         → ((n part : Node) (holds : Holds honest history failures n old) → Steps (part_of old.engine.block holds.taken n) e a part → Widens n part e a holds.taken)
         → IsStep honest history failures old e a new
@@ -112,7 +123,7 @@ module _ {D : Type 0} (honest : D → Type 0) (history : D → History) (failure
           subst (λ (s : Standing). Moves s e a (facts_of failures new)) (sym (running_facts failures old running))
           (subst (Moves (with_ahead (old.engine.block ++ old.backlog) (engine_facts failures old.engine)) e a) (sym (running_facts failures new runs_on)) m)
 
-  module _ (stay : NodesStayNodes) (parts : PartsStepAsTheWhole) (old new : Replica D) (a : Answer) (params : new.engine.superblock.params ≡ old.engine.superblock.params) (backlog : new.backlog ≡ old.backlog) (certifier : new.certifier ≡ old.certifier) (stopped : new.stopped ≡ old.stopped)
+  module _ (stay : NodesStayNodes) (parts : PartsStepAsTheWhole) (old new : Replica D) (a : Answer) (params : new.engine.checkpoint.base.params ≡ old.engine.checkpoint.base.params) (backlog : new.backlog ≡ old.backlog) (certifier : new.certifier ≡ old.certifier) (stopped : new.stopped ≡ old.stopped)
       (running : old.stopped ≡ false) where
     -- the log, where the next block would take no more
     pub log_step : new.engine.block ≡ old.engine.block → EngineSteps Log a old.engine new.engine
@@ -140,15 +151,14 @@ module _ {D : Type 0} (honest : D → Type 0) (history : D → History) (failure
         (lift_facts stay old new Sync a params backlog certifier stopped parts running engine
         (subst (λ (xs : List Judged). Moves (with_ahead (old.engine.block ++ old.backlog) (engine_facts failures old.engine)) Sync a (with_ahead (new.engine.block ++ xs) (engine_facts failures new.engine))) (sym backlog) moves))
         engine
-        (λ n part holds steps. parts.sync n part old.engine.block old.backlog holds.taken a (ap (λ (s : Standing). s.ahead) holds.facts) (omega (arith, still n holds))
+        (λ n part holds steps. parts.sync n part old.engine.block old.backlog holds.taken a (ap (λ (s : Standing). s.ahead) holds.facts) (within n holds)
         (subst (λ phase. opening phase ≤ length old.engine.block) (sym (ap (λ (s : Standing). s.phase) holds.facts)) told) steps)
       where
-        none_passed : (base : ℕ) (both : Bool) → base_after base (stage_of both) - base ≡ 0
-        none_passed base true = omega arith
-        none_passed base false = omega arith
-
-        still : (n : Node) → Holds honest history failures n old → passed n.facts ≡ 0
-        still n holds = ap passed holds.facts ∙ none_passed old.engine.superblock.position old.engine.both
+        within : (n : Node) (holds : Holds honest history failures n old) → passed n.facts ≤ holds.taken
+        within n holds =
+            let few = passed_by n.facts.base n.facts.durable n.facts.start n.facts.next n.facts.stage holds.node.facts.goal holds.node.facts.based in
+            let size : length (take holds.taken n.items) ≡ holds.taken = length-take-le holds.taken n.items holds.within in
+            omega (arith, few, holds.engine.node.enough, size)
 
     -- a read
     pub read_step : (key : Key) (at : ℕ) → new.engine.block ≡ old.engine.block → EngineSteps (Read key at) a old.engine new.engine → IsStep honest history failures old (Read key at) a new

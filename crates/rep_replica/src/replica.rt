@@ -101,14 +101,14 @@ impl<D: Disk> Replica<D> {
 
     /// The state UUID; nil where the node belongs to no cluster yet.
     pub fn uuid(&self) -> Uuid
-        ensures { result ≡ self.now.engine.superblock.uuid }
+        ensures { result ≡ self.now.engine.checkpoint.base.uuid }
     {
         self.engine.uuid()
     }
 
     /// The parameters.
     pub fn params(&self) -> &Params
-        ensures { result.now ≡ self.now.engine.superblock.params }
+        ensures { result.now ≡ self.now.engine.checkpoint.base.params }
     {
         self.engine.params()
     }
@@ -132,7 +132,7 @@ impl<D: Disk> Replica<D> {
 
     /// The position of the base: of the oldest state that can be read.
     pub fn base(&self) -> u64
-        ensures { result ≡ self.now.engine.superblock.position }
+        ensures { result ≡ self.now.engine.checkpoint.base.position }
     {
         self.engine.base()
     }

@@ -25,7 +25,7 @@ use Rattle.rep_record.specs.Fronts.{FrontsAreDetermined}
 use Rattle.rep_replica.proofs.replica.Replica.log.Goals as goal
 
 -- what the engine would refuse once it had accepted is what the replica refuses
-due_is : {D : Type 0} (failures : D → _) (fronts : FrontsAreDetermined) (r : Replica D) → r.stopped ≡ false → r.engine.halted ≡ None → IsEngine r.engine.layout r.engine.superblock r.engine.log r.engine.kept r.engine.block
+due_is : {D : Type 0} (failures : D → _) (fronts : FrontsAreDetermined) (r : Replica D) → r.stopped ≡ false → r.engine.halted ≡ None → IsEngine r.engine.layout r.engine.checkpoint r.engine.log r.engine.kept r.engine.block
     → refusal (facts_of failures r) Log ≡ refusal (record (engine_facts failures r.engine) { ahead = r.engine.block ++ take (accepted_in r.engine.log.phase r.engine.block r.backlog) r.backlog }) Log
 due_is failures fronts r running runs engine =
     let e = r.engine in
@@ -97,7 +97,7 @@ full g c rests =
 
 pub returns : goal.returns
 returns g c =
-    let params = ap (λ (x : Engine g.row.D.Denot). x.superblock.params) c.log.ensures.rest in
+    let params = ap (λ (x : Engine g.row.D.Denot). x.checkpoint.base.params) c.log.ensures.rest in
     let block = ap (λ (x : Engine g.row.D.Denot). x.block) c.log.ensures.rest in
     let step = log_step g.D.Disk.honest g.D.Disk.history g.D.Disk.failures c.nodes_stay_nodes.ensures c.parts_step_as_the_whole.ensures (mid g c) (new g c) (wrote c.log.result) params refl refl refl (running_on g c) block
     (record { moves = c.log.ensures.moves; steps = c.log.ensures.steps; leaves = c.log.ensures.leaves }) (full g c) in

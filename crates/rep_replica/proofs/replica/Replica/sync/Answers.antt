@@ -20,7 +20,7 @@ returns g c =
     let e = c.self.inside.engine in
     let running : c.self.inside.stopped ≡ false = ap (λ (r : Replica g.row.D.Denot). r.stopped) c.self.view_is ∙ c.requires.running.0 in
     let runs : e.halted ≡ None = ap (λ (r : Replica g.row.D.Denot). r.engine.halted) c.self.view_is ∙ c.requires.running.1 in
-    let params = ap (λ (x : Engine g.row.D.Denot). x.superblock.params) c.sync.ensures.rest in
+    let params = c.sync.ensures.params in
     let told = subst (λ phase. opening phase ≤ length e.block) (sym (ap (phase_at e.log.phase) runs)) (opening_within e.log.phase e.block c.durable-durable.ensures.engine.whole) in
     let step = sync_step g.D.Disk.honest g.D.Disk.history g.D.Disk.failures c.nodes_stay_nodes.ensures c.parts_step_as_the_whole.ensures (old g c) (new g c) (synced c.sync.result) params refl refl refl running told
     (record { moves = c.sync.ensures.moves; steps = c.sync.ensures.steps; leaves = c.sync.ensures.leaves }) in
