@@ -101,30 +101,6 @@ pub record RunsOn (means : List ℕ → Meaning → Type 0) (old new : History) 
   pub runs : Runs Steps n events answers m
   pub leaves : (L : Order) → IsOf L n → LeavesOnly old new (IsFrontOf means n.facts.uuid n.facts.setting (L ++ accepted_by events answers) n.facts.durable)
 
--- ---- what the log and the checkpoint tell
-
--- The positions that cells begin at: the first cell at the base, the goal's at the goal.
-pub record Anchored (n : Node) (at : ℕ → ℕ) : Type 0 where
-  pub first : at n.facts.start ≡ n.base.position
-  pub goal : (goal : Goal) → n.facts.stage ≡ Toward goal SuperOpening → at goal.start ≡ goal.position
-
--- The log's: from each cell on, a scan takes the durable items, or those with the block whose gate is opening.
-pub record LogTells (n : Node) (at : ℕ → ℕ) (scan : ℕ → List Judged) : Type 0 where
-  pub end : ℕ
-  pub ends : Ends n end
-  pub items : (from : ℕ) → n.facts.start ≤ from → from ≤ n.facts.next → scan from ≡ take (end - at from) (drop (at from - n.base.position) n.items)
-
--- The checkpoint's: the base is the node's, or, where its superblock is opening, the goal's.
-abbrev pub CheckpointTells : Node → State → ℕ → Type 0
-CheckpointTells n base start =
-    ((base ≡ n.base) × (start ≡ n.facts.start))
-    ⊎ ((goal : Goal) × (n.facts.stage ≡ Toward goal SuperOpening) × (base ≡ reached n.facts.setting n.base (take (goal.position - n.base.position) n.items)) × (start ≡ goal.start))
-
--- So each image means a front that has what is durable, with no cases by pairs.
-abbrev pub FrontsFromLayers : Type 0
-FrontsFromLayers = (n : Node) (at : ℕ → ℕ) (scan : ℕ → List Judged) (base : State) (start : ℕ) → IsNode n → Anchored n at → LogTells n at scan → CheckpointTells n base start
-    → (end : ℕ) × (n.facts.durable ≤ end) × IsFront n end (record { uuid = n.facts.uuid; setting = n.facts.setting; base = base; tail = scan start })
-
 -- ---- opening
 
 -- the node that opening makes of an image's meaning

@@ -1,4 +1,4 @@
-use Rattle.std.proofs.Common.{◌≡◌, ℕ, ◌+◌, ◌++◌, ◌∷◌, [], List, take, inl, inr, Result, IfErr, sym, ap, subst, ◌∙◌}
+use Rattle.std.proofs.Common.{◌≡◌, ℕ, ◌+◌, ◌++◌, ◌∷◌, [], List, take, inl, inr, Result, IfErr, sym, ap, subst, ◌∙◌, arith}
 use Rattle.std.proofs.lemmas.List.{take_more}
 use Rattle.std.proofs.lemmas.Result.{err_from_is_err_and}
 use Rattle.rep_types.specs.declared.judged.Judged.{Judged}
@@ -22,6 +22,7 @@ loop-judged-preserved c =
     record {
       limit = c.loop-judged.invariant.limit;
       so_far = subst (λ (xs : List Judged). HasJudged c.args.params S xs c.judge_next.new.certifier.current c.judge_next.new.versions) (sym more) on;
+      windows = e.windows (omega (arith, at.made, at.delivered)) c.loop-judged.invariant.windows;
     }
 
 pub returns-in_err-judge_next-clause-refused : goal.returns-in_err-judge_next-clause-refused

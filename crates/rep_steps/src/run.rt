@@ -1,4 +1,4 @@
-//! What moves by events, whatever its body is, and a client that needs to know no more of it.
+//! What moves by events, whatever its body is, and what runs of it come to.
 
 ghost use Rattle.std.specs.Prelude.{◌≡◌, ℕ, List, length, IfOk, IfErr, OnErr};
 ghost use Rattle.rep_disk.specs.History.{History};
@@ -47,45 +47,23 @@ pub trait Core {
     ghost node: { (n : Node) (core : Self) → holds n core → IsNode n };
 }
 
-/// A core that runs lists of events.
-#[derive(Drop)]
-pub struct Driver<C: Core + Drop> {
-    core: C,
-}
-
-impl<C: Core + Drop> Driver<C> {
-    /// Takes the core.
-    pub fn new(core: C) -> Driver<C>
-        ensures { result.core ≡ core }
-    {
-        Driver { core }
-    }
-
-    /// Gives the core back.
-    pub fn into_core(self) -> C
-        ensures { result ≡ self.core }
-    {
-        self.core
-    }
-
-    /// Does these steps one after another, and gives their answers.
-    ///
-    /// Refuses with `OutOfMemory` where there is no room for the answers, before the first step.
-    pub fn run(&mut self, alloc: Global, events: &[Event]) -> Result<Vec<Answer>, Refusal>
-        ensures moves { IfOk result (λ answers. Runs Moves (C.facts self.old.core) events.now answers.items (C.facts self.new.core)) }
-        ensures steps { IfOk result (λ answers. (n : Node) → C.holds n self.old.core → (m : Node) × RunsOn C.means (C.history self.old.core) (C.history self.new.core) n events.now answers.items m × C.holds m self.new.core) }
-        ensures refused { IfErr result (λ refusal. refusal ≡ Refusal.OutOfMemory) }
-        ensures unchanged { OnErr result (self.new ≡ self.old) }
-    {
-        state_is_enough();
-        fronts_are_determined();
-        let mut answers = Vec::with_capacity(alloc, events.len())?;
-        for event in events {
-            let answer = self.core.step(event.copied());
-            if answers.push(answer).is_err() {
-                unreachable!();
-            }
+/// Does these steps one after another, and gives their answers.
+///
+/// Refuses with `OutOfMemory` where there is no room for the answers, before the first step.
+pub fn run<C: Core>(core: &mut C, alloc: Global, events: &[Event]) -> Result<Vec<Answer>, Refusal>
+    ensures moves { IfOk result (λ answers. Runs Moves (C.facts core.old) events.now answers.items (C.facts core.new)) }
+    ensures steps { IfOk result (λ answers. (n : Node) → C.holds n core.old → (m : Node) × RunsOn C.means (C.history core.old) (C.history core.new) n events.now answers.items m × C.holds m core.new) }
+    ensures refused { IfErr result (λ refusal. refusal ≡ Refusal.OutOfMemory) }
+    ensures unchanged { OnErr result (core.new ≡ core.old) }
+{
+    state_is_enough();
+    fronts_are_determined();
+    let mut answers = Vec::with_capacity(alloc, events.len())?;
+    for event in events {
+        let answer = core.step(event.copied());
+        if answers.push(answer).is_err() {
+            unreachable!();
         }
-        Ok(answers)
     }
+    Ok(answers)
 }

@@ -10,11 +10,11 @@ use Rattle.rep_steps.specs.Runs.{Runs}
 use Rattle.rep_steps.specs.Images.{RunsOn}
 use Rattle.rep_steps.proofs.Running.{runs_more}
 use Rattle.rep_steps.proofs.Driving.{run_none, run_more}
-use Rattle.rep_steps.proofs.driver.Driver.run.Goals as goal
+use Rattle.rep_steps.proofs.run.run.Goals as goal
 
 pub loop-event-init : goal.loop-event-init
 loop-event-init g c =
-    let core = c.args.self.now.core in
+    let core = c.args.core.now in
     let none = sym c.in_ok-answers.ensures.items in
     record {
       moves = subst (λ (answers : List Answer). Runs Moves (g.C.Core.facts core) [] answers (g.C.Core.facts core)) none refl;
@@ -30,8 +30,8 @@ loop-event-init g c =
 pub loop-event-preserved : goal.loop-event-preserved
 loop-event-preserved g c =
     let i = c.loop-event.event-index in
-    let first = c.args.self.now.core in
-    let old = c.loop-event.self.core in
+    let first = c.args.core.now in
+    let old = c.loop-event.core in
     let new = c.step-answer.new.self in
     let event = c.event-item.result in
     let answer = c.step-answer.result in
