@@ -4,6 +4,5 @@ pub mod Keeping
 pub mod Gathering
 pub mod Delivering
 pub mod Stepping
-pub mod Running
 pub mod Opening
 pub mod Lives

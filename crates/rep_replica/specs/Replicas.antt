@@ -6,6 +6,7 @@ use Rattle.rep_cert.specs.Holdings.{Holding, Holdings, IsAskable}
 use Rattle.rep_steps.specs.Standings.{Standing, delivered}
 use Rattle.rep_engine.specs.Engines.{Engine, engine_code, facts_of as engine_facts}
 use Rattle.rep_engine.specs.Accepting.{ComeNext}
+use Rattle.rep_engine.specs.Checking.{HoldsWindows}
 
 -- What a replica holds: the engine, the delivered items that the engine has not accepted, what the certifier holds, and whether
 -- it was stopped from outside.
@@ -39,9 +40,10 @@ pub record GoOn (s : Standing) (backlog : List Judged) (h : Holding) : Type 0 wh
   pub count : h.delivered ≡ delivered s + length backlog
 
 -- What is so of a replica, whatever the device does, by its engine's facts: the parameters are the certifier's, of which the
--- window at what is durable can be asked; and unless it was stopped from outside, the engine's items and the others are what was
+-- window at what is durable can be asked, and whose windows can all be written; and unless it was stopped from outside, the engine's items and the others are what was
 -- delivered.
 pub record IsReplica (s : Standing) (backlog : List Judged) (h : Holding) (stopped : Bool) : Type 0 where
   pub setting : h.setting ≡ s.setting
   pub askable : IsAskable h s.durable
+  pub windows : HoldsWindows h
   pub items : stopped ≡ false → GoOn s backlog h

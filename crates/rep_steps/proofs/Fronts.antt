@@ -1,16 +1,12 @@
 -- What images mean.
-use Rattle.std.proofs.Common.{◌≡◌, ℕ, ◌+◌, ◌-◌, ◌≤◌, inl, inr, List, length, take, drop, refl, sym, ap, subst, ◌∙◌, arith}
+use Rattle.std.proofs.Common.{◌≡◌, ◌+◌, ◌-◌, ◌≤◌, length, take, drop, sym, ap, ◌∙◌, arith}
 use Rattle.std.proofs.lemmas.List.{length-take-le, take-take, drop-take, drop-drop}
-use Rattle.rep_types.specs.declared.judged.Judged.{Judged}
 use Rattle.rep_types.specs.Verdicts.{StateIsEnough}
 use Rattle.rep_types.specs.Order.{State, state, history}
 use Rattle.rep_types.proofs.Histories.{take_history}
-use Rattle.rep_log.specs.declared.phase.Phase.{Phase}
-use Rattle.rep_steps.specs.Standings.{Stage, IsGoal, HasGoal, underway}
-use Rattle.rep_steps.specs.Nodes.{Node, IsNode, reached}
+use Rattle.rep_steps.specs.Nodes.{reached}
 use Rattle.rep_steps.specs.Images.{FrontsStandForTheOrder}
 use Rattle.rep_steps.proofs.Reaching.{reached_is}
-use Rattle.rep_steps.proofs.Keeping.{waiting}
 use Rattle.rep_steps.proofs.Following.{count_behind}
 
 pub fronts_stand : StateIsEnough → FrontsStandForTheOrder

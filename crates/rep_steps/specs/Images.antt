@@ -11,7 +11,7 @@ use Rattle.rep_disk.specs.Moments.{LeavesOnly}
 use Rattle.rep_log.specs.declared.phase.Phase.TheVariants.{Resting, Opening}
 use Rattle.rep_steps.specs.declared.event.Event.{Event}
 use Rattle.rep_steps.specs.declared.answer.Answer.{Answer}
-use Rattle.rep_steps.specs.Standings.{Goal, SuperOpening, Off, Toward, Retiring, Standing}
+use Rattle.rep_steps.specs.Standings.{Off, Retiring, Standing}
 use Rattle.rep_steps.specs.Nodes.{Node, IsNode, Steps, advanced, reached}
 use Rattle.rep_steps.specs.Orders.{IsOf}
 use Rattle.rep_steps.specs.Runs.{Runs, accepted_by}

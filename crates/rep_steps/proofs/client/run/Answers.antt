@@ -10,7 +10,7 @@ use Rattle.rep_steps.specs.Runs.{Runs}
 use Rattle.rep_steps.specs.Images.{RunsOn}
 use Rattle.rep_steps.proofs.Running.{runs_more}
 use Rattle.rep_steps.proofs.Driving.{run_none, run_more}
-use Rattle.rep_steps.proofs.run.run.Goals as goal
+use Rattle.rep_steps.proofs.client.run.Goals as goal
 
 pub loop-event-init : goal.loop-event-init
 loop-event-init g c =

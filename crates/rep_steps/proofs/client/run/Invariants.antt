@@ -4,7 +4,7 @@ use Rattle.rep_steps.specs.Moves.{Moves}
 use Rattle.rep_steps.specs.Nodes.{Node}
 use Rattle.rep_steps.specs.Runs.{Runs}
 use Rattle.rep_steps.specs.Images.{RunsOn}
-use Rattle.rep_steps.proofs.run.run.Given as goal
+use Rattle.rep_steps.proofs.client.run.Given as goal
 
 -- the events so far were run, and there is room for the answers to the others
 abbrev pub invariant-loop-event : goal.invariant-loop-event
