@@ -49,9 +49,10 @@ impl<D: Disk> Model for Replica<D> {
 impl<D: Disk> Replica<D> {
     /// Puts the parts of a replica together. Where `stopped` is true, it refuses everything, as one whose device failed.
     ///
-    /// Engine and certifier have the same parameters, and the certifier gives the window at what is durable. Unless
-    /// `stopped` is true, the backlog's items come behind those that the engine accepted, without a gap, up to the
-    /// last that was delivered; none is above `MAX_SEQNO`, and there is none where the engine belongs to no cluster.
+    /// Engine and certifier have the same parameters; the certifier gives the window at what is durable, and none
+    /// that a disk cannot hold. Unless `stopped` is true, the backlog's items come behind those that the engine
+    /// accepted, without a gap, up to the last that was delivered; none is above `MAX_SEQNO`, and there is none
+    /// where the engine belongs to no cluster.
     pub fn from_parts(
         certifier: Certifier,
         backlog: Backlog,
