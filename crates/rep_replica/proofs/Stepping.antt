@@ -1,5 +1,5 @@
 -- A step of the engine, as a step of the replica.
-use Rattle.std.proofs.Common.{◌≡◌, inl, inr, ℕ, ◌+◌, ◌-◌, ◌≤◌, Bool, true, false, List, [], ◌++◌, length, take, Option, None, Some, refl, sym, ap, subst, ◌∙◌, arith}
+use Rattle.std.proofs.Common.{◌≡◌, inl, inr, ℕ, ◌+◌, ◌-◌, ◌≤◌, true, false, List, [], ◌++◌, length, take, Option, None, Some, refl, sym, ap, subst, ◌∙◌, arith}
 use Rattle.std.specs.Prelude.{◌==◌, ◌||◌, nat_le, is_some, if◌then◌else◌, MatchOption}
 use Rattle.std.proofs.lemmas.List.{length-take-le, take-take}
 use Rattle.rep_types.specs.declared.judged.Judged.{Judged}

@@ -1,4 +1,4 @@
-use Rattle.std.proofs.Common.{◌≡◌, None, false, refl, sym, ap, subst, ◌∙◌}
+use Rattle.std.proofs.Common.{◌≡◌, false, refl, sym, ap, subst, ◌∙◌}
 use Rattle.rep_types.specs.Settings.{Setting}
 use Rattle.rep_cert.specs.Holdings.{window_of}
 use Rattle.rep_steps.specs.declared.event.Event.TheVariants.{Check}
@@ -17,8 +17,10 @@ check-requires g c =
     let h = c.self.inside.certifier.current in
     let durable = durable_of c.self.inside.engine.log in
     record {
-      askable = c.self.invariant.askable;
-      window = subst (λ (p : Setting). IsWindowAt p durable (window_of h durable)) c.self.invariant.setting (c.self.invariant.windows durable c.self.invariant.askable);
+      window = record {
+        askable = c.self.invariant.askable;
+        window = subst (λ (p : Setting). IsWindowAt p durable (window_of h durable)) c.self.invariant.setting (c.self.invariant.windows durable c.self.invariant.askable);
+      };
     }
 
 abbrev old : (g : _) (c : goal.After-checked g) → Replica g.row.D.Denot

@@ -1,11 +1,11 @@
-use Rattle.std.proofs.Common.{◌≡◌, None, false, refl, sym, ap, subst, ◌∙◌}
+use Rattle.std.proofs.Common.{◌≡◌, false, refl, sym, ap, subst, ◌∙◌}
 use Rattle.rep_steps.specs.declared.event.Event.TheVariants.{Flush}
 use Rattle.rep_steps.specs.declared.answer.Answer.{Answer}
 use Rattle.rep_engine.specs.Engines.{Engine, facts_of as engine_facts}
 use Rattle.rep_engine.specs.Holding.{wrote}
 use Rattle.rep_replica.specs.Replicas.{Replica}
 use Rattle.rep_replica.specs.Holding.{IsStep}
-use Rattle.rep_replica.proofs.Keeping.{flush_keeps, replica_keeps}
+use Rattle.rep_replica.proofs.Keeping.{Keep, flush_keeps, replica_keeps}
 use Rattle.rep_replica.proofs.Stepping.{flush_step}
 use Rattle.rep_replica.proofs.replica.Replica.flush.Goals as goal
 
@@ -18,7 +18,7 @@ new g c = record { engine = c.flush.new.self; backlog = c.self.inside.backlog; c
 running : (g : _) (c : goal.After-wrote g) → c.self.inside.stopped ≡ false
 running g c = ap (λ (r : Replica g.row.D.Denot). r.stopped) c.self.view_is ∙ c.requires.running.0
 
-abbrev keeps : (g : _) (c : goal.After-wrote g) → _
+keeps : (g : _) (c : goal.After-wrote g) → Keep (engine_facts g.D.Disk.failures c.self.inside.engine) (engine_facts g.D.Disk.failures c.flush.new.self)
 keeps g c = flush_keeps (engine_facts g.D.Disk.failures c.self.inside.engine) (engine_facts g.D.Disk.failures c.flush.new.self) c.args.page (wrote c.flush.result) c.flush.ensures.moves
 
 pub invariant_of-self : goal.invariant_of-self

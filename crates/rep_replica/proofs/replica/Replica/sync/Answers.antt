@@ -2,7 +2,7 @@ use Rattle.std.proofs.Common.{◌≡◌, ◌≤◌, length, None, false, refl, s
 use Rattle.rep_steps.specs.declared.event.Event.TheVariants.{Sync}
 use Rattle.rep_steps.specs.declared.answer.Answer.{Answer}
 use Rattle.rep_steps.specs.Moves.{opening}
-use Rattle.rep_engine.specs.Engines.{Engine, phase_at}
+use Rattle.rep_engine.specs.Engines.{phase_at}
 use Rattle.rep_engine.specs.Holding.{synced}
 use Rattle.rep_replica.specs.Replicas.{Replica}
 use Rattle.rep_replica.specs.Holding.{IsStep}
