@@ -66,7 +66,20 @@ module _ {D : Type 0} (honest : D → Type 0) (history : D → History) (failure
     sealed = h.sealed;
     stands =
         let at = subst (λ (past : History). StandsAs n (length (stable past)) e.checkpoint e.log h.blocks h.sealed h.states) same h.stands in
-        record { stands = at.stands; phase = at.phase; durable = at.durable; coming = at.coming; judged = at.judged; undefined = at.undefined };
+        record {
+          uuid = at.uuid;
+          setting = at.setting;
+          goal = at.goal;
+          checkpoint = at.checkpoint;
+          toward = λ next part is. let led = at.toward next part is in record { past = led.past; position = led.position; within = led.within; state = led.state; cells = led.cells; start = led.start; few = led.few; records = led.records };
+          start = at.start;
+          log_is = at.log_is;
+          phase = at.phase;
+          durable = at.durable;
+          coming = at.coming;
+          judged = at.judged;
+          undefined = at.undefined;
+        };
     versions = h.versions;
     gates = h.gates;
   }
