@@ -148,7 +148,9 @@ module _ (l : Layout) (c : Checkpoint) (log : Log) (kept after : Kept) (block js
         behind = h.behind;
         begun = h.begun;
         room = h.room;
+        items = h.items;
         goal = h.goal;
+        behind_goal = h.behind_goal;
         follow = seqnos_append log.seqno block (take k js) h.follow (seqnos_take (log.seqno + length block) k js follow);
         fits = fits_more block js h.fits ∙ sym all;
         few = omega (arith, all, fronts.few block js h.few);

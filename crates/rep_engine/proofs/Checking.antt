@@ -1,10 +1,9 @@
 -- The steps of a checkpoint, of an engine that stands for a node.
-use Rattle.std.proofs.Common.{◌≡◌, ◌≢◌, ◌⊎◌, inl, inr, IfSome, ℕ, ◌+◌, ◌-◌, ◌<◌, ◌≤◌, Bool, true, false, List, [], ◌∷◌, length, take, map, Option, None, Some, Result, Ok, Err, refl, sym, ap, subst, ◌∙◌, arith, OnOk, IfErr}
-use Rattle.std.specs.Prelude.{is_some, nat_le, if◌then◌else◌, not, IsTrue}
+use Rattle.std.proofs.Common.{◌≡◌, ◌≢◌, ◌⊎◌, inl, inr, IfSome, ℕ, ◌+◌, ◌-◌, ◌<◌, true, false, List, [], ◌∷◌, length, take, Option, None, Some, Result, Ok, Err, refl, sym, ap, subst, ◌∙◌, arith}
+use Rattle.std.specs.Prelude.{is_some, nat_le, if◌then◌else◌, not}
 use Rattle.std.proofs.lemmas.Bool.Decides.{nat_tests}
 use Rattle.std.proofs.lemmas.List.{take_all, length-take-le}
 use Rattle.rep_types.specs.declared.judged.Judged.{Judged}
-use Rattle.rep_types.specs.declared.key.Key.{Key}
 use Rattle.rep_types.specs.declared.refusal.Refusal.{Refusal}
 use Rattle.rep_types.specs.declared.refusal.Refusal.TheVariants.{OutOfMemory, DiskFault, NotDue}
 use Rattle.rep_types.specs.declared.verdict.Verdict.TheVariants.{Commit}
@@ -19,23 +18,22 @@ use Rattle.rep_layout.specs.Places.{layout_of}
 use Rattle.rep_cert.specs.Holdings.{Holding, window_of}
 use Rattle.rep_cells.specs.Known.{Assigns}
 use Rattle.rep_log.specs.declared.phase.Phase.{Phase}
-use Rattle.rep_log.specs.Standing.{Standing as Log, stands_at}
+use Rattle.rep_log.specs.Standing.{Standing as Log}
 use Rattle.rep_log.specs.Tail.{records_of}
 use Rattle.rep_log.specs.Moves.{fault_of}
 use Rattle.rep_steps.specs.declared.event.Event.TheVariants.{Check}
 use Rattle.rep_steps.specs.declared.answer.Answer.{Answer}
 use Rattle.rep_steps.specs.declared.answer.Answer.TheVariants.{Began, Wrote, Refused}
 use Rattle.rep_steps.specs.Standings.{Standing, Stage as StageOf, Off as is_off, HasGoal, check_refusal, refusal_here}
-use Rattle.rep_steps.specs.Moves.{Found, Moves, answer, after, check_answer, checked as checked_at, is_off as is_none_under_way, takes_device, touched}
-use Rattle.rep_steps.specs.Nodes.{Node, IsNode, Steps, NodesStayNodes, found, moved, reached, state_at, window_at}
+use Rattle.rep_steps.specs.Moves.{Found, Moves, after, check_answer, checked as checked_at, is_off as is_none_under_way, touched}
+use Rattle.rep_steps.specs.Nodes.{Node, Steps, NodesStayNodes, found, moved, reached, window_at}
 use Rattle.rep_steps.specs.Images.{IsFrontAt}
 use Rattle.rep_steps.proofs.Reaching.{reached_position}
 use Rattle.rep_image.specs.Meanings.{Means}
 use Rattle.rep_versions.specs.Versions.{ArePages}
-use Rattle.rep_versions.specs.Following.{AreVersionsOf, effect_of}
 use Rattle.rep_checkpoint.specs.declared.stage.Part.{Part}
 use Rattle.rep_checkpoint.specs.declared.stage.Part.TheVariants.{Flushing, Saving, Ready, SuperFilling, SuperFilled, SuperOpening}
-use Rattle.rep_checkpoint.specs.declared.stage.Step.TheVariants.{Begin, Flush, Next as GoOn, Sync as AwaitsSync}
+use Rattle.rep_checkpoint.specs.declared.stage.Step.TheVariants.{Begin, Next as GoOn}
 use Rattle.rep_checkpoint.specs.declared.stage.Stage.{Stage}
 use Rattle.rep_checkpoint.specs.declared.stage.Stage.TheVariants.{Off, Toward, Retiring}
 use Rattle.rep_checkpoint.specs.Next.{Next}
@@ -45,7 +43,7 @@ use Rattle.rep_checkpoint.specs.Windows.{IsWindowAt, WindowsGoOn}
 use Rattle.rep_checkpoint.specs.Calls.{Begins, IsRefused, GoesOn, AreAt, AreBehind, Steps as CheckpointSteps}
 use Rattle.rep_checkpoint.specs.Laws.{TheStageIsTheFacts, TheCheckpointIsApart}
 use Rattle.rep_checkpoint.specs.Nodes.{IsLedTo, StandsAs, LeadsTo, VersionsLeadToTheState, NodesLeaveTheirFronts}
-use Rattle.rep_engine.specs.Engines.{Engine, IsEngine, facts_of, durable_of, phase_at}
+use Rattle.rep_engine.specs.Engines.{Engine, IsEngine, HasItemsBehind, facts_of, durable_of}
 use Rattle.rep_engine.specs.Holding.{Stands, Holds}
 use Rattle.rep_engine.specs.Reading.{halted_by}
 use Rattle.rep_engine.specs.Checking.{HasBegun}
@@ -71,7 +69,9 @@ engine_begun l c log kept block position entries left h is at later = record {
   behind = h.behind;
   begun = h.begun;
   room = h.room;
+  items = h.items;
   goal = record { above = later; within = omega (arith, at); started = h.begun; begun = omega arith };
+  behind_goal = omega (arith, at, h.behind);
   follow = h.follow;
   fits = h.fits;
   few = h.few;
@@ -230,6 +230,11 @@ same_goal base durable start up Off h = tt
 same_goal base durable start up (Toward to part) h = record { above = h.above; within = h.within; started = h.started; begun = h.begun }
 same_goal base durable start up (Retiring written) h = tt
 
+same_behind : (log : _) (stage : Stage) → HasItemsBehind (stage_in stage) log → HasItemsBehind (stage_in (gone_in stage)) log
+same_behind log Off h = tt
+same_behind log (Toward to part) h = h
+same_behind log (Retiring written) h = tt
+
 pub engine_gone : (l : Layout) (c d : Checkpoint) (log : Log) (kept : _) (block : List Judged) → IsEngine l c log kept block → IsCheckpoint d → d ≡ gone_on c → IsEngine l d log kept block
 engine_gone l c d log kept block h is same = subst (λ (k : Checkpoint). IsEngine l k log kept block) (sym same) (record {
   checkpoint = subst IsCheckpoint same is;
@@ -239,7 +244,9 @@ engine_gone l c d log kept block h is same = subst (λ (k : Checkpoint). IsEngin
   behind = h.behind;
   begun = h.begun;
   room = h.room;
+  items = h.items;
   goal = same_goal c.base.position (durable_of log) log.start log.next c.stage h.goal;
+  behind_goal = same_behind log c.stage h.behind_goal;
   follow = h.follow;
   fits = h.fits;
   few = h.few;

@@ -1,11 +1,10 @@
 -- Pages that are flushed, of an engine that stands for a node.
-use Rattle.std.proofs.Common.{◌≡◌, ◌≢◌, ◌⊎◌, inl, inr, ℕ, ◌+◌, ◌<◌, ◌≤◌, Bool, true, false, List, [], ◌∷◌, length, take, map, Option, None, Some, Result, Ok, Err, refl, sym, ap, subst, ◌∙◌, arith, IfSome, OnOk, IfErr}
+use Rattle.std.proofs.Common.{◌≡◌, ◌⊎◌, inl, inr, ℕ, ◌+◌, ◌≤◌, Bool, true, false, List, [], length, Option, None, Some, Result, Ok, Err, refl, sym, ap, subst, ◌∙◌, arith, IfSome}
 use Rattle.std.specs.Prelude.{is_some, if◌then◌else◌, ◌==◌, IsTrue}
 use Rattle.std.specs.List.{list_any}
 use Rattle.rep_types.specs.declared.judged.Judged.{Judged}
 use Rattle.rep_types.specs.declared.refusal.Refusal.{Refusal}
-use Rattle.rep_types.specs.declared.refusal.Refusal.TheVariants.{DiskFault, NotDue, Corrupt}
-use Rattle.rep_types.specs.declared.refusal.Part.TheVariants.{Pages}
+use Rattle.rep_types.specs.declared.refusal.Refusal.TheVariants.{DiskFault, NotDue}
 use Rattle.rep_types.specs.declared.verdict.Verdict.TheVariants.{Commit}
 use Rattle.std.proofs.lemmas.Bool.Decides.{nat_tests}
 use Rattle.rep_types.specs.declared.limits.TheConstants.{MAX_PAGES}
@@ -20,15 +19,14 @@ use Rattle.rep_layout.specs.declared.super_body.SuperBody.{SuperBody}
 use Rattle.rep_layout.specs.Rows.{RowPlacesAreTold}
 use Rattle.rep_layout.specs.Places.{layout_of}
 use Rattle.rep_cells.specs.Known.{Assigns}
-use Rattle.rep_cells.specs.States.{States}
 use Rattle.rep_log.specs.declared.phase.Phase.{Phase}
-use Rattle.rep_log.specs.Standing.{Standing as Log, stands_at}
+use Rattle.rep_log.specs.Standing.{Standing as Log}
 use Rattle.rep_log.specs.Moves.{fault_of}
 use Rattle.rep_steps.specs.declared.event.Event.TheVariants.{Flush}
 use Rattle.rep_steps.specs.declared.answer.Answer.TheVariants.{Wrote, Refused}
 use Rattle.rep_steps.specs.Standings.{Standing, Stage as StageOf, HasGoal, flush_refusal as flush_refusal_at, refusal_here}
 use Rattle.rep_steps.specs.Moves.{Found, Moves, after}
-use Rattle.rep_steps.specs.Nodes.{Node, IsNode, Steps, NodesStayNodes, found, moved, reached}
+use Rattle.rep_steps.specs.Nodes.{Node, Steps, NodesStayNodes, found, moved}
 use Rattle.rep_steps.specs.Images.{IsFrontAt}
 use Rattle.rep_image.specs.Meanings.{Means}
 use Rattle.rep_checkpoint.specs.declared.stage.Part.{Part}
@@ -41,8 +39,8 @@ use Rattle.rep_checkpoint.specs.Moves.{flushed, flushed_in, flush_refusal, posit
 use Rattle.rep_checkpoint.specs.Calls.{IsRefused, Flushes, AreAt, Steps as CheckpointSteps}
 use Rattle.rep_checkpoint.specs.Laws.{TheStageIsTheFacts, TheCheckpointIsApart}
 use Rattle.rep_checkpoint.specs.States.{CheckpointIs}
-use Rattle.rep_checkpoint.specs.Nodes.{IsLedTo, StandsAs, LeadsTo, VersionsLeadToTheState, NodesLeaveTheirFronts}
-use Rattle.rep_engine.specs.Engines.{Engine, IsEngine, facts_of, durable_of}
+use Rattle.rep_checkpoint.specs.Nodes.{IsLedTo, StandsAs, VersionsLeadToTheState, NodesLeaveTheirFronts}
+use Rattle.rep_engine.specs.Engines.{Engine, IsEngine, HasItemsBehind, facts_of, durable_of}
 use Rattle.rep_engine.specs.Holding.{Stands, Holds, wrote}
 use Rattle.rep_engine.specs.Reading.{halted_by}
 use Rattle.rep_engine.proofs.Steps.{refused_moves, done_moves, fault_moves, corrupt_moves, refused_steps, done_steps, fault_steps, halted_node, leaves_weaker}
@@ -55,6 +53,11 @@ same_goal base durable start up page Off h = tt
 same_goal base durable start up page (Toward to part) h = record { above = h.above; within = h.within; started = h.started; begun = h.begun }
 same_goal base durable start up page (Retiring written) h = tt
 
+same_behind : (log : _) (page : ℕ) (stage : Stage) → HasItemsBehind (stage_in stage) log → HasItemsBehind (stage_in (flushed_in page stage)) log
+same_behind log page Off h = tt
+same_behind log page (Toward to part) h = h
+same_behind log page (Retiring written) h = tt
+
 engine_flushed : (l : Layout) (c d : Checkpoint) (log : Log) (kept : _) (block : List Judged) (page : ℕ) → IsEngine l c log kept block → IsCheckpoint d → d ≡ flushed page c → IsEngine l d log kept block
 engine_flushed l c d log kept block page h is same = subst (λ (k : Checkpoint). IsEngine l k log kept block) (sym same) (record {
   checkpoint = subst IsCheckpoint same is;
@@ -64,7 +67,9 @@ engine_flushed l c d log kept block page h is same = subst (λ (k : Checkpoint).
   behind = h.behind;
   begun = h.begun;
   room = h.room;
+  items = h.items;
   goal = same_goal c.base.position (durable_of log) log.start log.next page c.stage h.goal;
+  behind_goal = same_behind log page c.stage h.behind_goal;
   follow = h.follow;
   fits = h.fits;
   few = h.few;

@@ -12,7 +12,9 @@ use Rattle.rep_log.specs.Standing.{Standing as Log, stands_at, index_of, due_in,
 use Rattle.rep_steps.specs.declared.event.Event.TheVariants.{Log as to_log}
 use Rattle.rep_steps.specs.Standings.{gathered, log_refusal, underway}
 use Rattle.rep_steps.specs.Moves.{Found, after, logged}
+use Rattle.rep_checkpoint.specs.Standing.{stage_of}
 use Rattle.rep_engine.specs.Engines.{Engine, IsEngine, IsWhole, facts_of}
+use Rattle.rep_engine.proofs.Items.{behind_more}
 use Rattle.rep_engine.specs.Writing.{IsWrite, written_in, coming_in}
 
 -- whether the next block's cell is live, and whether it stands open
@@ -124,7 +126,9 @@ module _ {D : Type 0} (failures : D → ℕ) (e : Engine D) (h : IsEngine e.layo
         behind = h.behind;
         begun = h.begun;
         room = on.room;
+        items = h.items;
         goal = h.goal;
+        behind_goal = behind_more (stage_of e.checkpoint) e.log (at_phase (logged (length e.block) stale e.log.phase) e.log) (omega arith) h.behind_goal;
         follow = h.follow;
         fits = h.fits;
         few = h.few;

@@ -16,7 +16,8 @@ use Rattle.rep_log.specs.Standing.{Standing as Log, busy}
 use Rattle.rep_log.specs.Moves.{synced_in, after_sync, durable_by, started}
 use Rattle.rep_steps.specs.declared.event.Event.TheVariants.{Sync}
 use Rattle.rep_steps.specs.Standings.{Stage, Off, Toward, Retiring, Standing, HasGoal, Flushing as To_flush, Saving as To_save, Ready as To_fill, SuperFilling as To_filling, SuperFilled as To_open, SuperOpening as To_opening}
-use Rattle.rep_steps.specs.Moves.{Found, after, opening, taken, synced_phase, synced_stage, base_after, start_after}
+use Rattle.rep_steps.specs.Moves.{Found, after, opening, taken, synced_phase, start_after}
+use Rattle.rep_engine.proofs.Items.{behind_more}
 use Rattle.rep_image.proofs.Settling.{phase_synced, next_synced, start_synced}
 use Rattle.rep_checkpoint.specs.declared.stage.Part.TheVariants.{Flushing, Saving, Ready, SuperFilling, SuperFilled, SuperOpening}
 use Rattle.rep_checkpoint.specs.declared.stage.Stage.{Stage as Stages}
@@ -24,7 +25,7 @@ use Rattle.rep_checkpoint.specs.declared.stage.Stage.TheVariants.{Off as Off_, T
 use Rattle.rep_checkpoint.specs.Standing.{Standing as Checkpoint, IsCheckpoint, IsNext, stage_of}
 use Rattle.rep_checkpoint.specs.Moves.{after_sync as checkpoint_after, is_opening}
 use Rattle.rep_checkpoint.specs.Laws.{TheStageIsTheFacts}
-use Rattle.rep_engine.specs.Engines.{Engine, IsEngine, IsWhole, AreWithin, facts_of, durable_of, phase_at}
+use Rattle.rep_engine.specs.Engines.{Engine, IsEngine, IsWhole, HasItemsBehind, AreWithin, facts_of, durable_of, phase_at}
 use Rattle.rep_engine.specs.Writing.{left_of, told_of, PrunesIf}
 
 -- ---- what a sync leaves of the block
@@ -69,6 +70,8 @@ module _ (l : Layout) (c : Checkpoint) (log : Log) (kept : Kept) (block : List J
     begun = omega (arith, h.begun, start, number);
     room = omega (arith, room, start, cells);
     goal = further c.base.position (stage_of c) (omega (arith, seqno)) (sym start) (omega (arith, number)) h.goal;
+    items = omega (arith, h.items, start, seqno, number);
+    behind_goal = behind_more (stage_of c) log next (omega (arith, seqno, number)) h.behind_goal;
     follow = rw seqno h.follow;
     fits = h.fits;
     few = h.few;
@@ -92,6 +95,8 @@ module _ (l : Layout) (c : Checkpoint) (log : Log) (kept : Kept) (block : List J
     begun = omega (arith, h.begun);
     room = omega (arith, room);
     goal = further c.base.position (stage_of c) (omega arith) refl (omega arith) h.goal;
+    items = omega (arith, h.items, whole.some);
+    behind_goal = behind_more (stage_of c) log (synced_in log (Opening n)) (omega (arith, whole.some)) h.behind_goal;
     follow = tt;
     fits = refl;
     few = omega arith;
@@ -128,8 +133,8 @@ module _ (l : Layout) (b : SuperBody) (log : Log) (kept after : Kept) (block : L
   at stage = record { base = b; stage = stage }
 
   -- the base stays, with the log as it was
-  keeps : (stage next : Stages) → IsEngine l (at stage) log kept block → IsCheckpoint (at next) → HasGoal b.position (durable_of log) log.start log.next (stage_of (at next)) → after ≡ kept → IsEngine l (at next) (started b.start log) after block
-  keeps stage next h is goal same =
+  keeps : (stage next : Stages) → IsEngine l (at stage) log kept block → IsCheckpoint (at next) → HasGoal b.position (durable_of log) log.start log.next (stage_of (at next)) → HasItemsBehind (stage_of (at next)) log → after ≡ kept → IsEngine l (at next) (started b.start log) after block
+  keeps stage next h is goal behind same =
       subst (λ (k : Log). IsEngine l (at next) k after block) (sym (started_same log b.start (sym h.start) h.begun)) (subst (λ (k : Kept). IsEngine l (at next) log k block) (sym same) (record {
         checkpoint = is;
         layout = h.layout;
@@ -138,7 +143,9 @@ module _ (l : Layout) (b : SuperBody) (log : Log) (kept after : Kept) (block : L
         behind = h.behind;
         begun = h.begun;
         room = h.room;
+        items = h.items;
         goal = goal;
+        behind_goal = behind;
         follow = h.follow;
         fits = h.fits;
         few = h.few;
@@ -150,12 +157,12 @@ module _ (l : Layout) (b : SuperBody) (log : Log) (kept after : Kept) (block : L
 
   raised_by : (stage : Stages) → IsEngine l (at stage) log kept block → IsCheckpoint (checkpoint_after (at stage)) → PrunesIf (is_opening stage) (checkpoint_after (at stage)).base.position kept after
       → IsEngine l (checkpoint_after (at stage)) (started (checkpoint_after (at stage)).base.start log) after block
-  raised_by Off_ h is pruned = keeps Off_ Off_ h is tt pruned
-  raised_by (Toward_ next Flushing) h is pruned = keeps (Toward_ next Flushing) (Toward_ next Flushing) h is h.goal pruned
-  raised_by (Toward_ next Saving) h is pruned = keeps (Toward_ next Saving) (Toward_ next Ready) h is (record { above = h.goal.above; within = h.goal.within; started = h.goal.started; begun = h.goal.begun }) pruned
-  raised_by (Toward_ next Ready) h is pruned = keeps (Toward_ next Ready) (Toward_ next Ready) h is h.goal pruned
-  raised_by (Toward_ next SuperFilling) h is pruned = keeps (Toward_ next SuperFilling) (Toward_ next SuperFilled) h is (record { above = h.goal.above; within = h.goal.within; started = h.goal.started; begun = h.goal.begun }) pruned
-  raised_by (Toward_ next SuperFilled) h is pruned = keeps (Toward_ next SuperFilled) (Toward_ next SuperFilled) h is h.goal pruned
+  raised_by Off_ h is pruned = keeps Off_ Off_ h is tt tt pruned
+  raised_by (Toward_ next Flushing) h is pruned = keeps (Toward_ next Flushing) (Toward_ next Flushing) h is h.goal h.behind_goal pruned
+  raised_by (Toward_ next Saving) h is pruned = keeps (Toward_ next Saving) (Toward_ next Ready) h is (record { above = h.goal.above; within = h.goal.within; started = h.goal.started; begun = h.goal.begun }) h.behind_goal pruned
+  raised_by (Toward_ next Ready) h is pruned = keeps (Toward_ next Ready) (Toward_ next Ready) h is h.goal h.behind_goal pruned
+  raised_by (Toward_ next SuperFilling) h is pruned = keeps (Toward_ next SuperFilling) (Toward_ next SuperFilled) h is (record { above = h.goal.above; within = h.goal.within; started = h.goal.started; begun = h.goal.begun }) h.behind_goal pruned
+  raised_by (Toward_ next SuperFilled) h is pruned = keeps (Toward_ next SuperFilled) (Toward_ next SuperFilled) h is h.goal h.behind_goal pruned
   raised_by (Toward_ next SuperOpening) h is pruned =
       let follows : IsNext b next = h.checkpoint.going in
       subst (λ (k : Log). IsEngine l (record { base = next.super; stage = Retiring_ false }) k after block) (sym (started_later log next.super.start h.goal.started h.goal.begun)) (record {
@@ -166,7 +173,9 @@ module _ (l : Layout) (b : SuperBody) (log : Log) (kept after : Kept) (block : L
         behind = omega (arith, h.goal.within, h.behind);
         begun = h.goal.begun;
         room = omega (arith, h.room, h.goal.started);
+        items = h.behind_goal;
         goal = tt;
+        behind_goal = tt;
         follow = h.follow;
         fits = h.fits;
         few = h.few;
@@ -175,8 +184,8 @@ module _ (l : Layout) (b : SuperBody) (log : Log) (kept after : Kept) (block : L
         undefined = λ nil. h.undefined (subst (λ (u : List ℕ). IsTrue (is_nil_bytes u)) follows.uuid nil);
         within = within_pruned b.position next.super.position (durable_of log + length block) kept after h.within pruned;
       })
-  raised_by (Retiring_ false) h is pruned = keeps (Retiring_ false) (Retiring_ false) h is tt pruned
-  raised_by (Retiring_ true) h is pruned = keeps (Retiring_ true) Off_ h is tt pruned
+  raised_by (Retiring_ false) h is pruned = keeps (Retiring_ false) (Retiring_ false) h is tt tt pruned
+  raised_by (Retiring_ true) h is pruned = keeps (Retiring_ true) Off_ h is tt tt pruned
 
 pub engine_raised : (l : Layout) (c d : Checkpoint) (log next : Log) (kept after : Kept) (block : List Judged) (rose : Bool) → IsEngine l c log kept block → d ≡ checkpoint_after c → IsCheckpoint d → rose ≡ is_opening c.stage → PrunesIf rose d.base.position kept after
     → next ≡ started d.base.start log → IsEngine l d next after block

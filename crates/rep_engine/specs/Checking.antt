@@ -8,7 +8,6 @@ use Rattle.rep_cert.specs.Holdings.{Holding, IsAskable, Admits, window_of, made_
 use Rattle.rep_versions.specs.Versions.{ArePages}
 use Rattle.rep_steps.specs.declared.answer.Answer.{Answer}
 use Rattle.rep_steps.specs.declared.answer.Answer.TheVariants.{Began, Wrote, Refused}
-use Rattle.rep_checkpoint.specs.Standing.{Standing as Checkpoint}
 use Rattle.rep_checkpoint.specs.Moves.{begun, next_of}
 use Rattle.rep_checkpoint.specs.Calls.{Begins}
 use Rattle.rep_checkpoint.specs.Windows.{IsWindowAt}

@@ -16,7 +16,7 @@ use Rattle.rep_versions.specs.Versions.{Kept, Version, version_at, coded_version
 use Rattle.rep_log.specs.declared.phase.Phase.{Phase}
 use Rattle.rep_log.specs.declared.phase.Phase.TheVariants.{Resting, Closing, Filling, Filled, Opening}
 use Rattle.rep_log.specs.Standing.{busy, Standing as Log}
-use Rattle.rep_steps.specs.Standings.{Standing, HasGoal}
+use Rattle.rep_steps.specs.Standings.{Standing, Stage, Off, Toward, Retiring, HasGoal}
 use Rattle.rep_checkpoint.specs.Standing.{Standing as Checkpoint, IsCheckpoint, stage_of}
 
 -- What an engine holds: the device and where its places lie, the checkpoint with the superblock of its base, the log, the versions
@@ -85,12 +85,22 @@ IsWhole (Filling n) block = HasAll n block
 IsWhole (Filled n) block = HasAll n block
 IsWhole (Opening n) block = HasAll n block
 
+-- Each block has an item: behind a position, from the first block on that begins there, there are no more blocks than items.
+abbrev pub HasItems : ℕ → ℕ → Log → Type 0
+HasItems position start log = log.next + position < start + log.seqno
+
+-- and so it is behind a base that is on its way
+abbrev pub HasItemsBehind : Stage → Log → Type 0
+HasItemsBehind Off log = Unit {0}
+HasItemsBehind (Toward goal part) log = HasItems goal.position goal.start log
+HasItemsBehind (Retiring written) log = Unit {0}
+
 -- The versions are of items above the base, up to the last one.
 abbrev pub AreWithin : ℕ → ℕ → Kept → Type 0
 AreWithin base last kept = (key : Key) (s : ℕ) (version : Version) → version_at kept key s ≡ Some version → (base < s) × (s ≤ last)
 
 -- What is so of an engine, whatever the device does: log and gathered items go on behind the base, the log's next block has its
--- cell, and a base that is on its way lies between the one that stands and what is durable.
+-- cell, each of its blocks has an item, and a base that is on its way lies between the one that stands and what is durable.
 pub record IsEngine (l : Layout) (c : Checkpoint) (log : Log) (kept : Kept) (block : List Judged) : Type 0 where
   pub checkpoint : IsCheckpoint c
   pub layout : l ≡ layout_of c.base.params
@@ -99,7 +109,9 @@ pub record IsEngine (l : Layout) (c : Checkpoint) (log : Log) (kept : Kept) (blo
   pub behind : c.base.position < log.seqno
   pub begun : log.start ≤ log.next
   pub room : log.next + busy log.phase ≤ log.start + log.cells
+  pub items : HasItems c.base.position log.start log
   pub goal : HasGoal c.base.position (durable_of log) log.start log.next (stage_of c)
+  pub behind_goal : HasItemsBehind (stage_of c) log
   pub follow : SeqnosFrom log.seqno block
   pub fits : fitting [] block ≡ length block
   pub few : length block ≤ MAX_RECORDS

@@ -13,10 +13,12 @@ ghost use Rattle.rep_steps.specs.Nodes.{Node, Steps};
 ghost use Rattle.rep_steps.specs.Images.{IsFrontAt};
 ghost use Rattle.rep_image.specs.Meanings.{Means};
 ghost use Rattle.rep_engine.specs.Engines.{IsEngine, facts_of, phase_at, durable_of, gtid_of};
+ghost use Rattle.rep_log.specs.Standing.{due_of};
 ghost use Rattle.rep_log.specs.Moves.{after_sync, started, fault_of, SyncsLog, StartsLater};
 ghost use Rattle.rep_checkpoint.specs.Moves.{after_sync as checkpoint_after, is_opening};
 ghost use Rattle.rep_checkpoint.specs.Calls.{SyncsTo};
-ghost use Rattle.rep_engine.specs.Writing.{left_of, told_of, PrunesIf};
+ghost use Rattle.rep_checkpoint.specs.Standing.{due_in};
+ghost use Rattle.rep_engine.specs.Writing.{written_in, left_of, told_of, PrunesIf};
 ghost use Rattle.rep_engine.specs.Holding.{Holds, wrote, synced};
 
 use crate::write::write_next;
@@ -154,6 +156,8 @@ impl<D: Disk> Engine<D> {
         ensures unchanged { IfErr result (λ e. (e ≡ DiskFault) ⊎ (self.new ≡ self.old)) }
         // It takes no memory.
         ensures memory { IfErr result (λ e. e ≢ OutOfMemory) }
+        // The log has made the step that was due.
+        ensures log { OnOk result (self.new.log ≡ written_in (due_of self.old.log) (length self.old.block) self.old.log) }
         ensures leaves { (n : Node) → Holds D.honest D.history D.failures n self.old → LeavesOnly (D.history self.old.disk) (D.history self.new.disk) (IsFrontAt Means n) }
     {
         nodes_stay_nodes();
@@ -216,6 +220,8 @@ impl<D: Disk> Engine<D> {
         ensures rest { self.new ≡ record (self.old) { disk = self.new.disk; checkpoint = self.new.checkpoint; log = self.new.log; kept = self.new.kept; block = self.new.block; halted = self.new.halted } }
         ensures params { self.new.checkpoint.base.params ≡ self.old.checkpoint.base.params }
         ensures unchanged { IfErr result (λ e. (e ≡ DiskFault) ⊎ (self.new ≡ self.old)) }
+        // The log is as a sync leaves it, from the base's first block on.
+        ensures log { OnOk result (self.new.log ≡ started self.new.checkpoint.base.start (after_sync self.old.log)) }
         ensures moves { Moves (facts_of D.failures self.old) to_sync (synced result) (facts_of D.failures self.new) }
         ensures steps { (n : Node) → Holds D.honest D.history D.failures n self.old → (m : Node) × Steps n to_sync (synced result) m × Holds D.honest D.history D.failures m self.new }
         ensures leaves { (n : Node) → Holds D.honest D.history D.failures n self.old → LeavesOnly (D.history self.old.disk) (D.history self.new.disk) (IsFrontAt Means n) }
@@ -236,6 +242,20 @@ impl<D: Disk> Engine<D> {
         let replies = self.settle();
         self.raise();
         Ok(replies)
+    }
+
+    /// What the log's next block waits for: a write, a sync, or that its cell is no longer live.
+    pub fn log_step(&self) -> Step
+        ensures { result ≡ due_of self.now.log }
+    {
+        self.log.step_due()
+    }
+
+    /// What the checkpoint waits for: to begin, a page's flush, a write, or a sync.
+    pub fn checkpoint_step(&self) -> rep_checkpoint::Step
+        ensures { result ≡ due_in self.now.checkpoint.stage }
+    {
+        self.checkpoint.step_due()
     }
 
     /// Whether the device has failed: the engine then refuses everything.

@@ -32,7 +32,7 @@ use Rattle.rep_checkpoint.specs.Standing.{Standing, IsGoing, stage_of}
 use Rattle.rep_checkpoint.specs.Moves.{stage_found, found_at}
 use Rattle.rep_checkpoint.specs.Laws.{HasBase, TheBaseIsFound}
 use Rattle.rep_checkpoint.specs.Nodes.{StandsAs, NodesLeaveTheirFronts}
-use Rattle.rep_engine.specs.Engines.{Engine, IsEngine, IsWhole, facts_of, durable_of}
+use Rattle.rep_engine.specs.Engines.{Engine, IsEngine, IsWhole, HasItemsBehind, facts_of, durable_of}
 use Rattle.rep_engine.specs.Holding.{Stands as Runs}
 use Rattle.rep_recover.specs.Opening.{IsOpened, Recovers}
 use Rattle.rep_recover.specs.Starting.{engine_of, node_of, IsStart, OpensNode}
@@ -55,6 +55,10 @@ going b false = tt
 no_goal : (base durable start next : ℕ) (b : SuperBody) (both : Bool) → HasGoal base durable start next (stage_of (found_at b both))
 no_goal base durable start next b true = tt
 no_goal base durable start next b false = tt
+
+no_items : (log : Log) (b : SuperBody) (both : Bool) → HasItemsBehind (stage_of (found_at b both)) log
+no_items log b true = tt
+no_items log b false = tt
 
 not_toward : (both : Bool) (next : Next) (part : Part) → stage_found both ≡ Toward next part → ⊥
 not_toward true next part e = cc
@@ -84,7 +88,9 @@ module _ (size : ℕ) (b : SuperBody) (l : Layout) (log : Log) (items : List Jud
     behind = omega (arith, s.seqno);
     begun = omega (arith, s.start, s.later);
     room = subst (λ (p : Phase). log.next + busy p ≤ log.start + log.cells) (sym s.phase) (omega (arith, s.start, s.cells, s.lap));
+    items = omega (arith, s.start, s.seqno, s.filled);
     goal = no_goal b.position (durable_of log) log.start log.next b both;
+    behind_goal = no_items log b both;
     follow = tt;
     fits = refl;
     few = omega arith;

@@ -1,15 +1,11 @@
-use Rattle.std.proofs.Common.{◌≡◌, None, Some, Ok, Err, refl, sym, ap, subst, ◌∙◌}
-use Rattle.rep_disk.specs.Moments.{LeavesOnly}
+use Rattle.std.proofs.Common.{◌≡◌, None, Ok, Err, refl, sym, ap, subst, ◌∙◌}
 use Rattle.rep_types.specs.declared.refusal.Refusal.TheVariants.{DiskFault}
 use Rattle.rep_steps.specs.declared.event.Event.TheVariants.{Check as to_check}
 use Rattle.rep_steps.specs.declared.answer.Answer.TheVariants.{Wrote, Refused}
 use Rattle.rep_steps.specs.Moves.{Moves}
 use Rattle.rep_steps.specs.Nodes.{Steps}
-use Rattle.rep_steps.specs.Images.{IsFrontAt}
-use Rattle.rep_image.specs.Meanings.{Means}
-use Rattle.rep_checkpoint.specs.declared.stage.Stage.{Stage}
 use Rattle.rep_checkpoint.specs.declared.stage.Stage.TheVariants.{Off}
-use Rattle.rep_checkpoint.specs.declared.stage.Step.TheVariants.{Begin, Flush, Next as GoOn, Sync as AwaitsSync}
+use Rattle.rep_checkpoint.specs.declared.stage.Step.TheVariants.{Flush, Next as GoOn, Sync as AwaitsSync}
 use Rattle.rep_checkpoint.specs.Standing.{stage_of, due_in}
 use Rattle.rep_checkpoint.specs.Moves.{next_refusal_at}
 use Rattle.rep_disk.specs.Calls.{IsCall}

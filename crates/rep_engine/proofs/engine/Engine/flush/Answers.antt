@@ -1,5 +1,4 @@
 use Rattle.std.proofs.Common.{ℕ, refl, sym, ap, subst, ◌∙◌, arith}
-use Rattle.std.proofs.lemmas.Bool.Decides.{nat_tests}
 use Rattle.rep_steps.specs.declared.event.Event.TheVariants.{Flush as to_flush}
 use Rattle.rep_steps.specs.Moves.{Moves}
 use Rattle.rep_steps.specs.Nodes.{Steps}

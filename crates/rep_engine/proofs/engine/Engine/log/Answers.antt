@@ -1,3 +1,4 @@
+use Rattle.std.specs.Prelude.{length, OnOk}
 use Rattle.std.proofs.Common.{◌≡◌, List, Option, None, Some, refl, sym, ap, subst, ◌∙◌}
 use Rattle.rep_disk.specs.Moments.{LeavesOnly}
 use Rattle.rep_types.specs.declared.judged.Judged.{Judged}
@@ -5,7 +6,7 @@ use Rattle.rep_checkpoint.specs.Standing.{Standing as Checkpoint}
 use Rattle.rep_versions.specs.Versions.{Kept}
 use Rattle.rep_cells.specs.declared.cells.Cells.{Cells}
 use Rattle.rep_log.specs.declared.phase.Phase.{Phase}
-use Rattle.rep_log.specs.Standing.{Standing as Log}
+use Rattle.rep_log.specs.Standing.{Standing as Log, due_of}
 use Rattle.rep_cells.specs.Device.{disk_of, layout_of}
 use Rattle.rep_steps.specs.declared.event.Event.TheVariants.{Log as to_log}
 use Rattle.rep_steps.specs.Standings.{log_refusal}
@@ -13,6 +14,8 @@ use Rattle.rep_steps.specs.Moves.{Moves}
 use Rattle.rep_steps.specs.Images.{IsFrontAt}
 use Rattle.rep_image.specs.Meanings.{Means}
 use Rattle.rep_engine.specs.Engines.{Engine, facts_of}
+use Rattle.rep_engine.specs.Writing.{written_in}
+use Rattle.rep_checkpoint.proofs.GoingOn.{if_ok}
 use Rattle.rep_engine.specs.Holding.{Holds, wrote}
 use Rattle.rep_engine.proofs.Steps.{refused_log}
 use Rattle.rep_engine.proofs.Answering.{none_of, halted_err, halted_ok}
@@ -93,3 +96,8 @@ returns-else-is_err-clause-leaves g c = λ n holds.
     subst (λ (e : Engine g.row.D.Denot). LeavesOnly (g.D.Disk.history e.disk) (g.D.Disk.history (disk_of c.write_next-written.new.cells)) (IsFrontAt Means n)) c.self.view_is
     (logged_leaves g.D.Disk.honest g.D.Disk.history g.D.Disk.size g.D.Disk.failures _ _ g.met.D.Disk.sized c.nodes_stay_nodes.ensures c.nodes_leave_their_fronts.ensures c.the_log_is_apart.ensures c.write_next-written.result (done g c) n
     (subst (λ (e : Engine g.row.D.Denot). Holds g.D.Disk.honest g.D.Disk.history g.D.Disk.failures n e) (sym c.self.view_is) holds))
+
+pub returns-else-is_err-clause-log : goal.returns-else-is_err-clause-log
+returns-else-is_err-clause-log g c =
+    subst (λ (e : Engine g.row.D.Denot). OnOk c.write_next-written.result (c.write_next-written.new.log ≡ written_in (due_of e.log) (length e.block) e.log)) c.self.view_is
+    (if_ok c.write_next-written.result (c.write_next-written.new.log ≡ written_in (due_of c.self.inside.log) (length c.self.inside.block) c.self.inside.log) c.write_next-written.ensures.written.stands)

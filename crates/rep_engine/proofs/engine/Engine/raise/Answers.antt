@@ -1,5 +1,4 @@
-use Rattle.std.proofs.Common.{sym, ap, subst, ◌∙◌}
-use Rattle.rep_log.specs.Standing.{Standing as Log}
+use Rattle.std.proofs.Common.{ap, subst, ◌∙◌}
 use Rattle.rep_log.specs.Moves.{started, StartsLater}
 use Rattle.rep_layout.specs.declared.super_body.SuperBody.{SuperBody}
 use Rattle.rep_cells.specs.Device.{layout_of}

@@ -1,4 +1,4 @@
-use Rattle.std.proofs.Common.{◌≡◌, List, Option, Some, Ok, Err, refl, sym, ap, subst, ◌∙◌, arith}
+use Rattle.std.proofs.Common.{◌≡◌, List, Option, Some, Ok, Err, refl, sym, ap, subst, ◌∙◌}
 use Rattle.rep_disk.specs.Moments.{LeavesOnly}
 use Rattle.rep_disk.specs.Calls.{IsCall}
 use Rattle.rep_cells.specs.Calls.{Settles}
@@ -10,7 +10,7 @@ use Rattle.rep_cells.specs.Device.{disk_of, layout_of}
 use Rattle.rep_cells.specs.declared.cells.Cells.{Cells}
 use Rattle.rep_log.specs.declared.phase.Phase.{Phase}
 use Rattle.rep_log.specs.Standing.{Standing as Log}
-use Rattle.rep_log.specs.Moves.{started}
+use Rattle.rep_log.specs.Moves.{after_sync, started}
 use Rattle.rep_checkpoint.specs.Moves.{after_sync as checkpoint_after, is_opening}
 use Rattle.rep_checkpoint.specs.Calls.{SyncsTo}
 use Rattle.rep_engine.specs.Writing.{PrunesIf}
@@ -104,3 +104,12 @@ returns-clause-leaves g c = λ n holds.
     subst (λ (e : Engine g.row.D.Denot). LeavesOnly (g.D.Disk.history e.disk) (g.D.Disk.history c.raise.new.self.disk) (IsFrontAt Means n)) c.self.view_is
     (sync_leaves g.D.Disk.honest g.D.Disk.history g.D.Disk.size g.D.Disk.failures g.met.D.Disk.sized c.the_stage_is_the_facts.ensures _ _ (Ok c.settle-replies.result) c.sync.result (done g c) n
     (subst (λ (e : Engine g.row.D.Denot). Holds g.D.Disk.honest g.D.Disk.history g.D.Disk.failures n e) (sym c.self.view_is) holds))
+
+pub returns-clause-log : goal.returns-clause-log
+returns-clause-log g c =
+    let settled = c.settle-replies.ensures.after in
+    let is = c.raise.ensures.after in
+    let mid = c.settle-replies.new.self in
+    let log : mid.log ≡ after_sync c.args.self.now.log = ap (λ (e : Engine g.row.D.Denot). e.log) settled ∙ ap (λ (e : Engine g.row.D.Denot). after_sync e.log) c.self.view_is in
+    let checkpoint : c.raise.new.self.checkpoint ≡ checkpoint_after mid.checkpoint = ap (λ (e : Engine g.row.D.Denot). e.checkpoint) is in
+    ap (λ (e : Engine g.row.D.Denot). e.log) is ∙ ap (λ (k : Checkpoint). started k.base.start mid.log) (sym checkpoint) ∙ ap (started c.raise.new.self.checkpoint.base.start) log
