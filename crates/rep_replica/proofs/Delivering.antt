@@ -26,6 +26,8 @@ use Rattle.rep_steps.specs.Images.{AreJudgedFrom}
 use Rattle.rep_engine.specs.Engines.{Engine, facts_of as engine_facts}
 use Rattle.rep_engine.specs.Holding.{Holds as EngineHolds}
 use Rattle.rep_engine.specs.Checking.{CertifiersHoldWindows}
+use Rattle.rep_record.specs.Records.{is_placed}
+use Rattle.rep_replica.proofs.Placing.{placed_more, judged_placed}
 use Rattle.rep_replica.specs.Replicas.{Replica, facts_of, IsReplica}
 use Rattle.rep_replica.specs.Holding.{Holds, IsStep}
 use Rattle.rep_replica.proofs.Lists.{seqnos_more, judged_more, reached_position, reached_more}
@@ -131,6 +133,7 @@ module _ {D : Type 0} (honest : D → Type 0) (history : D → History) (failure
                 limit = omega (arith, length-append old.backlog (j ∷ []), go.count, count, limited);
                 undefined = λ nil. absurd (let never : false ≡ true = sym passed.0 ∙ nil in cc);
               };
+              placed = placed_more old.backlog j go.placed (subst (λ (x : Judged). is_placed x ≡ true) (sym j_is) (judged_placed h w (omega (arith, limited, count))));
               count = omega (arith, admits.delivered, go.count, length-append old.backlog (j ∷ []));
             };
       }))

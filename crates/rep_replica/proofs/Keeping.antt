@@ -15,6 +15,7 @@ use Rattle.rep_steps.specs.declared.answer.Answer.TheVariants.{Refused}
 use Rattle.rep_steps.specs.Standings.{Standing, delivered, refusal}
 use Rattle.rep_steps.specs.Moves.{Found, Moves, Fails, MeetsCorruption, answer, after, opening}
 use Rattle.rep_engine.specs.Accepting.{ComeNext}
+use Rattle.rep_replica.proofs.Placing.{placed_drop}
 use Rattle.rep_replica.specs.Replicas.{IsReplica}
 use Rattle.rep_replica.proofs.Lists.{seqnos_drop}
 
@@ -82,7 +83,7 @@ replica_keeps s t js h stopped running k r =
         past = omega (arith, go.count, k.count);
       };
       windows = r.windows;
-      items = λ is. record { come = come_still s t js k go.come; count = go.count ∙ ap (λ n. n + length js) (sym k.count) };
+      items = λ is. record { come = come_still s t js k go.come; placed = go.placed; count = go.count ∙ ap (λ n. n + length js) (sym k.count) };
     }
 
 -- the first so many of the items that wait are taken
@@ -103,6 +104,7 @@ replica_takes s t js h stopped k le is r =
               limit = omega (arith, size, all, left, le, go.come.limit);
               undefined = λ nil. ap (drop k) (go.come.undefined nil) ∙ drop_none k;
             };
+            placed = placed_drop k js go.placed;
             count = omega (arith, size, all, left, le, go.count);
           };
     })

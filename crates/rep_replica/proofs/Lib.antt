@@ -1,5 +1,6 @@
 pub mod Lists
 pub mod Widening
+pub mod Placing
 pub mod Keeping
 pub mod Gathering
 pub mod Delivering
