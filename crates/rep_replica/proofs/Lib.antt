@@ -2,6 +2,7 @@ pub mod Lists
 pub mod Widening
 pub mod Placing
 pub mod Keeping
+pub mod Settling
 pub mod Gathering
 pub mod Delivering
 pub mod Stepping

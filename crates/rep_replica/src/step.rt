@@ -1,10 +1,11 @@
 //! The steps of a replica.
 
-ghost use Rattle.std.specs.Prelude.{◌≡◌, ◌++◌, ◌||◌, [], None, Err, false, true, is_some, IfErr, OnOk};
+ghost use Rattle.std.specs.Prelude.{◌≡◌, ◌++◌, ◌||◌, [], None, Ok, Err, false, true, length, is_some, IfErr, OnOk};
 ghost use Rattle.rep_types.specs.declared.refusal.Refusal.TheVariants.{OutOfMemory};
 ghost use Rattle.rep_record.specs.Fronts.{fitting};
 ghost use Rattle.rep_disk.specs.Calls.{IsCall};
-ghost use Rattle.rep_log.specs.Moves.{fault_of};
+ghost use Rattle.rep_log.specs.Standing.{due_of};
+ghost use Rattle.rep_log.specs.Moves.{fault_of, after_sync, started};
 ghost use Rattle.rep_steps.specs.declared.event.Event.TheVariants.{Deliver, Log, Sync, Check, Flush, Read};
 ghost use Rattle.rep_steps.specs.declared.answer.Answer.TheVariants.{Refused};
 ghost use Rattle.rep_steps.specs.Standings.{delivery_refusal};
@@ -12,8 +13,10 @@ ghost use Rattle.rep_steps.specs.Nodes.{Node};
 ghost use Rattle.rep_engine.specs.Accepting.{is_gathering};
 ghost use Rattle.rep_engine.specs.Holding.{wrote, synced, row};
 ghost use Rattle.rep_engine.specs.Checking.{checked};
+ghost use Rattle.rep_engine.specs.Writing.{written_in};
 ghost use Rattle.rep_replica.specs.Replicas.{facts_of};
 ghost use Rattle.rep_replica.specs.Holding.{Holds, IsStep};
+ghost use Rattle.rep_replica.specs.Settling.{outcome_of};
 
 use crate::replica::Replica;
 use rep_disk::Disk;
@@ -132,9 +135,11 @@ impl<D: Disk> Replica<D> {
     }
 
     /// Writes what the log has to write next, of what was delivered.
-    fn log(&mut self) -> Answer
+    pub(crate) fn log(&mut self) -> Answer
         requires running { (self.old.stopped ≡ false) × (self.old.engine.halted ≡ None) }
-        ensures { IsStep D.honest D.history D.failures self.old Log result self.new }
+        ensures step { IsStep D.honest D.history D.failures self.old Log result self.new }
+        // The log has made the step that was due.
+        ensures log { outcome_of result ≡ Ok tt → self.new.engine.log ≡ written_in (due_of self.old.engine.log) (length self.new.engine.block) self.old.engine.log }
     {
         parts_step_as_the_whole();
         nodes_stay_nodes();
@@ -151,9 +156,11 @@ impl<D: Disk> Replica<D> {
     }
 
     /// Makes stable what was written.
-    fn sync(&mut self) -> Answer
+    pub(crate) fn sync(&mut self) -> Answer
         requires running { (self.old.stopped ≡ false) × (self.old.engine.halted ≡ None) }
-        ensures { IsStep D.honest D.history D.failures self.old Sync result self.new }
+        ensures step { IsStep D.honest D.history D.failures self.old Sync result self.new }
+        // The log is as a sync leaves it.
+        ensures log { outcome_of result ≡ Ok tt → self.new.engine.log ≡ started self.new.engine.checkpoint.base.start (after_sync self.old.engine.log) }
     {
         parts_step_as_the_whole();
         nodes_stay_nodes();
@@ -163,7 +170,7 @@ impl<D: Disk> Replica<D> {
     }
 
     /// Takes the checkpoint's next step.
-    fn check(&mut self) -> Answer
+    pub(crate) fn check(&mut self) -> Answer
         requires running { (self.old.stopped ≡ false) × (self.old.engine.halted ≡ None) }
         ensures { IsStep D.honest D.history D.failures self.old Check result self.new }
     {
