@@ -3,6 +3,7 @@ pub mod Widening
 pub mod Placing
 pub mod Keeping
 pub mod Settling
+pub mod LoggingOn
 pub mod Gathering
 pub mod Delivering
 pub mod Stepping

@@ -315,6 +315,35 @@ module _ {D : Type 0} (honest : D → Type 0) (history : D → History) (failure
   pub ends_on : IsRunning old → (due : (e : Event) × (step_of (facts_of failures old).stage ≡ Some e)) → IsStep honest history failures old due.0 a new → IfErr result EndsEarly
   ends_on running due step = subst (λ (r : Result (Unit {0}) Refusal). IfErr r EndsEarly) (sym is) (step_early (facts_of failures old) (facts_of failures new) due.0 a (runs_on failures old running) due.1 step.moves)
 
+-- a step of the log, or a sync, where nothing refuses it
+module _ {D : Type 0} (honest : D → Type 0) (history : D → History) (failures : D → ℕ) (old new : Replica D) (e : Event) (a : Answer) (result : Result (Unit {0}) Refusal) (is : result ≡ outcome_of a)
+    (own : IsOwn e) (running : IsRunning old) (none : refusal_here (facts_of failures old) e ≡ None) (step : IsStep honest history failures old e a new) where
+  pub one_works : StateIsEnough → Works honest history failures old new result
+  one_works enough = subst (λ (r : Result (Unit {0}) Refusal). Works honest history failures old new r) (sym is) (works_one honest history failures enough old new e a own step)
+
+  pub one_early : IfErr result EndsEarly
+  one_early = subst (λ (r : Result (Unit {0}) Refusal). IfErr r EndsEarly) (sym is) (early_by (facts_of failures old) (facts_of failures new) e a (not_refused (facts_of failures old) e (runs_on failures old running) none) step.moves)
+
+  pub one_done : result ≡ Ok tt → (f : Found) × (facts_of failures new ≡ after (facts_of failures old) e f)
+  one_done done = done_by (facts_of failures old) (facts_of failures new) e a (not_refused (facts_of failures old) e (runs_on failures old running) none) step.moves (sym is ∙ done)
+
+pub on_ok : {P : Type 0} → (r : Result (Unit {0}) Refusal) → (r ≡ Ok tt → P) → OnOk r P
+on_ok (Ok x) f = f refl
+on_ok (Err e) f = tt
+
+pub ok_on : {P : Type 0} → (r : Result (Unit {0}) Refusal) → OnOk r P → r ≡ Ok tt → P
+ok_on (Ok x) p done = p
+ok_on (Err e) p done = absurd (let never : Err e ≡ Ok tt = done in cc)
+
+-- it still runs
+pub still_running : {D : Type 0} (failures : D → ℕ) (old new : Replica D) (e : Event) (f : Found) → IsOwn e → IsRunning old → facts_of failures new ≡ after (facts_of failures old) e f → IsRunning new
+still_running failures old new (Deliver seqno w) f own running is = absurd own
+still_running failures old new Log f own running is = is_running failures new (ap (λ (x : Standing). x.stopped) is ∙ runs_on failures old running)
+still_running failures old new Sync f own running is = is_running failures new (ap (λ (x : Standing). x.stopped) is ∙ runs_on failures old running)
+still_running failures old new Check f own running is = is_running failures new (ap (λ (x : Standing). x.stopped) is ∙ runs_on failures old running)
+still_running failures old new (Flush page) f own running is = is_running failures new (ap (λ (x : Standing). x.stopped) is ∙ runs_on failures old running)
+still_running failures old new (Read key at) f own running is = absurd own
+
 pub rests_none : (s : Standing) → s.phase ≡ Resting → Rests s s
 rests_none s rests = record { phase = rests; ahead = refl; setting = refl; next = refl; start = refl }
 
