@@ -5,12 +5,12 @@ use Rattle.rep_replica.specs.Settling.{IsRunning, Works, work_of}
 use Rattle.rep_replica.proofs.replica.Replica.settle.Given as goal
 
 -- the steps so far, none of which was refused, and no checkpoint is under way
-abbrev pub invariant-loop-1 : goal.invariant-loop-1
-invariant-loop-1 g l = record {
+abbrev pub invariant-loop-self : goal.invariant-loop-self
+invariant-loop-self g l = record {
   works : Works g.D.Disk.honest g.D.Disk.history g.D.Disk.failures l.initial.self l.self (Ok tt);
   running : IsRunning l.self;
   off : (facts_of g.D.Disk.failures l.self).stage ≡ Off;
 }
 
-abbrev pub decreases-loop-1 : goal.decreases-loop-1
-decreases-loop-1 g l = work_of g.D.Disk.failures l.self
+abbrev pub decreases-loop-self : goal.decreases-loop-self
+decreases-loop-self g l = work_of g.D.Disk.failures l.self
