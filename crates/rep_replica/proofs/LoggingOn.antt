@@ -1,12 +1,11 @@
 -- The log's steps of a replica that settles, and how much they leave to do.
-use Rattle.std.proofs.Common.{◌≡◌, ◌≢◌, ℕ, zero, suc, ◌+◌, ◌-◌, ◌*◌, ◌%◌, ◌<◌, ◌≤◌, ◌⊎◌, inl, inr, Bool, true, false, List, [], ◌∷◌, ◌++◌, length, drop, Option, None, Some, Result, Ok, Err, refl, sym, ap, subst, ◌∙◌, arith, get_or-set_same, length-set, length-drop, length-append}
+use Rattle.std.proofs.Common.{◌≡◌, ℕ, ◌+◌, ◌*◌, ◌<◌, ◌≤◌, inl, inr, Bool, true, false, List, [], ◌∷◌, ◌++◌, length, drop, None, Some, refl, sym, ap, subst, ◌∙◌, arith, get_or-set_same, length-set, length-drop, length-append}
 use Rattle.std.proofs.Math.ListN.{get_or-eq_default}
 use Rattle.rep_types.specs.Settings.{Setting, is_setting}
 use Rattle.std.proofs.lemmas.Bool.{cases_lt}
 use Rattle.std.proofs.lemmas.Bool.Decides.{nat_tests}
-use Rattle.std.specs.Prelude.{IfErr, IfSome, IsTrue, nat_le, ◌==◌, is_some, if◌then◌else◌, get_or, slice_get, slice_set, max, min}
+use Rattle.std.specs.Prelude.{IfSome, nat_le, ◌==◌, if◌then◌else◌, get_or, slice_get, slice_set}
 use Rattle.rep_types.specs.declared.judged.Judged.{Judged}
-use Rattle.rep_types.specs.declared.refusal.Refusal.{Refusal}
 use Rattle.rep_types.specs.declared.refusal.Refusal.TheVariants.{NotDue, LogFull}
 use Rattle.rep_types.specs.Transactions.{IsWithinLimits}
 use Rattle.rep_record.specs.Blocks.{has_room}
@@ -17,8 +16,8 @@ use Rattle.rep_log.specs.declared.phase.Step.TheVariants.{Recycle, Seal, Gate, S
 use Rattle.rep_log.specs.Standing.{Standing as Log, busy, stands_at, index_of, due_in, due_of}
 use Rattle.rep_log.specs.Moves.{after_sync, synced_in, gated_in, started}
 use Rattle.rep_steps.specs.declared.event.Event.TheVariants.{Log as log_event, Sync, Check}
-use Rattle.rep_steps.specs.Standings.{Standing, refusal_here, log_refusal, check_refusal, gathered, Flushing, Stage, Off, Toward}
-use Rattle.rep_steps.specs.Moves.{Found, after, checked, start_after, synced_stage, opening, taken}
+use Rattle.rep_steps.specs.Standings.{Standing, refusal_here, log_refusal, check_refusal, gathered, Flushing, Off, Toward}
+use Rattle.rep_steps.specs.Moves.{Found, after, checked, start_after, opening}
 use Rattle.rep_engine.specs.Engines.{IsEngine, IsWhole, HasAll, phase_at, durable_of}
 use Rattle.rep_engine.specs.Writing.{IsWrite, written_in}
 use Rattle.rep_replica.specs.Replicas.{Replica, ArePlaced, facts_of}

@@ -1,19 +1,18 @@
 -- What is judged has a place in a block: a conflict is with an item before it.
-use Rattle.std.proofs.Common.{◌≡◌, ℕ, zero, suc, ◌+◌, ◌<◌, ◌≤◌, Bool, true, false, List, [], ◌∷◌, ◌++◌, length, drop, Option, None, Some, refl, sym, ap, subst, ◌∙◌, arith}
+use Rattle.std.proofs.Common.{◌≡◌, ℕ, zero, suc, ◌+◌, ◌<◌, ◌≤◌, Bool, true, false, List, [], ◌∷◌, ◌++◌, drop, Option, None, Some, refl, arith}
 use Rattle.std.proofs.lemmas.Bool.Decides.{nat_tests}
 use Rattle.std.specs.Prelude.{nat_le, nat_lt, ◌&&◌, not, if◌then◌else◌}
 use Rattle.std.specs.List.{Contains}
 use Rattle.rep_types.specs.declared.entry.Entry.{Entry}
 use Rattle.rep_types.specs.declared.judged.Judged.{Judged}
-use Rattle.rep_types.specs.declared.verdict.Verdict.{Verdict}
-use Rattle.rep_types.specs.declared.verdict.Verdict.TheVariants.{Commit, Conflict, Stale, Future, BadKey}
+use Rattle.rep_types.specs.declared.verdict.Verdict.TheVariants.{Stale, Future, BadKey}
 use Rattle.rep_types.specs.declared.limits.TheConstants.{MAX_SEQNO}
 use Rattle.rep_types.specs.Transactions.{Transaction, named}
 use Rattle.rep_types.specs.Order.{against, seqnos_against, greatest, conflict_with, in_schema, floor, touches}
 use Rattle.rep_types.proofs.Greatest.{IsGreatest, IsGreatest-greatest}
 use Rattle.rep_types.proofs.Members.{Contains-from_map, Contains-from_filter}
 use Rattle.rep_record.specs.Records.{is_verdict_at, is_placed}
-use Rattle.rep_cert.specs.Holdings.{Holding, upto, window_of, verdict_of}
+use Rattle.rep_cert.specs.Holdings.{Holding, window_of, verdict_of}
 use Rattle.rep_replica.specs.Replicas.{ArePlaced}
 
 first_of : (a b : Bool) → (a && b) ≡ true → a ≡ true

@@ -1,7 +1,7 @@
 -- What a replica does by itself, step by step.
-use Rattle.std.proofs.Common.{◌≡◌, ◌≢◌, ℕ, zero, suc, ◌+◌, ◌-◌, ◌*◌, ◌<◌, ◌≤◌, ◌⊎◌, inl, inr, Bool, true, false, List, [], ◌∷◌, ◌++◌, append_assoc, length, drop, Option, None, Some, Result, Ok, Err, refl, sym, ap, subst, ◌∙◌, arith}
+use Rattle.std.proofs.Common.{◌≡◌, ℕ, ◌+◌, ◌<◌, ◌≤◌, ◌⊎◌, inl, inr, Bool, true, false, List, [], ◌∷◌, ◌++◌, append_assoc, length, drop, Option, None, Some, Result, Ok, Err, refl, sym, ap, subst, ◌∙◌, arith}
 use Rattle.std.proofs.lemmas.Bool.Decides.{nat_tests}
-use Rattle.std.specs.Prelude.{OnOk, IfErr, IsTrue, is_some, is_err, ◌||◌, MatchOption, if◌then◌else◌, ◌==◌, not}
+use Rattle.std.specs.Prelude.{OnOk, IfErr, is_some, is_err, ◌||◌, MatchOption, if◌then◌else◌, ◌==◌, not}
 use Rattle.std.specs.List.{filter, list_any}
 use Rattle.std.proofs.lemmas.Option.{same_Some}
 use Rattle.rep_types.specs.declared.reply.Reply.{Reply}
@@ -19,15 +19,12 @@ use Rattle.rep_steps.specs.declared.answer.Answer.{Answer}
 use Rattle.rep_steps.specs.declared.answer.Answer.TheVariants.{Gave, Wrote, Began, Synced, Row, Refused}
 use Rattle.rep_steps.specs.Standings.{Standing, refusal, refusal_here, check_refusal, flush_refusal, Goal, Part, Flushing, Saving, Ready, SuperFilling, SuperFilled, SuperOpening, Stage, Off, Toward, Retiring}
 use Rattle.rep_steps.specs.Moves.{Found, Moves, answer, check_answer, after, Fails, MeetsCorruption, checked, flushed, synced_stage, synced_phase, start_after, opening, taken}
-use Rattle.rep_steps.specs.Nodes.{Node, Steps}
-use Rattle.rep_steps.specs.Runs.{Runs}
-use Rattle.rep_steps.specs.Images.{RunsOn}
 use Rattle.rep_steps.proofs.Driving.{moves_then, run_none, run_one, run_then}
 use Rattle.rep_image.specs.Meanings.{Means}
 use Rattle.rep_engine.specs.Holding.{wrote, synced}
 use Rattle.rep_replica.specs.Replicas.{Replica, facts_of}
-use Rattle.rep_replica.specs.Holding.{Holds, IsStep}
-use Rattle.rep_replica.specs.Settling.{IsRunning, IsOwn, AreOwn, outcome_of, AreDone, EndsIn, Works, EndsEarly, left_of_part, left_of, step_of_part, step_of, start_of, Rests}
+use Rattle.rep_replica.specs.Holding.{IsStep}
+use Rattle.rep_replica.specs.Settling.{IsRunning, IsOwn, AreOwn, outcome_of, AreDone, EndsIn, Works, EndsEarly, left_of, step_of_part, step_of, start_of, Rests}
 
 -- ---- what came of a step
 

@@ -23,11 +23,8 @@ fn outcome(answer: &Answer) -> Result<(), Refusal>
 {
     match answer {
         Answer::Refused(refusal) => Err(*refusal),
-        Answer::Gave(_)
-        | Answer::Wrote
-        | Answer::Began(_)
-        | Answer::Synced(_)
-        | Answer::Row(_) => Ok(()),
+        Answer::Gave(_) | Answer::Wrote | Answer::Began(_) | Answer::Synced(_) | Answer::Row(_) =>
+            Ok(()),
     }
 }
 

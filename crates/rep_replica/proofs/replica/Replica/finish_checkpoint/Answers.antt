@@ -1,8 +1,8 @@
-use Rattle.std.proofs.Common.{◌≡◌, Ok, Some, Result, sym, subst, ◌∙◌}
+use Rattle.std.proofs.Common.{Result, sym, subst, ◌∙◌}
 use Rattle.rep_types.specs.declared.refusal.Refusal.{Refusal}
 use Rattle.rep_replica.specs.Replicas.{facts_of}
 use Rattle.rep_replica.specs.Settling.{Works}
-use Rattle.rep_replica.proofs.Settling.{works_none, works_on, goes_on, ends_on, ok_of, own_step, none_due, is_running, Goes, rests_none, rests_then}
+use Rattle.rep_replica.proofs.Settling.{works_none, works_on, goes_on, ends_on, ok_of, own_step, is_running, Goes, rests_none, rests_then}
 use Rattle.rep_replica.proofs.replica.Replica.finish_checkpoint.Goals as goal
 
 pub loop-event-init : goal.loop-event-init

@@ -1,4 +1,4 @@
-use Rattle.std.proofs.Common.{◌≡◌, ℕ, Ok}
+use Rattle.std.proofs.Common.{◌≡◌, Ok}
 use Rattle.rep_log.specs.declared.phase.Phase.TheVariants.{Resting}
 use Rattle.rep_replica.specs.Replicas.{facts_of}
 use Rattle.rep_replica.specs.Settling.{IsRunning, Works, left_of, Rests}

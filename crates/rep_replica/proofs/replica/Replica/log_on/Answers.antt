@@ -1,6 +1,4 @@
-use Rattle.std.proofs.Common.{◌≡◌, ℕ, ◌⊎◌, inl, inr, false, None, Ok, Result, length, refl, sym, ap, subst, ◌∙◌}
-use Rattle.rep_types.specs.declared.refusal.Refusal.{Refusal}
-use Rattle.rep_disk.specs.History.{History}
+use Rattle.std.proofs.Common.{◌≡◌, ◌⊎◌, inl, inr, None, length, refl, sym, ap, subst, ◌∙◌}
 use Rattle.rep_log.specs.declared.phase.Step.{Step}
 use Rattle.rep_log.specs.declared.phase.Step.TheVariants.{Recycle, Seal, Gate}
 use Rattle.rep_log.specs.Standing.{due_of}
