@@ -112,7 +112,7 @@ impl<D: Disk> Engine<D> {
         requires { self.now.log.phase ≡ Phase.Resting }
         ensures { result ≡ (if nat_le (self.now.log.start + self.now.checkpoint.base.params.cells) self.now.log.next then Some LogFull else None) }
     {
-        match self.log_step() {
+        match self.log.step_due() {
             Step::Full => Some(Refusal::LogFull),
             Step::Recycle | Step::Seal | Step::Gate | Step::Sync => None,
         }
