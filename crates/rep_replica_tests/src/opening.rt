@@ -1,7 +1,7 @@
 //! Disks that are refused, and disks at the last seqno.
 
 use crate::node::{
-    Status, answers, gives, into_disk, makes_durable, open, opened, opened_at, stands,
+    answers, gives, into_disk, makes_base, makes_durable, open, opened, opened_over, stands,
 };
 use crate::scripts::{ROW, new_disk, one_item, put, reply_to};
 use rep_disk::{Disk, MemDisk};
@@ -95,11 +95,7 @@ fn behind_the_last(rt: &(impl Abort + AllocGlobal)) -> Result<Replica<MemDisk>, 
 #[test]
 fn no_item_comes_behind_the_last_seqno(rt: HostRuntime) -> Result<(), Fail> {
     let mut node = behind_the_last(&rt)?;
-    let last = Status {
-        base: LAST - 1,
-        ..opened_at(LAST)
-    };
-    stands(&rt, &node, last);
+    stands(&rt, &node, opened_over(LAST - 1, LAST));
     for seqno in [0, LAST, LAST + 1, u64::MAX] {
         let delivery = Event::Deliver(seqno, put(0, 8, b'a')?);
         answers(
@@ -127,5 +123,24 @@ fn rows_below_the_base_are_too_old(rt: HostRuntime) -> Result<(), Fail> {
     );
     let too_old = Answer::Refused(Refusal::TooOld { oldest: LAST - 1 });
     answers(&rt, &mut node, Event::Read(ROW, LAST - 2), too_old);
+    Ok(())
+}
+
+#[test]
+fn the_base_can_stand_at_the_last_seqno(rt: HostRuntime) -> Result<(), Fail> {
+    let not_due = Refusal::NotDue;
+    let mut node = behind_the_last(&rt)?;
+    answers(&rt, &mut node, Event::Check, Answer::Began(LAST));
+    answers(&rt, &mut node, Event::Flush(0), Answer::Wrote);
+    makes_base(&rt, &mut node);
+    for _ in 0..2 {
+        stands(&rt, &node, opened_over(LAST, LAST));
+        answers(&rt, &mut node, Event::Check, Answer::Refused(not_due));
+        let row = Answer::Row(Some(Value::new(b"a")?));
+        answers(&rt, &mut node, Event::Read(ROW, LAST), row);
+        let too_old = Answer::Refused(Refusal::TooOld { oldest: LAST });
+        answers(&rt, &mut node, Event::Read(ROW, LAST - 1), too_old);
+        node = opened(rt.alloc(), into_disk(node))?;
+    }
     Ok(())
 }

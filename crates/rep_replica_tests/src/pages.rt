@@ -1,8 +1,6 @@
 //! Rows that stand in a page of the base, on a disk whose bytes are written by hand.
 
-use crate::node::{
-    Status, answers, gives, into_disk, makes_durable, open, opened, opened_at, stands,
-};
+use crate::node::{answers, gives, into_disk, makes_durable, open, opened, opened_over, stands};
 use crate::opening::{changed, standing_at};
 use crate::scripts::{ROW, put, reply_to};
 use rep_disk::{Disk, FaultOnce, MemDisk};
@@ -42,11 +40,7 @@ fn rows_are_those_of_the_base_until_they_are_written(rt: HostRuntime) -> Result<
     let written = Answer::Row(Some(Value::new(b"a")?));
     let in_the_page = in_the_page()?;
     let mut node = written_over(&rt)?;
-    let based = Status {
-        base: 1,
-        ..opened_at(2)
-    };
-    stands(&rt, &node, based);
+    stands(&rt, &node, opened_over(1, 2));
     answers(&rt, &mut node, Event::Read(ROW, 2), written);
     answers(&rt, &mut node, Event::Read(ROW, 1), in_the_page);
     let too_old = Answer::Refused(Refusal::TooOld { oldest: 1 });

@@ -1,7 +1,9 @@
 //! Stops behind each event, with each loss.
 
+use crate::checkpoints::{before_items, beside_an_item, full_log, of_one_page, two_laps};
 use crate::node::{agrees, gives, opened_at, reopened, shown, stands, step};
-use crate::scripts::{LOSSES, Script, one_item, two_items};
+use crate::pair::Pair;
+use crate::scripts::{KEYS, LOSSES, Script, one_item, two_items};
 use rep_disk::MemDisk;
 use rep_plain::PlainNode;
 use rep_replica::Replica;
@@ -51,7 +53,7 @@ pub(crate) fn fed_the_rest(
         let _synced = step(node, Event::Sync);
     }
     stands(rt, node, opened_at(plain.position()));
-    agrees(rt, node, plain, 3)
+    agrees(rt, node, plain, &KEYS)
 }
 
 /// Stops the script behind so many events with each loss: the disk opens at these positions, and goes on there.
@@ -64,7 +66,7 @@ fn stopped_behind(
     for (loss, position) in LOSSES.iter().zip(positions) {
         let mut node = reopened(rt.alloc(), script.ran(rt, count)?, *loss)?;
         stands(rt, &node, opened_at(position));
-        agrees(rt, &mut node, &script.plain, 3)?;
+        agrees(rt, &mut node, &script.plain, &KEYS)?;
         fed_the_rest(rt, &mut node, &script.plain)?;
     }
     Ok(())
@@ -90,4 +92,69 @@ fn a_stop_behind_each_event_leaves_a_block_whole_or_not_at_all(
         stopped_behind(&rt, &script, count, *positions)?;
     }
     Ok(())
+}
+
+/// Stops the script with each loss behind so many events, up to so many: the disk opens where the model says, and goes on
+/// there.
+fn stopped_within(
+    rt: &(impl Abort + AllocGlobal),
+    script: &Script,
+    first: usize,
+    last: usize,
+) -> Result<(), Fail> {
+    for count in first..=last {
+        for loss in LOSSES {
+            let pair = Pair::new(script.ran(rt, count)?, script.modelled(rt, count)?);
+            let mut pair = pair.stopped(rt, loss, &KEYS)?;
+            pair.goes_on(rt, &script.plain, &KEYS)?;
+        }
+    }
+    Ok(())
+}
+
+/// Stops the script with each loss behind each event.
+fn stopped_everywhere(rt: &(impl Abort + AllocGlobal), script: &Script) -> Result<(), Fail> {
+    stopped_within(rt, script, 0, script.events.len())
+}
+
+#[test]
+fn a_stop_behind_each_event_of_a_checkpoint_leaves_the_old_base_or_the_new(
+    rt: HostRuntime,
+) -> Result<(), Fail> {
+    stopped_everywhere(&rt, &beside_an_item(rt.alloc())?)
+}
+
+#[test]
+fn a_stop_behind_each_event_of_a_checkpoint_loses_the_items_that_wait(
+    rt: HostRuntime,
+) -> Result<(), Fail> {
+    stopped_everywhere(&rt, &before_items(rt.alloc())?)
+}
+
+#[test]
+fn a_stop_behind_each_event_of_a_second_checkpoint_leaves_its_base_or_the_first(
+    rt: HostRuntime,
+) -> Result<(), Fail> {
+    stopped_everywhere(&rt, &of_one_page(rt.alloc())?)
+}
+
+#[test]
+fn a_stop_behind_each_event_of_a_lap_leaves_what_is_durable(rt: HostRuntime) -> Result<(), Fail> {
+    stopped_everywhere(&rt, &full_log(rt.alloc())?)
+}
+
+// Up to the end of the first checkpoint the events are those of one lap.
+#[test]
+fn a_stop_behind_each_event_of_a_second_lap_leaves_what_is_durable(
+    rt: HostRuntime,
+) -> Result<(), Fail> {
+    stopped_within(&rt, &two_laps(rt.alloc())?, 31, 59)
+}
+
+#[test]
+fn a_stop_behind_each_event_of_the_checkpoint_of_a_second_lap_leaves_what_is_durable(
+    rt: HostRuntime,
+) -> Result<(), Fail> {
+    let script = two_laps(rt.alloc())?;
+    stopped_within(&rt, &script, 60, script.events.len())
 }
