@@ -30,8 +30,8 @@ check: toolchain
 	@rt all check
 
 # Items judged in a second, for orders of 1,000, 10,000 and 100,000 items; what an item costs the certifier and the plain
-# node; what a version that is added and a look-up cost among few and among many; and peeks in a second beside a publisher, and
-# behind one lock.
+# node; what a version that is added and a look-up cost among few and among many; peeks in a second beside a publisher, and
+# behind one lock; and on a file durable commits in a second beside the same writes alone, checkpoints, and openings.
 bench: toolchain
 	@scripts/build $(CRATES) $(TIMED)
 	@scripts/bench $(PROGRAM) $(COMPARE) $(VERSIONS) $(PEEKS)

@@ -13,7 +13,7 @@ use Rattle.rep_types.specs.Order.{counts, latest}
 use Rattle.rep_record.specs.Blocks.{SeqnosFrom, has_room}
 use Rattle.rep_record.specs.Fronts.{fitting, FrontsAreDetermined}
 use Rattle.rep_layout.specs.declared.place.Layout.{Layout}
-use Rattle.rep_layout.specs.declared.super_body.SuperBody.{SuperBody}
+use Rattle.rep_checkpoint.specs.Standing.{Standing as Checkpoint}
 use Rattle.rep_versions.specs.Versions.{Kept, Version, version_at, overlaid, IsAdded, IsTakenBack, AddIsTakenBack}
 use Rattle.rep_versions.specs.Following.{effect_of}
 use Rattle.rep_log.specs.Standing.{Standing as Log}
@@ -59,7 +59,7 @@ fits_more : (block js : List Judged) → fitting [] block ≡ length block → f
 fits_more block js fits = fitting_append [] block (take (fitting block js) js) fits ∙ ap (λ k. length block + k) (fitting_front block js)
 
 -- the next block then takes all that was gathered and what came
-pub gathers_more : (l : Layout) (b : SuperBody) (log : Log) (kept : Kept) (block js : List Judged) → IsEngine l b log kept block → fitting [] (block ++ take (fitting block js) js) ≡ length block + fitting block js
+pub gathers_more : (l : Layout) (c : Checkpoint) (log : Log) (kept : Kept) (block js : List Judged) → IsEngine l c log kept block → fitting [] (block ++ take (fitting block js) js) ≡ length block + fitting block js
 gathers_more l b log kept block js h = fits_more block js h.fits
 
 -- ---- seqnos
@@ -130,29 +130,32 @@ take_none (suc k) = refl
 
 -- ---- what is so of an engine goes on being so
 
-module _ (l : Layout) (b : SuperBody) (log : Log) (kept after : Kept) (block js : List Judged) (h : IsEngine l b log kept block) (fronts : FrontsAreDetermined) where
-  pub engine_accepted : SeqnosFrom (log.seqno + length block) js → durable_of log + length block + length js ≤ MAX_SEQNO → (IsTrue (is_nil_bytes b.uuid) → js ≡ [])
-      → IsWhole log.phase (block ++ take (fitting block js) js) → AddsItems (take (fitting block js) js) kept after → IsEngine l b log after (block ++ take (fitting block js) js)
+module _ (l : Layout) (c : Checkpoint) (log : Log) (kept after : Kept) (block js : List Judged) (h : IsEngine l c log kept block) (fronts : FrontsAreDetermined) where
+  pub engine_accepted : SeqnosFrom (log.seqno + length block) js → durable_of log + length block + length js ≤ MAX_SEQNO → (IsTrue (is_nil_bytes c.base.uuid) → js ≡ [])
+      → IsWhole log.phase (block ++ take (fitting block js) js) → AddsItems (take (fitting block js) js) kept after → IsEngine l c log after (block ++ take (fitting block js) js)
   engine_accepted follow limit nil whole adds =
       let k = fitting block js in
       let size : length (take k js) ≡ k = length-take-le k js (fitting_within block js) in
       let all : length (block ++ take k js) ≡ length block + k = omega (arith, length-append block (take k js), size) in
-      let within : AreWithin b.position (durable_of log + length block + length (take k js)) after =
-      within_items b.position (durable_of log + length block) (take k js) kept after (omega (arith, h.behind))
+      let within : AreWithin c.base.position (durable_of log + length block + length (take k js)) after =
+      within_items c.base.position (durable_of log + length block) (take k js) kept after (omega (arith, h.behind))
       (subst (λ n. SeqnosFrom n (take k js)) (omega (arith, h.behind)) (seqnos_take (log.seqno + length block) k js follow)) h.within adds in
       record {
-        is_super = h.is_super;
+        checkpoint = h.checkpoint;
         layout = h.layout;
         cells = h.cells;
         start = h.start;
         behind = h.behind;
         begun = h.begun;
         room = h.room;
+        items = h.items;
+        goal = h.goal;
+        behind_goal = h.behind_goal;
         follow = seqnos_append log.seqno block (take k js) h.follow (seqnos_take (log.seqno + length block) k js follow);
         fits = fits_more block js h.fits ∙ sym all;
         few = omega (arith, all, fronts.few block js h.few);
         whole = whole;
         limit = omega (arith, all, limit, fitting_within block js, h.behind);
         undefined = λ none. ((h.undefined none).0, ap (λ (xs : List Judged). xs ++ take k js) (h.undefined none).1 ∙ ap (take k) (nil none) ∙ take_none k);
-        within = subst (λ n. AreWithin b.position n after) (omega (arith, all, size)) within;
+        within = subst (λ n. AreWithin c.base.position n after) (omega (arith, all, size)) within;
       }

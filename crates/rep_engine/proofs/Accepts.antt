@@ -10,7 +10,6 @@ use Rattle.rep_types.specs.Order.{State}
 use Rattle.rep_record.specs.Blocks.{SeqnosFrom}
 use Rattle.rep_disk.specs.History.{History, stable, IsImage}
 use Rattle.rep_layout.specs.declared.place.Layout.{Layout}
-use Rattle.rep_layout.specs.declared.super_body.SuperBody.{SuperBody}
 use Rattle.rep_cells.specs.Known.{Assigns}
 use Rattle.rep_versions.specs.Versions.{Kept, IsAdded}
 use Rattle.rep_versions.specs.Following.{AreVersionsOf, VersionsFollowTheItems, effect_of}
@@ -25,7 +24,10 @@ use Rattle.rep_steps.specs.Standings.{Standing, IsStanding, underway}
 use Rattle.rep_steps.specs.Nodes.{Node, IsNode, advanced, reached}
 use Rattle.rep_steps.specs.Images.{IsFrontAt, AreJudgedFrom}
 use Rattle.rep_image.specs.Meanings.{Means}
-use Rattle.rep_image.specs.Standing.{StandsAs}
+use Rattle.rep_checkpoint.specs.Standing.{Standing as Checkpoint}
+use Rattle.rep_checkpoint.specs.Laws.{TheLogIsApart}
+use Rattle.rep_checkpoint.specs.Nodes.{StandsAs}
+use Rattle.rep_engine.proofs.Standing.{stands_on}
 use Rattle.rep_engine.specs.Engines.{Engine, IsEngine, IsWhole, facts_of, durable_of}
 use Rattle.rep_engine.specs.Accepting.{AddsItems, accepted_in, is_gathering}
 use Rattle.rep_engine.specs.Holding.{Stands, Holds, with_items}
@@ -114,8 +116,8 @@ longer_front n js image f =
 
 -- ---- the engine with more items
 
-module _ {D : Type 0} (honest : D → Type 0) (history : D → History) (failures : D → ℕ) (law : VersionsFollowTheItems) (old new : Engine D) (js : List Judged)
-    (engine : IsEngine new.layout new.superblock new.log new.kept new.block) (disk : new.disk ≡ old.disk) (layout : new.layout ≡ old.layout) (same_super : new.superblock ≡ old.superblock) (same_both : new.both ≡ old.both)
+module _ {D : Type 0} (honest : D → Type 0) (history : D → History) (failures : D → ℕ) (law : VersionsFollowTheItems) (apart : TheLogIsApart) (old new : Engine D) (js : List Judged)
+    (engine : IsEngine new.layout new.checkpoint new.log new.kept new.block) (disk : new.disk ≡ old.disk) (layout : new.layout ≡ old.layout) (same_checkpoint : new.checkpoint ≡ old.checkpoint)
     (log : new.log ≡ old.log) (halted : new.halted ≡ old.halted) (block : new.block ≡ old.block ++ js) (adds : AddsItems js old.kept new.kept)
     (n : Node) (holds : Holds honest history failures n old) (judged : AreJudgedFrom n.facts.setting (reached n.facts.setting n.base n.items) js) where
   more : n.facts.ahead ++ js ≡ new.block
@@ -125,7 +127,7 @@ module _ {D : Type 0} (honest : D → Type 0) (history : D → History) (failure
   durable_is = ap (λ (s : Standing). s.durable) holds.facts ∙ ap durable_of (sym log)
 
   facts_more : (with_items js n).facts ≡ facts_of failures new
-  facts_more = ap (λ (s : Standing). record s { ahead = s.ahead ++ js }) holds.facts ∙ sym (rw block (rw disk (rw same_super (rw same_both (rw log (rw halted refl))))))
+  facts_more = ap (λ (s : Standing). record s { ahead = s.ahead ++ js }) holds.facts ∙ sym (rw block (rw disk (rw same_checkpoint ((rw log (rw halted refl))))))
 
   is_standing : IsStanding (with_items js n).facts
   is_standing =
@@ -134,7 +136,7 @@ module _ {D : Type 0} (honest : D → Type 0) (history : D → History) (failure
       record {
         allowed = h.allowed;
         undefined = λ nil.
-            let none = engine.undefined (subst (λ (u : List ℕ). IsTrue (is_nil_bytes u)) (ap (λ (s : Standing). s.uuid) holds.facts ∙ ap (λ (b : SuperBody). b.uuid) (sym same_super)) nil) in
+            let none = engine.undefined (subst (λ (u : List ℕ). IsTrue (is_nil_bytes u)) (ap (λ (s : Standing). s.uuid) holds.facts ∙ ap (λ (c : Checkpoint). c.base.uuid) (sym same_checkpoint)) nil) in
             ((h.undefined nil).0, more ∙ none.1);
         based = h.based;
         near = omega (arith, size, engine.few);
@@ -172,16 +174,13 @@ module _ {D : Type 0} (honest : D → Type 0) (history : D → History) (failure
     sealed = there.sealed;
     stands =
         let h = there.stands in
-        subst (λ d. StandsAs (with_items js n) (length (stable (history d))) new.superblock new.log there.blocks there.sealed there.states) (sym disk)
-        (subst (λ (b : SuperBody). StandsAs (with_items js n) (length (stable (history old.disk))) b new.log there.blocks there.sealed there.states) (sym same_super)
-        (subst (λ (k : Log). StandsAs (with_items js n) (length (stable (history old.disk))) old.superblock k there.blocks there.sealed there.states) (sym log) (record {
-          stands = h.stands;
-          phase = h.phase;
-          durable = h.durable ∙ sym (take-append-le (n.facts.durable - n.facts.base) n.items js past_inside);
-          coming = h.coming ∙ sym (take-append-le (underway n.facts.phase) n.facts.ahead js holds.node.facts.block);
-          judged = judged_append n.facts.setting n.base n.items js h.judged judged;
-          undefined = h.undefined;
-        })));
+        let more : StandsAs (with_items js n) (length (stable (history old.disk))) old.checkpoint old.log there.blocks there.sealed there.states =
+        stands_on apart n (with_items js n) (length (stable (history old.disk))) old.checkpoint old.log old.log there.blocks there.sealed there.sealed there.states there.states holds.node
+        (record { uuid = refl; setting = refl; durable = refl; at = refl; base = refl; more = js; items = refl }) refl (λ place other. refl) h.log_is h.phase
+        (h.coming ∙ sym (take-append-le (underway n.facts.phase) n.facts.ahead js holds.node.facts.block)) (judged_append n.facts.setting n.base n.items js h.judged judged) h.undefined h in
+        subst (λ d. StandsAs (with_items js n) (length (stable (history d))) new.checkpoint new.log there.blocks there.sealed there.states) (sym disk)
+        (subst (λ (c : Checkpoint). StandsAs (with_items js n) (length (stable (history old.disk))) c new.log there.blocks there.sealed there.states) (sym same_checkpoint)
+        (subst (λ (k : Log). StandsAs (with_items js n) (length (stable (history old.disk))) old.checkpoint k there.blocks there.sealed there.states) (sym log) more));
     versions =
         let follow : SeqnosFrom (old.log.seqno + length old.block) js =
         seqnos_behind old.log.seqno old.block js (subst (λ (xs : List Judged). SeqnosFrom old.log.seqno xs) block (subst (λ (k : Log). SeqnosFrom k.seqno new.block) log engine.follow)) in

@@ -6,13 +6,13 @@ use Rattle.rep_layout.specs.declared.place.Layout.{Layout}
 use Rattle.rep_cells.specs.Readings.{reading_of}
 use Rattle.rep_cells.specs.States.{Allowed}
 use Rattle.rep_cells.specs.Laws.{ImagesReadAsAllowed}
-use Rattle.rep_image.specs.Standing.{StandsAs, NodesLeaveTheirEnds}
+use Rattle.rep_checkpoint.specs.Nodes.{StandsAs, NodesLeaveTheirEnds}
 use Rattle.rep_engine.specs.Engines.{Engine}
 use Rattle.rep_engine.specs.Holding.{LeavesItsEnds}
 
 -- each means what stands there, in the places of the superblock's parameters
-pub leaves_its_ends : NodesLeaveTheirEnds → ImagesReadAsAllowed → {D : Type 0} → (honest : D → Type 0) (history : D → History) (failures : D → ℕ) (e : Engine D) → e.layout ≡ layout_of e.superblock.params → LeavesItsEnds honest history failures e
+pub leaves_its_ends : NodesLeaveTheirEnds → ImagesReadAsAllowed → {D : Type 0} → (honest : D → Type 0) (history : D → History) (failures : D → ℕ) (e : Engine D) → e.layout ≡ layout_of e.checkpoint.base.params → LeavesItsEnds honest history failures e
 leaves_its_ends law reads honest history failures e layout = λ n holds runs image here.
     let there = holds.runs runs in
-    law image n e.superblock e.log there.blocks there.sealed there.states holds.node (subst (λ k. StandsAs n k e.superblock e.log there.blocks there.sealed there.states) (sym here.sized) there.stands)
+    law image n e.checkpoint e.log there.blocks there.sealed there.states holds.node (subst (λ k. StandsAs n k e.checkpoint e.log there.blocks there.sealed there.states) (sym here.sized) there.stands)
     (subst (λ (l : Layout). Allowed l there.states (reading_of l image)) layout (reads e.layout (history e.disk) there.states image there.assigns here))

@@ -1,5 +1,6 @@
 pub mod Steps
 pub mod Due
+pub mod Items
 pub mod Logging
 pub mod Standing
 pub mod Logs
@@ -11,3 +12,6 @@ pub mod Replying
 pub mod Accepting
 pub mod Accepts
 pub mod Ending
+pub mod Checking
+pub mod Flushing
+pub mod Windows

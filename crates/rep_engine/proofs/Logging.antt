@@ -12,7 +12,9 @@ use Rattle.rep_log.specs.Standing.{Standing as Log, stands_at, index_of, due_in,
 use Rattle.rep_steps.specs.declared.event.Event.TheVariants.{Log as to_log}
 use Rattle.rep_steps.specs.Standings.{gathered, log_refusal, underway}
 use Rattle.rep_steps.specs.Moves.{Found, after, logged}
+use Rattle.rep_checkpoint.specs.Standing.{stage_of}
 use Rattle.rep_engine.specs.Engines.{Engine, IsEngine, IsWhole, facts_of}
+use Rattle.rep_engine.proofs.Items.{behind_more}
 use Rattle.rep_engine.specs.Writing.{IsWrite, written_in, coming_in}
 
 -- whether the next block's cell is live, and whether it stands open
@@ -73,14 +75,14 @@ write_at_rest true stale e = absurd cc
 write_at_rest false true e = tt
 write_at_rest false false e = tt
 
-module _ {D : Type 0} (failures : D → ℕ) (e : Engine D) (h : IsEngine e.layout e.superblock e.log e.kept e.block) where
+module _ {D : Type 0} (failures : D → ℕ) (e : Engine D) (h : IsEngine e.layout e.checkpoint e.log e.kept e.block) where
   record Free : Type 0 where
     some : 0 < length e.block
     room : e.log.next < e.log.start + e.log.cells
 
   free : log_refusal (facts_of failures e) Resting ≡ None → Free
   free none =
-      let tests = free_by 0 (gathered (facts_of failures e) == 0) (nat_le (e.log.start + e.superblock.params.cells) e.log.next) none in
+      let tests = free_by 0 (gathered (facts_of failures e) == 0) (nat_le (e.log.start + e.checkpoint.base.params.cells) e.log.next) none in
       let some : gathered (facts_of failures e) ≡ length e.block = h.fits in
       record { some = grind (arith, nat_tests); room = grind (arith, nat_tests, h.cells) }
 
@@ -113,17 +115,20 @@ module _ {D : Type 0} (failures : D → ℕ) (e : Engine D) (h : IsEngine e.layo
   goes stale (Opening k) at none = absurd cc
 
   -- what is so of an engine goes on being so
-  pub engine_logged : (stale : Bool) → log_refusal (facts_of failures e) e.log.phase ≡ None → IsEngine e.layout e.superblock (at_phase (logged (length e.block) stale e.log.phase) e.log) e.kept e.block
+  pub engine_logged : (stale : Bool) → log_refusal (facts_of failures e) e.log.phase ≡ None → IsEngine e.layout e.checkpoint (at_phase (logged (length e.block) stale e.log.phase) e.log) e.kept e.block
   engine_logged stale none =
       let on = goes stale e.log.phase refl none in
       record {
-        is_super = h.is_super;
+        checkpoint = h.checkpoint;
         layout = h.layout;
         cells = h.cells;
         start = h.start;
         behind = h.behind;
         begun = h.begun;
         room = on.room;
+        items = h.items;
+        goal = h.goal;
+        behind_goal = behind_more (stage_of e.checkpoint) e.log (at_phase (logged (length e.block) stale e.log.phase) e.log) (omega arith) h.behind_goal;
         follow = h.follow;
         fits = h.fits;
         few = h.few;
@@ -135,6 +140,6 @@ module _ {D : Type 0} (failures : D → ℕ) (e : Engine D) (h : IsEngine e.layo
 
 -- the facts after it
 pub facts_logged : {D : Type 0} (failures : D → ℕ) (e new : Engine D) (f : Found) → e.halted ≡ None → new.halted ≡ None → gathered (facts_of failures e) ≡ length e.block → failures new.disk ≡ failures e.disk
-    → new.superblock ≡ e.superblock → new.both ≡ e.both → new.block ≡ e.block → new.log ≡ at_phase (logged (length e.block) f.stale e.log.phase) e.log
+    → new.checkpoint ≡ e.checkpoint → new.block ≡ e.block → new.log ≡ at_phase (logged (length e.block) f.stale e.log.phase) e.log
     → facts_of failures new ≡ after (facts_of failures e) to_log f
-facts_logged failures e new f runs still fits rose same_super same_both same_block log = rw log (rw same_super (rw same_both (rw same_block (rw rose (rw still (rw fits (rw runs refl)))))))
+facts_logged failures e new f runs still fits rose same_checkpoint same_block log = rw log (rw same_checkpoint ((rw same_block (rw rose (rw still (rw fits (rw runs refl)))))))

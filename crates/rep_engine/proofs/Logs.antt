@@ -1,5 +1,5 @@
 -- A log step of an engine that stands for a node.
-use Rattle.std.proofs.Common.{◌≡◌, ℕ, ◌+◌, ◌%◌, false, List, [], length, take, map, Option, None, Some, Result, Ok, Err, refl, sym, ap, subst, ◌∙◌}
+use Rattle.std.proofs.Common.{◌≡◌, ℕ, ◌+◌, ◌%◌, false, List, [], length, take, map, append-nil, Option, None, Some, Result, Ok, Err, refl, sym, ap, subst, ◌∙◌}
 use Rattle.std.specs.Prelude.{is_some}
 use Rattle.std.specs.Result.{is_err}
 use Rattle.rep_types.specs.declared.judged.Judged.{Judged}
@@ -11,7 +11,6 @@ use Rattle.rep_disk.specs.History.{History, stable, IsImage}
 use Rattle.rep_disk.specs.Moments.{LeavesOnly}
 use Rattle.rep_layout.specs.declared.place.Layout.{Layout}
 use Rattle.rep_layout.specs.Places.{layout_of}
-use Rattle.rep_layout.specs.declared.super_body.SuperBody.{SuperBody}
 use Rattle.rep_versions.specs.Following.{AreVersionsOf, effect_of}
 use Rattle.rep_cells.specs.Known.{Assigns}
 use Rattle.rep_log.specs.declared.phase.Phase.{Phase}
@@ -25,16 +24,18 @@ use Rattle.rep_steps.specs.Moves.{Moves, after, logged}
 use Rattle.rep_steps.specs.Nodes.{Node, IsNode, Steps, cell, found, moved, NodesStayNodes}
 use Rattle.rep_steps.specs.Images.{IsFrontAt}
 use Rattle.rep_image.specs.Meanings.{Means}
-use Rattle.rep_image.specs.Standing.{StandsAs, NodesLeaveTheirFronts}
+use Rattle.rep_checkpoint.specs.Standing.{Standing as Checkpoint}
+use Rattle.rep_checkpoint.specs.Laws.{TheLogIsApart}
+use Rattle.rep_checkpoint.specs.Nodes.{StandsAs, NodesLeaveTheirFronts}
 use Rattle.rep_engine.specs.Engines.{Engine, IsEngine, IsWhole, facts_of, phase_at}
 use Rattle.rep_engine.specs.Writing.{IsWrite, coming_in, WritesNext}
 use Rattle.rep_engine.specs.Holding.{Stands, Holds, wrote}
 use Rattle.rep_engine.proofs.Steps.{done_moves, halted_node, done_steps, fault_steps, leaves_weaker}
 use Rattle.rep_engine.proofs.Logging.{is_stale, at_phase, written_is, coming_is, is_write, engine_logged, facts_logged}
-use Rattle.rep_engine.proofs.Standing.{same_front, stands_beside, nil_bytes, none_held, fronts_of}
+use Rattle.rep_engine.proofs.Standing.{same_front, stands_on, nil_bytes, none_held, fronts_of}
 
 module _ {D : Type 0} (honest : D → Type 0) (history : D → History) (size failures : D → ℕ) (sized : (disk : D) → honest disk → length (stable (history disk)) ≡ size disk)
-    (old : Engine D) (n : Node) (engine : IsEngine old.layout old.superblock old.log old.kept old.block) (holds : Holds honest history failures n old) (runs : old.halted ≡ None) where
+    (old : Engine D) (n : Node) (engine : IsEngine old.layout old.checkpoint old.log old.kept old.block) (holds : Holds honest history failures n old) (runs : old.halted ≡ None) where
   pub there : Stands history n old
   there = holds.runs runs
 
@@ -72,7 +73,7 @@ module _ {D : Type 0} (honest : D → Type 0) (history : D → History) (size fa
 
   module _ (none : log_refusal (facts_of failures old) old.log.phase ≡ None) (new : Engine D) (result : Result (Unit {0}) Refusal)
       (call : IsCall size failures honest old.disk new.disk (fault_of result)) (writes : WritesNext honest history old.layout (due_of old.log) old.block old.log new.log old.disk new.disk result)
-      (layout : new.layout ≡ old.layout) (same_super : new.superblock ≡ old.superblock) (same_both : new.both ≡ old.both) (same_kept : new.kept ≡ old.kept) (same_block : new.block ≡ old.block) where
+      (layout : new.layout ≡ old.layout) (same_checkpoint : new.checkpoint ≡ old.checkpoint) (same_kept : new.kept ≡ old.kept) (same_block : new.block ≡ old.block) where
     due : IsWrite (due_of old.log)
     due = is_write failures old engine none
 
@@ -80,16 +81,16 @@ module _ {D : Type 0} (honest : D → Type 0) (history : D → History) (size fa
     log_is = writes.stands ∙ written_is old.log (length old.block) due
 
     abbrev l : Layout
-    l = layout_of old.superblock.params
+    l = layout_of old.checkpoint.base.params
 
     abbrev to : List Judged
     to = coming_in (due_of old.log) old.block there.sealed
 
     -- the log's cells move, and nothing else
-    pub steps : Log_steps l (history old.disk) (history new.disk) there.states new.log (old.superblock.position + 1) there.blocks to result
+    pub steps : Log_steps l (history old.disk) (history new.disk) there.states new.log (old.checkpoint.base.position + 1) there.blocks to result
     steps =
         let on : WritesNext honest history l (due_of old.log) old.block old.log new.log old.disk new.disk result = subst (λ k. WritesNext honest history k (due_of old.log) old.block old.log new.log old.disk new.disk result) engine.layout writes in
-        on.steps holds.is_honest there.states (old.superblock.position + 1) there.blocks there.sealed (subst (λ k. Assigns k (history old.disk) there.states) engine.layout there.assigns) there.stands.stands.log_is
+        on.steps holds.is_honest there.states (old.checkpoint.base.position + 1) there.blocks there.sealed (subst (λ k. Assigns k (history old.disk) there.states) engine.layout there.assigns) there.stands.log_is
 
     whole : IsWhole new.log.phase old.block
     whole = subst (λ (k : Log). IsWhole k.phase old.block) (sym log_is) (engine_logged failures old engine (is_stale old.log) none).whole
@@ -97,29 +98,26 @@ module _ {D : Type 0} (honest : D → Type 0) (history : D → History) (size fa
     new_phase : new.log.phase ≡ (moved n to_log).facts.phase
     new_phase = ap (λ (k : Log). k.phase) log_is ∙ sym phase_logged
 
-    stands_so : StandsAs (moved n to_log) (length (stable (history old.disk))) old.superblock new.log there.blocks to steps.states
-    stands_so =
-        let h = there.stands in record {
-          stands = stands_beside (length (stable (history old.disk))) old.superblock _ old.log new.log there.blocks there.blocks there.sealed to there.states steps.states (ap (λ (k : Log). k.start) log_is) steps.elsewhere steps.log_is h.stands;
-          phase = new_phase;
-          durable = h.durable;
-          coming =
-              coming_is old.log old.block there.sealed old.log.phase due (h.coming ∙ ap (λ p. take (underway p) n.facts.ahead) phase_is ∙ ap (take (underway old.log.phase)) ahead_is)
-              ∙ ap (λ p. take (underway p) old.block) (sym phase_logged) ∙ ap (take (underway (moved n to_log).facts.phase)) (sym ahead_is);
-          judged = h.judged;
-          undefined = λ nil held may.
-              none_held old.log.phase new.log.phase there.blocks held there.sealed to old.block (h.undefined nil) (engine.undefined (nil_bytes old.superblock.uuid nil)).1 whole may;
-        }
-
     size_stays : length (stable (history new.disk)) ≡ length (stable (history old.disk))
     size_stays = sized new.disk (call.stays_honest holds.is_honest) ∙ call.same_size ∙ sym (sized old.disk holds.is_honest)
 
-    module _ (nodes : NodesStayNodes) (law : NodesLeaveTheirFronts) where
+    module _ (nodes : NodesStayNodes) (law : NodesLeaveTheirFronts) (apart : TheLogIsApart) where
+      stands_so : StandsAs (moved n to_log) (length (stable (history old.disk))) old.checkpoint new.log there.blocks to steps.states
+      stands_so =
+          let h = there.stands in
+          stands_on apart n (moved n to_log) (length (stable (history old.disk))) old.checkpoint old.log new.log there.blocks there.sealed to there.states steps.states holds.node
+          (record { uuid = refl; setting = refl; durable = refl; at = refl; base = refl; more = []; items = sym (append-nil n.items) })
+          (ap (λ (k : Log). k.start) log_is) steps.elsewhere steps.log_is new_phase
+          (coming_is old.log old.block there.sealed old.log.phase due (h.coming ∙ ap (λ p. take (underway p) n.facts.ahead) phase_is ∙ ap (take (underway old.log.phase)) ahead_is)
+          ∙ ap (λ p. take (underway p) old.block) (sym phase_logged) ∙ ap (take (underway (moved n to_log).facts.phase)) (sym ahead_is))
+          h.judged
+          (λ nil held may. none_held old.log.phase new.log.phase there.blocks held there.sealed to old.block (h.undefined nil) (engine.undefined (nil_bytes old.checkpoint.base.uuid nil)).1 whole may) h
+
       is_node : IsNode (moved n to_log)
       is_node = nodes n (moved n to_log) to_log Wrote holds.node (steps_done none)
 
       images : (image : List ℕ) → IsImage (history new.disk) image → IsFrontAt Means (moved n to_log) image
-      images = fronts_of law (moved n to_log) (history new.disk) (length (stable (history old.disk))) old.superblock new.log there.blocks to steps.states is_node stands_so size_stays steps.reaches.images
+      images = fronts_of law (moved n to_log) (history new.disk) (length (stable (history old.disk))) old.checkpoint new.log there.blocks to steps.states is_node stands_so size_stays steps.reaches.images
 
       -- at each moment
       pub log_leaves : LeavesOnly (history old.disk) (history new.disk) (IsFrontAt Means n)
@@ -131,7 +129,7 @@ module _ {D : Type 0} (honest : D → Type 0) (history : D → History) (size fa
         is_honest = call.stays_honest holds.is_honest;
         facts =
             ap (λ (s : Standing). after s to_log (found n to_log)) holds.facts
-            ∙ sym (facts_logged failures old new (found n to_log) runs still engine.fits rose same_super same_both same_block (log_is ∙ ap (λ b. at_phase (logged (length old.block) b old.log.phase) old.log) (sym stale_is)));
+            ∙ sym (facts_logged failures old new (found n to_log) runs still engine.fits rose same_checkpoint same_block (log_is ∙ ap (λ b. at_phase (logged (length old.block) b old.log.phase) old.log) (sym stale_is)));
         node = is_node;
         runs = λ on. record {
           states = steps.states;
@@ -139,8 +137,8 @@ module _ {D : Type 0} (honest : D → Type 0) (history : D → History) (size fa
           blocks = there.blocks;
           sealed = to;
           stands =
-              subst (λ (b : SuperBody). StandsAs (moved n to_log) (length (stable (history new.disk))) b new.log there.blocks to steps.states) (sym same_super)
-              (subst (λ k. StandsAs (moved n to_log) k old.superblock new.log there.blocks to steps.states) (sym size_stays) stands_so);
+              subst (λ (c : Checkpoint). StandsAs (moved n to_log) (length (stable (history new.disk))) c new.log there.blocks to steps.states) (sym same_checkpoint)
+              (subst (λ k. StandsAs (moved n to_log) k old.checkpoint new.log there.blocks to steps.states) (sym size_stays) stands_so);
           versions = subst (AreVersionsOf n.base.position (map effect_of n.items)) (sym same_kept) there.versions;
           gates = λ i. there.gates i ∙ ap (λ (k : Log). stands_at k i) (sym log_is);
         };
@@ -151,7 +149,7 @@ module _ {D : Type 0} (honest : D → Type 0) (history : D → History) (size fa
       pub log_halts : Rises (failures old.disk) (failures new.disk) → new.halted ≡ Some old.log.phase → Holds honest history failures (halted_node (failures new.disk) n) new
       log_halts rises halted = record {
         is_honest = call.stays_honest holds.is_honest;
-        facts = rw holds.facts (rw halted (rw same_super (rw same_both (rw same_block (rw log_is (rw runs refl))))));
+        facts = rw holds.facts (rw halted (rw same_checkpoint ((rw same_block (rw log_is (rw runs refl))))));
         node = nodes n (halted_node (failures new.disk) n) to_log (Refused DiskFault) holds.node (steps_fault none (failures new.disk) rises);
         runs = λ on. let never : Some old.log.phase ≡ None = sym halted ∙ on in absurd cc;
         images = λ image here. same_front (moved n to_log) (halted_node (failures new.disk) n) image refl refl refl refl refl (images image here);
@@ -166,14 +164,13 @@ halted_after (Err e) phase = Some phase
 
 -- A log step that was due.
 pub record IsLogged {D : Type 0} (honest : D → Type 0) (history : D → History) (size failures : D → ℕ) (old new : Engine D) (result : Result (Unit {0}) Refusal) : Type 0 where
-  pub engine : IsEngine old.layout old.superblock old.log old.kept old.block
+  pub engine : IsEngine old.layout old.checkpoint old.log old.kept old.block
   pub runs : old.halted ≡ None
   pub none : log_refusal (facts_of failures old) old.log.phase ≡ None
   pub call : IsCall size failures honest old.disk new.disk (fault_of result)
   pub writes : WritesNext honest history old.layout (due_of old.log) old.block old.log new.log old.disk new.disk result
   pub layout : new.layout ≡ old.layout
-  pub same_super : new.superblock ≡ old.superblock
-  pub same_both : new.both ≡ old.both
+  pub same_checkpoint : new.checkpoint ≡ old.checkpoint
   pub same_kept : new.kept ≡ old.kept
   pub same_block : new.block ≡ old.block
   pub halted : new.halted ≡ halted_after result old.log.phase
@@ -189,24 +186,24 @@ module _ {D : Type 0} (honest : D → Type 0) (history : D → History) (size fa
       let stale = is_stale old.log in
       let due : IsWrite (due_of old.log) = is_write failures old h.engine h.none in
       done_moves (facts_of failures old) to_log (record { verdict = Commit; stale = stale; left = []; row = None }) (facts_of failures new) (ap is_some h.runs) (rw h.runs h.none)
-      (facts_logged failures old new (record { verdict = Commit; stale = stale; left = []; row = None }) h.runs h.halted h.engine.fits (h.call.no_cause refl) h.same_super h.same_both h.same_block (h.writes.stands ∙ written_is old.log (length old.block) due))
+      (facts_logged failures old new (record { verdict = Commit; stale = stale; left = []; row = None }) h.runs h.halted h.engine.fits (h.call.no_cause refl) h.same_checkpoint h.same_block (h.writes.stands ∙ written_is old.log (length old.block) due))
 
-  pub logged_steps : ((disk : D) → honest disk → length (stable (history disk)) ≡ size disk) → NodesStayNodes → NodesLeaveTheirFronts → (result : Result (Unit {0}) Refusal) → IsLogged honest history size failures old new result
+  pub logged_steps : ((disk : D) → honest disk → length (stable (history disk)) ≡ size disk) → NodesStayNodes → NodesLeaveTheirFronts → TheLogIsApart → (result : Result (Unit {0}) Refusal) → IsLogged honest history size failures old new result
       → (n : Node) → Holds honest history failures n old → (m : Node) × Steps n to_log (wrote result) m × Holds honest history failures m new
-  logged_steps sized nodes law (Ok x) h n holds =
-      let go = steps honest history size failures sized old n h.engine holds h.runs h.none new (Ok x) h.call h.writes h.layout h.same_super h.same_both h.same_kept h.same_block in (
+  logged_steps sized nodes law apart (Ok x) h n holds =
+      let go = steps honest history size failures sized old n h.engine holds h.runs h.none new (Ok x) h.call h.writes h.layout h.same_checkpoint h.same_kept h.same_block in (
         moved n to_log,
         steps_done honest history size failures sized old n h.engine holds h.runs h.none,
-        log_holds honest history size failures sized old n h.engine holds h.runs h.none new (Ok x) h.call h.writes h.layout h.same_super h.same_both h.same_kept h.same_block nodes law go.reaches.ok h.halted (h.call.no_cause refl),
+        log_holds honest history size failures sized old n h.engine holds h.runs h.none new (Ok x) h.call h.writes h.layout h.same_checkpoint h.same_kept h.same_block nodes law apart go.reaches.ok h.halted (h.call.no_cause refl),
       )
-  logged_steps sized nodes law (Err e) h n holds =
+  logged_steps sized nodes law apart (Err e) h n holds =
       let rises : Rises (failures old.disk) (failures new.disk) = rises_by (Unit {0}) e h.writes.fault h.call in (
         halted_node (failures new.disk) n,
         subst (λ (f : Refusal). Steps n to_log (Refused f) (halted_node (failures new.disk) n)) (sym h.writes.fault) (steps_fault honest history size failures sized old n h.engine holds h.runs h.none (failures new.disk) rises),
-        log_halts honest history size failures sized old n h.engine holds h.runs h.none new (Err e) h.call h.writes h.layout h.same_super h.same_both h.same_kept h.same_block nodes law rises h.halted,
+        log_halts honest history size failures sized old n h.engine holds h.runs h.none new (Err e) h.call h.writes h.layout h.same_checkpoint h.same_kept h.same_block nodes law apart rises h.halted,
       )
 
-  pub logged_leaves : ((disk : D) → honest disk → length (stable (history disk)) ≡ size disk) → NodesStayNodes → NodesLeaveTheirFronts → (result : Result (Unit {0}) Refusal) → IsLogged honest history size failures old new result
+  pub logged_leaves : ((disk : D) → honest disk → length (stable (history disk)) ≡ size disk) → NodesStayNodes → NodesLeaveTheirFronts → TheLogIsApart → (result : Result (Unit {0}) Refusal) → IsLogged honest history size failures old new result
       → (n : Node) → Holds honest history failures n old → LeavesOnly (history old.disk) (history new.disk) (IsFrontAt Means n)
-  logged_leaves sized nodes law result h n holds =
-      log_leaves honest history size failures sized old n h.engine holds h.runs h.none new result h.call h.writes h.layout h.same_super h.same_both h.same_kept h.same_block nodes law
+  logged_leaves sized nodes law apart result h n holds =
+      log_leaves honest history size failures sized old n h.engine holds h.runs h.none new result h.call h.writes h.layout h.same_checkpoint h.same_kept h.same_block nodes law apart

@@ -29,7 +29,7 @@ use Rattle.rep_steps.specs.Standings.{Standing, read_refusal}
 use Rattle.rep_steps.specs.Moves.{Moves}
 use Rattle.rep_steps.specs.Nodes.{Node, Steps, NodesStayNodes, state_at}
 use Rattle.rep_image.specs.Bases.{HaveContent, IsPageOf}
-use Rattle.rep_image.specs.Standing.{StandsAs}
+use Rattle.rep_checkpoint.specs.Nodes.{StandsAs}
 use Rattle.rep_checkpoint.proofs.Rows.{content_reached, take_effects}
 use Rattle.rep_engine.specs.Engines.{Engine, facts_of}
 use Rattle.rep_engine.specs.Holding.{Stands, Holds, row}
@@ -145,7 +145,7 @@ module _ {D : Type 0} (honest : D → Type 0) (history : D → History) (size fa
         assigns = subst (λ h. Assigns old.layout h there.states) (sym past) there.assigns;
         blocks = there.blocks;
         sealed = there.sealed;
-        stands = subst (λ h. StandsAs n (length (stable h)) old.superblock old.log there.blocks there.sealed there.states) (sym past) there.stands;
+        stands = subst (λ h. StandsAs n (length (stable h)) old.checkpoint old.log there.blocks there.sealed there.states) (sym past) there.stands;
         versions = there.versions;
         gates = there.gates;
       };
@@ -185,4 +185,4 @@ module _ {D : Type 0} (honest : D → Type 0) (history : D → History) (size fa
         → ReadsRow size failures honest history key old new result → (m : Node) × Steps n (Read key at) (row result) m × Holds honest history failures m new
     reads_steps nodes answer is below result new h =
         subst (λ e. (m : Node) × Steps n (Read key at) (row result) m × Holds honest history failures m e) (sym h.after)
-        (base_steps nodes answer is below result new.disk h.call (h.same holds.is_honest) h.refused (h.read holds.is_honest there.states n.base.content there.assigns there.stands.stands.content))
+        (base_steps nodes answer is below result new.disk h.call (h.same holds.is_honest) h.refused (h.read holds.is_honest there.states n.base.content there.assigns there.stands.checkpoint.base.content))

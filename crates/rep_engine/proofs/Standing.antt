@@ -1,25 +1,30 @@
--- How a node stands on the device while its log goes on, beside a base that stands still.
-use Rattle.std.proofs.Common.{◌≡◌, ◌≢◌, inl, inr, ℕ, ◌+◌, ◌<◌, true, List, [], length, Option, refl, sym, ap, subst, ◌∙◌, arith}
+-- How a node stands on the device while it goes on beside its checkpoint.
+use Rattle.std.proofs.Common.{◌≡◌, ◌≢◌, inl, inr, ℕ, ◌+◌, ◌-◌, ◌<◌, ◌≤◌, true, List, [], ◌++◌, length, take, refl, sym, ap, subst, ◌∙◌, arith}
+use Rattle.std.proofs.lemmas.List.{take-append-le}
 use Rattle.uuid.specs.Parts.{is_nil_bytes}
-use Rattle.rep_types.specs.declared.key.Key.{Key}
 use Rattle.rep_types.specs.declared.judged.Judged.{Judged}
+use Rattle.rep_types.specs.Settings.{Setting}
+use Rattle.rep_types.specs.Order.{State}
 use Rattle.rep_disk.specs.History.{History, stable, IsImage}
 use Rattle.rep_layout.specs.declared.place.Place.{Place}
-use Rattle.rep_layout.specs.declared.place.Place.TheVariants.{Super, Window, Page, Log as in_log}
+use Rattle.rep_layout.specs.declared.place.Place.TheVariants.{Log as in_log}
 use Rattle.rep_layout.specs.declared.super_body.SuperBody.{SuperBody}
 use Rattle.rep_layout.specs.Supers.{IsNil}
-use Rattle.rep_layout.specs.Places.{side_of, layout_of}
+use Rattle.rep_layout.specs.Places.{layout_of}
 use Rattle.rep_cells.specs.Readings.{reading_of}
-use Rattle.rep_cells.specs.States.{States, Stable, Allowed, Allows}
+use Rattle.rep_cells.specs.States.{States, Allowed}
 use Rattle.rep_log.specs.declared.phase.Phase.{Phase}
 use Rattle.rep_log.specs.declared.phase.Phase.TheVariants.{Opening}
 use Rattle.rep_log.specs.Standing.{Standing as Log, LogIs}
 use Rattle.rep_log.specs.Laws.{MayHold}
-use Rattle.rep_steps.specs.Nodes.{Node, IsNode}
-use Rattle.rep_steps.specs.Images.{Meaning, IsFrontAt}
+use Rattle.rep_steps.specs.Standings.{underway}
+use Rattle.rep_steps.specs.Nodes.{Node, IsNode, reached}
+use Rattle.rep_steps.specs.Images.{AreJudgedFrom, IsFrontAt}
 use Rattle.rep_image.specs.Meanings.{Means}
-use Rattle.rep_image.specs.Bases.{other, HaveContent}
-use Rattle.rep_image.specs.Standing.{IsBaseAt, Stands, StandsAs, NodesLeaveTheirFronts}
+use Rattle.rep_checkpoint.specs.Standing.{Standing as Checkpoint}
+use Rattle.rep_checkpoint.specs.States.{CheckpointIs}
+use Rattle.rep_checkpoint.specs.Laws.{TheLogIsApart}
+use Rattle.rep_checkpoint.specs.Nodes.{IsLedTo, StandsAs, NodesLeaveTheirFronts}
 use Rattle.rep_engine.specs.Engines.{IsWhole}
 
 -- ---- a front of one node is one of another with the same base and items
@@ -41,39 +46,60 @@ same_front n m image uuid setting durable base items f = record {
   };
 }
 
--- ---- the base stays while the log's cells move
+-- ---- what goes on beside the checkpoint
 
 -- These places aren't the log's, and are as they were.
 abbrev pub IsBeside : States → States → Type 0
 IsBeside s t = (place : Place) → ((i : ℕ) → place ≢ in_log i) → t place ≡ s place
 
-base_stays : (size : ℕ) (b : SuperBody) (entries : _) (s t : States) → IsBeside s t → IsBaseAt size b entries s → IsBaseAt size b entries t
-base_stays size b entries s t beside h = record {
-  is_super = h.is_super;
-  opened = beside (Super (side_of b.number)) (λ i e. absurd cc) ∙ h.opened;
-  lesser = λ reading allows. h.lesser reading (subst (λ state. Allows state reading) (beside (Super (other (side_of b.number))) (λ i e. absurd cc)) allows);
-  saved = beside (Window (side_of b.number)) (λ i e. absurd cc) ∙ h.saved;
-  is_window = h.is_window;
-}
+-- Of this node the other one has the base, what is durable, and the items, with more behind them.
+pub record GoesOn (n m : Node) : Type 0 where
+  pub uuid : m.facts.uuid ≡ n.facts.uuid
+  pub setting : m.facts.setting ≡ n.facts.setting
+  pub durable : m.facts.durable ≡ n.facts.durable
+  pub at : m.facts.base ≡ n.facts.base
+  pub base : m.base ≡ n.base
+  pub more : List Judged
+  pub items : m.items ≡ n.items ++ more
 
-content_stays : (b : SuperBody) (content : Key → Option (List ℕ)) (s t : States) → IsBeside s t → HaveContent b (λ number slot body. s (Page number slot) ≡ Stable body) content → HaveContent b (λ number slot body. t (Page number slot) ≡ Stable body) content
-content_stays b content s t beside h = record {
-  pages = λ number slot is. let page = h.pages number slot is in (page.0, beside (Page number slot) (λ i e. absurd cc) ∙ page.1, page.2);
-  absent = h.absent;
-  outside = h.outside;
-}
+-- the first items are the same
+first_items : (n m : Node) → GoesOn n m → (k : ℕ) → k ≤ length n.items → take k m.items ≡ take k n.items
+first_items n m on k le = ap (take k) on.items ∙ take-append-le k n.items on.more le
 
--- What stands goes on standing, with a log that begins where it began.
-pub stands_beside : (size : ℕ) (b : SuperBody) (m : Meaning) (log next : Log) (blocks held : List (List Judged)) (sealed coming : List Judged) (s t : States)
-    → next.start ≡ log.start → IsBeside s t → LogIs (layout_of b.params) next (b.position + 1) held coming t → Stands size b m log blocks sealed s → Stands size b m next held coming t
-stands_beside size b m log next blocks held sealed coming s t start beside is h = record {
-  uuid = h.uuid;
-  setting = h.setting;
-  position = h.position;
-  base = base_stays size b m.base.kept s t beside h.base;
-  content = content_stays b m.base.content s t beside h.content;
-  start = start ∙ h.start;
+-- a base that the items led to they lead to
+led_on : (n m : Node) (log next : Log) (blocks : List (List Judged)) (b : SuperBody) (x : State) → IsNode n → GoesOn n m → next.start ≡ log.start → IsLedTo n log blocks b x → IsLedTo m next blocks b x
+led_on n m log next blocks b x h on start led =
+    let first = first_items n m on led.past (omega (arith, led.position, led.within, h.enough, h.position)) in
+    record {
+      past = led.past;
+      position = omega (arith, led.position, ap (λ (y : State). y.position) on.base);
+      within = omega (arith, led.within, on.durable);
+      state = led.state ∙ sym (ap (λ (p : Setting). reached p m.base (take led.past m.items)) on.setting ∙ ap (λ (y : State). reached n.facts.setting y (take led.past m.items)) on.base ∙ ap (reached n.facts.setting n.base) first);
+      cells = led.cells;
+      start = omega (arith, led.start, start);
+      few = led.few;
+      records = led.records ∙ sym first;
+    }
+
+-- The node goes on standing where it stood, with a log that begins where it began.
+pub stands_on : TheLogIsApart → (n m : Node) (size : ℕ) (c : Checkpoint) (log next : Log) (blocks : List (List Judged)) (sealed coming : List Judged) (s t : States)
+    → IsNode n → GoesOn n m → next.start ≡ log.start → IsBeside s t → LogIs (layout_of c.base.params) next (c.base.position + 1) blocks coming t → next.phase ≡ m.facts.phase → coming ≡ take (underway m.facts.phase) m.facts.ahead
+    → AreJudgedFrom m.facts.setting m.base m.items → (IsNil c.base.uuid → (held : List (List Judged)) → MayHold next.phase blocks coming held → held ≡ []) → StandsAs n size c log blocks sealed s → StandsAs m size c next blocks coming t
+stands_on apart n m size c log next blocks sealed coming s t h on start beside is phase coming_is judged undefined stands = record {
+  uuid = on.uuid ∙ stands.uuid;
+  setting = on.setting ∙ stands.setting;
+  goal = stands.goal;
+  checkpoint = subst (λ (y : State). CheckpointIs size c y stands.goal t) (sym on.base) (apart size c n.base stands.goal s t beside stands.checkpoint);
+  toward = λ to part stage. led_on n m log next blocks to.super stands.goal h on start (stands.toward to part stage);
+  start = start ∙ stands.start;
   log_is = is;
+  phase = phase;
+  durable =
+      stands.durable ∙ sym (first_items n m on (n.facts.durable - n.facts.base) (omega (arith, h.enough)))
+      ∙ ap (λ k. take k m.items) (omega (arith, on.durable, on.at));
+  coming = coming_is;
+  judged = judged;
+  undefined = undefined;
 }
 
 -- ---- without a cluster nothing is held
@@ -93,7 +119,7 @@ none_held phase next blocks held sealed coming block before none whole (inr more
 
 -- each image that the states allow means a front of the node that stands there
 pub fronts_of :
-    NodesLeaveTheirFronts → (n : Node) (h : History) (size : ℕ) (b : SuperBody) (log : Log) (blocks : List (List Judged)) (sealed : List Judged) (s : States) → IsNode n → StandsAs n size b log blocks sealed s → length (stable h) ≡ size
-    → ((image : List ℕ) → IsImage h image → Allowed (layout_of b.params) s (reading_of (layout_of b.params) image)) → (image : List ℕ) → IsImage h image → IsFrontAt Means n image
-fronts_of law n h size b log blocks sealed s is stands sized allowed image here =
-    law image n b log blocks sealed s is (subst (λ k. StandsAs n k b log blocks sealed s) (sym (here.sized ∙ sized)) stands) (allowed image here)
+    NodesLeaveTheirFronts → (n : Node) (h : History) (size : ℕ) (c : Checkpoint) (log : Log) (blocks : List (List Judged)) (sealed : List Judged) (s : States) → IsNode n → StandsAs n size c log blocks sealed s → length (stable h) ≡ size
+    → ((image : List ℕ) → IsImage h image → Allowed (layout_of c.base.params) s (reading_of (layout_of c.base.params) image)) → (image : List ℕ) → IsImage h image → IsFrontAt Means n image
+fronts_of law n h size c log blocks sealed s is stands sized allowed image here =
+    law image n c log blocks sealed s is (subst (λ k. StandsAs n k c log blocks sealed s) (sym (here.sized ∙ sized)) stands) (allowed image here)

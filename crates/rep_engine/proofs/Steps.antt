@@ -2,7 +2,7 @@
 use Rattle.std.proofs.Common.{◌≡◌, ◌⊎◌, inl, inr, ℕ, true, false, List, Option, None, Some, refl, sym, ap, subst, ◌∙◌, arith}
 use Rattle.std.specs.Prelude.{IsTrue, is_some, MatchOption, if◌then◌else◌}
 use Rattle.rep_types.specs.declared.refusal.Refusal.{Refusal}
-use Rattle.rep_types.specs.declared.refusal.Refusal.TheVariants.{Stopped, DiskFault, Corrupt}
+use Rattle.rep_types.specs.declared.refusal.Refusal.TheVariants.{Stopped, OutOfMemory, DiskFault, Corrupt}
 use Rattle.rep_types.specs.declared.refusal.Part.TheVariants.{Pages}
 use Rattle.rep_disk.specs.Calls.{Rises}
 use Rattle.rep_disk.specs.History.{History}
@@ -13,7 +13,7 @@ use Rattle.rep_engine.specs.Engines.{Engine, facts_of, phase_at}
 use Rattle.rep_engine.specs.Holding.{Holds}
 use Rattle.rep_steps.specs.declared.answer.Answer.TheVariants.{Refused}
 use Rattle.rep_steps.specs.Standings.{Standing, refusal, refusal_here, log_refusal}
-use Rattle.rep_steps.specs.Moves.{Found, answer, after, takes_device, reads_a_page, Moves}
+use Rattle.rep_steps.specs.Moves.{Found, answer, after, takes_memory, takes_device, reads_a_page, Moves}
 use Rattle.rep_steps.specs.Nodes.{Node, Steps, found, moved}
 
 -- ---- which refusal it is
@@ -61,6 +61,9 @@ refused_steps n e r runs some = by_some _ _ (refusal n.facts e) r (same_refusal 
 
 pub done_steps : (n : Node) (e : Event) → n.facts.stopped ≡ false → refusal_here n.facts e ≡ None → Steps n e (answer n.facts e (found n e)) (moved n e)
 done_steps n e runs none = by_none _ _ (refusal n.facts e) (same_refusal n.facts e runs ∙ none) (inl (refl, refl))
+
+pub hungry_steps : (n : Node) (e : Event) → n.facts.stopped ≡ false → refusal_here n.facts e ≡ None → IsTrue (takes_memory n.facts e) → Steps n e (Refused OutOfMemory) n
+hungry_steps n e runs none takes = by_none _ _ (refusal n.facts e) (same_refusal n.facts e runs ∙ none) (inr (inl (takes, refl, refl), refl))
 
 abbrev pub halted_node : ℕ → Node → Node
 halted_node failures n = record n { facts = halted_at failures n.facts }

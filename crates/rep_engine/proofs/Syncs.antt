@@ -1,127 +1,88 @@
 -- A sync of an engine that stands for a node.
-use Rattle.std.proofs.Common.{◌≡◌, inl, inr, ℕ, ◌+◌, ◌-◌, ◌≤◌, ◌<◌, ◌%◌, Bool, true, false, List, [], length, take, drop, map, get_or, cond, eqb, get_or-set_same, get_or-set_other, Option, None, Some, Result, Ok, Err, refl, sym, ap, subst, ◌∙◌, arith, OnOk}
+use Rattle.std.proofs.Common.{◌≡◌, zero, suc, ℕ, ◌+◌, ◌≤◌, ◌<◌, ◌%◌, Bool, true, false, List, [], ◌∷◌, length, take, drop, map, get_or, cond, eqb, get_or-set_same, get_or-set_other, None, Some, Result, Ok, Err, refl, sym, ap, subst, ◌∙◌, arith, OnOk}
 use Rattle.std.specs.Prelude.{is_some, slice_set, IsOk}
 use Rattle.std.proofs.lemmas.Bool.{eqb-true}
 use Rattle.std.proofs.lemmas.Bool.Decides.{nat_tests}
-use Rattle.rep_types.specs.declared.verdict.Verdict.TheVariants.{Commit}
 use Rattle.std.proofs.lemmas.Nat.{mod_below}
 use Rattle.std.proofs.lemmas.List.{take_all}
-use Rattle.rep_types.specs.declared.key.Key.{Key}
 use Rattle.rep_types.specs.declared.judged.Judged.{Judged}
 use Rattle.rep_types.specs.declared.reply.Reply.{Reply}
 use Rattle.rep_types.specs.declared.refusal.Refusal.{Refusal}
 use Rattle.rep_types.specs.declared.refusal.Refusal.TheVariants.{DiskFault}
+use Rattle.rep_types.specs.declared.verdict.Verdict.TheVariants.{Commit}
+use Rattle.rep_types.specs.declared.value.Write.{Write}
+use Rattle.rep_types.specs.Settings.{Setting}
 use Rattle.rep_types.specs.Replies.{reply_of}
-use Rattle.rep_types.specs.Entries.{Entry}
 use Rattle.rep_disk.specs.History.{History, stable, IsImage}
-use Rattle.rep_layout.specs.declared.place.Layout.{Layout}
-use Rattle.rep_layout.specs.declared.place.Place.TheVariants.{Super, Window, Page}
-use Rattle.rep_layout.specs.declared.super_body.SuperBody.{SuperBody}
-use Rattle.rep_layout.specs.Supers.{IsNil}
-use Rattle.rep_layout.specs.Places.{side_of, layout_of}
-use Rattle.rep_cells.specs.States.{States, Stable, Allows, Syncs, synced}
-use Rattle.rep_cells.specs.Calls.{Settled, Settles}
-use Rattle.rep_log.specs.declared.phase.Phase.{Phase}
-use Rattle.rep_log.specs.declared.phase.Phase.TheVariants.{Resting, Closing, Filling, Filled, Opening}
-use Rattle.rep_log.specs.Standing.{Standing as Log, LogIs, stands_at, index_of}
-use Rattle.rep_log.specs.Laws.{MayHold}
-use Rattle.rep_log.specs.Moves.{SyncsLog, after_sync, synced_in, blocks_synced}
-use Rattle.rep_steps.specs.declared.event.Event.TheVariants.{Sync as to_sync}
-use Rattle.rep_steps.specs.declared.answer.Answer.TheVariants.{Synced, Refused}
-use Rattle.rep_steps.specs.Standings.{Standing, underway}
-use Rattle.rep_steps.specs.Moves.{Found, Moves, after, opening, synced_phase, base_after, replies as replies_of}
-use Rattle.rep_steps.specs.Nodes.{Node, IsNode, Steps, NodesStayNodes, cell, found, moved, passed, gate_at}
-use Rattle.rep_steps.specs.Images.{IsFrontAt}
-use Rattle.rep_image.specs.Meanings.{Means}
-use Rattle.rep_cells.specs.Known.{Assigns}
-use Rattle.rep_cells.specs.Laws.{ImagesReadAsAllowed}
-use Rattle.rep_versions.specs.Following.{AreVersionsOf, effect_of}
-use Rattle.rep_image.specs.Bases.{other, HaveContent}
-use Rattle.rep_image.specs.Standing.{IsBaseAt, StandsAs, NodesLeaveTheirFronts}
-use Rattle.rep_image.proofs.Settling.{left_sealed, log_synced, records_synced, coming_synced, phase_synced, start_synced}
 use Rattle.rep_disk.specs.declared.disk.DiskFault.{DiskFault as Fault}
 use Rattle.rep_disk.specs.Calls.{IsCall, Rises}
 use Rattle.rep_disk.specs.Moments.{LeavesOnly}
-use Rattle.rep_engine.specs.Engines.{Engine, IsEngine, IsWhole, facts_of, phase_at, stage_of}
+use Rattle.rep_layout.specs.declared.place.Layout.{Layout}
+use Rattle.rep_layout.specs.declared.super_body.SuperBody.{SuperBody}
+use Rattle.rep_layout.specs.Places.{layout_of}
+use Rattle.rep_cells.specs.Readings.{reading_of}
+use Rattle.rep_cells.specs.States.{Allowed}
+use Rattle.rep_cells.specs.Calls.{Settled, Settles}
+use Rattle.rep_cells.specs.Known.{Assigns}
+use Rattle.rep_cells.specs.Laws.{ImagesReadAsAllowed}
+use Rattle.rep_versions.specs.Versions.{Kept, IsPruned}
+use Rattle.rep_versions.specs.Following.{AreVersionsOf, VersionsFollowTheItems, effect_of}
+use Rattle.rep_log.specs.declared.phase.Phase.{Phase}
+use Rattle.rep_log.specs.declared.phase.Phase.TheVariants.{Resting, Closing, Filling, Filled, Opening}
+use Rattle.rep_log.specs.Standing.{Standing as Log, stands_at, index_of}
+use Rattle.rep_log.specs.Moves.{SyncsLog, StartsLater, started, after_sync, synced_in}
+use Rattle.rep_steps.specs.declared.event.Event.TheVariants.{Sync as to_sync}
+use Rattle.rep_steps.specs.declared.answer.Answer.TheVariants.{Synced, Refused}
+use Rattle.rep_steps.specs.Standings.{Standing}
+use Rattle.rep_steps.specs.Moves.{Found, Moves, after, opening, base_after, replies as replies_of}
+use Rattle.rep_steps.specs.Nodes.{Node, IsNode, Steps, NodesStayNodes, cell, found, moved, passed, gate_at}
+use Rattle.rep_steps.specs.Images.{IsFrontAt}
+use Rattle.rep_steps.proofs.Reaching.{reached_position}
+use Rattle.rep_image.specs.Meanings.{Means}
+use Rattle.rep_checkpoint.specs.declared.stage.Part.TheVariants.{Flushing, Saving, Ready, SuperFilling, SuperFilled, SuperOpening}
+use Rattle.rep_checkpoint.specs.declared.stage.Stage.{Stage as Stages}
+use Rattle.rep_checkpoint.specs.declared.stage.Stage.TheVariants.{Off, Toward, Retiring}
+use Rattle.rep_checkpoint.specs.Standing.{Standing as Checkpoint, stage_of}
+use Rattle.rep_checkpoint.specs.Moves.{after_sync as checkpoint_after, is_opening}
+use Rattle.rep_checkpoint.specs.Calls.{SyncsTo}
+use Rattle.rep_checkpoint.specs.Laws.{TheStageIsTheFacts}
+use Rattle.rep_checkpoint.specs.Nodes.{StandsAs, NodesLeaveTheirFronts, NodesSettle}
+use Rattle.rep_engine.specs.Engines.{Engine, IsEngine, IsWhole, facts_of, phase_at}
+use Rattle.rep_engine.specs.Writing.{left_of, told_of, PrunesIf}
 use Rattle.rep_engine.specs.Holding.{Stands as Standing_so, Holds}
 use Rattle.rep_engine.proofs.Steps.{done_moves, done_steps, fault_steps, halted_node, leaves_weaker}
-use Rattle.rep_engine.proofs.Standing.{same_front, nil_bytes, fronts_of}
-use Rattle.rep_engine.specs.Writing.{left_of, told_of}
-use Rattle.rep_engine.proofs.Syncing.{base_stays, facts_synced}
+use Rattle.rep_engine.proofs.Standing.{same_front, fronts_of}
+use Rattle.rep_engine.proofs.Syncing.{facts_synced}
 
--- ---- the base
+-- ---- the versions
 
-base_synced : (size : ℕ) (b : SuperBody) (entries : List Entry) (s t : States) → Syncs s t → ((reading : Option (List ℕ)) → Allows (t (Super (other (side_of b.number)))) reading → Allows (s (Super (other (side_of b.number)))) reading) → IsBaseAt size b entries s → IsBaseAt size b entries t
-base_synced size b entries s t syncs narrows h = record {
-  is_super = h.is_super;
-  opened = syncs (Super (side_of b.number)) ∙ ap synced h.opened;
-  lesser = λ reading allows. h.lesser reading (narrows reading allows);
-  saved = syncs (Window (side_of b.number)) ∙ ap synced h.saved;
-  is_window = h.is_window;
-}
+drop_effects : (k : ℕ) (js : List Judged) → map effect_of (drop k js) ≡ drop k (map effect_of js)
+drop_effects zero js = refl
+drop_effects (suc k) [] = refl
+drop_effects (suc k) (j ∷ js) = drop_effects k js
 
-content_synced : (b : SuperBody) (content : Key → Option (List ℕ)) (s t : States) → Syncs s t → HaveContent b (λ number slot body. s (Page number slot) ≡ Stable body) content → HaveContent b (λ number slot body. t (Page number slot) ≡ Stable body) content
-content_synced b content s t syncs h = record {
-  pages = λ number slot is. let page = h.pages number slot is in (page.0, syncs (Page number slot) ∙ ap synced page.1, page.2);
-  absent = h.absent;
-  outside = h.outside;
-}
+-- but where its gate opens the next base leaves the one that stands
+still_base : (b : SuperBody) (stage : Stages) → is_opening stage ≡ false → (checkpoint_after (record { base = b; stage = stage })).base ≡ b
+still_base b Off not = refl
+still_base b (Toward next Flushing) not = refl
+still_base b (Toward next Saving) not = refl
+still_base b (Toward next Ready) not = refl
+still_base b (Toward next SuperFilling) not = refl
+still_base b (Toward next SuperFilled) not = refl
+still_base b (Toward next SuperOpening) not = absurd cc
+still_base b (Retiring false) not = refl
+still_base b (Retiring true) not = refl
 
--- ---- the blocks
-
--- without a cluster nothing is held
-none_synced : (phase : Phase) (blocks held : List (List Judged)) (sealed later block : List Judged) → ((held : List (List Judged)) → MayHold phase blocks sealed held → held ≡ []) → block ≡ [] → IsWhole phase block
-    → MayHold (synced_phase phase) (blocks_synced phase blocks sealed) later held → held ≡ []
-none_synced Resting blocks held sealed later block before none whole (inl same) = same ∙ before blocks (inl refl)
-none_synced Closing blocks held sealed later block before none whole (inl same) = same ∙ before blocks (inl refl)
-none_synced (Filling n) blocks held sealed later block before none whole (inl same) = same ∙ before blocks (inl refl)
-none_synced (Filled n) blocks held sealed later block before none whole (inl same) = same ∙ before blocks (inl refl)
-none_synced (Opening n) blocks held sealed later block before none whole (inl same) = absurd (omega (arith, ap length none, whole.all, whole.some))
-none_synced Resting blocks held sealed later block before none whole (inr more) = let e : Resting ≡ Opening more.0 = more.1 in absurd cc
-none_synced Closing blocks held sealed later block before none whole (inr more) = let e : Resting ≡ Opening more.0 = more.1 in absurd cc
-none_synced (Filling n) blocks held sealed later block before none whole (inr more) = let e : Filled n ≡ Opening more.0 = more.1 in absurd cc
-none_synced (Filled n) blocks held sealed later block before none whole (inr more) = let e : Filled n ≡ Opening more.0 = more.1 in absurd cc
-none_synced (Opening n) blocks held sealed later block before none whole (inr more) = let e : Resting ≡ Opening more.0 = more.1 in absurd cc
-
--- ---- the node after it
-
-abbrev pub settled_node : Node → ℕ → Standing → Node
-settled_node n i facts = record n { facts = facts; gates = gate_at n.facts.phase i n.gates }
-
--- It stands where the node stood, with the block whose gate was opened behind the durable ones.
-pub stands_synced :
-    (n m : Node) (size : ℕ) (b : SuperBody) (log next : Log) (blocks : List (List Judged)) (sealed block : List Judged) (s t : States)
-    → m.facts.uuid ≡ n.facts.uuid → m.facts.setting ≡ n.facts.setting → m.base ≡ n.base → m.items ≡ n.items → m.facts.base ≡ n.facts.base → m.facts.durable ≡ n.facts.durable + opening n.facts.phase
-    → m.facts.ahead ≡ drop (opening n.facts.phase) n.facts.ahead → m.facts.phase ≡ synced_phase n.facts.phase
-    → n.facts.base ≤ n.facts.durable → n.facts.ahead ≡ drop (n.facts.durable - n.facts.base) n.items → n.facts.ahead ≡ block → (IsNil b.uuid → block ≡ []) → IsWhole log.phase block
-    → Syncs s t → ((reading : Option (List ℕ)) → Allows (t (Super (other (side_of b.number)))) reading → Allows (s (Super (other (side_of b.number)))) reading)
-    → next ≡ after_sync log → SyncsLog log next → StandsAs n size b log blocks sealed s
-    → StandsAs m size b next (blocks_synced log.phase blocks sealed) (left_sealed log.phase sealed) t
-stands_synced n m size b log next blocks sealed block s t uuid setting base items position durable ahead phase based rest is_block nil whole syncs narrows is on h =
-    let p : log.phase ≡ n.facts.phase = h.phase in
-    let later : next.phase ≡ synced_phase log.phase = ap (λ (k : Log). k.phase) is ∙ phase_synced log log.phase refl in
-    let held : LogIs (layout_of b.params) (after_sync log) (b.position + 1) (blocks_synced log.phase blocks sealed) sealed t =
-    subst (λ (k : Log). LogIs (layout_of b.params) k (b.position + 1) (blocks_synced log.phase blocks sealed) sealed t) is (on (layout_of b.params) s t (b.position + 1) blocks sealed syncs h.stands.log_is) in
-    record {
-      stands = record {
-        uuid = uuid ∙ h.stands.uuid;
-        setting = setting ∙ h.stands.setting;
-        position = ap (λ (x : _). x.position) base ∙ h.stands.position;
-        base = subst (λ (x : _). IsBaseAt size b x t) (sym (ap (λ (x : _). x.kept) base)) (base_synced size b n.base.kept s t syncs narrows h.stands.base);
-        content = subst (λ (x : Key → Option (List ℕ)). HaveContent b (λ number slot body. t (Page number slot) ≡ Stable body) x) (sym (ap (λ (x : _). x.content) base)) (content_synced b n.base.content s t syncs h.stands.content);
-        start = ap (λ (k : Log). k.start) is ∙ start_synced log log.phase ∙ h.stands.start;
-        log_is = subst (λ (k : Log). LogIs (layout_of b.params) k (b.position + 1) (blocks_synced log.phase blocks sealed) (left_sealed log.phase sealed) t) (sym is) (log_synced (layout_of b.params) log (b.position + 1) blocks sealed t log.phase refl held);
-      };
-      phase = later ∙ ap synced_phase p ∙ sym phase;
-      durable =
-          records_synced log.phase blocks sealed n.items n.facts.ahead (n.facts.durable - n.facts.base) h.durable rest (h.coming ∙ ap (λ q. take (underway q) n.facts.ahead) (sym p))
-          ∙ ap (λ k. take k n.items) (omega (arith, durable, position, based, ap opening p)) ∙ ap (take (m.facts.durable - m.facts.base)) (sym items);
-      coming =
-          coming_synced log.phase sealed n.facts.ahead (h.coming ∙ ap (λ q. take (underway q) n.facts.ahead) (sym p))
-          ∙ ap (λ q. take (underway (synced_phase q)) (drop (opening q) n.facts.ahead)) p ∙ ap (λ q. take (underway q) (drop (opening n.facts.phase) n.facts.ahead)) (sym phase) ∙ ap (take (underway m.facts.phase)) (sym ahead);
-      judged = rw setting (rw base (rw items h.judged));
-      undefined = λ none held may. none_synced log.phase blocks held sealed (left_sealed log.phase sealed) block (h.undefined none) (nil none) whole (subst (λ q. MayHold q (blocks_synced log.phase blocks sealed) (left_sealed log.phase sealed) held) later may);
-    }
+-- those behind the base that then stands are left
+versions_left : VersionsFollowTheItems → (c : Checkpoint) (base past : ℕ) (items : List Judged) (before after : Kept) → base ≡ c.base.position → (checkpoint_after c).base.position ≡ base + past → AreVersionsOf base (map effect_of items) before
+    → (b : Bool) → is_opening c.stage ≡ b → PrunesIf b (checkpoint_after c).base.position before after → AreVersionsOf (base + past) (map effect_of (drop past items)) after
+versions_left law c base past items before after at later versions true is pruned =
+    let left = law.pruned base (base + past) (map effect_of items) before after (omega arith) versions (subst (λ i. IsPruned i before after) later pruned) in
+    subst (λ (cs : List (List Write)). AreVersionsOf (base + past) cs after) (ap (λ i. drop i (map effect_of items)) (omega arith) ∙ sym (drop_effects past items)) left
+versions_left law c base past items before after at later versions false is same =
+    let none : past ≡ 0 = omega (arith, at, later, ap (λ (b : SuperBody). b.position) (still_base c.base c.stage is)) in
+    subst (λ i. AreVersionsOf (base + i) (map effect_of (drop i items)) after) (sym none)
+    (subst (λ i. AreVersionsOf i (map effect_of items) after) (omega arith) (subst (AreVersionsOf base (map effect_of items)) (sym same) versions))
 
 -- ---- how a sync comes out
 
@@ -131,26 +92,32 @@ ok_of (Err e) ok h = absurd cc
 
 -- A sync of an engine that runs, and what it leaves.
 pub record IsSynced {D : Type 0} (honest : D → Type 0) (history : D → History) (size failures : D → ℕ) (old new : Engine D) (result : Result (List Reply) Refusal) (answer : Result (Unit {0}) Fault) : Type 0 where
-  pub engine : IsEngine old.layout old.superblock old.log old.kept old.block
+  pub engine : IsEngine old.layout old.checkpoint old.log old.kept old.block
   pub runs : old.halted ≡ None
   pub call : IsCall size failures honest old.disk new.disk answer
   pub settles : Settles honest history old.layout old.disk new.disk answer
   pub layout : new.layout ≡ old.layout
-  pub same_super : new.superblock ≡ old.superblock
-  pub same_both : new.both ≡ old.both
-  pub same_kept : new.kept ≡ old.kept
 
--- The device did it: the log moved on, and these are the replies.
+-- The device did it: log and checkpoint moved on, what lies below the base went, and these are the replies.
 pub record GoesOn {D : Type 0} (old new : Engine D) (told : List Reply) : Type 0 where
   pub runs : new.halted ≡ None
-  pub log : new.log ≡ after_sync old.log
-  pub syncs : SyncsLog old.log new.log
+  pub synced : Log
+  pub synced_is : synced ≡ after_sync old.log
+  pub syncs : SyncsLog old.log synced
+  pub checkpoint : new.checkpoint ≡ checkpoint_after old.checkpoint
+  pub states : SyncsTo old.checkpoint new.checkpoint
+  pub uuid : new.checkpoint.base.uuid ≡ old.checkpoint.base.uuid
+  pub params : new.checkpoint.base.params ≡ old.checkpoint.base.params
+  pub log : new.log ≡ started new.checkpoint.base.start synced
+  pub later : StartsLater synced new.log
+  pub kept : PrunesIf (is_opening old.checkpoint.stage) new.checkpoint.base.position old.kept new.kept
   pub block : new.block ≡ left_of old.log.phase old.block
   pub replies : told ≡ map reply_of (told_of old.log.phase old.block)
 
 -- It failed: all is as it was.
 pub record Halts {D : Type 0} (old new : Engine D) : Type 0 where
   pub halted : new.halted ≡ Some old.log.phase
+  pub checkpoint : new.checkpoint ≡ old.checkpoint
   pub log : new.log ≡ old.log
   pub block : new.block ≡ old.block
 
@@ -174,24 +141,32 @@ gates_by log gates (Filling n) j there known = known j
 gates_by log gates (Filled n) j there known = known j
 gates_by log gates (Opening n) j there known = set_by (eqb j (index_of log)) log.stands gates (index_of log) j true refl there (known j)
 
-module _ {D : Type 0} (honest : D → Type 0) (history : D → History) (size failures : D → ℕ) (sized : (disk : D) → honest disk → length (stable (history disk)) ≡ size disk)
+module _ {D : Type 0} (honest : D → Type 0) (history : D → History) (size failures : D → ℕ) (sized : (disk : D) → honest disk → length (stable (history disk)) ≡ size disk) (laws : TheStageIsTheFacts)
     (old new : Engine D) (result : Result (List Reply) Refusal) (answer : Result (Unit {0}) Fault) (h : IsSynced honest history size failures old new result answer) where
+  -- the log after it, and the facts
+  log_after : (replies : List Reply) → GoesOn old new replies → new.log ≡ started (checkpoint_after old.checkpoint).base.start (after_sync old.log)
+  log_after replies on = on.log ∙ ap (started new.checkpoint.base.start) on.synced_is ∙ ap (λ (c : Checkpoint). started c.base.start (after_sync old.log)) on.checkpoint
+
+  facts_after : (replies : List Reply) (f : Found) → IsOk answer → GoesOn old new replies → facts_of failures new ≡ after (facts_of failures old) to_sync f
+  facts_after replies f ok on =
+      facts_synced failures laws old new f h.engine h.runs on.runs (h.call.no_cause ok) on.checkpoint (log_after replies on) on.block
+      (ap (λ (c : Checkpoint). c.base.uuid) (sym on.checkpoint) ∙ on.uuid) (ap (λ (c : Checkpoint). c.base.params) (sym on.checkpoint) ∙ on.params)
+
   -- on any device
-  pub synced_moves : (replies : List Reply) → IsOk answer → GoesOn old new replies → 0 < old.log.seqno → Moves (facts_of failures old) to_sync (Synced replies) (facts_of failures new)
-  synced_moves replies ok on some =
+  pub synced_moves : (replies : List Reply) → IsOk answer → GoesOn old new replies → Moves (facts_of failures old) to_sync (Synced replies) (facts_of failures new)
+  synced_moves replies ok on =
       let found : Found = record { verdict = Commit; stale = false; left = []; row = None } in
       let phase : old.log.phase ≡ phase_at old.log.phase old.halted = sym (ap (phase_at old.log.phase) h.runs) in
       let told : replies ≡ replies_of (facts_of failures old) = on.replies ∙ ap (map reply_of) (told_is old.log.phase old.block h.engine.whole ∙ ap (λ p. take (opening p) old.block) phase) in
       subst (λ rs. Moves (facts_of failures old) to_sync (Synced rs) (facts_of failures new)) (sym told)
-      (done_moves (facts_of failures old) to_sync found (facts_of failures new) (ap is_some h.runs) refl
-      (facts_synced failures old new found h.runs on.runs (h.call.no_cause ok) h.same_super h.same_both on.log on.block h.engine.whole some))
+      (done_moves (facts_of failures old) to_sync found (facts_of failures new) (ap is_some h.runs) refl (facts_after replies found ok on))
 
   module _ (n : Node) (holds : Holds honest history failures n old) where
     there : Standing_so history n old
     there = holds.runs h.runs
 
     abbrev l : Layout
-    l = layout_of old.superblock.params
+    l = layout_of old.checkpoint.base.params
 
     settled : Settled l (history old.disk) (history new.disk) there.states answer
     settled =
@@ -204,15 +179,8 @@ module _ {D : Type 0} (honest : D → Type 0) (history : D → History) (size fa
     runs_on : n.facts.stopped ≡ false
     runs_on = ap (λ (s : Standing). s.stopped) holds.facts ∙ ap is_some h.runs
 
-    -- the node after it, said without the checkpoint that there is not
     abbrev after_it : Node
-    after_it = settled_node n (cell n.facts) (after n.facts to_sync (found n to_sync))
-
-    passed_none : passed n.facts ≡ 0
-    passed_none = ap passed holds.facts ∙ omega (arith, base_stays old.both old.superblock.position)
-
-    moved_is : moved n to_sync ≡ after_it
-    moved_is = rw passed_none refl
+    after_it = moved n to_sync
 
     phase_is : n.facts.phase ≡ old.log.phase
     phase_is = ap (λ (s : Standing). s.phase) holds.facts ∙ ap (phase_at old.log.phase) h.runs
@@ -224,71 +192,83 @@ module _ {D : Type 0} (honest : D → Type 0) (history : D → History) (size fa
     images : (image : List ℕ) → IsImage (history new.disk) image → IsFrontAt Means n image
     images image here = holds.images image (settled.fewer image here)
 
-    module _ (nodes : NodesStayNodes) (law : NodesLeaveTheirFronts) (reads : ImagesReadAsAllowed) where
-      pub sync_leaves : LeavesOnly (history old.disk) (history new.disk) (IsFrontAt Means n)
-      sync_leaves = leaves_weaker (history old.disk) (history new.disk) images settled.reaches.moments
+    pub sync_leaves : LeavesOnly (history old.disk) (history new.disk) (IsFrontAt Means n)
+    sync_leaves = leaves_weaker (history old.disk) (history new.disk) images settled.reaches.moments
 
-      pub sync_halts : Rises (failures old.disk) (failures new.disk) → Halts old new → (m : Node) × Steps n to_sync (Refused DiskFault) m × Holds honest history failures m new
-      sync_halts rises halts =
-          let steps = fault_steps n to_sync (failures new.disk) runs_on refl refl (subst (λ k. Rises k (failures new.disk)) (sym (ap (λ (s : Standing). s.failures) holds.facts)) rises) in (
-            halted_node (failures new.disk) n,
-            steps,
-            record {
-              is_honest = h.call.stays_honest holds.is_honest;
-              facts = rw holds.facts (rw halts.halted (rw h.same_super (rw h.same_both (rw halts.block (rw halts.log (rw h.runs refl))))));
-              node = nodes n (halted_node (failures new.disk) n) to_sync (Refused DiskFault) holds.node steps;
-              runs = λ on. let never : Some old.log.phase ≡ None = sym halts.halted ∙ on in absurd cc;
-              images = λ image here. same_front n (halted_node (failures new.disk) n) image refl refl refl refl refl (images image here);
-            },
-          )
-
-      module _ (replies : List Reply) (ok : IsOk answer) (on : GoesOn old new replies) where
-        steps : Steps n to_sync (Synced replies) (moved n to_sync)
-        steps =
-            let told : replies ≡ replies_of n.facts =
-            on.replies ∙ ap (map reply_of) (told_is old.log.phase old.block h.engine.whole ∙ ap (λ p. take (opening p) old.block) (sym phase_is) ∙ ap (take (opening n.facts.phase)) (sym (ap (λ (s : Standing). s.ahead) holds.facts))) in
-            subst (λ rs. Steps n to_sync (Synced rs) (moved n to_sync)) (sym told) (done_steps n to_sync runs_on refl)
-
-        is_node : IsNode after_it
-        is_node = subst IsNode moved_is (nodes n (moved n to_sync) to_sync (Synced replies) holds.node steps)
-
-        stands_so : StandsAs after_it (length (stable (history old.disk))) old.superblock new.log (blocks_synced old.log.phase there.blocks there.sealed) (left_sealed old.log.phase there.sealed) settled.after
-        stands_so =
-            let stage : n.facts.stage ≡ stage_of old.both = ap (λ (s : Standing). s.stage) holds.facts in
-            stands_synced n after_it (length (stable (history old.disk))) old.superblock old.log new.log there.blocks there.sealed old.block there.states settled.after refl refl refl refl
-            (ap (base_after n.facts.base) stage ∙ sym (base_stays old.both n.facts.base)) refl refl refl holds.node.facts.based holds.node.ahead (ap (λ (s : Standing). s.ahead) holds.facts)
-            (λ nil. (h.engine.undefined (nil_bytes old.superblock.uuid nil)).1) h.engine.whole settled.syncs (settled.narrows (Super (other (side_of old.superblock.number)))) on.log on.syncs there.stands
-
-        there_after : Standing_so history after_it new
-        there_after = record {
-          states = settled.after;
-          assigns = subst (λ (k : Layout). Assigns k (history new.disk) settled.after) (sym (h.layout ∙ h.engine.layout)) (ok_of answer ok settled.reaches.ok);
-          blocks = blocks_synced old.log.phase there.blocks there.sealed;
-          sealed = left_sealed old.log.phase there.sealed;
-          stands =
-              subst (λ (b : SuperBody). StandsAs after_it (length (stable (history new.disk))) b new.log (blocks_synced old.log.phase there.blocks there.sealed) (left_sealed old.log.phase there.sealed) settled.after) (sym h.same_super)
-              (subst (λ k. StandsAs after_it k old.superblock new.log (blocks_synced old.log.phase there.blocks there.sealed) (left_sealed old.log.phase there.sealed) settled.after) (sym size_stays) stands_so);
-          versions = subst (AreVersionsOf n.base.position (map effect_of n.items)) (sym h.same_kept) there.versions;
-          gates = λ i.
-              ap (λ p. gate_at p (cell n.facts) n.gates i) phase_is ∙ ap (λ k. gate_at old.log.phase k n.gates i) cell_is
-              ∙ gates_by old.log n.gates old.log.phase i (omega (arith, index_small, there.stands.stands.log_is.known, there.stands.stands.log_is.cells)) there.gates ∙ ap (λ (k : Log). stands_at k i) (sym on.log);
-        }
-          where
-            index_small : index_of old.log < old.log.cells
-            index_small = mod_below old.log.next old.log.cells (omega (arith, there.stands.stands.log_is.some, there.stands.stands.log_is.cells))
-
-        pub sync_holds : (m : Node) × Steps n to_sync (Synced replies) m × Holds honest history failures m new
-        sync_holds = (
-          moved n to_sync,
+    pub sync_halts : NodesStayNodes → Rises (failures old.disk) (failures new.disk) → Halts old new → (m : Node) × Steps n to_sync (Refused DiskFault) m × Holds honest history failures m new
+    sync_halts nodes rises halts =
+        let steps = fault_steps n to_sync (failures new.disk) runs_on refl refl (subst (λ k. Rises k (failures new.disk)) (sym (ap (λ (s : Standing). s.failures) holds.facts)) rises) in (
+          halted_node (failures new.disk) n,
           steps,
-          subst (λ (m : Node). Holds honest history failures m new) (sym moved_is) (record {
+          record {
             is_honest = h.call.stays_honest holds.is_honest;
-            facts =
-                ap (λ (s : Standing). after s to_sync (found n to_sync)) holds.facts
-                ∙ sym (facts_synced failures old new (found n to_sync) h.runs on.runs (h.call.no_cause ok) h.same_super h.same_both on.log on.block h.engine.whole (omega (arith, h.engine.behind)));
-            node = is_node;
-            runs = λ still. there_after;
-            images = fronts_of law after_it (history new.disk) (length (stable (history old.disk))) old.superblock new.log (blocks_synced old.log.phase there.blocks there.sealed) (left_sealed old.log.phase there.sealed) settled.after is_node stands_so size_stays
-                (λ image here. reads l (history new.disk) settled.after image (ok_of answer ok settled.reaches.ok) here);
-          }),
+            facts = rw holds.facts (rw halts.halted (rw halts.checkpoint (rw halts.block (rw halts.log (rw h.runs refl)))));
+            node = nodes n (halted_node (failures new.disk) n) to_sync (Refused DiskFault) holds.node steps;
+            runs = λ on. let never : Some old.log.phase ≡ None = sym halts.halted ∙ on in absurd cc;
+            images = λ image here. same_front n (halted_node (failures new.disk) n) image refl refl refl refl refl (images image here);
+          },
         )
+
+    module _ (nodes : NodesStayNodes) (law : NodesLeaveTheirFronts) (settle : NodesSettle) (follow : VersionsFollowTheItems) (reads : ImagesReadAsAllowed) (replies : List Reply) (ok : IsOk answer) (on : GoesOn old new replies) where
+      steps : Steps n to_sync (Synced replies) after_it
+      steps =
+          let told : replies ≡ replies_of n.facts =
+          on.replies ∙ ap (map reply_of) (told_is old.log.phase old.block h.engine.whole ∙ ap (λ p. take (opening p) old.block) (sym phase_is) ∙ ap (take (opening n.facts.phase)) (sym (ap (λ (s : Standing). s.ahead) holds.facts))) in
+          subst (λ rs. Steps n to_sync (Synced rs) after_it) (sym told) (done_steps n to_sync runs_on refl)
+
+      is_node : IsNode after_it
+      is_node = nodes n after_it to_sync (Synced replies) holds.node steps
+
+      abbrev held : (held : List (List Judged)) × (coming : List Judged) × StandsAs after_it (length (stable (history old.disk))) new.checkpoint new.log held coming settled.after
+      held =
+          settle n (length (stable (history old.disk))) old.checkpoint new.checkpoint old.log on.synced new.log there.blocks there.sealed there.states settled.after holds.node (ap (λ (s : Standing). s.stage) holds.facts) there.stands settled.syncs
+          on.checkpoint on.states on.synced_is on.syncs on.log on.later
+
+      -- where the base then is
+      at_base : n.base.position ≡ old.checkpoint.base.position
+      at_base = there.stands.checkpoint.base.position
+
+      position : (checkpoint_after old.checkpoint).base.position ≡ n.base.position + passed n.facts
+      position =
+          let base : base_after n.facts.base n.facts.stage ≡ (checkpoint_after old.checkpoint).base.position =
+          ap (base_after n.facts.base) (ap (λ (s : Standing). s.stage) holds.facts) ∙ ap (λ i. base_after i (stage_of old.checkpoint)) (ap (λ (s : Standing). s.base) holds.facts) ∙ sym (laws.base old.checkpoint) in
+          let rises : n.base.position ≤ after_it.base.position = omega (arith, reached_position n.facts.setting n.base (take (passed n.facts) n.items)) in
+          let there_then : after_it.base.position ≡ (checkpoint_after old.checkpoint).base.position = held.2.checkpoint.base.position ∙ ap (λ (c : Checkpoint). c.base.position) on.checkpoint in
+          omega (arith, base, rises, there_then, holds.node.position)
+
+      versions : AreVersionsOf after_it.base.position (map effect_of after_it.items) new.kept
+      versions =
+          let pruned : PrunesIf (is_opening old.checkpoint.stage) (checkpoint_after old.checkpoint).base.position old.kept new.kept =
+          subst (λ (c : Checkpoint). PrunesIf (is_opening old.checkpoint.stage) c.base.position old.kept new.kept) on.checkpoint on.kept in
+          let left = versions_left follow old.checkpoint n.base.position (passed n.facts) n.items old.kept new.kept at_base position there.versions (is_opening old.checkpoint.stage) refl pruned in
+          subst (λ i. AreVersionsOf i (map effect_of after_it.items) new.kept) (sym (held.2.checkpoint.base.position ∙ ap (λ (c : Checkpoint). c.base.position) on.checkpoint ∙ position)) left
+
+      there_after : Standing_so history after_it new
+      there_after = record {
+        states = settled.after;
+        assigns = subst (λ (k : Layout). Assigns k (history new.disk) settled.after) (sym (h.layout ∙ h.engine.layout)) (ok_of answer ok settled.reaches.ok);
+        blocks = held.0;
+        sealed = held.1;
+        stands = subst (λ k. StandsAs after_it k new.checkpoint new.log held.0 held.1 settled.after) (sym size_stays) held.2;
+        versions = versions;
+        gates = λ i.
+            ap (λ p. gate_at p (cell n.facts) n.gates i) phase_is ∙ ap (λ k. gate_at old.log.phase k n.gates i) cell_is
+            ∙ gates_by old.log n.gates old.log.phase i (omega (arith, index_small, there.stands.log_is.known, there.stands.log_is.cells)) there.gates ∙ ap (λ (k : Log). stands_at k i) (sym (log_after replies on));
+      }
+        where
+          index_small : index_of old.log < old.log.cells
+          index_small = mod_below old.log.next old.log.cells (omega (arith, there.stands.log_is.some, there.stands.log_is.cells))
+
+      pub sync_holds : (m : Node) × Steps n to_sync (Synced replies) m × Holds honest history failures m new
+      sync_holds = (
+        after_it,
+        steps,
+        record {
+          is_honest = h.call.stays_honest holds.is_honest;
+          facts = ap (λ (s : Standing). after s to_sync (found n to_sync)) holds.facts ∙ sym (facts_after replies (found n to_sync) ok on);
+          node = is_node;
+          runs = λ still. there_after;
+          images = fronts_of law after_it (history new.disk) (length (stable (history old.disk))) new.checkpoint new.log held.0 held.1 settled.after is_node held.2 size_stays
+              (λ image here. subst (λ (p : Setting). Allowed (layout_of p) settled.after (reading_of (layout_of p) image)) (sym on.params) (reads l (history new.disk) settled.after image (ok_of answer ok settled.reaches.ok) here));
+        },
+      )

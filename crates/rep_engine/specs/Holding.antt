@@ -13,7 +13,7 @@ use Rattle.rep_steps.specs.declared.answer.Answer.TheVariants.{Wrote, Synced, Ro
 use Rattle.rep_steps.specs.Nodes.{Node, IsNode}
 use Rattle.rep_steps.specs.Images.{IsFrontAt, IsEndOf}
 use Rattle.rep_image.specs.Meanings.{Means}
-use Rattle.rep_image.specs.Standing.{StandsAs}
+use Rattle.rep_checkpoint.specs.Nodes.{StandsAs}
 use Rattle.rep_engine.specs.Engines.{Engine, facts_of}
 
 -- While the device has not failed: what is known of its places is that the node stands there; the versions are those of the items
@@ -23,7 +23,7 @@ pub record Stands {D : Type 0} (history : D → History) (n : Node) (e : Engine 
   pub assigns : Assigns e.layout (history e.disk) states
   pub blocks : List (List Judged)
   pub sealed : List Judged
-  pub stands : StandsAs n (length (stable (history e.disk))) e.superblock e.log blocks sealed states
+  pub stands : StandsAs n (length (stable (history e.disk))) e.checkpoint e.log blocks sealed states
   pub versions : AreVersionsOf n.base.position (map effect_of n.items) e.kept
   pub gates : (i : ℕ) → n.gates i ≡ stands_at e.log i
 

@@ -3,3 +3,4 @@ pub mod Writing
 pub mod Holding
 pub mod Accepting
 pub mod Reading
+pub mod Checking

@@ -21,6 +21,6 @@ halted_by phase (Err e) = None
 pub record ReadsRow {D : Type 0} (size failures : D → ℕ) (honest : D → Type 0) (history : D → History) (key : Key) (old new : Engine D) (result : Result (Option (List ℕ)) Refusal) : Type 0 where
   pub call : IsCall size failures honest old.disk new.disk (fault_of result)
   pub same : honest old.disk → history new.disk ≡ history old.disk
-  pub read : ReadsBase honest history old.layout old.superblock key old.disk result
+  pub read : ReadsBase honest history old.layout old.checkpoint.base key old.disk result
   pub refused : IfErr result (λ e. (e ≡ DiskFault) ⊎ (e ≡ Corrupt Pages))
   pub after : new ≡ record old { disk = new.disk; halted = halted_by old.log.phase result }

@@ -1,9 +1,9 @@
 -- What the log's next write makes of the log, and what is read of the base.
-use Rattle.std.specs.Prelude.{◌≡◌, ◌≢◌, ℕ, List, [], length, Option, None, Some, Result, Err, IfOk, IfErr}
+use Rattle.std.specs.Prelude.{◌≡◌, ◌≢◌, ℕ, Bool, true, false, List, [], length, Option, Result, Err, IfOk, IfErr}
 use Rattle.rep_types.specs.declared.key.Key.{Key}
 use Rattle.rep_types.specs.declared.judged.Judged.{Judged}
 use Rattle.rep_types.specs.declared.refusal.Refusal.{Refusal}
-use Rattle.rep_types.specs.declared.refusal.Refusal.TheVariants.{Stopped, NotDue, DiskFault, Corrupt}
+use Rattle.rep_types.specs.declared.refusal.Refusal.TheVariants.{DiskFault, Corrupt}
 use Rattle.rep_types.specs.declared.refusal.Part.TheVariants.{Pages}
 use Rattle.rep_disk.specs.History.{History}
 use Rattle.rep_layout.specs.declared.place.Layout.{Layout}
@@ -11,6 +11,7 @@ use Rattle.rep_layout.specs.declared.place.Place.TheVariants.{Page}
 use Rattle.rep_layout.specs.declared.super_body.SuperBody.{SuperBody}
 use Rattle.rep_cells.specs.States.{States, Stable}
 use Rattle.rep_cells.specs.Known.{Assigns}
+use Rattle.rep_versions.specs.Versions.{Kept, IsPruned}
 use Rattle.rep_log.specs.declared.phase.Phase.{Phase}
 use Rattle.rep_log.specs.declared.phase.Phase.TheVariants.{Opening}
 use Rattle.rep_log.specs.declared.phase.Step.{Step}
@@ -60,13 +61,13 @@ abbrev pub told_of : Phase → List Judged → List Judged
 told_of (Opening n) block = block
 told_of phase block = []
 
+-- Where the base rose, the versions up to it are gone.
+abbrev pub PrunesIf : Bool → ℕ → Kept → Kept → Type 0
+PrunesIf true position before after = IsPruned position before after
+PrunesIf false position before after = after ≡ before
+
 -- What is read of a base that stands on an honest device is its content, and none of its pages is corrupt.
 abbrev pub ReadsBase : {D : Type 0} → (D → Type 0) → (D → History) → Layout → SuperBody → Key → D → Result (Option (List ℕ)) Refusal → Type 0
 ReadsBase honest history l b key old result = honest old → (s : States) (content : Key → Option (List ℕ)) → Assigns l (history old) s
     → HaveContent b (λ number slot body. s (Page number slot) ≡ Stable body) content
     → IfOk result (λ value. value ≡ content key) × (result ≢ Err (Corrupt Pages))
-
--- what a checkpoint's step answers while there is none
-abbrev pub no_checkpoint : Option Phase → Refusal
-no_checkpoint None = NotDue
-no_checkpoint (Some before) = Stopped

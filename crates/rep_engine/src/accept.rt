@@ -17,8 +17,9 @@ ghost use Rattle.rep_engine.specs.Holding.{Holds, with_items};
 
 use crate::engine::Engine;
 use rep_backlog::Backlog;
+use rep_checkpoint::the_log_is_apart;
 use rep_disk::Disk;
-use rep_log::{Phase, Step};
+use rep_log::Phase;
 use rep_record::{BlockBuilder, fronts_are_determined};
 use rep_steps::Replies;
 use rep_types::{Judged, Refusal};
@@ -129,6 +130,7 @@ impl<D: Disk> Engine<D> {
         add_is_taken_back();
         versions_follow_the_items();
         fronts_are_determined();
+        the_log_is_apart();
         if self.halted.is_some() {
             return Err(Refusal::Stopped);
         }

@@ -13,23 +13,37 @@ ghost use Rattle.rep_steps.specs.Nodes.{Node, Steps};
 ghost use Rattle.rep_steps.specs.Images.{IsFrontAt};
 ghost use Rattle.rep_image.specs.Meanings.{Means};
 ghost use Rattle.rep_engine.specs.Engines.{IsEngine, facts_of, phase_at, durable_of, gtid_of};
-ghost use Rattle.rep_log.specs.Moves.{after_sync, fault_of, SyncsLog};
-ghost use Rattle.rep_engine.specs.Writing.{left_of, told_of, no_checkpoint};
+ghost use Rattle.rep_log.specs.Standing.{due_of};
+ghost use Rattle.rep_log.specs.Moves.{after_sync, started, fault_of, SyncsLog, StartsLater};
+ghost use Rattle.rep_checkpoint.specs.Moves.{after_sync as checkpoint_after, is_opening};
+ghost use Rattle.rep_checkpoint.specs.Calls.{SyncsTo};
+ghost use Rattle.rep_checkpoint.specs.Standing.{due_in};
+ghost use Rattle.rep_engine.specs.Writing.{written_in, left_of, told_of, PrunesIf};
 ghost use Rattle.rep_engine.specs.Holding.{Holds, wrote, synced};
 
 use crate::write::write_next;
 use rep_cells::{Cells, images_read_as_allowed};
-use rep_cert::Certifier;
+use rep_checkpoint::{
+    Checkpoint, nodes_leave_their_fronts, nodes_settle, the_log_is_apart, the_stage_is_the_facts,
+};
 use rep_disk::Disk;
-use rep_image::nodes_leave_their_fronts;
-use rep_layout::SuperBody;
 use rep_log::{Log, Phase, Step};
 use rep_record::BlockBuilder;
 use rep_steps::{Replies, nodes_stay_nodes};
 use rep_types::{Gtid, Params, Refusal};
-use rep_versions::Versions;
+use rep_versions::{Versions, versions_follow_the_items};
+use std::alloc::Global;
 use std::marker::Model;
 use uuid::Uuid;
+
+/// Lets the versions up to the base go, where it rose.
+fn prune_if(versions: &mut Versions, rose: bool, position: u64)
+    ensures { PrunesIf rose position versions.old versions.new }
+{
+    if rose {
+        versions.prune(position);
+    }
+}
 
 /// The engine of a node on a disk: a base that its superblock names, the log behind it, and the versions
 /// of what the log's items wrote.
@@ -39,10 +53,10 @@ use uuid::Uuid;
 /// device fails, the engine is stopped, and refuses everything.
 #[derive(Drop)]
 pub struct Engine<D: Disk> {
+    /// Where a checkpoint takes its memory.
+    pub(crate) alloc: Global,
     pub(crate) cells: Cells<D>,
-    pub(crate) superblock: SuperBody,
-    /// Whether the other superblock's gate stands open too.
-    pub(crate) both: bool,
+    pub(crate) checkpoint: Checkpoint,
     pub(crate) log: Log,
     pub(crate) versions: Versions,
     /// The items that were accepted and are not durable.
@@ -63,28 +77,28 @@ impl<D: Disk> Model for Engine<D> {
 
     ghost coded = { engine_code D.code };
 
-    ghost view = { λ e. record { disk = disk_of e.cells; layout = layout_of e.cells; superblock = e.superblock; both = e.both; log = e.log; kept = e.versions; block = e.block; halted = e.halted } };
+    ghost view = { λ e. record { disk = disk_of e.cells; layout = layout_of e.cells; checkpoint = e.checkpoint; log = e.log; kept = e.versions; block = e.block; halted = e.halted } };
 
-    ghost invariant = { λ e. IsEngine (layout_of e.cells) e.superblock e.log e.versions e.block × (e.replies ≡ map reply_of e.block) };
+    ghost invariant = { λ e. IsEngine (layout_of e.cells) e.checkpoint e.log e.versions e.block × (e.replies ≡ map reply_of e.block) };
 }
 
 impl<D: Disk> Engine<D> {
-    /// The engine over what an opening found on a device: the superblock of the base, whether the other one
-    /// stands open too, the log behind the base, and the versions of what its items wrote.
+    /// The engine over what an opening found on a device: the checkpoint at its base, the log behind the base,
+    /// and the versions of what its items wrote.
     pub fn open(
+        alloc: Global,
         cells: Cells<D>,
-        superblock: SuperBody,
-        both: bool,
+        checkpoint: Checkpoint,
         log: Log,
         versions: Versions,
     ) -> Engine<D>
-        requires { IsEngine (layout_of cells) superblock log versions [] }
-        ensures { result ≡ record { disk = disk_of cells; layout = layout_of cells; superblock = superblock; both = both; log = log; kept = versions; block = []; halted = None } }
+        requires { IsEngine (layout_of cells) checkpoint log versions [] }
+        ensures { result ≡ record { disk = disk_of cells; layout = layout_of cells; checkpoint = checkpoint; log = log; kept = versions; block = []; halted = None } }
     {
         Engine {
+            alloc,
             cells,
-            superblock,
-            both,
+            checkpoint,
             log,
             versions,
             block: BlockBuilder::new(),
@@ -96,7 +110,7 @@ impl<D: Disk> Engine<D> {
     /// Why the log's next block does not begin: its cell is live.
     pub(crate) fn live_refusal(&self) -> Option<Refusal>
         requires { self.now.log.phase ≡ Phase.Resting }
-        ensures { result ≡ (if nat_le (self.now.log.start + self.now.superblock.params.cells) self.now.log.next then Some LogFull else None) }
+        ensures { result ≡ (if nat_le (self.now.log.start + self.now.checkpoint.base.params.cells) self.now.log.next then Some LogFull else None) }
     {
         match self.log.step_due() {
             Step::Full => Some(Refusal::LogFull),
@@ -142,10 +156,13 @@ impl<D: Disk> Engine<D> {
         ensures unchanged { IfErr result (λ e. (e ≡ DiskFault) ⊎ (self.new ≡ self.old)) }
         // It takes no memory.
         ensures memory { IfErr result (λ e. e ≢ OutOfMemory) }
+        // The log has made the step that was due.
+        ensures log { OnOk result (self.new.log ≡ written_in (due_of self.old.log) (length self.old.block) self.old.log) }
         ensures leaves { (n : Node) → Holds D.honest D.history D.failures n self.old → LeavesOnly (D.history self.old.disk) (D.history self.new.disk) (IsFrontAt Means n) }
     {
         nodes_stay_nodes();
         nodes_leave_their_fronts();
+        the_log_is_apart();
         if self.halted.is_some() {
             return Err(Refusal::Stopped);
         }
@@ -160,7 +177,7 @@ impl<D: Disk> Engine<D> {
         written
     }
 
-    /// Moves on by a sync that succeeded, and gives the replies of what it made durable.
+    /// Takes the log on by a sync that succeeded, and gives the replies of what it made durable.
     #[tactic(auto, using(crate::proofs::Syncing::engine_synced, crate::proofs::Syncing::none_synced, crate::proofs::Syncing::some_synced))]
     fn settle(&mut self) -> Replies
         ensures after { self.new ≡ record (self.old) { log = after_sync self.old.log; block = left_of self.old.log.phase self.old.block } }
@@ -174,16 +191,37 @@ impl<D: Disk> Engine<D> {
         std::mem::replace(&mut self.replies, Replies::new())
     }
 
+    /// Takes the checkpoint on by a sync that succeeded. Where its next base became the base, the versions up to
+    /// there go, and so do the log's blocks before its first cell.
+    fn raise(&mut self)
+        ensures after { self.new ≡ record (self.old) { checkpoint = checkpoint_after self.old.checkpoint; log = started (checkpoint_after self.old.checkpoint).base.start self.old.log; kept = self.new.kept } }
+        ensures pruned { PrunesIf (is_opening self.old.checkpoint.stage) (checkpoint_after self.old.checkpoint).base.position self.old.kept self.new.kept }
+        // What the states of the places are said to be, for what stood there.
+        ensures states { SyncsTo self.old.checkpoint self.new.checkpoint }
+        ensures later { StartsLater self.old.log self.new.log }
+        ensures uuid { self.new.checkpoint.base.uuid ≡ self.old.checkpoint.base.uuid }
+        ensures params { self.new.checkpoint.base.params ≡ self.old.checkpoint.base.params }
+    {
+        let rose = self.checkpoint.synced();
+        let base = self.checkpoint.base();
+        prune_if(&mut self.versions, rose, base.position);
+        self.log.start_at(base.start);
+    }
+
     /// Makes stable what was written: one sync. Where a block's gate was opened, its items are durable then, and
-    /// their replies are given, in order. It takes no memory.
+    /// their replies are given, in order; where a superblock's was, its base is the node's, and what lies below
+    /// it cannot be read any more. It takes no memory.
     ///
     /// Refuses with `Stopped` where the device has failed before, and with `DiskFault` where it failed: the
     /// engine is then stopped, and otherwise as it was.
     pub fn sync(&mut self) -> Result<Replies, Refusal>
         ensures call { IsCall D.size D.failures D.honest self.old.disk self.new.disk (fault_of result) }
         // Nothing else changes, and where it is stopped, nothing does.
-        ensures rest { self.new ≡ record (self.old) { disk = self.new.disk; log = self.new.log; block = self.new.block; halted = self.new.halted } }
+        ensures rest { self.new ≡ record (self.old) { disk = self.new.disk; checkpoint = self.new.checkpoint; log = self.new.log; kept = self.new.kept; block = self.new.block; halted = self.new.halted } }
+        ensures params { self.new.checkpoint.base.params ≡ self.old.checkpoint.base.params }
         ensures unchanged { IfErr result (λ e. (e ≡ DiskFault) ⊎ (self.new ≡ self.old)) }
+        // The log is as a sync leaves it, from the base's first block on.
+        ensures log { OnOk result (self.new.log ≡ started self.new.checkpoint.base.start (after_sync self.old.log)) }
         ensures moves { Moves (facts_of D.failures self.old) to_sync (synced result) (facts_of D.failures self.new) }
         ensures steps { (n : Node) → Holds D.honest D.history D.failures n self.old → (m : Node) × Steps n to_sync (synced result) m × Holds D.honest D.history D.failures m self.new }
         ensures leaves { (n : Node) → Holds D.honest D.history D.failures n self.old → LeavesOnly (D.history self.old.disk) (D.history self.new.disk) (IsFrontAt Means n) }
@@ -191,6 +229,9 @@ impl<D: Disk> Engine<D> {
         nodes_stay_nodes();
         images_read_as_allowed();
         nodes_leave_their_fronts();
+        nodes_settle();
+        the_stage_is_the_facts();
+        versions_follow_the_items();
         if self.halted.is_some() {
             return Err(Refusal::Stopped);
         }
@@ -198,39 +239,23 @@ impl<D: Disk> Engine<D> {
             self.halted = Some(self.log.phase());
             return Err(Refusal::DiskFault);
         }
-        Ok(self.settle())
+        let replies = self.settle();
+        self.raise();
+        Ok(replies)
     }
 
-    /// Takes the checkpoint's next step. No checkpoint begins yet, and none goes on.
-    ///
-    /// Refuses with `Stopped` where the device has failed before, and else with `NotDue`.
-    pub fn check(&mut self, _certifier: &Certifier) -> Result<Option<u64>, Refusal>
-        ensures refused { result ≡ Err (no_checkpoint self.old.halted) }
-        ensures same { self.new ≡ self.old }
+    /// What the log's next block waits for: a write, a sync, or that its cell is no longer live.
+    pub fn log_step(&self) -> Step
+        ensures { result ≡ due_of self.now.log }
     {
-        let refusal = self.no_checkpoint();
-        Err(refusal)
+        self.log.step_due()
     }
 
-    /// Writes a page of the checkpoint. No checkpoint is under way.
-    ///
-    /// Refuses with `Stopped` where the device has failed before, and else with `NotDue`.
-    pub fn flush(&mut self, _page: u64) -> Result<(), Refusal>
-        ensures refused { result ≡ Err (no_checkpoint self.old.halted) }
-        ensures same { self.new ≡ self.old }
+    /// What the checkpoint waits for: to begin, a page's flush, a write, or a sync.
+    pub fn checkpoint_step(&self) -> rep_checkpoint::Step
+        ensures { result ≡ due_in self.now.checkpoint.stage }
     {
-        Err(self.no_checkpoint())
-    }
-
-    /// What a checkpoint's step answers while there is none.
-    fn no_checkpoint(&self) -> Refusal
-        ensures { result ≡ no_checkpoint self.now.halted }
-    {
-        if self.is_stopped() {
-            Refusal::Stopped
-        } else {
-            Refusal::NotDue
-        }
+        self.checkpoint.step_due()
     }
 
     /// Whether the device has failed: the engine then refuses everything.
@@ -242,16 +267,16 @@ impl<D: Disk> Engine<D> {
 
     /// The state UUID; nil where the node belongs to no cluster yet.
     pub fn uuid(&self) -> Uuid
-        ensures { result ≡ self.now.superblock.uuid }
+        ensures { result ≡ self.now.checkpoint.base.uuid }
     {
-        self.superblock.uuid
+        self.checkpoint.base().uuid
     }
 
     /// The seqno of the last durable item.
     pub fn durable(&self) -> u64
         ensures durable { result ≡ durable_of self.now.log }
         // What holds of every engine.
-        ensures engine { IsEngine self.now.layout self.now.superblock self.now.log self.now.kept self.now.block }
+        ensures engine { IsEngine self.now.layout self.now.checkpoint self.now.log self.now.kept self.now.block }
     {
         self.log.durable()
     }
@@ -269,7 +294,7 @@ impl<D: Disk> Engine<D> {
     pub fn gtid(&self) -> Gtid
         ensures { result ≡ gtid_of self.now }
     {
-        let uuid = self.superblock.uuid;
+        let uuid = self.checkpoint.base().uuid;
         let seqno = if uuid.is_nil() {
             -1
         } else {
@@ -283,16 +308,16 @@ impl<D: Disk> Engine<D> {
 
     /// The position of the base: of the oldest state that can be read.
     pub fn base(&self) -> u64
-        ensures { result ≡ self.now.superblock.position }
+        ensures { result ≡ self.now.checkpoint.base.position }
     {
-        self.superblock.position
+        self.checkpoint.base().position
     }
 
     /// The parameters.
     pub fn params(&self) -> &Params
-        ensures { result.now ≡ self.now.superblock.params }
+        ensures { result.now ≡ self.now.checkpoint.base.params }
     {
-        &self.superblock.params
+        &self.checkpoint.base().params
     }
 
     /// Gives the device back.

@@ -1,11 +1,12 @@
 //! Laws of engines, each as the contract of a function that does nothing.
 
 ghost use Rattle.rep_engine.specs.Holding.{LeavesItsEnds};
+ghost use Rattle.rep_engine.specs.Checking.{CertifiersHoldWindows};
 
 use crate::engine::Engine;
 use rep_cells::images_read_as_allowed;
+use rep_checkpoint::{nodes_leave_their_ends, windows_go_on};
 use rep_disk::Disk;
-use rep_image::nodes_leave_their_ends;
 
 /// Where an engine on an honest device is not stopped, every image of the device means a front of what the
 /// engine stands for that ends exactly at what is durable, or, while the gate of a block is opening, at that with
@@ -17,4 +18,12 @@ pub fn running_engines_leave_their_ends<D: Disk>(engine: &Engine<D>)
     nodes_leave_their_ends();
     // For its clause: what holds of every engine.
     engine.durable();
+}
+
+/// A certifier that was made with a window that a disk can hold holds such windows alone, at each position that
+/// can be asked for, and so it does with each further item.
+pub fn certifiers_hold_windows()
+    ensures { CertifiersHoldWindows }
+{
+    windows_go_on();
 }

@@ -1,12 +1,14 @@
-//! The engine of a node on a disk: what was accepted goes into the log, becomes durable, and is read, over
-//! a base that stands still.
+//! The engine of a node on a disk: what was accepted goes into the log, becomes durable, and is read; and a
+//! checkpoint raises the base that the log goes on behind.
 #![tactic(auto)]
 
 mod accept;
+mod check;
 mod engine;
+mod flush;
 mod laws;
 mod read;
 mod write;
 
 pub use engine::Engine;
-pub use laws::running_engines_leave_their_ends;
+pub use laws::{certifiers_hold_windows, running_engines_leave_their_ends};

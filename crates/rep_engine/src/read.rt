@@ -25,16 +25,16 @@ impl<D: Disk> Engine<D> {
     fn read_refusal(&self, key: Key, s: u64) -> Option<Refusal>
         ensures { result ≡ read_refusal (facts_of D.failures self.now) key s }
     {
-        if !self.superblock.params.schema().contains(key) {
+        if !self.checkpoint.base().params.schema().contains(key) {
             return Some(Refusal::BadKey);
         }
         let durable = self.log.durable();
         if s > durable {
             return Some(Refusal::NotYet { durable });
         }
-        if s < self.superblock.position {
+        if s < self.checkpoint.base().position {
             return Some(Refusal::TooOld {
-                oldest: self.superblock.position,
+                oldest: self.checkpoint.base().position,
             });
         }
         None
@@ -52,7 +52,7 @@ impl<D: Disk> Engine<D> {
         requires { self.old.halted ≡ None }
         ensures read { ReadsRow D.size D.failures D.honest D.history key self.old self.new result }
     {
-        let row = base_row(&mut self.cells, &self.superblock, key);
+        let row = base_row(&mut self.cells, self.checkpoint.base(), key);
         if row == Err(Refusal::DiskFault) {
             self.halted = Some(self.log.phase());
         }

@@ -3,7 +3,7 @@
 ghost use Rattle.std.specs.Prelude.{◌≡◌, IfOk, length};
 ghost use Rattle.rep_ordered.specs.Seats.{stations_of};
 
-use rep_ordered::{Keeps, OrderedLock, Refused, Seat};
+use rep_ordered::{Keeps, OrderedLock, Refused};
 use rep_types::Refusal;
 use std::alloc::Global;
 

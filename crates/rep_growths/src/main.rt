@@ -20,9 +20,9 @@ fn run<R: Print + AllocGlobal>(rt: &R) -> Result<()> {
     rt.println(format_args!("certifier: {committed} committed, a window of {entries}"))?;
     let (moved, left) = certifying::backlog(alloc)?;
     rt.println(format_args!("backlog: {moved} moved, {left} left"))?;
-    let (delivered, durable, rows, entries) = replicas::replica(alloc)?;
+    let (base, durable, rows, entries) = replicas::replica(alloc)?;
     rt.println(format_args!(
-        "replica: {delivered} delivered, {durable} durable, {rows} rows read, a window of {entries}"
+        "replica: base {base}, {durable} durable, {rows} rows read, a window of {entries}"
     ))?;
     let (read, left) = devices::device(alloc)?;
     rt.println(format_args!("device: {read:?} read, {left:?} after a stop"))?;

@@ -87,7 +87,26 @@ fn served(alloc: Global) -> Result<Replica<MemDisk>, Refusal> {
     opened(alloc, disk)
 }
 
-/// How many rows are there, and how many entries the window has.
+/// Has the replica settle, and again where there was no memory for it: what it did until then stands.
+fn settle(replica: &mut Replica<MemDisk>) -> Result<(), Refusal> {
+    match replica.settle() {
+        Err(Refusal::OutOfMemory) => replica.settle(),
+        settled => settled,
+    }
+}
+
+/// The same replica behind five items more, each of which it made durable by settling. For the fourth the log has no cell: a
+/// checkpoint comes before it.
+fn settled(alloc: Global) -> Result<Replica<MemDisk>, Refusal> {
+    let mut replica = served(alloc)?;
+    for before in 3..8 {
+        step(&mut replica, &Event::Deliver(before + 1, item(70, before)?))?;
+        settle(&mut replica)?;
+    }
+    Ok(replica)
+}
+
+/// Where the base stands, how many items are durable, how many rows are there, and how many entries the window has.
 fn looked_at(
     alloc: Global,
     replica: &mut Replica<MemDisk>,
@@ -106,7 +125,7 @@ fn looked_at(
         }
     }
     let entries = window(alloc, replica)?.len();
-    Ok((replica.delivered(), durable, rows, entries))
+    Ok((replica.base(), durable, rows, entries))
 }
 
 /// Room for the reads, asked for again where there was none.
@@ -118,10 +137,10 @@ fn reserve(reads: &mut Vec<Event>) -> Result<(), AllocError> {
 }
 
 fn served_and_looked_at(alloc: Global) -> Result<(u64, u64, usize, usize), Refusal> {
-    looked_at(alloc, &mut served(alloc)?)
+    looked_at(alloc, &mut settled(alloc)?)
 }
 
-/// How many items are delivered and durable, how many reads then find a row, and how many entries the window has.
+/// Where the base stands, how many items are durable, how many reads then find a row, and how many entries the window has.
 pub(crate) fn replica(alloc: Global) -> Result<(u64, u64, usize, usize), Refusal> {
     match served_and_looked_at(alloc) {
         Err(Refusal::DiskFault) => served_and_looked_at(alloc),

@@ -1,4 +1,4 @@
--- The images of a node that stands on a device.
+-- Where the items end that the log of a node may hold.
 use Rattle.std.proofs.Common.{◌≡◌, refl, sym, ap, subst, ◌∙◌, ℕ, ◌+◌, ◌-◌, ◌≤◌, inl, inr, List, [], ◌∷◌, ◌++◌, append_assoc, append-nil, length, take, drop, arith}
 use Rattle.std.proofs.Math.Seq.{take-add}
 use Rattle.std.proofs.lemmas.List.{length-drop}
@@ -9,9 +9,7 @@ use Rattle.rep_log.specs.Tail.{records_of}
 use Rattle.rep_log.specs.Laws.{MayHold}
 use Rattle.rep_steps.specs.Standings.{underway}
 use Rattle.rep_steps.specs.Nodes.{Node, IsNode}
-use Rattle.rep_steps.specs.Images.{AreJudgedFrom, Ends}
-use Rattle.rep_steps.proofs.Judging.{first_judged}
-use Rattle.rep_image.specs.Standing.{ImagesMeanWhatStands, NodesLeaveTheirEnds, NodesLeaveTheirFronts, with_blocks, base_of}
+use Rattle.rep_steps.specs.Images.{Ends}
 
 pub records-append : (blocks more : List (List Judged)) → records_of (blocks ++ more) ≡ records_of blocks ++ records_of more
 records-append [] more = refl
@@ -47,34 +45,7 @@ module _ (n : Node) (phase : Phase) (blocks : List (List Judged)) (sealed : List
         items = all ∙ ap (λ i. take i n.items) (omega (arith, h.facts.based));
       }
 
-pub leave_ends : ImagesMeanWhatStands → NodesLeaveTheirEnds
-leave_ends law image n b log blocks sealed s h stands allowed =
-    let means = law image b (base_of n) log blocks sealed s stands.stands allowed in
-    let held = means.0 in
-    let e = held_ends n log.phase blocks sealed h stands.phase stands.durable stands.coming held means.1 in
-    let judged : AreJudgedFrom n.facts.setting n.base (records_of held) = rw (e.items) (first_judged n.facts.setting n.base (e.end - n.facts.base) n.items stands.judged) in
-    record {
-      meaning = with_blocks (base_of n) held;
-      reads = means.2 (λ nil. stands.undefined nil held means.1) judged;
-      end = e.end;
-      ends = e.ends;
-      front = record {
-        uuid_is = refl;
-        setting_is = refl;
-        past = 0;
-        order = omega (arith, e.least, h.facts.based, h.position);
-        within = omega (arith, e.most, h.position);
-        base_is = refl;
-        tail_is = e.items ∙ ap (λ i. take i n.items) (omega (arith, h.position));
-      };
-    }
-
 -- such an end has what is durable
 pub least_end : (n : Node) (end : ℕ) → Ends n end → n.facts.durable ≤ end
 least_end n end (inl same) = omega (arith, same)
 least_end n end (inr more) = omega (arith, more.2)
-
-pub leave_fronts : NodesLeaveTheirEnds → NodesLeaveTheirFronts
-leave_fronts law image n b log blocks sealed s h stands allowed =
-    let e = law image n b log blocks sealed s h stands allowed in
-    record { meaning = e.meaning; reads = e.reads; end = e.end; least = least_end n e.end e.ends; front = e.front }

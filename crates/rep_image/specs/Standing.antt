@@ -1,5 +1,5 @@
 -- How a base that stands still lies on a device, beside its log, and what every image then means.
-use Rattle.std.specs.Prelude.{◌≡◌, ℕ, ◌+◌, ◌-◌, List, [], length, take, Option}
+use Rattle.std.specs.Prelude.{◌≡◌, ℕ, ◌+◌, ◌-◌, List, [], length, Option}
 use Rattle.rep_types.specs.declared.judged.Judged.{Judged}
 use Rattle.rep_types.specs.Entries.{Entry}
 use Rattle.rep_layout.specs.declared.super_body.SuperBody.{SuperBody}
@@ -12,9 +12,7 @@ use Rattle.rep_cells.specs.States.{States, Opened, Stable, Allows, Allowed}
 use Rattle.rep_log.specs.Tail.{records_of}
 use Rattle.rep_log.specs.Standing.{Standing, LogIs}
 use Rattle.rep_log.specs.Laws.{MayHold}
-use Rattle.rep_steps.specs.Standings.{underway}
-use Rattle.rep_steps.specs.Nodes.{Node, IsNode}
-use Rattle.rep_steps.specs.Images.{Meaning, AreJudgedFrom, IsFrontAt, IsEndOf}
+use Rattle.rep_steps.specs.Images.{Meaning, AreJudgedFrom}
 use Rattle.rep_image.specs.Bases.{other, IsSuperAt, IsLesser, HaveContent}
 use Rattle.rep_image.specs.Meanings.{Means}
 
@@ -48,34 +46,3 @@ ImagesMeanWhatStands =
     → Stands (length image) b m log blocks sealed s → Allowed (layout_of b.params) s (reading_of (layout_of b.params) image)
     → (held : List (List Judged)) × MayHold log.phase blocks sealed held
     × ((IsNil b.uuid → held ≡ []) → AreJudgedFrom m.setting m.base (records_of held) → Means image (with_blocks m held))
-
--- ---- nodes
-
--- a node's base, as a meaning without items behind it
-abbrev pub base_of : Node → Meaning
-base_of n = record { uuid = n.facts.uuid; setting = n.facts.setting; base = n.base; tail = [] }
-
--- What a node is stands on a device: its base, the durable items in the log, and those of the block that is on its way, if there
--- is one. Its items are judged from the base on.
-pub record StandsAs (n : Node) (size : ℕ) (b : SuperBody) (log : Standing) (blocks : List (List Judged)) (sealed : List Judged) (s : States) : Type 0 where
-  pub stands : Stands size b (base_of n) log blocks sealed s
-  pub phase : log.phase ≡ n.facts.phase
-  pub durable : records_of blocks ≡ take (n.facts.durable - n.facts.base) n.items
-  pub coming : sealed ≡ take (underway n.facts.phase) n.facts.ahead
-  pub judged : AreJudgedFrom n.facts.setting n.base n.items
-  pub undefined : IsNil b.uuid → (held : List (List Judged)) → MayHold log.phase blocks sealed held → held ≡ []
-
--- Each image of a node that stands on a device means a front of it that ends at what is durable, or, where a log's gate is opening,
--- at that with its block.
-abbrev pub NodesLeaveTheirEnds : Type 0
-NodesLeaveTheirEnds =
-    (image : List ℕ) (n : Node) (b : SuperBody) (log : Standing) (blocks : List (List Judged)) (sealed : List Judged) (s : States)
-    → IsNode n → StandsAs n (length image) b log blocks sealed s → Allowed (layout_of b.params) s (reading_of (layout_of b.params) image)
-    → IsEndOf Means n image
-
--- Each image of a node that stands on a device means a front of it that has what is durable.
-abbrev pub NodesLeaveTheirFronts : Type 0
-NodesLeaveTheirFronts =
-    (image : List ℕ) (n : Node) (b : SuperBody) (log : Standing) (blocks : List (List Judged)) (sealed : List Judged) (s : States)
-    → IsNode n → StandsAs n (length image) b log blocks sealed s → Allowed (layout_of b.params) s (reading_of (layout_of b.params) image)
-    → IsFrontAt Means n image

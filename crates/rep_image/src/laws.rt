@@ -1,7 +1,7 @@
 //! Laws of images, each as the contract of a function that does nothing.
 
 ghost use Rattle.rep_image.specs.Meanings.{ImagesMeanOneThing, ImagesStandForOrders};
-ghost use Rattle.rep_image.specs.Standing.{ImagesMeanWhatStands, NodesLeaveTheirEnds, NodesLeaveTheirFronts};
+ghost use Rattle.rep_image.specs.Standing.{ImagesMeanWhatStands};
 
 use rep_layout::{superblocks_are_told, windows_are_told};
 use rep_log::{the_log_in_every_image, the_log_is_told};
@@ -33,20 +33,4 @@ pub fn images_mean_what_stands()
     ensures { ImagesMeanWhatStands }
 {
     the_log_in_every_image();
-}
-
-/// Where a node stands on a device, every image means a front of it that ends exactly at what is durable, or,
-/// while the gate of a block is opening, at that with the whole block: nothing else that was delivered.
-pub fn nodes_leave_their_ends()
-    ensures { NodesLeaveTheirEnds }
-{
-    images_mean_what_stands();
-}
-
-/// Where a node stands on a device, every image means a front of it that has what is durable. So does what a
-/// stop leaves at any moment at which it stands there.
-pub fn nodes_leave_their_fronts()
-    ensures { NodesLeaveTheirFronts }
-{
-    nodes_leave_their_ends();
 }

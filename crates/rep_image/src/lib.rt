@@ -3,7 +3,4 @@
 
 mod laws;
 
-pub use laws::{
-    images_mean_one_thing, images_mean_what_stands, images_stand_for_orders,
-    nodes_leave_their_ends, nodes_leave_their_fronts,
-};
+pub use laws::{images_mean_one_thing, images_mean_what_stands, images_stand_for_orders};

@@ -230,6 +230,18 @@ visits_counted l number first cell old new (inr passes) is =
     let items : length new.items ≡ length old.items = ap (λ (x : Found). length x.items) passes.after in
     omega (arith, seqno, items, is)
 
+-- and by one at least with each block
+pub visits_filled :
+    (l : Layout) (number first start : ℕ) (cell : Option (List ℕ)) (old new : Found) → Visits l number cell old new → old.next + first ≤ start + old.seqno → new.next + first ≤ start + new.seqno
+visits_filled l number first start cell old new (inl takes) le =
+    let next : new.next ≡ old.next + 1 = ap (λ (x : Found). x.next) takes.after in
+    let seqno : new.seqno ≡ old.seqno + length takes.records = ap (λ (x : Found). x.seqno) takes.after in
+    omega (arith, next, seqno, takes.taken.block.is_block.some, le)
+visits_filled l number first start cell old new (inr passes) le =
+    let next : new.next ≡ old.next = ap (λ (x : Found). x.next) passes.after in
+    let seqno : new.seqno ≡ old.seqno = ap (λ (x : Found). x.seqno) passes.after in
+    omega (arith, next, seqno, le)
+
 -- ---- what is found in the end
 
 -- the blocks that were taken are the log

@@ -30,7 +30,7 @@ pub record Finds (l : Layout) (bytes : List ℕ) (from first : ℕ) (log : Stand
   pub log_is : LogIs l log first blocks [] (found l bytes)
 
 -- What is found on any device, whatever it reads as: a log at rest in these cells, from this start on, of no more than a lap, behind
--- which as many seqnos are taken as there are items.
+-- which as many seqnos are taken as there are items, at least one by each block.
 pub record IsScanned (l : Layout) (from first : ℕ) (log : Standing) (items : List Judged) : Type 0 where
   pub start : log.start ≡ from
   pub cells : log.cells ≡ l.cells
@@ -38,6 +38,7 @@ pub record IsScanned (l : Layout) (from first : ℕ) (log : Standing) (items : L
   pub later : from ≤ log.next
   pub lap : log.next ≤ from + l.cells
   pub seqno : log.seqno ≡ first + length items
+  pub filled : log.next + first ≤ log.start + log.seqno
   pub limit : log.seqno ≤ MAX_SEQNO + 1
 
 -- A refusal that a scan may answer: no memory, or cells that hold no log.

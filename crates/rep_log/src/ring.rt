@@ -134,7 +134,9 @@ impl Log {
 
     /// The number of the next block: one more than that of the last durable one.
     pub fn next(&self) -> u64
-        ensures { result ≡ self.now.next }
+        ensures next { result ≡ self.now.next }
+        // Each block before it had a record.
+        ensures below { result < self.now.seqno }
     {
         self.next
     }

@@ -1,11 +1,12 @@
--- The entries of a window's body are those that the window spans.
+-- The entries of a window are those that it spans.
 use Rattle.std.proofs.Common.{◌≡◌, ℕ, ◌+◌, ◌-◌, ◌<◌, ◌≤◌, Bool, true, nat_le, List, [], ◌∷◌, filter, refl, ap, ◌∙◌, arith}
 use Rattle.std.specs.List.{AllByRecursion}
 use Rattle.std.proofs.lemmas.Bool.Decides.{nat_tests}
 use Rattle.rep_types.specs.Entries.{Entry}
 use Rattle.rep_types.specs.Settings.{Setting}
 use Rattle.rep_types.specs.Order.{floor, recent}
-use Rattle.rep_layout.specs.Windows.{IsEntry, IsWindowBody, window}
+use Rattle.rep_layout.specs.Windows.{IsEntry}
+use Rattle.rep_checkpoint.specs.Windows.{IsWindowAt}
 use Rattle.rep_recover.specs.Judging.{AreSpanned}
 
 kept_all : (test : Entry → Bool) (es : List Entry) → AllByRecursion (λ (e : Entry). test e ≡ true) es → filter test es ≡ es
@@ -26,6 +27,6 @@ up_to p position (e ∷ es) h = (tests e.seqno position h.0.past, up_to p positi
     tests : (s n : ℕ) → s ≤ n → nat_le s n ≡ true
     tests s n le = grind (arith, nat_tests)
 
-pub spanned : (p : Setting) (number position : ℕ) (es : List Entry) → IsWindowBody p (window number position es) → AreSpanned p position es
-spanned p number position es h =
+pub spanned : (p : Setting) (position : ℕ) (es : List Entry) → IsWindowAt p position es → AreSpanned p position es
+spanned p position es h =
     ap (recent (floor p position)) (kept_all (λ e. nat_le e.seqno position) es (up_to p position es h.entries)) ∙ kept_all (λ e. nat_le (floor p position) e.seqno) es (above_floor p position es h.entries)

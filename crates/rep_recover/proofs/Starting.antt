@@ -1,5 +1,5 @@
 -- What opening finds is what an engine is made of, and on an honest device the engine stands for the node that the bytes mean.
-use Rattle.std.proofs.Common.{◌≡◌, ℕ, ◌+◌, ◌-◌, ◌≤◌, zero, suc, inl, inr, Bool, true, false, ◌⊎◌, IsTrue, List, [], length, map, take, Option, None, Some, refl, sym, ap, subst, ◌∙◌, arith}
+use Rattle.std.proofs.Common.{◌≡◌, ℕ, ◌+◌, ◌-◌, ◌≤◌, inl, inr, Bool, true, false, ◌⊎◌, IsTrue, List, [], length, map, take, refl, sym, ap, subst, ◌∙◌, arith}
 use Rattle.std.proofs.lemmas.List.{take_all}
 use Rattle.std.proofs.lemmas.Slice.Eq.{bytes_eq-Decides}
 use Rattle.uuid.specs.Parts.{is_nil_bytes, zero_bytes}
@@ -8,13 +8,10 @@ use Rattle.rep_types.specs.Settings.{Setting, is_setting}
 use Rattle.rep_disk.specs.History.{History, seen, stable}
 use Rattle.rep_layout.specs.declared.super_body.SuperBody.{SuperBody}
 use Rattle.rep_layout.specs.declared.place.Layout.{Layout}
-use Rattle.rep_layout.specs.declared.place.Place.TheVariants.{Super, Page}
-use Rattle.rep_layout.specs.declared.place.TheConstants.{GATE}
-use Rattle.rep_layout.specs.Places.{side_of, layout_of}
+use Rattle.rep_layout.specs.Places.{layout_of}
 use Rattle.rep_layout.specs.Supers.{IsNil}
-use Rattle.rep_cells.specs.Readings.{Reading, reading_of}
-use Rattle.rep_cells.specs.States.{States, Stable, Allows}
-use Rattle.rep_cells.specs.Known.{found_as, found}
+use Rattle.rep_cells.specs.Readings.{reading_of}
+use Rattle.rep_cells.specs.Known.{found}
 use Rattle.rep_cells.specs.Laws.{ImagesReadAsAllowed}
 use Rattle.rep_versions.specs.Versions.{Kept}
 use Rattle.rep_versions.specs.Following.{AreVersionsOf, effect_of}
@@ -25,17 +22,47 @@ use Rattle.rep_log.specs.Standing.{Standing as Log, busy, stands_at}
 use Rattle.rep_log.specs.Scanning.{IsScanned}
 use Rattle.rep_log.specs.Laws.{MayHold}
 use Rattle.rep_cert.specs.Holdings.{Holding, IsAskable, window_of}
-use Rattle.rep_steps.specs.Standings.{Off, Retiring}
+use Rattle.rep_steps.specs.Standings.{HasGoal, Off as is_off, Retiring as is_retiring}
 use Rattle.rep_steps.specs.Nodes.{Node, window_at, reached}
 use Rattle.rep_steps.specs.Images.{Meaning, IsOpening, OpeningsOpenTheOrder}
-use Rattle.rep_image.specs.Bases.{other, IsLesser, HaveContent}
-use Rattle.rep_image.specs.Meanings.{MeansBy}
-use Rattle.rep_image.specs.Standing.{IsBaseAt, StandsAs, NodesLeaveTheirFronts}
-use Rattle.rep_engine.specs.Engines.{Engine, IsEngine, IsWhole, facts_of, durable_of, stage_of}
+use Rattle.rep_checkpoint.specs.declared.stage.Part.{Part}
+use Rattle.rep_checkpoint.specs.declared.stage.Stage.TheVariants.{Off, Toward, Retiring}
+use Rattle.rep_checkpoint.specs.Next.{Next}
+use Rattle.rep_checkpoint.specs.Standing.{Standing, IsGoing, stage_of}
+use Rattle.rep_checkpoint.specs.Moves.{stage_found, found_at}
+use Rattle.rep_checkpoint.specs.Laws.{HasBase, TheBaseIsFound}
+use Rattle.rep_checkpoint.specs.Nodes.{StandsAs, NodesLeaveTheirFronts}
+use Rattle.rep_engine.specs.Engines.{Engine, IsEngine, IsWhole, HasItemsBehind, facts_of, durable_of}
 use Rattle.rep_engine.specs.Holding.{Stands as Runs}
 use Rattle.rep_recover.specs.Opening.{IsOpened, Recovers}
 use Rattle.rep_recover.specs.Starting.{engine_of, node_of, IsStart, OpensNode}
 use Rattle.rep_recover.proofs.Behind.{no_blocks}
+
+-- ---- where the checkpoint is, whether the other superblock was open or not
+
+still : (both : Bool) → (stage_found both ≡ Off) ⊎ (stage_found both ≡ Retiring false)
+still true = inr refl
+still false = inl refl
+
+stage_is : (b : SuperBody) (both : Bool) → (stage_of (found_at b both) ≡ is_off) ⊎ (stage_of (found_at b both) ≡ is_retiring false)
+stage_is b true = inr refl
+stage_is b false = inl refl
+
+going : (b : SuperBody) (both : Bool) → IsGoing b (stage_found both)
+going b true = tt
+going b false = tt
+
+no_goal : (base durable start next : ℕ) (b : SuperBody) (both : Bool) → HasGoal base durable start next (stage_of (found_at b both))
+no_goal base durable start next b true = tt
+no_goal base durable start next b false = tt
+
+no_items : (log : Log) (b : SuperBody) (both : Bool) → HasItemsBehind (stage_of (found_at b both)) log
+no_items log b true = tt
+no_items log b false = tt
+
+not_toward : (both : Bool) (next : Next) (part : Part) → stage_found both ≡ Toward next part → ⊥
+not_toward true next part e = cc
+not_toward false next part e = cc
 
 -- ---- on any device
 
@@ -52,15 +79,18 @@ module _ (size : ℕ) (b : SuperBody) (l : Layout) (log : Log) (items : List Jud
       let nil = nil_of b.uuid is in
       omega (arith, s.seqno, (o.is_super.is_super.undefined nil).1, ap length (o.behind.undefined nil))
 
-  pub is_engine : IsEngine l b log kept []
-  is_engine = record {
-    is_super = o.is_super.is_super;
+  pub is_engine : (both : Bool) → IsEngine l (found_at b both) log kept []
+  is_engine both = record {
+    checkpoint = record { is_super = o.is_super.is_super; going = going b both };
     layout = o.layout;
     cells = s.cells;
     start = s.start;
     behind = omega (arith, s.seqno);
     begun = omega (arith, s.start, s.later);
     room = subst (λ (p : Phase). log.next + busy p ≤ log.start + log.cells) (sym s.phase) (omega (arith, s.start, s.cells, s.lap));
+    items = omega (arith, s.start, s.seqno, s.filled);
+    goal = no_goal b.position (durable_of log) log.start log.next b both;
+    behind_goal = no_items log b both;
     follow = tt;
     fits = refl;
     few = omega arith;
@@ -73,6 +103,7 @@ module _ (size : ℕ) (b : SuperBody) (l : Layout) (log : Log) (items : List Jud
   pub is_start : {D : Type 0} (disk : D) (both : Bool) → IsStart size (engine_of disk l b both log kept) h
   is_start disk both = record {
     is_super = o.is_super;
+    still = still both;
     running = refl;
     empty = refl;
     resting = s.phase;
@@ -85,48 +116,16 @@ module _ (size : ℕ) (b : SuperBody) (l : Layout) (log : Log) (items : List Jud
     found = o;
   }
 
--- ---- the states which bytes show
-
--- what a place may read as in a state that was found is what it was found as
-as_found : (n : ℕ) (shown reading : Option (List ℕ)) → Allows (found_as n shown) reading → reading ≡ shown
-as_found n None reading allows = allows
-as_found zero (Some body) reading allows = allows
-as_found (suc n) (Some body) reading allows = allows
-
-module _ (size : ℕ) (bytes : List ℕ) (b : SuperBody) (m : Meaning) (means : MeansBy size b (reading_of (layout_of b.params) bytes) m) where
-  abbrev r : Reading
-  r = reading_of (layout_of b.params) bytes
-
-  abbrev t : States
-  t = found (layout_of b.params) bytes
-
-  base_stands : IsBaseAt size b m.base.kept t
-  base_stands = record {
-    is_super = means.chosen.is_super;
-    opened = ap (found_as GATE) means.chosen.stands;
-    lesser = λ reading allows. subst (IsLesser size (other (side_of b.number)) b.number) (sym (as_found GATE (r (Super (other (side_of b.number)))) reading allows)) means.chosen.lesser;
-    saved = ap (found_as 0) means.window.stands;
-    is_window = means.window.is_window;
-  }
-
-  content_stands : HaveContent b (λ number slot body. t (Page number slot) ≡ Stable body) m.base.content
-  content_stands = record {
-    pages = λ number slot there. let page = means.content.pages number slot there in (page.0, ap (found_as 0) page.1, page.2);
-    absent = means.content.absent;
-    outside = means.content.outside;
-  }
-
 -- ---- on an honest device
 
--- where the stage is, whether the other superblock was open or not
-stage_is : (both : Bool) → (stage_of both ≡ Off) ⊎ (stage_of both ≡ Retiring false)
-stage_is true = inr refl
-stage_is false = inl refl
-
 module _ {D : Type 0} (honest : D → Type 0) (history : D → History) (failures : D → ℕ) (disk : D) (old : History) (size : ℕ) (b : SuperBody) (both : Bool) (log : Log) (items : List Judged) (h : Holding) (kept : Kept)
-    (o : IsOpened size b (layout_of b.params) log items h kept) (re : Recovers old (history disk) b both log items h kept) where
+    (o : IsOpened size b (layout_of b.params) log items h kept) (re : Recovers old (history disk) b both log items h kept)
+    (base_found : TheBaseIsFound) where
   abbrev m : Meaning
   m = re.meaning
+
+  abbrev c : Standing
+  c = found_at b both
 
   abbrev e : Engine D
   e = engine_of disk (layout_of b.params) b both log kept
@@ -156,24 +155,25 @@ module _ {D : Type 0} (honest : D → Type 0) (history : D → History) (failure
     limit = omega (arith, durable, o.behind.scanned.limit);
     started = omega (arith, o.behind.scanned.start, o.behind.scanned.later);
     room = omega (arith, o.behind.scanned.start, o.behind.scanned.lap, ap (λ (p : Setting). p.cells) re.means.setting);
-    stage = stage_is both;
+    stage = stage_is b both;
   }
 
   none_held : IsNil b.uuid → (held : List (List Judged)) → MayHold log.phase re.finds.blocks [] held → held ≡ []
   none_held nil held (inl same) = same ∙ no_blocks (Shows (reading_of (layout_of b.params) (seen old)) (layout_of b.params)) b.start (b.position + 1) re.finds.blocks re.finds.is_log.stand (sym re.finds.items_are ∙ o.behind.undefined nil)
   none_held nil held (inr more) = absurd (let opens : Resting ≡ Opening more.0 = sym re.finds.phase ∙ more.1 in cc)
 
-  stands : StandsAs n (length (seen old)) b log re.finds.blocks [] (found (layout_of b.params) (seen old))
+  base_is : HasBase (length (seen old)) (reading_of (layout_of b.params) (seen old)) b m.base
+  base_is = record { chosen = re.means.chosen; position = position; window = re.means.window; content = re.means.content }
+
+  stands : StandsAs n (length (seen old)) c log re.finds.blocks [] (found (layout_of b.params) (seen old))
   stands = record {
-    stands = record {
-      uuid = re.means.uuid;
-      setting = re.means.setting;
-      position = position;
-      base = base_stands (length (seen old)) (seen old) b m re.means;
-      content = content_stands (length (seen old)) (seen old) b m re.means;
-      start = re.finds.start;
-      log_is = re.finds.log_is;
-    };
+    uuid = re.means.uuid;
+    setting = re.means.setting;
+    goal = m.base;
+    checkpoint = base_found (length (seen old)) (layout_of b.params) (seen old) b both m.base m.base base_is re.other_is;
+    toward = λ next part e. absurd (not_toward both next part e);
+    start = re.finds.start;
+    log_is = re.finds.log_is;
     phase = re.finds.phase;
     durable = sym re.finds.items_are ∙ sym re.tail ∙ sym (take_all (m.base.position + length m.tail - m.base.position) m.tail (omega arith));
     coming = refl;
@@ -181,8 +181,8 @@ module _ {D : Type 0} (honest : D → Type 0) (history : D → History) (failure
     undefined = none_held;
   }
 
-  stands_now : StandsAs n (length (stable (history disk))) b log re.finds.blocks [] (found (layout_of b.params) (seen old))
-  stands_now = subst (λ (x : History). StandsAs n (length (stable x)) b log re.finds.blocks [] (found (layout_of b.params) (seen old))) (sym re.synced) stands
+  stands_now : StandsAs n (length (stable (history disk))) c log re.finds.blocks [] (found (layout_of b.params) (seen old))
+  stands_now = subst (λ (x : History). StandsAs n (length (stable x)) c log re.finds.blocks [] (found (layout_of b.params) (seen old))) (sym re.synced) stands
 
   runs : Runs history n e
   runs = record {
@@ -205,24 +205,24 @@ module _ {D : Type 0} (honest : D → Type 0) (history : D → History) (failure
       ∙ ap (λ (p : Setting). (reached p m.base (take (k - m.base.position) m.tail)).kept) (sym re.means.setting)
 
   pub opens_node : honest disk → OpeningsOpenTheOrder → NodesLeaveTheirFronts → ImagesReadAsAllowed → OpensNode honest history failures old e h
-  opens_node still opens fronts allowed =
+  opens_node is_honest opens fronts allowed =
       let node = opens (facts_of failures e) (stands_at log) m is_opening in
       record {
         synced = re.synced;
         meaning = m;
         means = record { super = b; means = re.means };
         super_is = refl;
-        other_is = re.other_is;
+        other_is = ap stage_found re.other_is;
         gates = stands_at log;
         opens = node;
         holds = record {
-          is_honest = still;
+          is_honest = is_honest;
           facts = facts;
           node = node.node;
           runs = λ _. runs;
           images = λ image here.
-              fronts image n b log re.finds.blocks [] (found (layout_of b.params) (seen old)) node.node
-              (subst (λ (k : ℕ). StandsAs n k b log re.finds.blocks [] (found (layout_of b.params) (seen old))) (sym here.sized) stands_now)
+              fronts image n c log re.finds.blocks [] (found (layout_of b.params) (seen old)) node.node
+              (subst (λ (k : ℕ). StandsAs n k c log re.finds.blocks [] (found (layout_of b.params) (seen old))) (sym here.sized) stands_now)
               (allowed (layout_of b.params) (history disk) (found (layout_of b.params) (seen old)) image re.states here);
         };
         windows = windows;

@@ -28,6 +28,7 @@ use Rattle.rep_steps.specs.Nodes.{reached}
 use Rattle.rep_steps.specs.Images.{Meaning}
 use Rattle.rep_image.specs.Bases.{other, IsSuperAt, IsChosen, HasWindow}
 use Rattle.rep_image.specs.Meanings.{Means, MeansBy}
+use Rattle.rep_engine.specs.Checking.{HoldsWindows}
 use Rattle.rep_recover.specs.Judging.{bare, HasJudged}
 use Rattle.rep_recover.specs.Looking.{HasBadSuper, HasNoSuper, HasTail, HasPages, HasBadPage}
 
@@ -87,13 +88,14 @@ ReasonsExcludeMeanings = (image : List ℕ) (e : Refusal) (m : Meaning) → IsRe
 -- ---- what is found behind a superblock
 
 -- On any device: a log at rest behind the superblock, items that were judged again over a window of the form, and the windows and
--- versions that this gives; without a cluster there is no item.
+-- versions that this gives; each of these windows can be written; without a cluster there is no item.
 pub record IsBehind (b : SuperBody) (log : Standing) (items : List Judged) (h : Holding) (kept : Kept) : Type 0 where
   pub scanned : IsScanned (layout_of b.params) b.start (b.position + 1) log items
   pub undefined : IsNil b.uuid → items ≡ []
   pub entries : List Entry
   pub is_window : IsWindowBody b.params (window b.number b.position entries)
   pub judged : HasJudged b.params (bare b.position entries) items h kept
+  pub windows : HoldsWindows h
 
 -- In bytes on which nothing is pending: the window and the pages that the superblock names, and the log behind it.
 pub record StandsBehind (bytes : List ℕ) (b : SuperBody) (log : Standing) (items : List Judged) (h : Holding) (kept : Kept) : Type 0 where

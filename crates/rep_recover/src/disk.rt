@@ -5,6 +5,7 @@ ghost use Rattle.rep_disk.specs.History.{seen};
 ghost use Rattle.rep_disk.specs.Calls.{IsCall};
 ghost use Rattle.rep_layout.specs.Places.{need_of};
 ghost use Rattle.rep_cells.specs.Device.{disk_of, layout_of};
+ghost use Rattle.rep_checkpoint.specs.Moves.{found_at};
 ghost use Rattle.rep_engine.specs.Engines.{IsEngine};
 ghost use Rattle.rep_recover.specs.Looking.{fault_in};
 ghost use Rattle.rep_recover.specs.Opening.{without_log, RefusesToOpen, IsUnwritten};
@@ -13,18 +14,18 @@ ghost use Rattle.rep_recover.specs.Starting.{engine_of, IsStart, OpensNode};
 use crate::open::{Opened, read_disk};
 use rep_cells::images_read_as_allowed;
 use rep_cert::Certifier;
+use rep_checkpoint::{Checkpoint, nodes_leave_their_fronts, the_base_is_found};
 use rep_disk::Disk;
 use rep_engine::Engine;
-use rep_image::nodes_leave_their_fronts;
 use rep_steps::openings_open_the_order;
 use rep_types::Refusal;
 use std::alloc::Global;
 
 impl<D: Disk> Opened<D> {
-    /// The engine on what was found, and the certifier beside it. The items go: log, versions and certifier
-    /// have what is needed of them.
-    fn start(self) -> (Engine<D>, Certifier)
-        requires { IsEngine (layout_of self.cells) self.superblock self.log self.versions [] }
+    /// The engine on what was found, with the checkpoint at the base, and the certifier beside it. The items go:
+    /// log, versions and certifier have what is needed of them.
+    fn start(self, alloc: Global) -> (Engine<D>, Certifier)
+        requires { IsEngine (layout_of self.cells) (found_at self.superblock self.both) self.log self.versions [] }
         ensures engine { result.0 ≡ engine_of (disk_of self.cells) (layout_of self.cells) self.superblock self.both self.log self.versions }
         ensures certifier { result.1 ≡ self.certifier }
     {
@@ -37,7 +38,8 @@ impl<D: Disk> Opened<D> {
             versions,
             ..
         } = self;
-        let engine = Engine::open(cells, superblock, both, log, versions);
+        let checkpoint = Checkpoint::open(superblock, both);
+        let engine = Engine::open(alloc, cells, checkpoint, log, versions);
         (engine, certifier)
     }
 }
@@ -62,8 +64,9 @@ pub fn open_disk<D: Disk>(alloc: Global, disk: D) -> Result<(Engine<D>, Certifie
     ensures refused { IfErr result (λ x. RefusesToOpen (D.honest disk) (seen (D.history disk)) x.1) }
 {
     images_read_as_allowed();
+    the_base_is_found();
     nodes_leave_their_fronts();
     openings_open_the_order();
     let opened = read_disk(alloc, disk)?;
-    Ok(opened.start())
+    Ok(opened.start(alloc))
 }

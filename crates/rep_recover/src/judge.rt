@@ -4,9 +4,12 @@ ghost use Rattle.std.specs.Prelude.{◌≡◌, ◌+◌, ◌<◌, ◌≤◌, leng
 ghost use Rattle.rep_types.specs.Order.{counts};
 ghost use Rattle.rep_cert.specs.Holdings.{Admits};
 ghost use Rattle.rep_steps.specs.Images.{AreJudgedFrom};
-ghost use Rattle.rep_recover.specs.Judging.{bare, AreSpanned, IsNext, Notes, HasJudged, RefusesItems};
+ghost use Rattle.rep_checkpoint.specs.Windows.{IsWindowAt};
+ghost use Rattle.rep_engine.specs.Checking.{HoldsWindows};
+ghost use Rattle.rep_recover.specs.Judging.{bare, IsNext, Notes, HasJudged, RefusesItems};
 
 use rep_cert::Certifier;
+use rep_engine::certifiers_hold_windows;
 use rep_types::{Entry, Judged, MAX_SEQNO, Params, Part, Refusal};
 use rep_versions::{Versions, versions_follow_the_items};
 use std::alloc::Global;
@@ -25,8 +28,12 @@ fn judge_next(
     ensures next { OnOk result (IsNext certifier.old.current judged.now) }
     ensures admitted { OnOk result (Admits certifier.old.current judged.now.item certifier.new.current) }
     ensures noted { OnOk result (Notes (counts judged.now) judged.now versions.old versions.new) }
+    ensures windows { OnOk result (certifier.old.current.made ≤ certifier.old.current.delivered → HoldsWindows certifier.old.current → HoldsWindows certifier.new.current) }
     ensures refused { IfErr result (RefusesItems (IsNext certifier.old.current judged.now → ⊥)) }
 {
+    certifiers_hold_windows();
+    // For its clause: what holds of every write set.
+    judged.item.writes();
     let (seqno, verdict) = match certifier.admit(&judged.item) {
         Ok(admitted) => admitted,
         Err(_) => unreachable!(),
@@ -52,12 +59,14 @@ pub(crate) fn judge_again(
     window: Vec<Entry>,
     items: &[Judged],
 ) -> Result<(Certifier, Versions), Refusal>
-    requires spanned { AreSpanned params position window.items }
+    requires window { IsWindowAt params position window.items }
     requires limit { position + length items.now ≤ MAX_SEQNO }
     ensures judged { IfOk result (λ x. HasJudged params (bare position window.items) items.now x.0.current x.1) }
+    ensures windows { IfOk result (λ x. HoldsWindows x.0.current) }
     ensures refused { IfErr result (RefusesItems (AreJudgedFrom params (bare position window.items) items.now → ⊥)) }
 {
     versions_follow_the_items();
+    certifiers_hold_windows();
     let mut certifier = Certifier::new(alloc, params, position, window)?;
     let mut versions = Versions::new(alloc);
     for judged in items {

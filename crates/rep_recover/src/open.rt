@@ -40,7 +40,6 @@ struct Behind {
 
 /// What stands behind the superblock: its window and the log, whose items are judged again, and each page
 /// that it has in a slot, of which only the form is looked at.
-#[tactic(auto, using(crate::proofs::Spanning::spanned))]
 fn read_behind<D: Disk>(
     alloc: Global,
     cells: &mut Cells<D>,

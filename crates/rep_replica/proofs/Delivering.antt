@@ -12,7 +12,7 @@ use Rattle.rep_types.specs.declared.refusal.Refusal.TheVariants.{Stopped}
 use Rattle.rep_types.specs.declared.verdict.Verdict.{Verdict}
 use Rattle.rep_types.specs.Entries.{Entry}
 use Rattle.rep_types.specs.Settings.{Setting}
-use Rattle.rep_types.specs.Transactions.{Transaction, written}
+use Rattle.rep_types.specs.Transactions.{Transaction, IsWithinLimits, written}
 use Rattle.rep_types.specs.Order.{State, floor, recent, is_commit, judge, window_after}
 use Rattle.rep_disk.specs.History.{History}
 use Rattle.rep_cert.specs.Holdings.{Holding, IsAskable, Admits, window_of, verdict_of}
@@ -25,6 +25,9 @@ use Rattle.rep_steps.specs.Parts.{with_ahead, part_of}
 use Rattle.rep_steps.specs.Images.{AreJudgedFrom}
 use Rattle.rep_engine.specs.Engines.{Engine, facts_of as engine_facts}
 use Rattle.rep_engine.specs.Holding.{Holds as EngineHolds}
+use Rattle.rep_engine.specs.Checking.{CertifiersHoldWindows}
+use Rattle.rep_record.specs.Records.{is_placed}
+use Rattle.rep_replica.proofs.Placing.{placed_more, judged_placed}
 use Rattle.rep_replica.specs.Replicas.{Replica, facts_of, IsReplica}
 use Rattle.rep_replica.specs.Holding.{Holds, IsStep}
 use Rattle.rep_replica.proofs.Lists.{seqnos_more, judged_more, reached_position, reached_more}
@@ -110,8 +113,8 @@ module _ {D : Type 0} (honest : D → Type 0) (history : D → History) (failure
       let last = passed.1 in
       grind (arith, nat_tests, last, below)
 
-  pub replica_delivers : IsReplica (engine_facts failures new.engine) new.backlog new.certifier.current new.stopped
-  replica_delivers =
+  pub replica_delivers : CertifiersHoldWindows → IsWithinLimits w → IsReplica (engine_facts failures new.engine) new.backlog new.certifier.current new.stopped
+  replica_delivers law limits =
       subst (λ (e : Engine D). IsReplica (engine_facts failures e) new.backlog new.certifier.current new.stopped) (sym engine)
       (subst (λ (js : List Judged). IsReplica (engine_facts failures old.engine) js new.certifier.current new.stopped) (sym backlog) (record {
         setting = admits.setting ∙ is.setting;
@@ -120,6 +123,7 @@ module _ {D : Type 0} (honest : D → Type 0) (history : D → History) (failure
           near = let go = is.items running in omega (arith, admits.delivered, go.count, many, length-append old.engine.block old.backlog);
           past = omega (arith, admits.delivered, is.askable.past);
         };
+        windows = law.admits h new.certifier.current w (omega (arith, is.askable.made, is.askable.past)) limits is.windows admits;
         items = λ on.
             let go = is.items running in
             let place : j.seqno ≡ old.certifier.current.delivered + 1 = ap (λ (x : Judged). x.seqno) j_is in
@@ -129,6 +133,7 @@ module _ {D : Type 0} (honest : D → Type 0) (history : D → History) (failure
                 limit = omega (arith, length-append old.backlog (j ∷ []), go.count, count, limited);
                 undefined = λ nil. absurd (let never : false ≡ true = sym passed.0 ∙ nil in cc);
               };
+              placed = placed_more old.backlog j go.placed (subst (λ (x : Judged). is_placed x ≡ true) (sym j_is) (judged_placed h w (omega (arith, limited, count))));
               count = omega (arith, admits.delivered, go.count, length-append old.backlog (j ∷ []));
             };
       }))

@@ -9,12 +9,13 @@ use Rattle.rep_types.specs.declared.refusal.Refusal.{Refusal}
 use Rattle.rep_record.specs.Blocks.{SeqnosFrom}
 use Rattle.rep_cert.specs.Holdings.{Holding}
 use Rattle.rep_steps.specs.declared.event.Event.{Event}
-use Rattle.rep_steps.specs.declared.event.Event.TheVariants.{Log, Sync, Read}
+use Rattle.rep_steps.specs.declared.event.Event.TheVariants.{Log, Sync, Check, Flush, Read}
 use Rattle.rep_steps.specs.declared.answer.Answer.{Answer}
 use Rattle.rep_steps.specs.declared.answer.Answer.TheVariants.{Refused}
 use Rattle.rep_steps.specs.Standings.{Standing, delivered, refusal}
 use Rattle.rep_steps.specs.Moves.{Found, Moves, Fails, MeetsCorruption, answer, after, opening}
 use Rattle.rep_engine.specs.Accepting.{ComeNext}
+use Rattle.rep_replica.proofs.Placing.{placed_drop}
 use Rattle.rep_replica.specs.Replicas.{IsReplica}
 use Rattle.rep_replica.proofs.Lists.{seqnos_drop}
 
@@ -50,6 +51,12 @@ log_keeps s t a m = by_cases s t Log a (Keep s) m (keeps_same s) (failed_keeps s
 pub read_keeps : (s t : Standing) (key : Key) (at : ℕ) (a : Answer) → Moves s (Read key at) a t → Keep s t
 read_keeps s t key at a m = by_cases s t (Read key at) a (Keep s) m (keeps_same s) (failed_keeps s) (λ f. keeps_same s)
 
+pub check_keeps : (s t : Standing) (a : Answer) → Moves s Check a t → Keep s t
+check_keeps s t a m = by_cases s t Check a (Keep s) m (keeps_same s) (failed_keeps s) (λ f. record { uuid = refl; setting = refl; count = refl; rises = omega arith })
+
+pub flush_keeps : (s t : Standing) (page : ℕ) (a : Answer) → Moves s (Flush page) a t → Keep s t
+flush_keeps s t page a m = by_cases s t (Flush page) a (Keep s) m (keeps_same s) (failed_keeps s) (λ f. record { uuid = refl; setting = refl; count = refl; rises = omega arith })
+
 pub sync_keeps : (s t : Standing) (a : Answer) → opening s.phase ≤ length s.ahead → Moves s Sync a t → Keep s t
 sync_keeps s t a le m =
     let k = opening s.phase in
@@ -75,7 +82,8 @@ replica_keeps s t js h stopped running k r =
         near = omega (arith, r.askable.near, k.rises);
         past = omega (arith, go.count, k.count);
       };
-      items = λ is. record { come = come_still s t js k go.come; count = go.count ∙ ap (λ n. n + length js) (sym k.count) };
+      windows = r.windows;
+      items = λ is. record { come = come_still s t js k go.come; placed = go.placed; count = go.count ∙ ap (λ n. n + length js) (sym k.count) };
     }
 
 -- the first so many of the items that wait are taken
@@ -84,6 +92,7 @@ replica_takes s t js h stopped k le is r =
     subst (λ (u : Standing). IsReplica u (drop k js) h stopped) (sym is) (record {
       setting = r.setting;
       askable = r.askable;
+      windows = r.windows;
       items = λ running.
           let go = r.items running in
           let size : length (take k js) ≡ k = length-take-le k js le in
@@ -95,6 +104,7 @@ replica_takes s t js h stopped k le is r =
               limit = omega (arith, size, all, left, le, go.come.limit);
               undefined = λ nil. ap (drop k) (go.come.undefined nil) ∙ drop_none k;
             };
+            placed = placed_drop k js go.placed;
             count = omega (arith, size, all, left, le, go.count);
           };
     })

@@ -1,9 +1,11 @@
 pub mod Lists
 pub mod Widening
+pub mod Placing
 pub mod Keeping
+pub mod Settling
+pub mod LoggingOn
 pub mod Gathering
 pub mod Delivering
 pub mod Stepping
-pub mod Running
 pub mod Opening
 pub mod Lives

@@ -24,8 +24,7 @@ use Rattle.rep_steps.specs.Images.{StandsFor, opened, IsFrontAt, IsFrontOf, Fron
 use Rattle.rep_image.specs.Meanings.{Means, ImagesMeanOneThing}
 use Rattle.rep_replica.specs.Replicas.{Replica, facts_of}
 use Rattle.rep_replica.specs.Holding.{Holds}
-use Rattle.rep_replica.specs.Running.{steps_in, answers_in}
-use Rattle.rep_replica.specs.Lives.{Life, IsLife, IsRowOf, AreRowsOf, LifeFollows, LivesFollowTheOrder, delivered_in}
+use Rattle.rep_replica.specs.Lives.{Life, IsLife, IsRowOf, AreRowsOf, LifeFollows, LivesFollowTheOrder}
 use Rattle.rep_replica.proofs.Widening.{whole_front}
 
 -- ---- rows
@@ -144,12 +143,12 @@ module _ {D : Type 0} (honest : D → Type 0) (history : D → History) (failure
       let at : (facts_of failures life.start).durable ≡ e = sym durable ∙ omega (arith, count, size) in
       let first = is.ran n holds in
       let k : Node = first.0 in
-      let A1 = delivered_in life.events life.answers in
-      let A2 = delivered_in life.more life.told in
-      let c1 = come L n k (steps_in life.events) (answers_in life.events life.answers) holds.node of first.1.runs in
+      let A1 = accepted_by life.events life.answers in
+      let A2 = accepted_by life.more life.told in
+      let c1 = come L n k life.events life.answers holds.node of first.1.runs in
       let second = is.ran_on k first.2 in
       let m : Node = second.0 in
-      let c2 = come (L ++ A1) k m (steps_in life.more) (answers_in life.more life.told) first.2.node c1.order second.1.runs in
+      let c2 = come (L ++ A1) k m life.more life.told first.2.node c1.order second.1.runs in
       let fed : ((L ++ A1) ++ A2) ++ is.rest ≡ O = ap (λ j. ((take j O ++ A1) ++ A2) ++ is.rest) (sym at) ∙ is.fed in
       let fed_first : (L ++ A1) ++ (A2 ++ is.rest) ≡ O = sym (append_assoc (L ++ A1) A2 is.rest) ∙ fed in
       let uuid_n : n.facts.uuid ≡ uuid = stands.uuid_is in
@@ -179,15 +178,15 @@ module _ {D : Type 0} (honest : D → Type 0) (history : D → History) (failure
         came = first.2;
         follows = record {
           comes = c1;
-          rows = subst (λ (M : Order). AreRowsOf n.facts.setting M (steps_in life.events) (answers_in life.events life.answers)) fed_first
-              (rows_follow hold follow come L (A2 ++ is.rest) n k (steps_in life.events) (answers_in life.events life.answers) holds.node of first.1.runs);
+          rows = subst (λ (M : Order). AreRowsOf n.facts.setting M life.events life.answers) fed_first
+              (rows_follow hold follow come L (A2 ++ is.rest) n k life.events life.answers holds.node of first.1.runs);
         };
         last = m;
         went_on = second.2;
         follows_on = record {
           comes = c2;
-          rows = subst (λ (M : Order). AreRowsOf k.facts.setting M (steps_in life.more) (answers_in life.more life.told)) fed
-              (rows_follow hold follow come (L ++ A1) is.rest k m (steps_in life.more) (answers_in life.more life.told) first.2.node c1.order second.1.runs);
+          rows = subst (λ (M : Order). AreRowsOf k.facts.setting M life.more life.told) fed
+              (rows_follow hold follow come (L ++ A1) is.rest k m life.more life.told first.2.node c1.order second.1.runs);
         };
         front = by here there ((second.1.leaves (L ++ A1) c1.order).since (moment (history life.mid.engine.disk)) life.left (omega arith) is.stop);
       }

@@ -1,27 +1,28 @@
 -- A step of the engine, as a step of the replica.
-use Rattle.std.proofs.Common.{◌≡◌, inl, inr, ℕ, ◌+◌, ◌-◌, ◌≤◌, Bool, true, false, List, [], ◌++◌, length, take, Option, None, Some, refl, sym, ap, subst, ◌∙◌, arith}
+use Rattle.std.proofs.Common.{◌≡◌, inl, inr, ℕ, ◌+◌, ◌-◌, ◌≤◌, true, false, List, [], ◌++◌, length, take, Option, None, Some, refl, sym, ap, subst, ◌∙◌, arith}
 use Rattle.std.specs.Prelude.{◌==◌, ◌||◌, nat_le, is_some, if◌then◌else◌, MatchOption}
-use Rattle.std.proofs.lemmas.List.{length-take-le}
+use Rattle.std.proofs.lemmas.List.{length-take-le, take-take}
 use Rattle.rep_types.specs.declared.judged.Judged.{Judged}
 use Rattle.rep_types.specs.declared.key.Key.{Key}
 use Rattle.rep_types.specs.declared.refusal.Refusal.{Refusal}
 use Rattle.rep_types.specs.declared.refusal.Refusal.TheVariants.{Stopped, OutOfMemory, NotDue, LogFull}
 use Rattle.rep_disk.specs.History.{History}
 use Rattle.rep_disk.specs.Moments.{LeavesOnly}
+use Rattle.rep_cert.specs.Holdings.{IsAskable, window_of}
 use Rattle.rep_record.specs.Fronts.{fitting}
 use Rattle.rep_log.specs.declared.phase.Phase.{Phase}
 use Rattle.rep_log.specs.declared.phase.Phase.TheVariants.{Resting, Closing, Filling, Filled, Opening}
 use Rattle.rep_steps.specs.declared.event.Event.{Event}
-use Rattle.rep_steps.specs.declared.event.Event.TheVariants.{Log, Sync, Read}
+use Rattle.rep_steps.specs.declared.event.Event.TheVariants.{Log, Sync, Check, Flush, Read}
 use Rattle.rep_steps.specs.declared.answer.Answer.{Answer}
 use Rattle.rep_steps.specs.declared.answer.Answer.TheVariants.{Refused}
-use Rattle.rep_steps.specs.Standings.{Standing, gathered, refusal, refusal_here, log_refusal}
+use Rattle.rep_steps.specs.Standings.{Stage, Off, Toward, Retiring, Flushing, Saving, Ready, SuperFilling, SuperFilled, SuperOpening, HasGoal, Standing, gathered, refusal, refusal_here, log_refusal}
 use Rattle.rep_steps.specs.Moves.{Moves, opening, takes_memory, base_after}
-use Rattle.rep_steps.specs.Nodes.{Node, Steps, NodesStayNodes, passed}
+use Rattle.rep_steps.specs.Nodes.{Node, Steps, NodesStayNodes, passed, reached, window_at}
 use Rattle.rep_steps.specs.Parts.{with_ahead, part_of, Widens, PartsStepAsTheWhole}
 use Rattle.rep_steps.specs.Images.{IsFrontAt}
 use Rattle.rep_image.specs.Meanings.{Means}
-use Rattle.rep_engine.specs.Engines.{Engine, IsWhole, facts_of as engine_facts, phase_at, stage_of}
+use Rattle.rep_engine.specs.Engines.{Engine, IsWhole, facts_of as engine_facts, phase_at, durable_of}
 use Rattle.rep_engine.specs.Holding.{Holds as EngineHolds}
 use Rattle.rep_replica.specs.Replicas.{Replica, facts_of}
 use Rattle.rep_replica.specs.Holding.{Holds, IsStep}
@@ -53,6 +54,17 @@ opening_within Closing block h = omega arith
 opening_within (Filling n) block h = omega arith
 opening_within (Filled n) block h = omega arith
 opening_within (Opening n) block h = omega (arith, h.all)
+
+-- what a sync leaves behind the base was durable
+passed_by : (base durable start next : ℕ) (stage : Stage) → HasGoal base durable start next stage → base ≤ durable → base_after base stage - base ≤ durable - base
+passed_by base durable start next Off h le = omega arith
+passed_by base durable start next (Toward goal (Flushing left)) h le = omega arith
+passed_by base durable start next (Toward goal Saving) h le = omega arith
+passed_by base durable start next (Toward goal Ready) h le = omega arith
+passed_by base durable start next (Toward goal SuperFilling) h le = omega arith
+passed_by base durable start next (Toward goal SuperFilled) h le = omega arith
+passed_by base durable start next (Toward goal SuperOpening) h le = omega (arith, h.within)
+passed_by base durable start next (Retiring written) h le = omega arith
 
 -- ---- steps that change nothing
 
@@ -88,45 +100,50 @@ module _ {D : Type 0} (honest : D → Type 0) (history : D → History) (failure
     pub steps : (n : Node) → EngineHolds honest history failures n old → (m : Node) × Steps n e a m × EngineHolds honest history failures m new
     pub leaves : (n : Node) → EngineHolds honest history failures n old → LeavesOnly (history old.disk) (history new.disk) (IsFrontAt Means n)
 
-  module _ (stay : NodesStayNodes) (old new : Replica D) (e : Event) (a : Answer) (params : new.engine.superblock.params ≡ old.engine.superblock.params) (backlog : new.backlog ≡ old.backlog) (certifier : new.certifier ≡ old.certifier) (stopped : new.stopped ≡ old.stopped) where
-    pub widened_step : Moves (facts_of failures old) e a (facts_of failures new) → EngineSteps e a old.engine new.engine
+  module _ (stay : NodesStayNodes) (old new : Replica D) (e : Event) (a : Answer) (params : new.engine.checkpoint.base.params ≡ old.engine.checkpoint.base.params) (backlog : new.backlog ≡ old.backlog) (certifier : new.certifier ≡ old.certifier) (stopped : new.stopped ≡ old.stopped) where
+    pub widened_step : Moves (facts_of failures old) e a (facts_of failures new)
+        → ((n : Node) (holds : Holds honest history failures n old) → (m : Node) × Steps (part_of old.engine.block holds.taken n) e a m × EngineHolds honest history failures m new.engine)
+        → ((n : Node) → EngineHolds honest history failures n old.engine → LeavesOnly (history old.engine.disk) (history new.engine.disk) (IsFrontAt Means n))
         → ((n part : Node) (holds : Holds honest history failures n old) → Steps (part_of old.engine.block holds.taken n) e a part → Widens n part e a holds.taken)
         → IsStep honest history failures old e a new
-    widened_step moves engine lift = record {
+    widened_step moves steps leaves lift = record {
       moves = moves;
-      steps = λ n holds.
-          let to = engine.steps (part_of old.engine.block holds.taken n) holds.engine in
-          widened honest history failures stay old new n holds e a to.0 (lift n to.0 holds to.1) to.2 params backlog certifier stopped;
-      leaves = λ n holds. leaves_whole n old.engine.block holds.taken (history old.engine.disk) (history new.engine.disk) (engine.leaves (part_of old.engine.block holds.taken n) holds.engine);
+      steps = λ n holds. let to = steps n holds in widened honest history failures stay old new n holds e a to.0 (lift n to.0 holds to.1) to.2 params backlog certifier stopped;
+      leaves = λ n holds. leaves_whole n old.engine.block holds.taken (history old.engine.disk) (history new.engine.disk) (leaves (part_of old.engine.block holds.taken n) holds.engine);
     }
 
-    -- ---- each event
+    -- ---- the facts on both sides
 
-    module _ (parts : PartsStepAsTheWhole) (running : old.stopped ≡ false) (engine : EngineSteps e a old.engine new.engine) where
-      runs_on : new.stopped ≡ false
-      runs_on = stopped ∙ running
-
-      -- the facts on both sides
+    module _ (running : old.stopped ≡ false) where
       lift_facts : Moves (with_ahead (old.engine.block ++ old.backlog) (engine_facts failures old.engine)) e a (with_ahead (new.engine.block ++ new.backlog) (engine_facts failures new.engine)) → Moves (facts_of failures old) e a (facts_of failures new)
       lift_facts m =
           subst (λ (s : Standing). Moves s e a (facts_of failures new)) (sym (running_facts failures old running))
-          (subst (Moves (with_ahead (old.engine.block ++ old.backlog) (engine_facts failures old.engine)) e a) (sym (running_facts failures new runs_on)) m)
+          (subst (Moves (with_ahead (old.engine.block ++ old.backlog) (engine_facts failures old.engine)) e a) (sym (running_facts failures new (stopped ∙ running))) m)
 
-  module _ (stay : NodesStayNodes) (parts : PartsStepAsTheWhole) (old new : Replica D) (a : Answer) (params : new.engine.superblock.params ≡ old.engine.superblock.params) (backlog : new.backlog ≡ old.backlog) (certifier : new.certifier ≡ old.certifier) (stopped : new.stopped ≡ old.stopped)
+      -- where the engine keeps its items
+      kept_facts : new.engine.block ≡ old.engine.block
+          → Moves (with_ahead (old.engine.block ++ old.backlog) (engine_facts failures old.engine)) e a (with_ahead (old.engine.block ++ old.backlog) (engine_facts failures new.engine)) → Moves (facts_of failures old) e a (facts_of failures new)
+      kept_facts block m =
+          let ahead = old.engine.block ++ old.backlog in
+          let same : new.engine.block ++ new.backlog ≡ ahead = ap (λ (xs : List Judged). xs ++ new.backlog) block ∙ ap (λ (ys : List Judged). old.engine.block ++ ys) backlog in
+          lift_facts (subst (λ (xs : List Judged). Moves (with_ahead ahead (engine_facts failures old.engine)) e a (with_ahead xs (engine_facts failures new.engine))) (sym same) m)
+
+  -- ---- each event
+
+  module _ (stay : NodesStayNodes) (parts : PartsStepAsTheWhole) (old new : Replica D) (a : Answer) (params : new.engine.checkpoint.base.params ≡ old.engine.checkpoint.base.params) (backlog : new.backlog ≡ old.backlog) (certifier : new.certifier ≡ old.certifier) (stopped : new.stopped ≡ old.stopped)
       (running : old.stopped ≡ false) where
+    -- what is durable was taken
+    near : (n : Node) (holds : Holds honest history failures n old) → n.facts.durable - n.facts.base ≤ holds.taken
+    near n holds = let size : length (take holds.taken n.items) ≡ holds.taken = length-take-le holds.taken n.items holds.within in omega (arith, holds.engine.node.enough, size)
+
     -- the log, where the next block would take no more
     pub log_step : new.engine.block ≡ old.engine.block → EngineSteps Log a old.engine new.engine
         → (phase_at old.engine.log.phase old.engine.halted ≡ Resting → fitting [] old.engine.block ≡ fitting [] (old.engine.block ++ old.backlog))
         → IsStep honest history failures old Log a new
     log_step block engine full =
-        let ahead = old.engine.block ++ old.backlog in
-        let same : new.engine.block ++ new.backlog ≡ ahead = ap (λ (xs : List Judged). xs ++ new.backlog) block ∙ ap (λ (ys : List Judged). old.engine.block ++ ys) backlog in
-        let moves : Moves (with_ahead ahead (engine_facts failures old.engine)) Log a (with_ahead ahead (engine_facts failures new.engine)) =
-        parts.log_moves (engine_facts failures old.engine) (engine_facts failures new.engine) a ahead full engine.moves in
         widened_step stay old new Log a params backlog certifier stopped
-        (lift_facts stay old new Log a params backlog certifier stopped parts running engine
-        (subst (λ (xs : List Judged). Moves (with_ahead ahead (engine_facts failures old.engine)) Log a (with_ahead xs (engine_facts failures new.engine))) (sym same) moves))
-        engine
+        (kept_facts stay old new Log a params backlog certifier stopped running block (parts.log_moves (engine_facts failures old.engine) (engine_facts failures new.engine) a (old.engine.block ++ old.backlog) full engine.moves))
+        (λ n holds. engine.steps (part_of old.engine.block holds.taken n) holds.engine) engine.leaves
         (λ n part holds steps. parts.log n part old.engine.block holds.taken a
         (λ rests. full (sym (ap (λ (s : Standing). s.phase) holds.facts) ∙ rests) ∙ sym (ap gathered holds.facts)) steps)
 
@@ -137,34 +154,52 @@ module _ {D : Type 0} (honest : D → Type 0) (history : D → History) (failure
         let moves : Moves (with_ahead (old.engine.block ++ old.backlog) (engine_facts failures old.engine)) Sync a (with_ahead (new.engine.block ++ old.backlog) (engine_facts failures new.engine)) =
         parts.sync_moves (engine_facts failures old.engine) (engine_facts failures new.engine) a old.backlog told engine.moves in
         widened_step stay old new Sync a params backlog certifier stopped
-        (lift_facts stay old new Sync a params backlog certifier stopped parts running engine
+        (lift_facts stay old new Sync a params backlog certifier stopped running
         (subst (λ (xs : List Judged). Moves (with_ahead (old.engine.block ++ old.backlog) (engine_facts failures old.engine)) Sync a (with_ahead (new.engine.block ++ xs) (engine_facts failures new.engine))) (sym backlog) moves))
-        engine
-        (λ n part holds steps. parts.sync n part old.engine.block old.backlog holds.taken a (ap (λ (s : Standing). s.ahead) holds.facts) (omega (arith, still n holds))
+        (λ n holds. engine.steps (part_of old.engine.block holds.taken n) holds.engine) engine.leaves
+        (λ n part holds steps. parts.sync n part old.engine.block old.backlog holds.taken a (ap (λ (s : Standing). s.ahead) holds.facts) (within n holds)
         (subst (λ phase. opening phase ≤ length old.engine.block) (sym (ap (λ (s : Standing). s.phase) holds.facts)) told) steps)
       where
-        none_passed : (base : ℕ) (both : Bool) → base_after base (stage_of both) - base ≡ 0
-        none_passed base true = omega arith
-        none_passed base false = omega arith
+        within : (n : Node) (holds : Holds honest history failures n old) → passed n.facts ≤ holds.taken
+        within n holds =
+            let few = passed_by n.facts.base n.facts.durable n.facts.start n.facts.next n.facts.stage holds.node.facts.goal holds.node.facts.based in
+            let size : length (take holds.taken n.items) ≡ holds.taken = length-take-le holds.taken n.items holds.within in
+            omega (arith, few, holds.engine.node.enough, size)
 
-        still : (n : Node) → Holds honest history failures n old → passed n.facts ≡ 0
-        still n holds = ap passed holds.facts ∙ none_passed old.engine.superblock.position old.engine.both
+    -- a step of the checkpoint, whose window is the certifier's
+    pub check_step : new.engine.block ≡ old.engine.block → Moves (engine_facts failures old.engine) Check a (engine_facts failures new.engine)
+        → ((n : Node) → EngineHolds honest history failures n old.engine → window_of old.certifier.current (durable_of old.engine.log) ≡ window_at n n.facts.durable → (m : Node) × Steps n Check a m × EngineHolds honest history failures m new.engine)
+        → ((n : Node) → EngineHolds honest history failures n old.engine → LeavesOnly (history old.engine.disk) (history new.engine.disk) (IsFrontAt Means n))
+        → IsAskable old.certifier.current (durable_of old.engine.log) → IsStep honest history failures old Check a new
+    check_step block moves steps leaves askable =
+        widened_step stay old new Check a params backlog certifier stopped
+        (kept_facts stay old new Check a params backlog certifier stopped running block (parts.check_moves (engine_facts failures old.engine) (engine_facts failures new.engine) a (old.engine.block ++ old.backlog) moves))
+        (λ n holds. steps (part_of old.engine.block holds.taken n) holds.engine (window_there n holds)) leaves
+        (λ n part holds step. parts.check n part old.engine.block holds.taken a (near n holds) step)
+      where
+        window_there : (n : Node) (holds : Holds honest history failures n old) → window_of old.certifier.current (durable_of old.engine.log) ≡ window_at (part_of old.engine.block holds.taken n) n.facts.durable
+        window_there n holds =
+            let durable : n.facts.durable ≡ durable_of old.engine.log = ap (λ (s : Standing). s.durable) holds.facts in
+            let behind = durable_of old.engine.log - n.base.position in
+            let few : behind ≤ holds.taken = omega (arith, near n holds, durable, holds.node.position) in
+            holds.windows (durable_of old.engine.log) (omega (arith, durable, holds.node.position, holds.node.facts.based)) askable
+            ∙ ap (λ (xs : List Judged). (reached n.facts.setting n.base xs).kept) (sym (take-take behind holds.taken n.items few)) ∙ ap (window_at (part_of old.engine.block holds.taken n)) (sym durable)
+
+    -- a page
+    pub flush_step : (page : ℕ) → new.engine.block ≡ old.engine.block → EngineSteps (Flush page) a old.engine new.engine → IsStep honest history failures old (Flush page) a new
+    flush_step page block engine =
+        widened_step stay old new (Flush page) a params backlog certifier stopped
+        (kept_facts stay old new (Flush page) a params backlog certifier stopped running block (parts.flush_moves (engine_facts failures old.engine) (engine_facts failures new.engine) page a (old.engine.block ++ old.backlog) engine.moves))
+        (λ n holds. engine.steps (part_of old.engine.block holds.taken n) holds.engine) engine.leaves
+        (λ n part holds steps. parts.flush n part old.engine.block holds.taken page a steps)
 
     -- a read
     pub read_step : (key : Key) (at : ℕ) → new.engine.block ≡ old.engine.block → EngineSteps (Read key at) a old.engine new.engine → IsStep honest history failures old (Read key at) a new
     read_step key at block engine =
-        let ahead = old.engine.block ++ old.backlog in
-        let same : new.engine.block ++ new.backlog ≡ ahead = ap (λ (xs : List Judged). xs ++ new.backlog) block ∙ ap (λ (ys : List Judged). old.engine.block ++ ys) backlog in
-        let moves : Moves (with_ahead ahead (engine_facts failures old.engine)) (Read key at) a (with_ahead ahead (engine_facts failures new.engine)) =
-        parts.read_moves (engine_facts failures old.engine) (engine_facts failures new.engine) key at a ahead engine.moves in
         widened_step stay old new (Read key at) a params backlog certifier stopped
-        (lift_facts stay old new (Read key at) a params backlog certifier stopped parts running engine
-        (subst (λ (xs : List Judged). Moves (with_ahead ahead (engine_facts failures old.engine)) (Read key at) a (with_ahead xs (engine_facts failures new.engine))) (sym same) moves))
-        engine
+        (kept_facts stay old new (Read key at) a params backlog certifier stopped running block (parts.read_moves (engine_facts failures old.engine) (engine_facts failures new.engine) key at a (old.engine.block ++ old.backlog) engine.moves))
+        (λ n holds. engine.steps (part_of old.engine.block holds.taken n) holds.engine) engine.leaves
         (λ n part holds steps. parts.read n part old.engine.block holds.taken key at a holds.node.position (near n holds) steps)
-      where
-        near : (n : Node) (holds : Holds honest history failures n old) → n.facts.durable - n.facts.base ≤ holds.taken
-        near n holds = let size : length (take holds.taken n.items) ≡ holds.taken = length-take-le holds.taken n.items holds.within in omega (arith, holds.engine.node.enough, size)
 
   -- ---- where items were accepted before
 

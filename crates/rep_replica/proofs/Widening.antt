@@ -55,7 +55,7 @@ module _ {D : Type 0} (honest : D → Type 0) (history : D → History) (failure
       ∙ ap (λ (S : State). S.kept) (sym (reached_both p n.base front (take more (drop past n.items)))) ∙ ap (λ (js : List Judged). (reached p n.base js).kept) both
 
   pub widened : (e : Event) (a : Answer) (part : Node) → Widens n part e a holds.taken → EngineHolds honest history failures part new.engine
-      → new.engine.superblock.params ≡ old.engine.superblock.params → new.backlog ≡ old.backlog → new.certifier ≡ old.certifier → new.stopped ≡ old.stopped
+      → new.engine.checkpoint.base.params ≡ old.engine.checkpoint.base.params → new.backlog ≡ old.backlog → new.certifier ≡ old.certifier → new.stopped ≡ old.stopped
       → (m : Node) × Steps n e a m × Holds honest history failures m new
   widened e a part w engine params backlog certifier stopped =
       let to = w.to in

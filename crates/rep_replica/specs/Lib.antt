@@ -3,3 +3,4 @@ pub mod Holding
 pub mod Running
 pub mod Opening
 pub mod Lives
+pub mod Settling

@@ -15,7 +15,7 @@ use Rattle.rep_steps.specs.Images.{IsFrontOf}
 use Rattle.rep_image.specs.Meanings.{Means}
 use Rattle.rep_replica.specs.Replicas.{Replica, facts_of}
 use Rattle.rep_replica.specs.Holding.{Holds}
-use Rattle.rep_replica.specs.Running.{Ran, steps_in, answers_in}
+use Rattle.rep_replica.specs.Running.{Ran}
 use Rattle.rep_replica.specs.Opening.{Opens}
 
 -- ---- what happens in a life
@@ -33,10 +33,6 @@ pub record Life (D : Type 0) : Type 0 where
   pub last : Replica D
   pub left : List ℕ
 
--- what the events of a run delivered
-abbrev pub delivered_in : List Event → List Answer → Order
-delivered_in events answers = accepted_by (steps_in events) (answers_in events answers)
-
 -- A life on this image, of this order: the replica was opened on it, ran the events, and then some more; what they delivered are the
 -- order's items from where it stood; and the stop came at a moment of these, or between them, so also before the first.
 pub record IsLife {D : Type 0} (honest : D → Type 0) (history : D → History) (failures : D → ℕ) (O : Order) (image : List ℕ) (life : Life D) : Type 0 where
@@ -45,7 +41,7 @@ pub record IsLife {D : Type 0} (honest : D → Type 0) (history : D → History)
   pub ran : Ran honest history failures life.start life.mid life.events life.answers
   pub ran_on : Ran honest history failures life.mid life.last life.more life.told
   pub rest : Order
-  pub fed : ((take (facts_of failures life.start).durable O ++ delivered_in life.events life.answers) ++ delivered_in life.more life.told) ++ rest ≡ O
+  pub fed : ((take (facts_of failures life.start).durable O ++ accepted_by life.events life.answers) ++ accepted_by life.more life.told) ++ rest ≡ O
   pub stop : ImageSince (history life.last.engine.disk) (moment (history life.mid.engine.disk)) life.left
 
 -- Lives one after another, each on what the stop before it left.
@@ -68,8 +64,8 @@ AreRowsOf p O (e ∷ events) (a ∷ answers) = IsRowOf p O e a × AreRowsOf p O 
 -- What a run comes to in a life: the verdicts are those of the order, and so are the replies, each once and in order; the rows that
 -- were read are the order's.
 pub record Follows (O : Order) (L : Order) (n : Node) (events : List Event) (answers : List Answer) (m : Node) : Type 0 where
-  pub comes : ComesTo L n (steps_in events) (answers_in events answers) m
-  pub rows : AreRowsOf n.facts.setting O (steps_in events) (answers_in events answers)
+  pub comes : ComesTo L n events answers m
+  pub rows : AreRowsOf n.facts.setting O events answers
 
 -- A life follows the order: it began at a position not below d, the node of a front of the order, of this UUID and these
 -- parameters; so it went on; and what the stop left stands for a front of the order that has all that was durable before the
@@ -89,7 +85,7 @@ pub record LifeFollows {D : Type 0} (honest : D → Type 0) (history : D → His
   pub follows : Follows O (take position O) start life.events life.answers mid
   pub last : Node
   pub went_on : Holds honest history failures last life.last
-  pub follows_on : Follows O (take position O ++ delivered_in life.events life.answers) mid life.more life.told last
+  pub follows_on : Follows O (take position O ++ accepted_by life.events life.answers) mid life.more life.told last
   pub front : IsFrontOf Means uuid p O (facts_of failures life.mid).durable life.left
 
 -- Each life begins at a position not below what was durable in the one before it.

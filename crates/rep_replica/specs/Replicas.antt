@@ -1,11 +1,13 @@
 -- What a replica holds, on any device: its facts, and what is so of it whatever the device does.
-use Rattle.std.specs.Prelude.{◌≡◌, ℕ, ◌+◌, ◌||◌, Bool, false, is_some, List, ◌++◌, length, refl}
+use Rattle.std.specs.Prelude.{◌≡◌, ℕ, ◌+◌, ◌||◌, Bool, true, false, is_some, List, [], ◌∷◌, ◌++◌, length, refl}
 use Rattle.std.specs.Coded.{Coded, codes, code_by, coded×}
 use Rattle.rep_types.specs.declared.judged.Judged.{Judged}
+use Rattle.rep_record.specs.Records.{is_placed}
 use Rattle.rep_cert.specs.Holdings.{Holding, Holdings, IsAskable}
 use Rattle.rep_steps.specs.Standings.{Standing, delivered}
 use Rattle.rep_engine.specs.Engines.{Engine, engine_code, facts_of as engine_facts}
 use Rattle.rep_engine.specs.Accepting.{ComeNext}
+use Rattle.rep_engine.specs.Checking.{HoldsWindows}
 
 -- What a replica holds: the engine, the delivered items that the engine has not accepted, what the certifier holds, and whether
 -- it was stopped from outside.
@@ -33,15 +35,22 @@ replica_code {D} code =
 abbrev pub facts_of : {D : Type 0} → (D → ℕ) → Replica D → Standing
 facts_of failures r = record (engine_facts failures r.engine) { ahead = r.engine.block ++ r.backlog; stopped = r.stopped || is_some r.engine.halted }
 
--- The items that the engine has not accepted come next there, and the last of them was delivered last.
+-- Each has a place in a block: its seqno is one, and its verdict fits that.
+abbrev pub ArePlaced : List Judged → Type 0
+ArePlaced [] = Unit {0}
+ArePlaced (j ∷ js) = (is_placed j ≡ true) × ArePlaced js
+
+-- The items that the engine has not accepted come next there, each with a place, and the last of them was delivered last.
 pub record GoOn (s : Standing) (backlog : List Judged) (h : Holding) : Type 0 where
   pub come : ComeNext s backlog
+  pub placed : ArePlaced backlog
   pub count : h.delivered ≡ delivered s + length backlog
 
 -- What is so of a replica, whatever the device does, by its engine's facts: the parameters are the certifier's, of which the
--- window at what is durable can be asked; and unless it was stopped from outside, the engine's items and the others are what was
+-- window at what is durable can be asked, and whose windows can all be written; and unless it was stopped from outside, the engine's items and the others are what was
 -- delivered.
 pub record IsReplica (s : Standing) (backlog : List Judged) (h : Holding) (stopped : Bool) : Type 0 where
   pub setting : h.setting ≡ s.setting
   pub askable : IsAskable h s.durable
+  pub windows : HoldsWindows h
   pub items : stopped ≡ false → GoOn s backlog h

@@ -5,6 +5,7 @@ mod laws;
 mod open;
 mod replica;
 mod run;
+mod settle;
 mod step;
 
 pub use laws::{lives_follow_the_order, running_replicas_leave_their_ends};

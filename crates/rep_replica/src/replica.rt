@@ -49,9 +49,10 @@ impl<D: Disk> Model for Replica<D> {
 impl<D: Disk> Replica<D> {
     /// Puts the parts of a replica together. Where `stopped` is true, it refuses everything, as one whose device failed.
     ///
-    /// Engine and certifier have the same parameters, and the certifier gives the window at what is durable. Unless
-    /// `stopped` is true, the backlog's items come behind those that the engine accepted, without a gap, up to the
-    /// last that was delivered; none is above `MAX_SEQNO`, and there is none where the engine belongs to no cluster.
+    /// Engine and certifier have the same parameters; the certifier gives the window at what is durable, and none
+    /// that a disk cannot hold. Unless `stopped` is true, the backlog's items come behind those that the engine
+    /// accepted, without a gap, up to the last that was delivered; none is above `MAX_SEQNO`, a conflict is with an
+    /// item before the one that it refuses, and there is none where the engine belongs to no cluster.
     pub fn from_parts(
         certifier: Certifier,
         backlog: Backlog,
@@ -101,14 +102,14 @@ impl<D: Disk> Replica<D> {
 
     /// The state UUID; nil where the node belongs to no cluster yet.
     pub fn uuid(&self) -> Uuid
-        ensures { result ≡ self.now.engine.superblock.uuid }
+        ensures { result ≡ self.now.engine.checkpoint.base.uuid }
     {
         self.engine.uuid()
     }
 
     /// The parameters.
     pub fn params(&self) -> &Params
-        ensures { result.now ≡ self.now.engine.superblock.params }
+        ensures { result.now ≡ self.now.engine.checkpoint.base.params }
     {
         self.engine.params()
     }
@@ -132,7 +133,7 @@ impl<D: Disk> Replica<D> {
 
     /// The position of the base: of the oldest state that can be read.
     pub fn base(&self) -> u64
-        ensures { result ≡ self.now.engine.superblock.position }
+        ensures { result ≡ self.now.engine.checkpoint.base.position }
     {
         self.engine.base()
     }

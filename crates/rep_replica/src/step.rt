@@ -1,22 +1,26 @@
 //! The steps of a replica.
 
-ghost use Rattle.std.specs.Prelude.{◌≡◌, ◌++◌, ◌||◌, [], None, Err, false, true, is_some, IfErr, OnOk};
+ghost use Rattle.std.specs.Prelude.{◌≡◌, ◌++◌, ◌||◌, [], None, Ok, Err, false, true, length, is_some, IfErr, OnOk};
 ghost use Rattle.rep_types.specs.declared.refusal.Refusal.TheVariants.{OutOfMemory};
 ghost use Rattle.rep_record.specs.Fronts.{fitting};
 ghost use Rattle.rep_disk.specs.Calls.{IsCall};
-ghost use Rattle.rep_log.specs.Moves.{fault_of};
-ghost use Rattle.rep_steps.specs.declared.event.Event.TheVariants.{Deliver, Log, Sync, Read};
+ghost use Rattle.rep_log.specs.Standing.{due_of};
+ghost use Rattle.rep_log.specs.Moves.{fault_of, after_sync, started};
+ghost use Rattle.rep_steps.specs.declared.event.Event.TheVariants.{Deliver, Log, Sync, Check, Flush, Read};
 ghost use Rattle.rep_steps.specs.declared.answer.Answer.TheVariants.{Refused};
 ghost use Rattle.rep_steps.specs.Standings.{delivery_refusal};
 ghost use Rattle.rep_steps.specs.Nodes.{Node};
 ghost use Rattle.rep_engine.specs.Accepting.{is_gathering};
 ghost use Rattle.rep_engine.specs.Holding.{wrote, synced, row};
+ghost use Rattle.rep_engine.specs.Checking.{checked};
+ghost use Rattle.rep_engine.specs.Writing.{written_in};
 ghost use Rattle.rep_replica.specs.Replicas.{facts_of};
 ghost use Rattle.rep_replica.specs.Holding.{Holds, IsStep};
-ghost use Rattle.rep_replica.specs.Running.{Takes, MovesOn, is_checkpoint};
+ghost use Rattle.rep_replica.specs.Settling.{outcome_of};
 
 use crate::replica::Replica;
 use rep_disk::Disk;
+use rep_engine::certifiers_hold_windows;
 use rep_log::Phase;
 use rep_record::fronts_are_determined;
 use rep_steps::{Answer, Event, Replies, nodes_stay_nodes, parts_step_as_the_whole};
@@ -38,6 +42,17 @@ fn synced(outcome: Result<Replies, Refusal>) -> Answer
 {
     match outcome {
         Ok(replies) => Answer::Synced(replies),
+        Err(refusal) => Answer::Refused(refusal),
+    }
+}
+
+/// What the checkpoint's step answers.
+fn checked(outcome: Result<Option<u64>, Refusal>) -> Answer
+    ensures { result ≡ checked outcome }
+{
+    match outcome {
+        Ok(Some(position)) => Answer::Began(position),
+        Ok(None) => Answer::Wrote,
         Err(refusal) => Answer::Refused(refusal),
     }
 }
@@ -82,6 +97,9 @@ impl<D: Disk> Replica<D> {
         ensures { IsStep D.honest D.history D.failures self.old (Deliver seqno item) result self.new }
     {
         nodes_stay_nodes();
+        certifiers_hold_windows();
+        // For its clause: what holds of every write set.
+        item.writes();
         if let Some(refusal) = self.delivery_refusal(seqno) {
             return Answer::Refused(refusal);
         }
@@ -117,9 +135,11 @@ impl<D: Disk> Replica<D> {
     }
 
     /// Writes what the log has to write next, of what was delivered.
-    fn log(&mut self) -> Answer
+    pub(crate) fn log(&mut self) -> Answer
         requires running { (self.old.stopped ≡ false) × (self.old.engine.halted ≡ None) }
-        ensures { IsStep D.honest D.history D.failures self.old Log result self.new }
+        ensures step { IsStep D.honest D.history D.failures self.old Log result self.new }
+        // The log has made the step that was due.
+        ensures log { outcome_of result ≡ Ok tt → self.new.engine.log ≡ written_in (due_of self.old.engine.log) (length self.new.engine.block) self.old.engine.log }
     {
         parts_step_as_the_whole();
         nodes_stay_nodes();
@@ -136,15 +156,39 @@ impl<D: Disk> Replica<D> {
     }
 
     /// Makes stable what was written.
-    fn sync(&mut self) -> Answer
+    pub(crate) fn sync(&mut self) -> Answer
         requires running { (self.old.stopped ≡ false) × (self.old.engine.halted ≡ None) }
-        ensures { IsStep D.honest D.history D.failures self.old Sync result self.new }
+        ensures step { IsStep D.honest D.history D.failures self.old Sync result self.new }
+        // The log is as a sync leaves it.
+        ensures log { outcome_of result ≡ Ok tt → self.new.engine.log ≡ started self.new.engine.checkpoint.base.start (after_sync self.old.engine.log) }
     {
         parts_step_as_the_whole();
         nodes_stay_nodes();
         // Tells the proof what holds of the engine.
         let _durable = self.engine.durable();
         synced(self.engine.sync())
+    }
+
+    /// Takes the checkpoint's next step.
+    pub(crate) fn check(&mut self) -> Answer
+        requires running { (self.old.stopped ≡ false) × (self.old.engine.halted ≡ None) }
+        ensures { IsStep D.honest D.history D.failures self.old Check result self.new }
+    {
+        parts_step_as_the_whole();
+        nodes_stay_nodes();
+        // Tells the proof what holds of the engine.
+        let _durable = self.engine.durable();
+        checked(self.engine.check(&self.certifier))
+    }
+
+    /// Flushes a page that the checkpoint has left.
+    fn flush(&mut self, page: u64) -> Answer
+        requires running { (self.old.stopped ≡ false) × (self.old.engine.halted ≡ None) }
+        ensures { IsStep D.honest D.history D.failures self.old (Flush page) result self.new }
+    {
+        parts_step_as_the_whole();
+        nodes_stay_nodes();
+        wrote(self.engine.flush(page))
     }
 
     /// What stands under the key in the state after so many items, if anything does. It takes no memory.
@@ -178,9 +222,17 @@ impl<D: Disk> Replica<D> {
     ///   that are not durable which fits (64 records, 7,662 bytes), and, once that is stable, the open gate behind
     ///   it. It is refused with `NotDue` where there is no such item or what was written awaits its sync, with
     ///   `LogFull` where the next cell is still needed, with `OutOfMemory`, and with `DiskFault`.
-    /// - `Sync` makes stable what was written. After an open gate it makes the block durable, and
-    ///   replies to the items' origins. It is refused with `DiskFault`.
-    /// - `Check` and `Flush` are refused with `NotDue`: no checkpoint is made yet.
+    /// - `Sync` makes stable what was written. After an open gate of the log it makes the block durable, and
+    ///   replies to the items' origins; after that of a superblock its base is the replica's. It is refused with
+    ///   `DiskFault`.
+    /// - `Check` takes the checkpoint's next step: it begins one to what is durable and says its position; writes
+    ///   the window once its pages are stable, then the superblock, its open gate, and the closed gate of the
+    ///   superblock before it, each once what it builds upon is stable. It is refused with `NotDue` where the base
+    ///   stands at what is durable, pages are left, or a write awaits its sync, with `OutOfMemory` where one would
+    ///   begin, and with `DiskFault`.
+    /// - `Flush` writes a page that the checkpoint has left, as it is at the checkpoint's position. It is refused
+    ///   with `NotDue` where that page is not left, with `DiskFault`, and with `Corrupt` where the base's page is
+    ///   not of its form.
     /// - `Read` gives the row of the key after the first `s` items. It is refused, in this order, with
     ///   `BadKey` outside the schema, `NotYet` above what is durable, `TooOld` below the base, `DiskFault`, and
     ///   `Corrupt` where the page that it reads is not of its form.
@@ -188,8 +240,7 @@ impl<D: Disk> Replica<D> {
     /// A refused step changes nothing, but that after `DiskFault` it is stopped: every event is then refused with
     /// `Stopped`.
     pub fn step(&mut self, event: Event) -> Answer
-        ensures moves { MovesOn (facts_of D.failures self.old) event result (facts_of D.failures self.new) }
-        ensures takes { Takes (is_checkpoint event) (self.old.stopped || is_some self.old.engine.halted) self.old result self.new (IsStep D.honest D.history D.failures self.old event result self.new) }
+        ensures step { IsStep D.honest D.history D.failures self.old event result self.new }
         // Where it is stopped, nothing changes.
         ensures stopped { (self.old.stopped || is_some self.old.engine.halted) ≡ true → (result ≡ Refused Refusal.Stopped) × (self.new ≡ self.old) }
     {
@@ -200,7 +251,8 @@ impl<D: Disk> Replica<D> {
             Event::Deliver(seqno, item) => self.deliver(seqno, item),
             Event::Log => self.log(),
             Event::Sync => self.sync(),
-            Event::Check | Event::Flush(_) => Answer::Refused(Refusal::NotDue),
+            Event::Check => self.check(),
+            Event::Flush(page) => self.flush(page),
             Event::Read(key, s) => row(self.read(key, s)),
         }
     }

@@ -6,7 +6,7 @@ use rep_plain::PlainNode;
 use rep_recover::format_disk;
 use rep_replica::Replica;
 use rep_steps::{Answer, Event, Replies};
-use rep_types::{Gtid, Key, Params, Refusal, Verdict, WriteSet};
+use rep_types::{Entry, Gtid, Key, Params, Refusal, Verdict, WriteSet};
 use std::alloc::Global;
 use std::process::Abort;
 use std::test::Fail;
@@ -50,6 +50,16 @@ pub(crate) fn run<D: Disk>(
     node.run(alloc, events)
 }
 
+/// Has the node settle by itself.
+pub(crate) fn settle<D: Disk>(node: &mut Replica<D>) -> Result<(), Refusal> {
+    node.settle()
+}
+
+/// Whether all that was delivered is durable, and no checkpoint is under way.
+pub(crate) fn is_quiet<D: Disk>(node: &Replica<D>) -> bool {
+    node.is_quiet()
+}
+
 /// Gives the disk back.
 pub(crate) fn into_disk<D: Disk>(node: Replica<D>) -> D {
     node.into_disk()
@@ -82,13 +92,18 @@ pub(crate) struct Status {
 
 /// What a node says of itself that was opened at this position, over no base.
 pub(crate) fn opened_at(position: u64) -> Status {
+    opened_over(0, position)
+}
+
+/// What a node says of itself that was opened at this position, over the base of that one.
+pub(crate) fn opened_over(base: u64, position: u64) -> Status {
     let gtid = match i64::try_from(position) {
         Ok(seqno) => Gtid::new(Uuid::from_bytes(CLUSTER), seqno),
         Err(_) => None,
     };
     Status {
         gtid,
-        base: 0,
+        base,
         durable: position,
         delivered: position,
         is_stopped: false,
@@ -137,6 +152,15 @@ pub(crate) fn makes_durable<D: Disk>(rt: &impl Abort, node: &mut Replica<D>, rep
     }
 }
 
+/// Does the steps of a checkpoint behind its pages, and compares their answers: the window is written, then the superblock,
+/// its open gate, and the closed gate of the superblock before it, each made stable.
+pub(crate) fn makes_base<D: Disk>(rt: &impl Abort, node: &mut Replica<D>) {
+    for _ in 0..4 {
+        answers(rt, node, Event::Check, Answer::Wrote);
+        answers(rt, node, Event::Sync, Answer::Synced(Replies::new()));
+    }
+}
+
 /// Compares what the node says of itself.
 pub(crate) fn stands<D: Disk>(rt: &impl Abort, node: &Replica<D>, wanted: Status) {
     assert_eq!(rt; shown(node), wanted);
@@ -153,23 +177,52 @@ pub(crate) fn plain_row(plain: &PlainNode, key: Key, s: u64) -> Answer {
     }
 }
 
-/// Compares the node with the plain one: the window at what is durable, and the first so many rows of the first table at
-/// each position up to that.
+/// What a read of the key after the first `s` items is answered by, over this base.
+fn based_row(plain: &PlainNode, base: u64, key: Key, s: u64) -> Answer {
+    if s < base {
+        Answer::Refused(Refusal::TooOld { oldest: base })
+    } else {
+        plain_row(plain, key, s)
+    }
+}
+
+/// Compares the node with the plain one: the window at what is durable, and these rows at each position up to that, of which
+/// those below the base are too old.
 pub(crate) fn agrees<D: Disk>(
     rt: &(impl Abort + AllocGlobal),
     node: &mut Replica<D>,
     plain: &PlainNode,
-    rows: u32,
+    keys: &[Key],
 ) -> Result<(), Fail> {
     let durable = node.durable();
+    let base = node.base();
     assert!(rt; durable <= plain.position());
-    let window = node.window(rt.alloc())?;
-    assert!(rt; window == plain.window_at(rt.alloc(), durable)?);
+    assert!(rt; node.window(rt.alloc())? == plain.window_at(rt.alloc(), durable)?);
     for s in 0..=durable {
-        for row in 0..rows {
-            let key = Key { table: 0, row };
-            answers(rt, node, Event::Read(key, s), plain_row(plain, key, s));
+        for key in keys {
+            let wanted = based_row(plain, base, *key, s);
+            answers(rt, node, Event::Read(*key, s), wanted);
         }
     }
+    Ok(())
+}
+
+/// Whether these are the seqnos of the entries.
+fn are_of(window: &[Entry], seqnos: &[u64]) -> bool {
+    let mut right = window.len() == seqnos.len();
+    for (entry, seqno) in window.iter().zip(seqnos) {
+        right = right && entry.seqno() == *seqno;
+    }
+    right
+}
+
+/// Compares the seqnos of the node's window.
+pub(crate) fn has_window<D: Disk>(
+    rt: &(impl Abort + AllocGlobal),
+    node: &Replica<D>,
+    seqnos: &[u64],
+) -> Result<(), Fail> {
+    let window = node.window(rt.alloc())?;
+    assert!(rt; are_of(&window, seqnos));
     Ok(())
 }

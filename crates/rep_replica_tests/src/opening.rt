@@ -1,7 +1,7 @@
 //! Disks that are refused, and disks at the last seqno.
 
 use crate::node::{
-    Status, answers, gives, into_disk, makes_durable, open, opened, opened_at, stands,
+    answers, gives, into_disk, makes_base, makes_durable, open, opened, opened_over, stands,
 };
 use crate::scripts::{ROW, new_disk, one_item, put, reply_to};
 use rep_disk::{Disk, MemDisk};
@@ -92,40 +92,61 @@ fn behind_the_last(rt: &(impl Abort + AllocGlobal)) -> Result<Replica<MemDisk>, 
     opened(rt.alloc(), into_disk(node))
 }
 
-#[test]
-fn no_item_comes_behind_the_last_seqno(rt: HostRuntime) -> Result<(), Fail> {
-    let mut node = behind_the_last(&rt)?;
-    let last = Status {
-        base: LAST - 1,
-        ..opened_at(LAST)
-    };
-    stands(&rt, &node, last);
+/// Delivers items to a node behind the last seqno, which are refused.
+fn is_exhausted(rt: &impl Abort, node: &mut Replica<MemDisk>) -> Result<(), Fail> {
+    stands(rt, node, opened_over(LAST - 1, LAST));
     for seqno in [0, LAST, LAST + 1, u64::MAX] {
         let delivery = Event::Deliver(seqno, put(0, 8, b'a')?);
-        answers(
-            &rt,
-            &mut node,
-            delivery,
-            Answer::Refused(Refusal::Exhausted),
-        );
+        answers(rt, node, delivery, Answer::Refused(Refusal::Exhausted));
     }
     Ok(())
 }
 
 #[test]
-fn rows_below_the_base_are_too_old(rt: HostRuntime) -> Result<(), Fail> {
-    let row = Answer::Row(Some(Value::new(b"a")?));
+fn no_item_comes_behind_the_last_seqno(rt: HostRuntime) -> Result<(), Fail> {
     let mut node = behind_the_last(&rt)?;
+    is_exhausted(&rt, &mut node)
+}
+
+/// Reads the row of a node behind the last seqno, whose base stands at the one before.
+fn has_rows_above_its_base(rt: &impl Abort, node: &mut Replica<MemDisk>) -> Result<(), Fail> {
+    let row = Answer::Row(Some(Value::new(b"a")?));
     let not_yet = Answer::Refused(Refusal::NotYet { durable: LAST });
-    answers(&rt, &mut node, Event::Read(ROW, LAST + 1), not_yet);
-    answers(&rt, &mut node, Event::Read(ROW, LAST), row);
-    answers(
-        &rt,
-        &mut node,
-        Event::Read(ROW, LAST - 1),
-        Answer::Row(None),
-    );
     let too_old = Answer::Refused(Refusal::TooOld { oldest: LAST - 1 });
-    answers(&rt, &mut node, Event::Read(ROW, LAST - 2), too_old);
+    answers(rt, node, Event::Read(ROW, LAST + 1), not_yet);
+    answers(rt, node, Event::Read(ROW, LAST), row);
+    answers(rt, node, Event::Read(ROW, LAST - 1), Answer::Row(None));
+    answers(rt, node, Event::Read(ROW, LAST - 2), too_old);
     Ok(())
+}
+
+#[test]
+fn rows_below_the_base_are_too_old(rt: HostRuntime) -> Result<(), Fail> {
+    has_rows_above_its_base(&rt, &mut behind_the_last(&rt)?)
+}
+
+/// Compares a node whose base stands at the last seqno.
+fn has_its_base_at_the_last(rt: &impl Abort, node: &mut Replica<MemDisk>) -> Result<(), Fail> {
+    let row = Answer::Row(Some(Value::new(b"a")?));
+    stands(rt, node, opened_over(LAST, LAST));
+    answers(rt, node, Event::Check, Answer::Refused(Refusal::NotDue));
+    answers(rt, node, Event::Read(ROW, LAST), row);
+    let too_old = Answer::Refused(Refusal::TooOld { oldest: LAST });
+    answers(rt, node, Event::Read(ROW, LAST - 1), too_old);
+    Ok(())
+}
+
+/// Takes a checkpoint to the last seqno.
+fn raises_its_base(rt: &impl Abort, node: &mut Replica<MemDisk>) -> Result<(), Fail> {
+    answers(rt, node, Event::Check, Answer::Began(LAST));
+    answers(rt, node, Event::Flush(0), Answer::Wrote);
+    makes_base(rt, node);
+    has_its_base_at_the_last(rt, node)
+}
+
+#[test]
+fn the_base_can_stand_at_the_last_seqno(rt: HostRuntime) -> Result<(), Fail> {
+    let mut node = behind_the_last(&rt)?;
+    raises_its_base(&rt, &mut node)?;
+    has_its_base_at_the_last(&rt, &mut opened(rt.alloc(), into_disk(node))?)
 }

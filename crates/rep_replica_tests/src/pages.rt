@@ -1,8 +1,6 @@
 //! Rows that stand in a page of the base, on a disk whose bytes are written by hand.
 
-use crate::node::{
-    Status, answers, gives, into_disk, makes_durable, open, opened, opened_at, stands,
-};
+use crate::node::{answers, gives, into_disk, makes_durable, open, opened, opened_over, stands};
 use crate::opening::{changed, standing_at};
 use crate::scripts::{ROW, put, reply_to};
 use rep_disk::{Disk, FaultOnce, MemDisk};
@@ -42,11 +40,7 @@ fn rows_are_those_of_the_base_until_they_are_written(rt: HostRuntime) -> Result<
     let written = Answer::Row(Some(Value::new(b"a")?));
     let in_the_page = in_the_page()?;
     let mut node = written_over(&rt)?;
-    let based = Status {
-        base: 1,
-        ..opened_at(2)
-    };
-    stands(&rt, &node, based);
+    stands(&rt, &node, opened_over(1, 2));
     answers(&rt, &mut node, Event::Read(ROW, 2), written);
     answers(&rt, &mut node, Event::Read(ROW, 1), in_the_page);
     let too_old = Answer::Refused(Refusal::TooOld { oldest: 1 });
@@ -75,26 +69,20 @@ fn failing_at_the_first_read(alloc: Global) -> Result<Replica<FaultOnce<MemDisk>
     Err(Fail::new("no opening was served"))
 }
 
+/// Reads the row, which meets the fault, and once more. Gives the device back.
+fn stopped_by_a_read<D: Disk>(rt: &impl Abort, mut node: Replica<D>) -> D {
+    for refusal in [Refusal::DiskFault, Refusal::Stopped] {
+        answers(rt, &mut node, Event::Read(ROW, 1), Answer::Refused(refusal));
+    }
+    into_disk(node)
+}
+
 #[test]
 fn a_read_that_meets_a_fault_stops_the_replica(rt: HostRuntime) -> Result<(), Fail> {
     let in_the_page = in_the_page()?;
-    let mut node = failing_at_the_first_read(rt.alloc())?;
-    let read = Event::Read(ROW, 1);
-    answers(
-        &rt,
-        &mut node,
-        read.copied(),
-        Answer::Refused(Refusal::DiskFault),
-    );
-    answers(
-        &rt,
-        &mut node,
-        read.copied(),
-        Answer::Refused(Refusal::Stopped),
-    );
-    let disk = into_disk(node);
+    let disk = stopped_by_a_read(&rt, failing_at_the_first_read(rt.alloc())?);
     assert!(rt; disk.failures() == 1);
     let mut node = opened(rt.alloc(), disk)?;
-    answers(&rt, &mut node, read, in_the_page);
+    answers(&rt, &mut node, Event::Read(ROW, 1), in_the_page);
     Ok(())
 }

@@ -1,5 +1,6 @@
 //! A replica that is taken apart and put together again.
 
+use crate::checkpoints::beside_an_item;
 use crate::node::{Status, answers, into_disk, opened, opened_at, shown, stands, step};
 use crate::scripts::{ROW, Script, put, two_items};
 use rep_disk::{Disk, MemDisk};
@@ -32,9 +33,10 @@ fn parted_at(rt: &(impl Abort + AllocGlobal), script: &Script, count: usize) -> 
 
 #[test]
 fn a_node_that_was_taken_apart_goes_on_the_same(rt: HostRuntime) -> Result<(), Fail> {
-    let script = two_items(rt.alloc())?;
-    for count in 0..=script.events.len() {
-        parted_at(&rt, &script, count)?;
+    for script in [two_items(rt.alloc())?, beside_an_item(rt.alloc())?] {
+        for count in 0..=script.events.len() {
+            parted_at(&rt, &script, count)?;
+        }
     }
     Ok(())
 }

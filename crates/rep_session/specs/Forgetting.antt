@@ -15,7 +15,7 @@ use Rattle.rep_steps.specs.Nodes.{Node, IsNode}
 use Rattle.rep_steps.specs.Parts.{part_of}
 use Rattle.rep_steps.specs.Images.{IsFrontAt}
 use Rattle.rep_image.specs.Meanings.{Means}
-use Rattle.rep_image.specs.Standing.{StandsAs}
+use Rattle.rep_checkpoint.specs.Nodes.{StandsAs}
 use Rattle.rep_engine.specs.Engines.{Engine}
 use Rattle.rep_engine.specs.Holding.{Stands, Holds as EngineHolds}
 use Rattle.rep_replica.specs.Replicas.{Replica}
@@ -65,8 +65,21 @@ module _ {D : Type 0} (honest : D → Type 0) (history : D → History) (failure
     blocks = h.blocks;
     sealed = h.sealed;
     stands =
-        let at = subst (λ (past : History). StandsAs n (length (stable past)) e.superblock e.log h.blocks h.sealed h.states) same h.stands in
-        record { stands = at.stands; phase = at.phase; durable = at.durable; coming = at.coming; judged = at.judged; undefined = at.undefined };
+        let at = subst (λ (past : History). StandsAs n (length (stable past)) e.checkpoint e.log h.blocks h.sealed h.states) same h.stands in
+        record {
+          uuid = at.uuid;
+          setting = at.setting;
+          goal = at.goal;
+          checkpoint = at.checkpoint;
+          toward = λ next part is. let led = at.toward next part is in record { past = led.past; position = led.position; within = led.within; state = led.state; cells = led.cells; start = led.start; few = led.few; records = led.records };
+          start = at.start;
+          log_is = at.log_is;
+          phase = at.phase;
+          durable = at.durable;
+          coming = at.coming;
+          judged = at.judged;
+          undefined = at.undefined;
+        };
     versions = h.versions;
     gates = h.gates;
   }

@@ -18,7 +18,7 @@ use Rattle.rep_replica.specs.Holding.{Holds, IsStep}
 
 -- the number of rows of each table
 abbrev pub tables_of : {D : Type 0} → Replica D → List ℕ
-tables_of r = r.engine.superblock.params.rows
+tables_of r = r.engine.checkpoint.base.params.rows
 
 -- the front is the durable position, and asking for it changes nothing
 abbrev pub IsFront : {D : Type 0} → Replica D → ℕ → Replica D → Type 0

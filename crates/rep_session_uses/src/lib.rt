@@ -4,8 +4,6 @@
 mod laws;
 mod moving;
 mod swapping;
-#[cfg(test)]
-mod tests;
 
 pub use laws::sessions_run_alone;
 pub use moving::move_row;

@@ -1,5 +1,5 @@
 -- Runs of a core: steps one after another, and what a stop leaves.
-use Rattle.std.proofs.Common.{◌≡◌, ℕ, ◌≤◌, ◌⊎◌, inl, inr, List, [], ◌∷◌, ◌++◌, append_assoc, append-nil, length-append, refl, sym, ap, subst, ◌∙◌, arith}
+use Rattle.std.proofs.Common.{◌≡◌, ℕ, ◌≤◌, ◌⊎◌, inl, inr, List, [], ◌∷◌, ◌++◌, append_assoc, length-append, refl, sym, ap, subst, ◌∙◌, arith}
 use Rattle.std.proofs.lemmas.List.{take-append-le}
 use Rattle.rep_types.specs.Settings.{Setting}
 use Rattle.rep_types.specs.Verdicts.{StateIsEnough}
@@ -14,7 +14,7 @@ use Rattle.rep_steps.specs.Orders.{IsOf, accepted}
 use Rattle.rep_steps.specs.Runs.{Runs, accepted_by}
 use Rattle.rep_steps.specs.Images.{Meaning, IsFrontAt, IsFrontOf, RunsOn}
 use Rattle.rep_steps.proofs.Following.{count_behind}
-use Rattle.rep_steps.proofs.Running.{runs_more, runs_come}
+use Rattle.rep_steps.proofs.Running.{runs_come}
 use Rattle.rep_steps.proofs.Fronts.{fronts_stand}
 
 -- ---- what is left by calls one after another
@@ -60,34 +60,68 @@ module _ (means : List ℕ → Meaning → Type 0) where
     stands = fronts_stand enough L n f.end f.meaning h o f.front;
   }
 
--- what a run delivered, with one event more
-accepted_more : {S : Type 0} (one : S → Event → Answer → S → Type 0) (s t : S) (events : List Event) (answers : List Answer) (e : Event) (a : Answer) → Runs one s events answers t
-    → accepted_by (events ++ e ∷ []) (answers ++ a ∷ []) ≡ accepted_by events answers ++ accepted e a
-accepted_more one s t [] [] e a r = append-nil (accepted e a)
-accepted_more one s t [] (b ∷ answers) e a r = absurd r
-accepted_more one s t (f ∷ events) [] e a r = absurd r
-accepted_more one s t (f ∷ events) (b ∷ answers) e a r =
-    ap (λ (M : Order). accepted f b ++ M) (accepted_more one r.0 t events answers e a r.2) ∙ sym (append_assoc (accepted f b) (accepted_by events answers) (accepted e a))
+  -- a front that has more has less
+  front_older : (uuid : List ℕ) (p : Setting) (L : Order) (d e : ℕ) (image : List ℕ) → e ≤ d → IsFrontOf means uuid p L d image → IsFrontOf means uuid p L e image
+  front_older uuid p L d e image le f = record {
+    meaning = f.meaning;
+    reads = f.reads;
+    end = f.end;
+    least = omega (arith, le, f.least);
+    most = f.most;
+    stands = f.stands;
+  }
 
--- ---- a run, with one event more
+-- ---- runs one after another
+
+-- what they delivered
+accepted_then : {S : Type 0} (one : S → Event → Answer → S → Type 0) (s t : S) (events : List Event) (answers : List Answer) (more : List Event) (told : List Answer) → Runs one s events answers t
+    → accepted_by (events ++ more) (answers ++ told) ≡ accepted_by events answers ++ accepted_by more told
+accepted_then one s t [] [] more told r = refl
+accepted_then one s t [] (b ∷ answers) more told r = absurd r
+accepted_then one s t (f ∷ events) [] more told r = absurd r
+accepted_then one s t (f ∷ events) (b ∷ answers) more told r =
+    ap (λ (M : Order). accepted f b ++ M) (accepted_then one r.0 t events answers more told r.2) ∙ sym (append_assoc (accepted f b) (accepted_by events answers) (accepted_by more told))
+
+-- how they moved
+pub moves_then : {S : Type 0} (one : S → Event → Answer → S → Type 0) (s t u : S) (events : List Event) (answers : List Answer) (more : List Event) (told : List Answer) → Runs one s events answers t → Runs one t more told u
+    → Runs one s (events ++ more) (answers ++ told) u
+moves_then one s t u [] [] more told r q = subst (λ x. Runs one x more told u) (sym r) q
+moves_then one s t u [] (b ∷ answers) more told r q = absurd r
+moves_then one s t u (f ∷ events) [] more told r q = absurd r
+moves_then one s t u (f ∷ events) (b ∷ answers) more told r q = (r.0, r.1, moves_then one r.0 t u events answers more told r.2 q)
 
 pub run_none : (means : List ℕ → Meaning → Type 0) (h : History) (n : Node) → RunsOn means h h n [] [] n
 run_none means h n = record { runs = refl; leaves = λ L o. leaves_none h }
 
-pub run_more : StateIsEnough → FrontsAreDetermined → (means : List ℕ → Meaning → Type 0) (old mid new : History) (n k m : Node) (events : List Event) (answers : List Answer) (e : Event) (a : Answer)
-    → IsNode n → IsNode k → RunsOn means old mid n events answers k → Steps k e a m → LeavesOnly mid new (IsFrontAt means k)
-    → RunsOn means old new n (events ++ e ∷ []) (answers ++ a ∷ []) m
-run_more enough fronts means old mid new n k m events answers e a h node r s l = record {
-  runs = runs_more Steps n k m events answers e a r.runs s;
+pub run_one : StateIsEnough → (means : List ℕ → Meaning → Type 0) (old new : History) (k m : Node) (e : Event) (a : Answer) → IsNode k → Steps k e a m → LeavesOnly old new (IsFrontAt means k)
+    → RunsOn means old new k (e ∷ []) (a ∷ []) m
+run_one enough means old new k m e a node s l = record {
+  runs = (m, s, refl);
+  leaves = λ L o. leaves_weaker old new (λ image f. front_longer means k.facts.uuid k.facts.setting L (accepted e a ++ []) k.facts.durable image (front_of means enough L k k.facts.durable image node o (omega arith) f)) l;
+}
+
+pub run_then : StateIsEnough → FrontsAreDetermined → (means : List ℕ → Meaning → Type 0) (old mid new : History) (n k m : Node) (events : List Event) (answers : List Answer) (more : List Event) (told : List Answer)
+    → IsNode n → RunsOn means old mid n events answers k → RunsOn means mid new k more told m → RunsOn means old new n (events ++ more) (answers ++ told) m
+run_then enough fronts means old mid new n k m events answers more told h r q = record {
+  runs = moves_then Steps n k m events answers more told r.runs q.runs;
   leaves = λ L o.
       let c = runs_come enough fronts L n k events answers h o r.runs in
       let M = L ++ accepted_by events answers in
-      let whole : M ++ accepted e a ≡ L ++ accepted_by (events ++ e ∷ []) (answers ++ a ∷ []) =
-      append_assoc L (accepted_by events answers) (accepted e a) ∙ ap (λ (K : Order). L ++ K) (sym (accepted_more Steps n k events answers e a r.runs)) in
-      let of : (image : List ℕ) → IsFrontAt means k image → IsFrontOf means n.facts.uuid n.facts.setting M n.facts.durable image =
-      λ image f. subst (λ (uuid : List ℕ). IsFrontOf means uuid n.facts.setting M n.facts.durable image) c.uuid
-      (subst (λ (p : Setting). IsFrontOf means k.facts.uuid p M n.facts.durable image) c.setting (front_of means enough M k n.facts.durable image node c.order c.rises f)) in
-      let longer : (image : List ℕ) → IsFrontOf means n.facts.uuid n.facts.setting M n.facts.durable image → IsFrontOf means n.facts.uuid n.facts.setting (L ++ accepted_by (events ++ e ∷ []) (answers ++ a ∷ [])) n.facts.durable image =
-      λ image f. subst (λ (K : Order). IsFrontOf means n.facts.uuid n.facts.setting K n.facts.durable image) whole (front_longer means n.facts.uuid n.facts.setting M (accepted e a) n.facts.durable image f) in
-      leaves_both old mid new (leaves_weaker old mid longer (r.leaves L o)) (leaves_weaker mid new (λ image f. longer image (of image f)) l);
+      let whole : M ++ accepted_by more told ≡ L ++ accepted_by (events ++ more) (answers ++ told) =
+      append_assoc L (accepted_by events answers) (accepted_by more told) ∙ ap (λ (K : Order). L ++ K) (sym (accepted_then Steps n k events answers more told r.runs)) in
+      let all : (image : List ℕ) → IsFrontOf means n.facts.uuid n.facts.setting (M ++ accepted_by more told) n.facts.durable image → IsFrontOf means n.facts.uuid n.facts.setting (L ++ accepted_by (events ++ more) (answers ++ told)) n.facts.durable image =
+      λ image f. subst (λ (K : Order). IsFrontOf means n.facts.uuid n.facts.setting K n.facts.durable image) whole f in
+      let same : (image : List ℕ) → IsFrontOf means k.facts.uuid k.facts.setting (M ++ accepted_by more told) k.facts.durable image → IsFrontOf means n.facts.uuid n.facts.setting (M ++ accepted_by more told) n.facts.durable image =
+      λ image f. subst (λ (uuid : List ℕ). IsFrontOf means uuid n.facts.setting (M ++ accepted_by more told) n.facts.durable image) c.uuid
+      (subst (λ (p : Setting). IsFrontOf means k.facts.uuid p (M ++ accepted_by more told) n.facts.durable image) c.setting
+      (front_older means k.facts.uuid k.facts.setting (M ++ accepted_by more told) k.facts.durable n.facts.durable image c.rises f)) in
+      leaves_both old mid new (leaves_weaker old mid (λ image f. all image (front_longer means n.facts.uuid n.facts.setting M (accepted_by more told) n.facts.durable image f)) (r.leaves L o))
+      (leaves_weaker mid new (λ image f. all image (same image f)) (q.leaves M c.order));
 }
+
+-- with one event more
+pub run_more : StateIsEnough → FrontsAreDetermined → (means : List ℕ → Meaning → Type 0) (old mid new : History) (n k m : Node) (events : List Event) (answers : List Answer) (e : Event) (a : Answer)
+    → IsNode n → IsNode k → RunsOn means old mid n events answers k → Steps k e a m → LeavesOnly mid new (IsFrontAt means k)
+    → RunsOn means old new n (events ++ e ∷ []) (answers ++ a ∷ []) m
+run_more enough fronts means old mid new n k m events answers e a h node r s l =
+    run_then enough fronts means old mid new n k m events answers (e ∷ []) (a ∷ []) h r (run_one enough means mid new k m e a node s l)

@@ -11,7 +11,7 @@ use Rattle.rep_disk.specs.Moments.{LeavesOnly}
 use Rattle.rep_log.specs.declared.phase.Phase.TheVariants.{Resting, Opening}
 use Rattle.rep_steps.specs.declared.event.Event.{Event}
 use Rattle.rep_steps.specs.declared.answer.Answer.{Answer}
-use Rattle.rep_steps.specs.Standings.{Goal, SuperOpening, Off, Toward, Retiring, Standing}
+use Rattle.rep_steps.specs.Standings.{Off, Retiring, Standing}
 use Rattle.rep_steps.specs.Nodes.{Node, IsNode, Steps, advanced, reached}
 use Rattle.rep_steps.specs.Orders.{IsOf}
 use Rattle.rep_steps.specs.Runs.{Runs, accepted_by}
@@ -100,30 +100,6 @@ pub record IsFrontOf (means : List ℕ → Meaning → Type 0) (uuid : List ℕ)
 pub record RunsOn (means : List ℕ → Meaning → Type 0) (old new : History) (n : Node) (events : List Event) (answers : List Answer) (m : Node) : Type 0 where
   pub runs : Runs Steps n events answers m
   pub leaves : (L : Order) → IsOf L n → LeavesOnly old new (IsFrontOf means n.facts.uuid n.facts.setting (L ++ accepted_by events answers) n.facts.durable)
-
--- ---- what the log and the checkpoint tell
-
--- The positions that cells begin at: the first cell at the base, the goal's at the goal.
-pub record Anchored (n : Node) (at : ℕ → ℕ) : Type 0 where
-  pub first : at n.facts.start ≡ n.base.position
-  pub goal : (goal : Goal) → n.facts.stage ≡ Toward goal SuperOpening → at goal.start ≡ goal.position
-
--- The log's: from each cell on, a scan takes the durable items, or those with the block whose gate is opening.
-pub record LogTells (n : Node) (at : ℕ → ℕ) (scan : ℕ → List Judged) : Type 0 where
-  pub end : ℕ
-  pub ends : Ends n end
-  pub items : (from : ℕ) → n.facts.start ≤ from → from ≤ n.facts.next → scan from ≡ take (end - at from) (drop (at from - n.base.position) n.items)
-
--- The checkpoint's: the base is the node's, or, where its superblock is opening, the goal's.
-abbrev pub CheckpointTells : Node → State → ℕ → Type 0
-CheckpointTells n base start =
-    ((base ≡ n.base) × (start ≡ n.facts.start))
-    ⊎ ((goal : Goal) × (n.facts.stage ≡ Toward goal SuperOpening) × (base ≡ reached n.facts.setting n.base (take (goal.position - n.base.position) n.items)) × (start ≡ goal.start))
-
--- So each image means a front that has what is durable, with no cases by pairs.
-abbrev pub FrontsFromLayers : Type 0
-FrontsFromLayers = (n : Node) (at : ℕ → ℕ) (scan : ℕ → List Judged) (base : State) (start : ℕ) → IsNode n → Anchored n at → LogTells n at scan → CheckpointTells n base start
-    → (end : ℕ) × (n.facts.durable ≤ end) × IsFront n end (record { uuid = n.facts.uuid; setting = n.facts.setting; base = base; tail = scan start })
 
 -- ---- opening
 

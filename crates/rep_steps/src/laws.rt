@@ -4,7 +4,7 @@ ghost use Rattle.rep_steps.specs.Nodes.{StepsAreMoves, NodesStayNodes};
 ghost use Rattle.rep_steps.specs.Parts.{PartsStepAsTheWhole};
 ghost use Rattle.rep_steps.specs.Orders.{StepsFollowTheOrder, NodesHoldTheOrder};
 ghost use Rattle.rep_steps.specs.Runs.{RunsComeTo, FedTheRest};
-ghost use Rattle.rep_steps.specs.Images.{JudgedItemsExtendTheOrder, FrontsStandForTheOrder, FrontsFromLayers, OpeningsOpenTheOrder};
+ghost use Rattle.rep_steps.specs.Images.{JudgedItemsExtendTheOrder, FrontsStandForTheOrder, OpeningsOpenTheOrder};
 
 use rep_record::fronts_are_determined;
 use rep_types::state_is_enough;
@@ -73,18 +73,12 @@ pub fn fronts_stand_for_the_order()
     state_is_enough();
 }
 
-/// What the log and the checkpoint tell of an image makes it a front of the node that has what is
-/// durable.
-pub fn fronts_from_layers()
-    ensures { FrontsFromLayers }
-{}
-
 /// What opening makes of an image is a node, of the order that the image stands for.
 pub fn openings_open_the_order()
     ensures { OpeningsOpenTheOrder }
 {}
 
-/// What the log, a sync and a read do with what was taken of the delivered items is what they do with all of
+/// What the log, a sync, a check, a flush and a read do with what was taken of the delivered items is what they do with all of
 /// them: so an engine that has taken a front of them steps as the replica around it does.
 pub fn parts_step_as_the_whole()
     ensures { PartsStepAsTheWhole }

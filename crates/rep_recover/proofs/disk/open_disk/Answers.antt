@@ -13,7 +13,7 @@ use Rattle.rep_recover.proofs.disk.open_disk.Goals as goal
 pub start-requires : goal.start-requires
 start-requires g c =
     let o = c.in_ok-opened.opened in
-    is_engine (g.D.Disk.size c.args.disk) o.superblock (layout_of o.cells) o.log o.items.items o.certifier.current o.versions c.in_ok-opened.ensures.opened
+    is_engine (g.D.Disk.size c.args.disk) o.superblock (layout_of o.cells) o.log o.items.items o.certifier.current o.versions c.in_ok-opened.ensures.opened o.both
 
 pub returns-clause-recovers : goal.returns-clause-recovers
 returns-clause-recovers g c = λ honest.
@@ -25,7 +25,7 @@ returns-clause-recovers g c = λ honest.
     let h : Holding = o.certifier.current in
     let is = c.in_ok-opened.ensures.opened in
     let there = subst (λ (l : Layout). IsOpened size b l o.log o.items.items h o.versions) is.layout is in
-    let all = opens_node g.D.Disk.honest g.D.Disk.history g.D.Disk.failures disk old size b o.both o.log o.items.items h o.versions there (c.in_ok-opened.ensures.recovers honest) (c.in_ok-opened.ensures.call.stays_honest honest) c.openings_open_the_order.ensures c.nodes_leave_their_fronts.ensures c.images_read_as_allowed.ensures in
+    let all = opens_node g.D.Disk.honest g.D.Disk.history g.D.Disk.failures disk old size b o.both o.log o.items.items h o.versions there (c.in_ok-opened.ensures.recovers honest) c.the_base_is_found.ensures (c.in_ok-opened.ensures.call.stays_honest honest) c.openings_open_the_order.ensures c.nodes_leave_their_fronts.ensures c.images_read_as_allowed.ensures in
     let laid = subst (λ (l : Layout). OpensNode g.D.Disk.honest g.D.Disk.history g.D.Disk.failures old (engine_of disk l b o.both o.log o.versions) h) (sym is.layout) all in
     let made = subst (λ (e : Engine g.row.D.Denot). OpensNode g.D.Disk.honest g.D.Disk.history g.D.Disk.failures old e h) (sym c.start.ensures.engine) laid in
     subst (λ (x : Holdings). OpensNode g.D.Disk.honest g.D.Disk.history g.D.Disk.failures old c.start.result.0 x.current) (sym c.start.ensures.certifier) made

@@ -1,13 +1,26 @@
-use Rattle.std.proofs.Common.{◌≡◌, ℕ, ◌+◌, ◌++◌, ◌∷◌, [], List, take, inl, inr, Result, IfErr, sym, ap, subst, ◌∙◌}
+use Rattle.std.proofs.Common.{◌≡◌, ℕ, ◌+◌, ◌++◌, ◌∷◌, [], List, take, inl, inr, Result, IfErr, sym, ap, subst, ◌∙◌, arith}
 use Rattle.std.proofs.lemmas.List.{take_more}
 use Rattle.std.proofs.lemmas.Result.{err_from_is_err_and}
 use Rattle.rep_types.specs.declared.judged.Judged.{Judged}
 use Rattle.rep_types.specs.declared.refusal.Refusal.{Refusal}
 use Rattle.rep_types.specs.Order.{State}
+use Rattle.rep_cert.specs.Holdings.{Holdings, made_at}
 use Rattle.rep_steps.specs.Images.{AreJudgedFrom}
+use Rattle.rep_engine.specs.Checking.{HoldsWindows}
 use Rattle.rep_recover.specs.Judging.{bare, HasJudged, RefusesItems}
-use Rattle.rep_recover.proofs.Judging.{judged_on, not_next, split_at}
+use Rattle.rep_recover.proofs.Judging.{nothing_judged, judged_on, not_next, split_at}
+use Rattle.rep_recover.proofs.Spanning.{spanned}
 use Rattle.rep_recover.proofs.judge.judge_again.Goals as goal
+
+pub loop-judged-init : goal.loop-judged-init
+loop-judged-init c =
+    let es = c.args.window.items in
+    let is : c.in_ok-certifier.certifier.current ≡ made_at c.args.params c.args.position es = ap (λ (h : Holdings). h.current) c.in_ok-certifier.ensures.made in
+    record {
+      limit = c.requires.limit;
+      so_far = nothing_judged c.versions_follow_the_items.ensures c.args.params (bare c.args.position es) c.in_ok-certifier.certifier.current c.new-versions.result (spanned c.args.params c.args.position es c.requires.window) is c.new-versions.ensures;
+      windows = subst HoldsWindows (sym is) (c.certifiers_hold_windows.ensures.made c.args.params c.args.position es c.requires.window);
+    }
 
 pub loop-judged-preserved : goal.loop-judged-preserved
 loop-judged-preserved c =
@@ -22,6 +35,7 @@ loop-judged-preserved c =
     record {
       limit = c.loop-judged.invariant.limit;
       so_far = subst (λ (xs : List Judged). HasJudged c.args.params S xs c.judge_next.new.certifier.current c.judge_next.new.versions) (sym more) on;
+      windows = e.windows (omega (arith, at.made, at.delivered)) c.loop-judged.invariant.windows;
     }
 
 pub returns-in_err-judge_next-clause-refused : goal.returns-in_err-judge_next-clause-refused

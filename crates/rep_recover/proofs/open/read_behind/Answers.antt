@@ -13,17 +13,18 @@ use Rattle.rep_cells.specs.Readings.{Reading, reading_of}
 use Rattle.rep_log.specs.Scanning.{Finds}
 use Rattle.rep_steps.specs.Images.{AreJudgedFrom}
 use Rattle.rep_image.specs.Bases.{HasWindow}
-use Rattle.rep_recover.specs.Judging.{bare, AreSpanned, HasJudged}
+use Rattle.rep_checkpoint.specs.Windows.{IsWindowAt}
+use Rattle.rep_recover.specs.Judging.{bare, HasJudged}
 use Rattle.rep_recover.specs.Looking.{HasBlocks, HasPages, HasBadPage}
 use Rattle.rep_recover.specs.Opening.{FailsBehind, RefusesBehind}
-use Rattle.rep_recover.proofs.Spanning.{spanned}
 use Rattle.rep_recover.proofs.Behind.{same_reading, fails_at_log, fails_judging, fails_at_pages, refuses_growing, refuses_part, refuses_items, passed_on}
 use Rattle.rep_recover.proofs.open.read_behind.Goals as goal
 
-pub judge_again-requires-clause-spanned : goal.judge_again-requires-clause-spanned
-judge_again-requires-clause-spanned g c =
+pub judge_again-requires-clause-window : goal.judge_again-requires-clause-window
+judge_again-requires-clause-window g c =
     let b : SuperBody = c.args.superblock.now in
-    subst (λ (p : Setting). AreSpanned p b.position c.in_ok-entries.entries.items) (sym c.copy_of-params.ensures) (spanned b.params b.number b.position c.in_ok-entries.entries.items c.in_ok-entries.ensures.form)
+    let form = c.in_ok-entries.ensures.form in
+    subst (λ (p : Setting). IsWindowAt p b.position c.in_ok-entries.entries.items) (sym c.copy_of-params.ensures) (record { few = form.few; ascend = form.ascend; entries = form.entries })
 
 pub returns-in_err-log-clause-refused : goal.returns-in_err-log-clause-refused
 returns-in_err-log-clause-refused g c =

@@ -22,11 +22,11 @@ same_versions g c =
     let h = c.self.invariant.0 in
     let come = subst (λ (e : Engine g.row.D.Denot). ComeNext (facts_of g.D.Disk.failures e) c.args.backlog.now) (sym c.self.view_is) c.requires in
     let above = h.behind in
-    c.in_err-add_items.ensures.unchanged c.self.inside.superblock.position (durable_of c.self.inside.log + length c.self.inside.block) (omega (arith, above)) come.follow h.within
+    c.in_err-add_items.ensures.unchanged c.self.inside.checkpoint.base.position (durable_of c.self.inside.log + length c.self.inside.block) (omega (arith, above)) come.follow h.within
 
 pub invariant_of-self : goal.invariant_of-self
 invariant_of-self g c =
-    (subst (λ (kept : Kept). IsEngine (layout_of c.self.inside.cells) c.self.inside.superblock c.self.inside.log kept c.self.inside.block) (sym (same_versions g c)) c.self.invariant.0, c.self.invariant.1)
+    (subst (λ (kept : Kept). IsEngine (layout_of c.self.inside.cells) c.self.inside.checkpoint c.self.inside.log kept c.self.inside.block) (sym (same_versions g c)) c.self.invariant.0, c.self.invariant.1)
 
 on_err : {T : Type 0} (result : Result T Refusal) (P : Type 0) → P → OnErr result P
 on_err (Ok x) P p = tt
@@ -35,7 +35,7 @@ on_err (Err e) P p = p
 pub returns-in_err-add_items-clause-unchanged : goal.returns-in_err-add_items-clause-unchanged
 returns-in_err-add_items-clause-unchanged g c =
     on_err c.from_residual.result _ (
-      subst (λ (kept : Kept). (record { disk = disk_of c.self.inside.cells; layout = layout_of c.self.inside.cells; superblock = c.self.inside.superblock; both = c.self.inside.both; log = c.self.inside.log; kept = kept; block = c.self.inside.block; halted = c.self.inside.halted }) ≡ c.args.self.now)
+      subst (λ (kept : Kept). (record { disk = disk_of c.self.inside.cells; layout = layout_of c.self.inside.cells; checkpoint = c.self.inside.checkpoint; log = c.self.inside.log; kept = kept; block = c.self.inside.block; halted = c.self.inside.halted }) ≡ c.args.self.now)
           (sym (same_versions g c)) c.self.view_is,
       refl,
     )
@@ -62,7 +62,7 @@ count_is g c =
     c.next_items-count.ensures.count ∙ (accepted_some c.args.self.now.log.phase c.args.self.now.block c.args.backlog.now [] (some_come g c)).0
     ∙ ap (λ (e : Engine g.row.D.Denot). fitting e.block c.args.backlog.now) (sym c.self.view_is)
 
-engine_then : (g : _) (c : goal.After-move_items g) → IsEngine (layout_of c.self.inside.cells) c.self.inside.superblock c.self.inside.log c.add_items.new.versions c.move_items.new.block
+engine_then : (g : _) (c : goal.After-move_items g) → IsEngine (layout_of c.self.inside.cells) c.self.inside.checkpoint c.self.inside.log c.add_items.new.versions c.move_items.new.block
 engine_then g c =
     let h = c.self.invariant.0 in
     let js = c.args.backlog.now in
@@ -74,8 +74,8 @@ engine_then g c =
     subst (λ (e : Engine g.row.D.Denot). IsWhole e.log.phase (block ++ take (fitting block js) js)) (sym c.self.view_is) (accepted_some c.args.self.now.log.phase c.args.self.now.block js (block ++ take (fitting block js) js) (some_come g c)).1 in
     let adds : AddsItems (take (fitting block js) js) c.self.inside.versions c.add_items.new.versions =
     subst (λ k. AddsItems (take k js) c.self.inside.versions c.add_items.new.versions) (count_is g c) c.in_ok-add_items.ensures.added in
-    subst (λ (b : List Judged). IsEngine (layout_of c.self.inside.cells) c.self.inside.superblock c.self.inside.log c.add_items.new.versions b) (sym (taken g c))
-    (engine_accepted (layout_of c.self.inside.cells) c.self.inside.superblock c.self.inside.log c.self.inside.versions c.add_items.new.versions block js h c.fronts_are_determined.ensures follow come.limit come.undefined whole adds)
+    subst (λ (b : List Judged). IsEngine (layout_of c.self.inside.cells) c.self.inside.checkpoint c.self.inside.log c.add_items.new.versions b) (sym (taken g c))
+    (engine_accepted (layout_of c.self.inside.cells) c.self.inside.checkpoint c.self.inside.log c.self.inside.versions c.add_items.new.versions block js h c.fronts_are_determined.ensures follow come.limit come.undefined whole adds)
 
 -- the block has what the count says
 block_then : (g : _) (c : goal.After-move_items g) → c.move_items.new.block ≡ c.self.inside.block ++ take c.next_items-count.result c.args.backlog.now
@@ -90,7 +90,7 @@ invariant_of-self-then-count-gt0 g c = (
 
 pub returns-then-count-gt0-clause-holds : goal.returns-then-count-gt0-clause-holds
 returns-then-count-gt0-clause-holds g c = λ n holds judged.
-    holds_more g.D.Disk.honest g.D.Disk.history g.D.Disk.failures c.versions_follow_the_items.ensures _ _ (take c.next_items-count.result c.args.backlog.now) (engine_then g c) refl refl refl refl refl refl (block_then g c) c.in_ok-add_items.ensures.added n
+    holds_more g.D.Disk.honest g.D.Disk.history g.D.Disk.failures c.versions_follow_the_items.ensures c.the_log_is_apart.ensures _ _ (take c.next_items-count.result c.args.backlog.now) (engine_then g c) refl refl refl refl refl (block_then g c) c.in_ok-add_items.ensures.added n
     (subst (λ (e : Engine g.row.D.Denot). Holds g.D.Disk.honest g.D.Disk.history g.D.Disk.failures n e) (sym c.self.view_is) holds) judged
 
 -- ---- where none came
@@ -98,13 +98,13 @@ returns-then-count-gt0-clause-holds g c = λ n holds judged.
 none_come : (g : _) (c : goal.Else-count-gt0 g) → take c.next_items-count.result c.args.backlog.now ≡ []
 none_come g c = let none = c.if-count-gt0.false in let zero : c.next_items-count.result ≡ 0 = omega (arith, none) in ap (λ k. take k c.args.backlog.now) zero
 
-engine_else : (g : _) (c : goal.Else-count-gt0 g) → IsEngine (layout_of c.self.inside.cells) c.self.inside.superblock c.self.inside.log c.add_items.new.versions c.self.inside.block
+engine_else : (g : _) (c : goal.Else-count-gt0 g) → IsEngine (layout_of c.self.inside.cells) c.self.inside.checkpoint c.self.inside.log c.add_items.new.versions c.self.inside.block
 engine_else g c =
     let same : c.add_items.new.versions ≡ c.self.inside.versions = subst (λ (js : List Judged). AddsItems js c.self.inside.versions c.add_items.new.versions) (none_come g c) c.in_ok-add_items.ensures.added in
-    subst (λ (kept : Kept). IsEngine (layout_of c.self.inside.cells) c.self.inside.superblock c.self.inside.log kept c.self.inside.block) (sym same) c.self.invariant.0
+    subst (λ (kept : Kept). IsEngine (layout_of c.self.inside.cells) c.self.inside.checkpoint c.self.inside.log kept c.self.inside.block) (sym same) c.self.invariant.0
 
 pub returns-else-count-gt0-clause-holds : goal.returns-else-count-gt0-clause-holds
 returns-else-count-gt0-clause-holds g c = λ n holds judged.
-    holds_more g.D.Disk.honest g.D.Disk.history g.D.Disk.failures c.versions_follow_the_items.ensures _ _ (take c.next_items-count.result c.args.backlog.now) (engine_else g c) refl refl refl refl refl refl
+    holds_more g.D.Disk.honest g.D.Disk.history g.D.Disk.failures c.versions_follow_the_items.ensures c.the_log_is_apart.ensures _ _ (take c.next_items-count.result c.args.backlog.now) (engine_else g c) refl refl refl refl refl
     (sym (ap (λ (js : List Judged). c.self.inside.block ++ js) (none_come g c) ∙ append-nil c.self.inside.block)) c.in_ok-add_items.ensures.added n
     (subst (λ (e : Engine g.row.D.Denot). Holds g.D.Disk.honest g.D.Disk.history g.D.Disk.failures n e) (sym c.self.view_is) holds) judged

@@ -1,11 +1,12 @@
-use Rattle.std.proofs.Common.{◌≡◌, Bool, List, Option, None, Some, refl, sym, ap, subst, ◌∙◌}
+use Rattle.std.specs.Prelude.{length, OnOk}
+use Rattle.std.proofs.Common.{◌≡◌, List, Option, None, Some, refl, sym, ap, subst, ◌∙◌}
 use Rattle.rep_disk.specs.Moments.{LeavesOnly}
 use Rattle.rep_types.specs.declared.judged.Judged.{Judged}
-use Rattle.rep_layout.specs.declared.super_body.SuperBody.{SuperBody}
+use Rattle.rep_checkpoint.specs.Standing.{Standing as Checkpoint}
 use Rattle.rep_versions.specs.Versions.{Kept}
 use Rattle.rep_cells.specs.declared.cells.Cells.{Cells}
 use Rattle.rep_log.specs.declared.phase.Phase.{Phase}
-use Rattle.rep_log.specs.Standing.{Standing as Log}
+use Rattle.rep_log.specs.Standing.{Standing as Log, due_of}
 use Rattle.rep_cells.specs.Device.{disk_of, layout_of}
 use Rattle.rep_steps.specs.declared.event.Event.TheVariants.{Log as to_log}
 use Rattle.rep_steps.specs.Standings.{log_refusal}
@@ -13,6 +14,8 @@ use Rattle.rep_steps.specs.Moves.{Moves}
 use Rattle.rep_steps.specs.Images.{IsFrontAt}
 use Rattle.rep_image.specs.Meanings.{Means}
 use Rattle.rep_engine.specs.Engines.{Engine, facts_of}
+use Rattle.rep_engine.specs.Writing.{written_in}
+use Rattle.rep_checkpoint.proofs.GoingOn.{if_ok}
 use Rattle.rep_engine.specs.Holding.{Holds, wrote}
 use Rattle.rep_engine.proofs.Steps.{refused_log}
 use Rattle.rep_engine.proofs.Answering.{none_of, halted_err, halted_ok}
@@ -20,8 +23,8 @@ use Rattle.rep_engine.proofs.Logs.{IsLogged, logged_moves, logged_steps, logged_
 use Rattle.rep_engine.proofs.engine.Engine.log.Goals as goal
 
 -- the engine before the call, as it is inside
-abbrev inside : {D : Type 0} {g : _} → Cells D g → SuperBody → Bool → Log → Kept → List Judged → Option Phase → Engine D
-inside cells superblock both log kept block halted = record { disk = disk_of cells; layout = layout_of cells; superblock = superblock; both = both; log = log; kept = kept; block = block; halted = halted }
+abbrev inside : {D : Type 0} {g : _} → Cells D g → Checkpoint → Log → Kept → List Judged → Option Phase → Engine D
+inside cells checkpoint log kept block halted = record { disk = disk_of cells; layout = layout_of cells; checkpoint = checkpoint; log = log; kept = kept; block = block; halted = halted }
 
 pub returns-in-Some-clause-steps : goal.returns-in-Some-clause-steps
 returns-in-Some-clause-steps g c = λ n holds.
@@ -33,8 +36,8 @@ returns-in-Some-clause-steps g c = λ n holds.
 -- ---- where the device failed
 
 failed : (g : _) (c : goal.After-self-1 g) → IsLogged g.D.Disk.honest g.D.Disk.history g.D.Disk.size g.D.Disk.failures
-    (inside c.self.inside.cells c.self.inside.superblock c.self.inside.both c.self.inside.log c.self.inside.versions c.self.inside.block c.self.inside.halted)
-    (inside c.write_next-written.new.cells c.self.inside.superblock c.self.inside.both c.write_next-written.new.log c.self.inside.versions c.self.inside.block (Some c.phase-before.result)) c.write_next-written.result
+    (inside c.self.inside.cells c.self.inside.checkpoint c.self.inside.log c.self.inside.versions c.self.inside.block c.self.inside.halted)
+    (inside c.write_next-written.new.cells c.self.inside.checkpoint c.write_next-written.new.log c.self.inside.versions c.self.inside.block (Some c.phase-before.result)) c.write_next-written.result
 failed g c = record {
   engine = c.self.invariant.0;
   runs = none_of c.self.inside.halted c.if-is_some.ensures;
@@ -42,8 +45,7 @@ failed g c = record {
   call = c.write_next-written.ensures.call;
   writes = c.write_next-written.ensures.written;
   layout = c.write_next-written.ensures.layout;
-  same_super = refl;
-  same_both = refl;
+  same_checkpoint = refl;
   same_kept = refl;
   same_block = refl;
   halted = ap Some c.phase-before.ensures ∙ halted_err c.write_next-written.result c.self.inside.log.phase c.if-is_err.ensures.value;
@@ -51,20 +53,20 @@ failed g c = record {
 
 pub returns-then-is_err-clause-steps : goal.returns-then-is_err-clause-steps
 returns-then-is_err-clause-steps g c = λ n holds.
-    logged_steps g.D.Disk.honest g.D.Disk.history g.D.Disk.size g.D.Disk.failures _ _ g.met.D.Disk.sized c.nodes_stay_nodes.ensures c.nodes_leave_their_fronts.ensures c.write_next-written.result (failed g c) n
+    logged_steps g.D.Disk.honest g.D.Disk.history g.D.Disk.size g.D.Disk.failures _ _ g.met.D.Disk.sized c.nodes_stay_nodes.ensures c.nodes_leave_their_fronts.ensures c.the_log_is_apart.ensures c.write_next-written.result (failed g c) n
     (subst (λ (e : Engine g.row.D.Denot). Holds g.D.Disk.honest g.D.Disk.history g.D.Disk.failures n e) (sym c.self.view_is) holds)
 
 pub returns-then-is_err-clause-leaves : goal.returns-then-is_err-clause-leaves
 returns-then-is_err-clause-leaves g c = λ n holds.
     subst (λ (e : Engine g.row.D.Denot). LeavesOnly (g.D.Disk.history e.disk) (g.D.Disk.history (disk_of c.write_next-written.new.cells)) (IsFrontAt Means n)) c.self.view_is
-    (logged_leaves g.D.Disk.honest g.D.Disk.history g.D.Disk.size g.D.Disk.failures _ _ g.met.D.Disk.sized c.nodes_stay_nodes.ensures c.nodes_leave_their_fronts.ensures c.write_next-written.result (failed g c) n
+    (logged_leaves g.D.Disk.honest g.D.Disk.history g.D.Disk.size g.D.Disk.failures _ _ g.met.D.Disk.sized c.nodes_stay_nodes.ensures c.nodes_leave_their_fronts.ensures c.the_log_is_apart.ensures c.write_next-written.result (failed g c) n
     (subst (λ (e : Engine g.row.D.Denot). Holds g.D.Disk.honest g.D.Disk.history g.D.Disk.failures n e) (sym c.self.view_is) holds))
 
 -- ---- where it was done
 
 done : (g : _) (c : goal.Else-is_err g) → IsLogged g.D.Disk.honest g.D.Disk.history g.D.Disk.size g.D.Disk.failures
-    (inside c.self.inside.cells c.self.inside.superblock c.self.inside.both c.self.inside.log c.self.inside.versions c.self.inside.block c.self.inside.halted)
-    (inside c.write_next-written.new.cells c.self.inside.superblock c.self.inside.both c.write_next-written.new.log c.self.inside.versions c.self.inside.block c.self.inside.halted) c.write_next-written.result
+    (inside c.self.inside.cells c.self.inside.checkpoint c.self.inside.log c.self.inside.versions c.self.inside.block c.self.inside.halted)
+    (inside c.write_next-written.new.cells c.self.inside.checkpoint c.write_next-written.new.log c.self.inside.versions c.self.inside.block c.self.inside.halted) c.write_next-written.result
 done g c = record {
   engine = c.self.invariant.0;
   runs = none_of c.self.inside.halted c.if-is_some.ensures;
@@ -72,8 +74,7 @@ done g c = record {
   call = c.write_next-written.ensures.call;
   writes = c.write_next-written.ensures.written;
   layout = c.write_next-written.ensures.layout;
-  same_super = refl;
-  same_both = refl;
+  same_checkpoint = refl;
   same_kept = refl;
   same_block = refl;
   halted = none_of c.self.inside.halted c.if-is_some.ensures ∙ halted_ok c.write_next-written.result c.self.inside.log.phase c.if-is_err.ensures.value;
@@ -82,16 +83,21 @@ done g c = record {
 pub returns-else-is_err-clause-moves : goal.returns-else-is_err-clause-moves
 returns-else-is_err-clause-moves g c =
     subst (λ (e : Engine g.row.D.Denot). Moves (facts_of g.D.Disk.failures e) to_log (wrote c.write_next-written.result)
-    (facts_of g.D.Disk.failures (inside c.write_next-written.new.cells c.self.inside.superblock c.self.inside.both c.write_next-written.new.log c.self.inside.versions c.self.inside.block c.self.inside.halted))) c.self.view_is
+    (facts_of g.D.Disk.failures (inside c.write_next-written.new.cells c.self.inside.checkpoint c.write_next-written.new.log c.self.inside.versions c.self.inside.block c.self.inside.halted))) c.self.view_is
     (logged_moves g.D.Disk.honest g.D.Disk.history g.D.Disk.size g.D.Disk.failures _ _ c.write_next-written.result c.if-is_err.ensures.value (done g c))
 
 pub returns-else-is_err-clause-steps : goal.returns-else-is_err-clause-steps
 returns-else-is_err-clause-steps g c = λ n holds.
-    logged_steps g.D.Disk.honest g.D.Disk.history g.D.Disk.size g.D.Disk.failures _ _ g.met.D.Disk.sized c.nodes_stay_nodes.ensures c.nodes_leave_their_fronts.ensures c.write_next-written.result (done g c) n
+    logged_steps g.D.Disk.honest g.D.Disk.history g.D.Disk.size g.D.Disk.failures _ _ g.met.D.Disk.sized c.nodes_stay_nodes.ensures c.nodes_leave_their_fronts.ensures c.the_log_is_apart.ensures c.write_next-written.result (done g c) n
     (subst (λ (e : Engine g.row.D.Denot). Holds g.D.Disk.honest g.D.Disk.history g.D.Disk.failures n e) (sym c.self.view_is) holds)
 
 pub returns-else-is_err-clause-leaves : goal.returns-else-is_err-clause-leaves
 returns-else-is_err-clause-leaves g c = λ n holds.
     subst (λ (e : Engine g.row.D.Denot). LeavesOnly (g.D.Disk.history e.disk) (g.D.Disk.history (disk_of c.write_next-written.new.cells)) (IsFrontAt Means n)) c.self.view_is
-    (logged_leaves g.D.Disk.honest g.D.Disk.history g.D.Disk.size g.D.Disk.failures _ _ g.met.D.Disk.sized c.nodes_stay_nodes.ensures c.nodes_leave_their_fronts.ensures c.write_next-written.result (done g c) n
+    (logged_leaves g.D.Disk.honest g.D.Disk.history g.D.Disk.size g.D.Disk.failures _ _ g.met.D.Disk.sized c.nodes_stay_nodes.ensures c.nodes_leave_their_fronts.ensures c.the_log_is_apart.ensures c.write_next-written.result (done g c) n
     (subst (λ (e : Engine g.row.D.Denot). Holds g.D.Disk.honest g.D.Disk.history g.D.Disk.failures n e) (sym c.self.view_is) holds))
+
+pub returns-else-is_err-clause-log : goal.returns-else-is_err-clause-log
+returns-else-is_err-clause-log g c =
+    subst (λ (e : Engine g.row.D.Denot). OnOk c.write_next-written.result (c.write_next-written.new.log ≡ written_in (due_of e.log) (length e.block) e.log)) c.self.view_is
+    (if_ok c.write_next-written.result (c.write_next-written.new.log ≡ written_in (due_of c.self.inside.log) (length c.self.inside.block) c.self.inside.log) c.write_next-written.ensures.written.stands)

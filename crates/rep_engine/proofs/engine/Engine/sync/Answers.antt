@@ -1,15 +1,19 @@
-use Rattle.std.proofs.Common.{Bool, List, Option, Some, Ok, Err, refl, sym, ap, subst, ◌∙◌, arith}
+use Rattle.std.proofs.Common.{◌≡◌, List, Option, Some, Ok, Err, refl, sym, ap, subst, ◌∙◌}
 use Rattle.rep_disk.specs.Moments.{LeavesOnly}
 use Rattle.rep_disk.specs.Calls.{IsCall}
 use Rattle.rep_cells.specs.Calls.{Settles}
 use Rattle.rep_types.specs.declared.judged.Judged.{Judged}
 use Rattle.rep_types.specs.declared.refusal.Refusal.TheVariants.{DiskFault}
-use Rattle.rep_layout.specs.declared.super_body.SuperBody.{SuperBody}
+use Rattle.rep_checkpoint.specs.Standing.{Standing as Checkpoint}
 use Rattle.rep_versions.specs.Versions.{Kept}
 use Rattle.rep_cells.specs.Device.{disk_of, layout_of}
 use Rattle.rep_cells.specs.declared.cells.Cells.{Cells}
 use Rattle.rep_log.specs.declared.phase.Phase.{Phase}
 use Rattle.rep_log.specs.Standing.{Standing as Log}
+use Rattle.rep_log.specs.Moves.{after_sync, started}
+use Rattle.rep_checkpoint.specs.Moves.{after_sync as checkpoint_after, is_opening}
+use Rattle.rep_checkpoint.specs.Calls.{SyncsTo}
+use Rattle.rep_engine.specs.Writing.{PrunesIf}
 use Rattle.rep_steps.specs.declared.event.Event.TheVariants.{Sync as to_sync}
 use Rattle.rep_steps.specs.declared.answer.Answer.TheVariants.{Synced}
 use Rattle.rep_steps.specs.Moves.{Moves}
@@ -21,75 +25,91 @@ use Rattle.rep_engine.proofs.Answering.{none_of}
 use Rattle.rep_engine.proofs.Syncs.{IsSynced, GoesOn, synced_moves, sync_leaves, sync_halts, sync_holds}
 use Rattle.rep_engine.proofs.engine.Engine.sync.Goals as goal
 
-abbrev inside : {D : Type 0} {g : _} → Cells D g → SuperBody → Bool → Log → Kept → List Judged → Option Phase → Engine D
-inside cells superblock both log kept block halted = record { disk = disk_of cells; layout = layout_of cells; superblock = superblock; both = both; log = log; kept = kept; block = block; halted = halted }
+abbrev inside : {D : Type 0} {g : _} → Cells D g → Checkpoint → Log → Kept → List Judged → Option Phase → Engine D
+inside cells checkpoint log kept block halted = record { disk = disk_of cells; layout = layout_of cells; checkpoint = checkpoint; log = log; kept = kept; block = block; halted = halted }
 
 -- ---- where the device failed
 
 failed : (g : _) (c : goal.After-self-1 g) → IsSynced g.D.Disk.honest g.D.Disk.history g.D.Disk.size g.D.Disk.failures
-    (inside c.self.inside.cells c.self.inside.superblock c.self.inside.both c.self.inside.log c.self.inside.versions c.self.inside.block c.self.inside.halted)
-    (inside c.sync.new.self c.self.inside.superblock c.self.inside.both c.self.inside.log c.self.inside.versions c.self.inside.block (Some c.phase.result)) (Err DiskFault) c.sync.result
+    (inside c.self.inside.cells c.self.inside.checkpoint c.self.inside.log c.self.inside.versions c.self.inside.block c.self.inside.halted)
+    (inside c.sync.new.self c.self.inside.checkpoint c.self.inside.log c.self.inside.versions c.self.inside.block (Some c.phase.result)) (Err DiskFault) c.sync.result
 failed g c = record {
   engine = c.self.invariant.0;
   runs = none_of c.self.inside.halted c.if-is_some.ensures;
   call = c.sync.ensures.call;
   settles = c.sync.ensures.states;
   layout = c.sync.ensures.layout;
-  same_super = refl;
-  same_both = refl;
-  same_kept = refl;
 }
 
 pub returns-then-is_err-clause-steps : goal.returns-then-is_err-clause-steps
 returns-then-is_err-clause-steps g c = λ n holds.
-    sync_halts g.D.Disk.honest g.D.Disk.history g.D.Disk.size g.D.Disk.failures g.met.D.Disk.sized _ _ (Err DiskFault) c.sync.result (failed g c) n
+    sync_halts g.D.Disk.honest g.D.Disk.history g.D.Disk.size g.D.Disk.failures g.met.D.Disk.sized c.the_stage_is_the_facts.ensures _ _ (Err DiskFault) c.sync.result (failed g c) n
     (subst (λ (e : Engine g.row.D.Denot). Holds g.D.Disk.honest g.D.Disk.history g.D.Disk.failures n e) (sym c.self.view_is) holds)
-    c.nodes_stay_nodes.ensures c.nodes_leave_their_fronts.ensures c.images_read_as_allowed.ensures (c.sync.ensures.call.cause (sym c.if-is_err.ensures.value)) (record { halted = ap Some c.phase.ensures; log = refl; block = refl })
+    c.nodes_stay_nodes.ensures (c.sync.ensures.call.cause (sym c.if-is_err.ensures.value)) (record { halted = ap Some c.phase.ensures; checkpoint = refl; log = refl; block = refl })
 
 -- ---- where it was done
 
-done : (g : _) (c : goal.After-settle g) → IsSynced g.D.Disk.honest g.D.Disk.history g.D.Disk.size g.D.Disk.failures
-    (inside c.self.inside.cells c.self.inside.superblock c.self.inside.both c.self.inside.log c.self.inside.versions c.self.inside.block c.self.inside.halted) c.settle.new.self (Ok c.settle.result) c.sync.result
+done : (g : _) (c : goal.After-raise g) → IsSynced g.D.Disk.honest g.D.Disk.history g.D.Disk.size g.D.Disk.failures
+    (inside c.self.inside.cells c.self.inside.checkpoint c.self.inside.log c.self.inside.versions c.self.inside.block c.self.inside.halted) c.raise.new.self (Ok c.settle-replies.result) c.sync.result
 done g c =
-    let is = c.settle.ensures.after in record {
+    let settled = c.settle-replies.ensures.after in
+    let is = c.raise.ensures.after in
+    let disk = ap (λ (e : Engine g.row.D.Denot). e.disk) is ∙ ap (λ (e : Engine g.row.D.Denot). e.disk) settled in record {
       engine = c.self.invariant.0;
       runs = none_of c.self.inside.halted c.if-is_some.ensures;
-      call =
-          subst (λ disk. IsCall g.D.Disk.size g.D.Disk.failures g.D.Disk.honest (disk_of c.self.inside.cells) disk c.sync.result) (sym (ap (λ (e : Engine g.row.D.Denot). e.disk) is)) c.sync.ensures.call;
-      settles =
-          subst (λ disk. Settles g.D.Disk.honest g.D.Disk.history (layout_of c.self.inside.cells) (disk_of c.self.inside.cells) disk c.sync.result) (sym (ap (λ (e : Engine g.row.D.Denot). e.disk) is)) c.sync.ensures.states;
-      layout = ap (λ (e : Engine g.row.D.Denot). e.layout) is ∙ c.sync.ensures.layout;
-      same_super = ap (λ (e : Engine g.row.D.Denot). e.superblock) is;
-      same_both = ap (λ (e : Engine g.row.D.Denot). e.both) is;
-      same_kept = ap (λ (e : Engine g.row.D.Denot). e.kept) is;
+      call = subst (λ d. IsCall g.D.Disk.size g.D.Disk.failures g.D.Disk.honest (disk_of c.self.inside.cells) d c.sync.result) (sym disk) c.sync.ensures.call;
+      settles = subst (λ d. Settles g.D.Disk.honest g.D.Disk.history (layout_of c.self.inside.cells) (disk_of c.self.inside.cells) d c.sync.result) (sym disk) c.sync.ensures.states;
+      layout = ap (λ (e : Engine g.row.D.Denot). e.layout) is ∙ ap (λ (e : Engine g.row.D.Denot). e.layout) settled ∙ c.sync.ensures.layout;
     }
 
-on : (g : _) (c : goal.After-settle g)
-    → GoesOn (inside c.self.inside.cells c.self.inside.superblock c.self.inside.both c.self.inside.log c.self.inside.versions c.self.inside.block c.self.inside.halted) c.settle.new.self c.settle.result
+on : (g : _) (c : goal.After-raise g)
+    → GoesOn (inside c.self.inside.cells c.self.inside.checkpoint c.self.inside.log c.self.inside.versions c.self.inside.block c.self.inside.halted) c.raise.new.self c.settle-replies.result
 on g c =
-    let is = c.settle.ensures.after in record {
-      runs = ap (λ (e : Engine g.row.D.Denot). e.halted) is ∙ none_of c.self.inside.halted c.if-is_some.ensures;
-      log = ap (λ (e : Engine g.row.D.Denot). e.log) is;
-      syncs = c.settle.ensures.log;
-      block = ap (λ (e : Engine g.row.D.Denot). e.block) is;
-      replies = c.settle.ensures.replies;
+    let settled = c.settle-replies.ensures.after in
+    let is = c.raise.ensures.after in
+    let mid = c.settle-replies.new.self in
+    let before : mid.checkpoint ≡ c.self.inside.checkpoint = ap (λ (e : Engine g.row.D.Denot). e.checkpoint) settled in
+    let checkpoint : c.raise.new.self.checkpoint ≡ checkpoint_after mid.checkpoint = ap (λ (e : Engine g.row.D.Denot). e.checkpoint) is in record {
+      runs = ap (λ (e : Engine g.row.D.Denot). e.halted) is ∙ ap (λ (e : Engine g.row.D.Denot). e.halted) settled ∙ none_of c.self.inside.halted c.if-is_some.ensures;
+      synced = mid.log;
+      synced_is = ap (λ (e : Engine g.row.D.Denot). e.log) settled;
+      syncs = c.settle-replies.ensures.log;
+      checkpoint = checkpoint ∙ ap checkpoint_after before;
+      states = subst (λ (k : Checkpoint). SyncsTo k c.raise.new.self.checkpoint) before c.raise.ensures.states;
+      uuid = c.raise.ensures.uuid ∙ ap (λ (k : Checkpoint). k.base.uuid) before;
+      params = c.raise.ensures.params ∙ ap (λ (k : Checkpoint). k.base.params) before;
+      log = ap (λ (e : Engine g.row.D.Denot). e.log) is ∙ ap (λ (k : Checkpoint). started k.base.start mid.log) (sym checkpoint);
+      later = c.raise.ensures.later;
+      kept =
+          subst (λ (kept : Kept). PrunesIf (is_opening c.self.inside.checkpoint.stage) c.raise.new.self.checkpoint.base.position kept c.raise.new.self.kept) (ap (λ (e : Engine g.row.D.Denot). e.kept) settled)
+          (subst (λ (k : Checkpoint). PrunesIf (is_opening k.stage) c.raise.new.self.checkpoint.base.position mid.kept c.raise.new.self.kept) before
+          (subst (λ (k : Checkpoint). PrunesIf (is_opening mid.checkpoint.stage) k.base.position mid.kept c.raise.new.self.kept) (sym checkpoint) c.raise.ensures.pruned));
+      block = ap (λ (e : Engine g.row.D.Denot). e.block) is ∙ ap (λ (e : Engine g.row.D.Denot). e.block) settled;
+      replies = c.settle-replies.ensures.replies;
     }
 
 pub returns-clause-moves : goal.returns-clause-moves
 returns-clause-moves g c =
-    subst (λ (e : Engine g.row.D.Denot). Moves (facts_of g.D.Disk.failures e) to_sync (Synced c.settle.result) (facts_of g.D.Disk.failures c.settle.new.self)) c.self.view_is
-    (synced_moves g.D.Disk.honest g.D.Disk.history g.D.Disk.size g.D.Disk.failures g.met.D.Disk.sized _ _ (Ok c.settle.result) c.sync.result (done g c) c.settle.result c.if-is_err.ensures.negation (on g c)
-    (let below = c.self.invariant.0.behind in omega (arith, below)))
+    subst (λ (e : Engine g.row.D.Denot). Moves (facts_of g.D.Disk.failures e) to_sync (Synced c.settle-replies.result) (facts_of g.D.Disk.failures c.raise.new.self)) c.self.view_is
+    (synced_moves g.D.Disk.honest g.D.Disk.history g.D.Disk.size g.D.Disk.failures g.met.D.Disk.sized c.the_stage_is_the_facts.ensures _ _ (Ok c.settle-replies.result) c.sync.result (done g c) c.settle-replies.result c.if-is_err.ensures.negation (on g c))
 
 pub returns-clause-steps : goal.returns-clause-steps
 returns-clause-steps g c = λ n holds.
-    sync_holds g.D.Disk.honest g.D.Disk.history g.D.Disk.size g.D.Disk.failures g.met.D.Disk.sized _ _ (Ok c.settle.result) c.sync.result (done g c) n
+    sync_holds g.D.Disk.honest g.D.Disk.history g.D.Disk.size g.D.Disk.failures g.met.D.Disk.sized c.the_stage_is_the_facts.ensures _ _ (Ok c.settle-replies.result) c.sync.result (done g c) n
     (subst (λ (e : Engine g.row.D.Denot). Holds g.D.Disk.honest g.D.Disk.history g.D.Disk.failures n e) (sym c.self.view_is) holds)
-    c.nodes_stay_nodes.ensures c.nodes_leave_their_fronts.ensures c.images_read_as_allowed.ensures c.settle.result c.if-is_err.ensures.negation (on g c)
+    c.nodes_stay_nodes.ensures c.nodes_leave_their_fronts.ensures c.nodes_settle.ensures c.versions_follow_the_items.ensures c.images_read_as_allowed.ensures c.settle-replies.result c.if-is_err.ensures.negation (on g c)
 
 pub returns-clause-leaves : goal.returns-clause-leaves
 returns-clause-leaves g c = λ n holds.
-    subst (λ (e : Engine g.row.D.Denot). LeavesOnly (g.D.Disk.history e.disk) (g.D.Disk.history c.settle.new.self.disk) (IsFrontAt Means n)) c.self.view_is
-    (sync_leaves g.D.Disk.honest g.D.Disk.history g.D.Disk.size g.D.Disk.failures g.met.D.Disk.sized _ _ (Ok c.settle.result) c.sync.result (done g c) n
-    (subst (λ (e : Engine g.row.D.Denot). Holds g.D.Disk.honest g.D.Disk.history g.D.Disk.failures n e) (sym c.self.view_is) holds)
-    c.nodes_stay_nodes.ensures c.nodes_leave_their_fronts.ensures c.images_read_as_allowed.ensures)
+    subst (λ (e : Engine g.row.D.Denot). LeavesOnly (g.D.Disk.history e.disk) (g.D.Disk.history c.raise.new.self.disk) (IsFrontAt Means n)) c.self.view_is
+    (sync_leaves g.D.Disk.honest g.D.Disk.history g.D.Disk.size g.D.Disk.failures g.met.D.Disk.sized c.the_stage_is_the_facts.ensures _ _ (Ok c.settle-replies.result) c.sync.result (done g c) n
+    (subst (λ (e : Engine g.row.D.Denot). Holds g.D.Disk.honest g.D.Disk.history g.D.Disk.failures n e) (sym c.self.view_is) holds))
+
+pub returns-clause-log : goal.returns-clause-log
+returns-clause-log g c =
+    let settled = c.settle-replies.ensures.after in
+    let is = c.raise.ensures.after in
+    let mid = c.settle-replies.new.self in
+    let log : mid.log ≡ after_sync c.args.self.now.log = ap (λ (e : Engine g.row.D.Denot). e.log) settled ∙ ap (λ (e : Engine g.row.D.Denot). after_sync e.log) c.self.view_is in
+    let checkpoint : c.raise.new.self.checkpoint ≡ checkpoint_after mid.checkpoint = ap (λ (e : Engine g.row.D.Denot). e.checkpoint) is in
+    ap (λ (e : Engine g.row.D.Denot). e.log) is ∙ ap (λ (k : Checkpoint). started k.base.start mid.log) (sym checkpoint) ∙ ap (started c.raise.new.self.checkpoint.base.start) log

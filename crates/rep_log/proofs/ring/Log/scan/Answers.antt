@@ -10,7 +10,7 @@ use Rattle.rep_cells.specs.Readings.{reading_of}
 use Rattle.rep_log.specs.Tail.{IsOfForm}
 use Rattle.rep_log.specs.Standing.{Standing}
 use Rattle.rep_log.specs.Scanning.{Found, HasCells, RefusesLog}
-use Rattle.rep_log.proofs.Scanned.{nothing_yet, visits_within, visits_counted}
+use Rattle.rep_log.proofs.Scanned.{nothing_yet, visits_within, visits_counted, visits_filled}
 use Rattle.rep_log.proofs.ReadOn.{IsSame, no_call, calls, read_goes_on, read_no_log, read_all}
 use Rattle.rep_log.proofs.ring.Log.scan.Goals as goal
 
@@ -29,6 +29,7 @@ loop-k-init g c =
       stands = c.new-scan.ensures.stands;
       came = omega (arith, begun.next_is);
       counted = (let none : length c.new-scan.result.items ≡ 0 = ap (λ (xs : List Judged). length xs) begun.items_are in omega (arith, begun.seqno_is, none));
+      filled = omega (arith, begun.next_is, begun.seqno_is);
       call = no_call g.D.Disk.size g.D.Disk.failures g.D.Disk.honest (disk_of c.args.cells.now);
       same = λ honest. refl;
       progress = λ honest none. nothing_yet (reading_of l (seen (g.D.Disk.history (disk_of c.args.cells.now)))) l (c.args.position + 1) c.new-scan.result begun.items_are (begun.next_is ∙ sym begun.from_is) begun.seqno_is;
@@ -58,6 +59,7 @@ loop-k-preserved g c =
       stands = c.in_ok-read_on.ensures.stands;
       came = visits_within l_read (c.args.start + c.from.result) c.loop-k.k c.args.start some.0 c.loop-k.scan c.read_on.new.self some.1 inv.came (omega (arith, c.from.ensures));
       counted = visits_counted l_read (c.args.start + c.from.result) (c.args.position + 1) some.0 c.loop-k.scan c.read_on.new.self some.1 inv.counted;
+      filled = visits_filled l_read (c.args.start + c.from.result) (c.args.position + 1) c.args.start some.0 c.loop-k.scan c.read_on.new.self some.1 inv.filled;
       call = calls g.D.Disk.size g.D.Disk.failures g.D.Disk.honest first_disk disk (disk_of c.read_on.new.cells) inv.call c.in_ok-read_on.ensures.call;
       same = λ honest. c.read_on.ensures.same (inv.call.stays_honest honest) ∙ inv.same honest;
       progress = λ honest none. read_goes_on c.turns_are_taken.ensures (layout_of c.loop-k.cells) l (g.D.Disk.history disk) h (c.args.position + 1) c.args.start (c.args.start + c.from.result) c.loop-k.k c.loop-k.scan c.read_on.new.self
@@ -116,5 +118,6 @@ returns-clause-scanned g c =
       later = omega (arith, start, c.at_rest.ensures.later);
       lap = omega (arith, next, inv.came, inv.lap, c.loop-k.auto.k-end, ap (λ (k : Layout). k.cells) inv.was_layout, c.loop-k-test.false);
       seqno = seqno ∙ inv.counted ∙ ap (λ (xs : List Judged). c.args.position + 1 + length xs) (sym c.at_rest.ensures.items);
+      filled = omega (arith, next, seqno, start, inv.filled);
       limit = c.at_rest.ensures.limit;
     }

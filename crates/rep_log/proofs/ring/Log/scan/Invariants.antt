@@ -21,6 +21,7 @@ invariant-loop-k g l = record {
   stands : length l.scan.stands ≡ MAX_CELLS;
   came : l.scan.next ≤ l.start + l.k;
   counted : l.scan.seqno ≡ l.position + 1 + length l.scan.items;
+  filled : l.scan.next + (l.position + 1) ≤ l.start + l.scan.seqno;
   call : IsCall {T = Unit {0}} g.D.Disk.size g.D.Disk.failures g.D.Disk.honest (disk_of l.initial.cells) (disk_of l.cells) (Ok tt);
   same : g.D.Disk.honest (disk_of l.initial.cells) → g.D.Disk.history (disk_of l.cells) ≡ g.D.Disk.history (disk_of l.initial.cells);
   progress : g.D.Disk.honest (disk_of l.initial.cells) → failed (g.D.Disk.history (disk_of l.initial.cells)) ≡ []

@@ -42,6 +42,7 @@ pushed g c = on_ok c.push.result c.if-is_err.ensures.negation c.push.ensures.pus
 pub invariant_of-self : goal.invariant_of-self
 invariant_of-self g c =
     replica_delivers g.D.Disk.honest g.D.Disk.history g.D.Disk.failures (old g c) (new g c) c.args.seqno c.args.item (item g c) (running g c) (runs g c) (none g c) c.self.invariant (item_is g c) c.in-Ok.ensures.admitted refl (pushed g c) refl
+    c.certifiers_hold_windows.ensures c.writes.ensures.limits
 
 pub returns : goal.returns
 returns g c =

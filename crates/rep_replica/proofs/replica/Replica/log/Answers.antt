@@ -1,5 +1,5 @@
 use Rattle.std.proofs.Common.{◌≡◌, [], ◌++◌, None, Some, true, false, List, take, refl, sym, ap, subst, ◌∙◌}
-use Rattle.std.specs.Prelude.{if◌then◌else◌, ◌||◌, is_some}
+use Rattle.std.specs.Prelude.{if◌then◌else◌, ◌||◌, is_some, length}
 use Rattle.rep_types.specs.declared.judged.Judged.{Judged}
 use Rattle.rep_types.specs.declared.refusal.Refusal.{Refusal}
 use Rattle.rep_types.specs.declared.refusal.Refusal.TheVariants.{OutOfMemory, NotDue, Stopped}
@@ -17,6 +17,10 @@ use Rattle.rep_engine.specs.Accepting.{accepted_in, is_gathering}
 use Rattle.rep_engine.specs.Holding.{wrote}
 use Rattle.rep_replica.specs.Replicas.{Replica, facts_of}
 use Rattle.rep_replica.specs.Holding.{IsStep}
+use Rattle.rep_log.specs.Standing.{Standing as LogStanding, due_of}
+use Rattle.rep_engine.specs.Writing.{written_in}
+use Rattle.rep_replica.specs.Settling.{outcome_of}
+use Rattle.rep_replica.proofs.Settling.{refused_done, wrote_done}
 use Rattle.rep_replica.proofs.Widening.{running_facts}
 use Rattle.rep_replica.proofs.Keeping.{log_keeps, replica_keeps}
 use Rattle.rep_replica.proofs.Gathering.{takes_as_all}
@@ -25,7 +29,7 @@ use Rattle.rep_record.specs.Fronts.{FrontsAreDetermined}
 use Rattle.rep_replica.proofs.replica.Replica.log.Goals as goal
 
 -- what the engine would refuse once it had accepted is what the replica refuses
-due_is : {D : Type 0} (failures : D → _) (fronts : FrontsAreDetermined) (r : Replica D) → r.stopped ≡ false → r.engine.halted ≡ None → IsEngine r.engine.layout r.engine.superblock r.engine.log r.engine.kept r.engine.block
+due_is : {D : Type 0} (failures : D → _) (fronts : FrontsAreDetermined) (r : Replica D) → r.stopped ≡ false → r.engine.halted ≡ None → IsEngine r.engine.layout r.engine.checkpoint r.engine.log r.engine.kept r.engine.block
     → refusal (facts_of failures r) Log ≡ refusal (record (engine_facts failures r.engine) { ahead = r.engine.block ++ take (accepted_in r.engine.log.phase r.engine.block r.backlog) r.backlog }) Log
 due_is failures fronts r running runs engine =
     let e = r.engine in
@@ -42,8 +46,8 @@ rests_by s (Filling n) runs none is gathers = absurd (let never : false ≡ true
 rests_by s (Filled n) runs none is gathers = absurd (let never : false ≡ true = gathers in cc)
 rests_by s (Opening n) runs none is gathers = absurd (let never : false ≡ true = gathers in cc)
 
-pub returns-in-Some : goal.returns-in-Some
-returns-in-Some g c =
+pub returns-in-Some-clause-step : goal.returns-in-Some-clause-step
+returns-in-Some-clause-step g c =
     let r : Replica g.row.D.Denot = record { engine = c.self.inside.engine; backlog = c.self.inside.backlog; certifier = c.self.inside.certifier; stopped = c.self.inside.stopped } in
     let running : c.self.inside.stopped ≡ false = ap (λ (x : Replica g.row.D.Denot). x.stopped) c.self.view_is ∙ c.requires.running.0 in
     let runs : c.self.inside.engine.halted ≡ None = ap (λ (x : Replica g.row.D.Denot). x.engine.halted) c.self.view_is ∙ c.requires.running.1 in
@@ -51,8 +55,8 @@ returns-in-Some g c =
     subst (λ (x : Replica g.row.D.Denot). IsStep g.D.Disk.honest g.D.Disk.history g.D.Disk.failures x Log (Refused c.in-Some.refusal) x) c.self.view_is
     (refused_step g.D.Disk.honest g.D.Disk.history g.D.Disk.failures r Log c.in-Some.refusal due)
 
-pub returns-in-Err : goal.returns-in-Err
-returns-in-Err g c =
+pub returns-in-Err-clause-step : goal.returns-in-Err-clause-step
+returns-in-Err-clause-step g c =
     let r : Replica g.row.D.Denot = record { engine = c.self.inside.engine; backlog = c.self.inside.backlog; certifier = c.self.inside.certifier; stopped = c.self.inside.stopped } in
     let running : c.self.inside.stopped ≡ false = ap (λ (x : Replica g.row.D.Denot). x.stopped) c.self.view_is ∙ c.requires.running.0 in
     let runs : c.self.inside.engine.halted ≡ None = ap (λ (x : Replica g.row.D.Denot). x.engine.halted) c.self.view_is ∙ c.requires.running.1 in
@@ -95,9 +99,9 @@ full g c rests =
     ap (λ (x : Replica g.row.D.Denot). fitting [] x.engine.block) c.self-2.view_is ∙ c.in_default-gather.ensures.gathered at_rest ∙ ap (fitting []) ahead
     ∙ sym (ap (λ (x : Replica g.row.D.Denot). fitting [] (x.engine.block ++ x.backlog)) c.self-2.view_is)
 
-pub returns : goal.returns
-returns g c =
-    let params = ap (λ (x : Engine g.row.D.Denot). x.superblock.params) c.log.ensures.rest in
+pub returns-clause-step : goal.returns-clause-step
+returns-clause-step g c =
+    let params = ap (λ (x : Engine g.row.D.Denot). x.checkpoint.base.params) c.log.ensures.rest in
     let block = ap (λ (x : Engine g.row.D.Denot). x.block) c.log.ensures.rest in
     let step = log_step g.D.Disk.honest g.D.Disk.history g.D.Disk.failures c.nodes_stay_nodes.ensures c.parts_step_as_the_whole.ensures (mid g c) (new g c) (wrote c.log.result) params refl refl refl (running_on g c) block
     (record { moves = c.log.ensures.moves; steps = c.log.ensures.steps; leaves = c.log.ensures.leaves }) (full g c) in
@@ -105,3 +109,21 @@ returns g c =
     let disk = ap (λ (e : Engine g.row.D.Denot). e.disk) c.in_default-gather.ensures.engine in
     subst (λ (a : Answer). IsStep g.D.Disk.honest g.D.Disk.history g.D.Disk.failures c.args.self.now Log a (new g c)) (sym c.wrote.ensures)
     (step_from g.D.Disk.honest g.D.Disk.history g.D.Disk.failures c.args.self.now c.gather.new.self (new g c) Log (wrote c.log.result) c.in_default-gather.ensures.facts c.in_default-gather.ensures.holds disk from)
+
+-- ---- the log after it
+
+pub returns-in-Some-clause-log : goal.returns-in-Some-clause-log
+returns-in-Some-clause-log g c = λ done. absurd (refused_done c.in-Some.refusal done)
+
+pub returns-in-Err-clause-log : goal.returns-in-Err-clause-log
+returns-in-Err-clause-log g c = λ done. absurd (refused_done c.in-Err.refusal done)
+
+pub returns-clause-log : goal.returns-clause-log
+returns-clause-log g c = λ done.
+    let before = c.args.self.now.engine in
+    let now = c.self-2.inside.engine in
+    let log : now.log ≡ before.log = ap (λ (x : Replica g.row.D.Denot). x.engine.log) c.self-2.view_is ∙ ap (λ (e : Engine g.row.D.Denot). e.log) c.in_default-gather.ensures.engine in
+    let block : now.block ≡ c.log.new.self.block = sym (ap (λ (x : Engine g.row.D.Denot). x.block) c.log.ensures.rest) in
+    wrote_done c.log.result _ (sym (ap outcome_of c.wrote.ensures) ∙ done) c.log.ensures.log
+    ∙ ap (λ (k : LogStanding). written_in (due_of k) (length now.block) k) log
+    ∙ ap (λ (b : List Judged). written_in (due_of before.log) (length b) before.log) block

@@ -2,10 +2,13 @@ use Rattle.std.proofs.Common.{◌≡◌, ◌≤◌, length, None, false, refl, s
 use Rattle.rep_steps.specs.declared.event.Event.TheVariants.{Sync}
 use Rattle.rep_steps.specs.declared.answer.Answer.{Answer}
 use Rattle.rep_steps.specs.Moves.{opening}
-use Rattle.rep_engine.specs.Engines.{Engine, phase_at}
+use Rattle.rep_engine.specs.Engines.{phase_at}
 use Rattle.rep_engine.specs.Holding.{synced}
 use Rattle.rep_replica.specs.Replicas.{Replica}
 use Rattle.rep_replica.specs.Holding.{IsStep}
+use Rattle.rep_log.specs.Moves.{after_sync, started}
+use Rattle.rep_replica.specs.Settling.{outcome_of}
+use Rattle.rep_replica.proofs.Settling.{synced_done}
 use Rattle.rep_replica.proofs.Stepping.{sync_step, opening_within}
 use Rattle.rep_replica.proofs.replica.Replica.sync.Goals as goal
 
@@ -15,14 +18,19 @@ old g c = record { engine = c.self.inside.engine; backlog = c.self.inside.backlo
 abbrev new : (g : _) (c : goal.After-synced g) → Replica g.row.D.Denot
 new g c = record { engine = c.sync.new.self; backlog = c.self.inside.backlog; certifier = c.self.inside.certifier; stopped = c.self.inside.stopped }
 
-pub returns : goal.returns
-returns g c =
+pub returns-clause-step : goal.returns-clause-step
+returns-clause-step g c =
     let e = c.self.inside.engine in
     let running : c.self.inside.stopped ≡ false = ap (λ (r : Replica g.row.D.Denot). r.stopped) c.self.view_is ∙ c.requires.running.0 in
     let runs : e.halted ≡ None = ap (λ (r : Replica g.row.D.Denot). r.engine.halted) c.self.view_is ∙ c.requires.running.1 in
-    let params = ap (λ (x : Engine g.row.D.Denot). x.superblock.params) c.sync.ensures.rest in
+    let params = c.sync.ensures.params in
     let told = subst (λ phase. opening phase ≤ length e.block) (sym (ap (phase_at e.log.phase) runs)) (opening_within e.log.phase e.block c.durable-durable.ensures.engine.whole) in
     let step = sync_step g.D.Disk.honest g.D.Disk.history g.D.Disk.failures c.nodes_stay_nodes.ensures c.parts_step_as_the_whole.ensures (old g c) (new g c) (synced c.sync.result) params refl refl refl running told
     (record { moves = c.sync.ensures.moves; steps = c.sync.ensures.steps; leaves = c.sync.ensures.leaves }) in
     subst (λ (r : Replica g.row.D.Denot). IsStep g.D.Disk.honest g.D.Disk.history g.D.Disk.failures r Sync c.synced.result (new g c)) c.self.view_is
     (subst (λ (a : Answer). IsStep g.D.Disk.honest g.D.Disk.history g.D.Disk.failures (old g c) Sync a (new g c)) (sym c.synced.ensures) step)
+
+pub returns-clause-log : goal.returns-clause-log
+returns-clause-log g c = λ done.
+    synced_done c.sync.result _ (sym (ap outcome_of c.synced.ensures) ∙ done) c.sync.ensures.log
+    ∙ ap (λ (x : Replica g.row.D.Denot). started c.sync.new.self.checkpoint.base.start (after_sync x.engine.log)) c.self.view_is

@@ -1,0 +1,539 @@
+-- The steps of a checkpoint, of an engine that stands for a node.
+use Rattle.std.proofs.Common.{◌≡◌, ◌≢◌, ◌⊎◌, inl, inr, IfSome, ℕ, ◌+◌, ◌-◌, ◌<◌, true, false, List, [], ◌∷◌, length, take, Option, None, Some, Result, Ok, Err, refl, sym, ap, subst, ◌∙◌, arith}
+use Rattle.std.specs.Prelude.{is_some, nat_le, if◌then◌else◌, not}
+use Rattle.std.proofs.lemmas.Bool.Decides.{nat_tests}
+use Rattle.std.proofs.lemmas.List.{take_all, length-take-le}
+use Rattle.rep_types.specs.declared.judged.Judged.{Judged}
+use Rattle.rep_types.specs.declared.refusal.Refusal.{Refusal}
+use Rattle.rep_types.specs.declared.refusal.Refusal.TheVariants.{OutOfMemory, DiskFault, NotDue}
+use Rattle.rep_types.specs.declared.verdict.Verdict.TheVariants.{Commit}
+use Rattle.rep_types.specs.Entries.{Entry}
+use Rattle.rep_types.specs.Settings.{Setting, IsRow}
+use Rattle.rep_types.specs.Order.{State}
+use Rattle.rep_disk.specs.History.{History, stable, IsImage}
+use Rattle.rep_disk.specs.Calls.{IsCall, Rises}
+use Rattle.rep_disk.specs.Moments.{LeavesOnly}
+use Rattle.rep_layout.specs.declared.place.Layout.{Layout}
+use Rattle.rep_layout.specs.Places.{layout_of}
+use Rattle.rep_cert.specs.Holdings.{Holding, window_of}
+use Rattle.rep_cells.specs.Known.{Assigns}
+use Rattle.rep_log.specs.declared.phase.Phase.{Phase}
+use Rattle.rep_log.specs.Standing.{Standing as Log}
+use Rattle.rep_log.specs.Tail.{records_of}
+use Rattle.rep_log.specs.Moves.{fault_of}
+use Rattle.rep_steps.specs.declared.event.Event.TheVariants.{Check}
+use Rattle.rep_steps.specs.declared.answer.Answer.{Answer}
+use Rattle.rep_steps.specs.declared.answer.Answer.TheVariants.{Began, Wrote, Refused}
+use Rattle.rep_steps.specs.Standings.{Standing, Stage as StageOf, Off as is_off, HasGoal, check_refusal, refusal_here}
+use Rattle.rep_steps.specs.Moves.{Found, Moves, after, check_answer, checked as checked_at, is_off as is_none_under_way, touched}
+use Rattle.rep_steps.specs.Nodes.{Node, Steps, NodesStayNodes, found, moved, reached, window_at}
+use Rattle.rep_steps.specs.Images.{IsFrontAt}
+use Rattle.rep_steps.proofs.Reaching.{reached_position}
+use Rattle.rep_image.specs.Meanings.{Means}
+use Rattle.rep_versions.specs.Versions.{ArePages}
+use Rattle.rep_checkpoint.specs.declared.stage.Part.{Part}
+use Rattle.rep_checkpoint.specs.declared.stage.Part.TheVariants.{Flushing, Saving, Ready, SuperFilling, SuperFilled, SuperOpening}
+use Rattle.rep_checkpoint.specs.declared.stage.Step.TheVariants.{Begin, Next as GoOn}
+use Rattle.rep_checkpoint.specs.declared.stage.Stage.{Stage}
+use Rattle.rep_checkpoint.specs.declared.stage.Stage.TheVariants.{Off, Toward, Retiring}
+use Rattle.rep_checkpoint.specs.Next.{Next}
+use Rattle.rep_checkpoint.specs.Standing.{Standing as Checkpoint, stage_in, stage_of, due_in, flush_due, IsCheckpoint}
+use Rattle.rep_checkpoint.specs.Moves.{begun, next_of, gone_in, gone_on, is_layout, unless_other, next_refusal, next_refusal_at, CanBegin}
+use Rattle.rep_checkpoint.specs.Windows.{IsWindowAt, WindowsGoOn}
+use Rattle.rep_checkpoint.specs.Calls.{Begins, IsRefused, GoesOn, AreAt, AreBehind, Steps as CheckpointSteps}
+use Rattle.rep_checkpoint.specs.Laws.{TheStageIsTheFacts, TheCheckpointIsApart}
+use Rattle.rep_checkpoint.specs.Nodes.{IsLedTo, StandsAs, LeadsTo, VersionsLeadToTheState, NodesLeaveTheirFronts}
+use Rattle.rep_engine.specs.Engines.{Engine, IsEngine, HasItemsBehind, facts_of, durable_of}
+use Rattle.rep_engine.specs.Holding.{Stands, Holds}
+use Rattle.rep_engine.specs.Reading.{halted_by}
+use Rattle.rep_engine.specs.Checking.{HasBegun}
+use Rattle.rep_engine.proofs.Steps.{done_moves, fault_moves, refused_steps, hungry_steps, done_steps, fault_steps, halted_node, leaves_weaker}
+use Rattle.rep_engine.proofs.Standing.{same_front, fronts_of, nil_bytes}
+
+-- the next base of a stage
+abbrev pub next_in : Next → Stage → Next
+next_in none Off = none
+next_in none (Toward next part) = next
+next_in none (Retiring written) = none
+
+-- ---- a checkpoint begins
+
+-- what is so of an engine stays so
+pub engine_begun : (l : Layout) (c : Checkpoint) (log : Log) (kept : _) (block : List Judged) (position : ℕ) (entries : _) (left : List ℕ) → IsEngine l c log kept block → IsCheckpoint (begun c position log.next entries left) → position ≡ durable_of log → c.base.position < position
+    → IsEngine l (begun c position log.next entries left) log kept block
+engine_begun l c log kept block position entries left h is at later = record {
+  checkpoint = is;
+  layout = h.layout;
+  cells = h.cells;
+  start = h.start;
+  behind = h.behind;
+  begun = h.begun;
+  room = h.room;
+  items = h.items;
+  goal = record { above = later; within = omega (arith, at); started = h.begun; begun = omega arith };
+  behind_goal = omega (arith, at, h.behind);
+  follow = h.follow;
+  fits = h.fits;
+  few = h.few;
+  whole = h.whole;
+  limit = h.limit;
+  undefined = h.undefined;
+  within = h.within;
+}
+
+-- and it can begin
+pub can_begin : WindowsGoOn → (l : Layout) (c : Checkpoint) (log : Log) (kept : _) (block : List Judged) (entries : List Entry) → IsEngine l c log kept block → c.stage ≡ Off → c.base.position < durable_of log → log.next < log.seqno → IsWindowAt c.base.params (durable_of log) entries
+    → CanBegin c (durable_of log) log.next entries
+can_begin law l c log kept block entries h off later below window = record {
+  off = off;
+  later = later;
+  limit = omega (arith, h.limit);
+  started = omega (arith, below);
+  defined = λ nil. let none = h.undefined (nil_bytes c.base.uuid nil) in omega (arith, none.0, later);
+  is_window = law.body c.base.params (c.base.number + 1) (durable_of log) entries (omega (arith, h.checkpoint.is_super.number, h.checkpoint.is_super.position)) (omega (arith, h.limit)) window;
+}
+
+module _ {D : Type 0} (failures : D → ℕ) (old : Engine D) (entries : List Entry) (left : List ℕ) (runs : old.halted ≡ None) (off : old.checkpoint.stage ≡ Off) (later : old.checkpoint.base.position < durable_of old.log) where
+  abbrev next : Next
+  next = next_of old.checkpoint.base (durable_of old.log) old.log.next entries left
+
+  abbrev d : Checkpoint
+  d = begun old.checkpoint (durable_of old.log) old.log.next entries left
+
+  abbrev new : Engine D
+  new = record old { checkpoint = d }
+
+  abbrev s : Standing
+  s = facts_of failures old
+
+  at_rest : s.stage ≡ is_off
+  at_rest = ap stage_in off
+
+  not_refused : refusal_here s Check ≡ None
+  not_refused =
+      let above : nat_le (durable_of old.log) old.checkpoint.base.position ≡ false = grind (arith, nat_tests, later) in
+      ap (check_refusal s) at_rest ∙ ap (λ t. if t then Some NotDue else None) above
+
+  facts_begun : (f : Found) → f.left ≡ left → facts_of failures new ≡ after s Check f
+  facts_begun f same = ap (λ (ls : List ℕ). record s { stage = checked_at s ls is_off }) (sym same) ∙ ap (λ (stage : StageOf). record s { stage = checked_at s f.left stage }) (sym at_rest)
+
+  -- on any device
+  pub begun_moves : Moves s Check (Began (durable_of old.log)) (facts_of failures new)
+  begun_moves =
+      let f : Found = record { verdict = Commit; stale = false; left = left; row = None } in
+      subst (λ (a : Answer). Moves s Check a (facts_of failures new)) (ap (check_answer s) at_rest) (done_moves s Check f (facts_of failures new) (ap is_some runs) not_refused (facts_begun f refl))
+
+  -- at a node
+  module _ (honest : D → Type 0) (history : D → History) (nodes : NodesStayNodes) (lead : VersionsLeadToTheState) (n : Node) (holds : Holds honest history failures n old) (window : entries ≡ window_at n n.facts.durable)
+      (pages : ArePages old.kept old.checkpoint.base.params.rows old.checkpoint.base.position (durable_of old.log) left) (begins : Begins old.kept old.checkpoint d next) where
+    there : Stands history n old
+    there = holds.runs runs
+
+    abbrev past : ℕ
+    past = n.facts.durable - n.facts.base
+
+    at : n.base.position + past ≡ durable_of old.log
+    at = omega (arith, holds.node.position, holds.node.facts.based, ap (λ (t : Standing). t.durable) holds.facts)
+
+    at_base : n.base.position ≡ old.checkpoint.base.position
+    at_base = there.stands.checkpoint.base.position
+
+    leads : LeadsTo n old.kept past
+    leads = lead n old.kept past there.stands.judged (λ key out. there.stands.checkpoint.base.content.outside key (λ inside. out (subst (λ (p : Setting). IsRow p.rows key) (sym there.stands.setting) inside))) there.versions
+
+    left_is : left ≡ touched n.facts.setting.rows (take past n.items)
+    left_is =
+        leads.pages left
+        (subst (λ i. ArePages old.kept n.facts.setting.rows n.base.position i left) (sym at)
+        (subst (λ i. ArePages old.kept n.facts.setting.rows i (durable_of old.log) left) (sym at_base)
+        (subst (λ (p : Setting). ArePages old.kept p.rows old.checkpoint.base.position (durable_of old.log) left) (sym there.stands.setting) pages)))
+
+    runs_on : n.facts.stopped ≡ false
+    runs_on = ap (λ (t : Standing). t.stopped) holds.facts ∙ ap is_some runs
+
+    stage_is : n.facts.stage ≡ is_off
+    stage_is = ap (λ (t : Standing). t.stage) holds.facts ∙ at_rest
+
+    steps : Steps n Check (Began (durable_of old.log)) (moved n Check)
+    steps =
+        let none : refusal_here n.facts Check ≡ None = ap (λ (t : Standing). refusal_here t Check) holds.facts ∙ not_refused in
+        subst (λ (a : Answer). Steps n Check a (moved n Check)) (ap (check_answer n.facts) stage_is ∙ ap (λ (t : Standing). Began t.durable) holds.facts) (done_steps n Check runs_on none)
+
+    -- the state that it makes the base
+    abbrev goal : State
+    goal = reached n.facts.setting n.base (take past n.items)
+
+    led : IsLedTo (moved n Check) old.log there.blocks next.super goal
+    led = record {
+      past = past;
+      position = sym at;
+      within = omega (arith, ap (λ (t : Standing). t.durable) holds.facts);
+      state = refl;
+      cells = length there.blocks;
+      start = there.stands.log_is.next;
+      few = omega arith;
+      records = ap records_of (take_all (length there.blocks) there.blocks (omega arith)) ∙ there.stands.durable;
+    }
+
+    goal_at : goal.position ≡ next.super.position
+    goal_at = reached_position n.facts.setting n.base (take past n.items) ∙ omega (arith, at, length-take-le past n.items (omega (arith, holds.node.enough)))
+
+    goal_kept : goal.kept ≡ entries
+    goal_kept = ap (λ i. (reached n.facts.setting n.base (take (n.facts.durable - i) n.items)).kept) (sym holds.node.position) ∙ sym window
+
+    stands_so : StandsAs (moved n Check) (length (stable (history old.disk))) d old.log there.blocks there.sealed there.states
+    stands_so =
+        let h = there.stands in record {
+          uuid = h.uuid;
+          setting = h.setting;
+          goal = goal;
+          checkpoint =
+              begins (length (stable (history old.disk))) there.states n.base goal h.goal h.checkpoint
+              (subst (λ i. AreBehind i old.kept) at_base leads.behind) goal_at goal_kept
+              (subst (λ (p : Setting). AreAt p.rows old.kept (durable_of old.log) n.base.content goal.content) h.setting (subst (λ i. AreAt n.facts.setting.rows old.kept i n.base.content goal.content) at leads.rows));
+          toward = λ other part e. subst (λ (k : Next). IsLedTo (moved n Check) old.log there.blocks k.super goal) (ap (next_in next) e) led;
+          start = h.start;
+          log_is = h.log_is;
+          phase = h.phase;
+          durable = h.durable;
+          coming = h.coming;
+          judged = h.judged;
+          undefined = h.undefined;
+        }
+
+    pub begun_holds : (m : Node) × Steps n Check (Began (durable_of old.log)) m × Holds honest history failures m new
+    begun_holds = (
+      moved n Check,
+      steps,
+      record {
+        is_honest = holds.is_honest;
+        facts = ap (λ (t : Standing). after t Check (found n Check)) holds.facts ∙ sym (facts_begun (found n Check) (sym left_is));
+        node = nodes n (moved n Check) Check (Began (durable_of old.log)) holds.node steps;
+        runs = λ on. record {
+          states = there.states;
+          assigns = there.assigns;
+          blocks = there.blocks;
+          sealed = there.sealed;
+          stands = stands_so;
+          versions = there.versions;
+          gates = there.gates;
+        };
+        images = λ image here. same_front n (moved n Check) image refl refl refl refl refl (holds.images image here);
+      },
+    )
+
+-- ---- a checkpoint goes on
+
+-- its goal stays
+same_goal : (base durable start up : ℕ) (stage : Stage) → HasGoal base durable start up (stage_in stage) → HasGoal base durable start up (stage_in (gone_in stage))
+same_goal base durable start up Off h = tt
+same_goal base durable start up (Toward to part) h = record { above = h.above; within = h.within; started = h.started; begun = h.begun }
+same_goal base durable start up (Retiring written) h = tt
+
+same_behind : (log : _) (stage : Stage) → HasItemsBehind (stage_in stage) log → HasItemsBehind (stage_in (gone_in stage)) log
+same_behind log Off h = tt
+same_behind log (Toward to part) h = h
+same_behind log (Retiring written) h = tt
+
+pub engine_gone : (l : Layout) (c d : Checkpoint) (log : Log) (kept : _) (block : List Judged) → IsEngine l c log kept block → IsCheckpoint d → d ≡ gone_on c → IsEngine l d log kept block
+engine_gone l c d log kept block h is same = subst (λ (k : Checkpoint). IsEngine l k log kept block) (sym same) (record {
+  checkpoint = subst IsCheckpoint same is;
+  layout = h.layout;
+  cells = h.cells;
+  start = h.start;
+  behind = h.behind;
+  begun = h.begun;
+  room = h.room;
+  items = h.items;
+  goal = same_goal c.base.position (durable_of log) log.start log.next c.stage h.goal;
+  behind_goal = same_behind log c.stage h.behind_goal;
+  follow = h.follow;
+  fits = h.fits;
+  few = h.few;
+  whole = h.whole;
+  limit = h.limit;
+  undefined = h.undefined;
+  within = h.within;
+})
+
+-- it goes on, or stands as it did
+went_by : {D : Type 0} (honest : D → Type 0) (history : D → History) (l : Layout) (c d : Checkpoint) (old disk : D) (result : Result (Unit {0}) Refusal) → GoesOn honest history l c d old disk result → (d ≡ c) ⊎ (d ≡ gone_on c)
+went_by honest history l c d old disk (Ok x) h = inr h.done
+went_by honest history l c d old disk (Err e) h = inl h.fault.1
+
+went : {D : Type 0} (honest : D → Type 0) (history : D → History) (l : Layout) (c d : Checkpoint) (old disk : D) (result : Result (Unit {0}) Refusal) (o : Option Refusal)
+    → IfSome o (λ e. IsRefused e c d old disk result) → (o ≡ None → GoesOn honest history l c d old disk result) → (d ≡ c) ⊎ (d ≡ gone_on c)
+went honest history l c d old disk result None refused goes = went_by honest history l c d old disk result (goes refl)
+went honest history l c d old disk result (Some e) refused goes = inl refused.checkpoint
+
+pub engine_went : {D : Type 0} (honest : D → Type 0) (history : D → History) (l : Layout) (c d : Checkpoint) (log : Log) (kept : _) (block : List Judged) (old disk : D) (result : Result (Unit {0}) Refusal)
+    → IsEngine l c log kept block → IsCheckpoint d → IfSome (next_refusal l c) (λ e. IsRefused e c d old disk result) → (next_refusal l c ≡ None → GoesOn honest history l c d old disk result) → IsEngine l d log kept block
+engine_went honest history l c d log kept block old disk result h is refused goes = elim (went honest history l c d old disk result (next_refusal l c) refused goes) [
+  | inl same ↦ subst (λ (k : Checkpoint). IsEngine l k log kept block) (sym same) h
+  | inr on ↦ engine_gone l c d log kept block h is on
+]
+
+-- what is due, by the facts
+
+-- nothing where the checkpoint waits for a page or a sync
+pub waits : (laws : TheStageIsTheFacts) (s : Standing) (c : Checkpoint) → s.stage ≡ stage_of c → (c.stage ≢ Off) → next_refusal_at (stage_of c) ≡ Some NotDue → check_refusal s s.stage ≡ Some NotDue
+waits laws s c at not some = ap (check_refusal s) at ∙ sym (laws.refused s c not) ∙ some
+
+-- whose answer it is
+wrote_by : (s : Standing) (stage : Stage) → stage ≢ Off → check_answer s (stage_in stage) ≡ Wrote
+wrote_by s Off not = absurd (not refl)
+wrote_by s (Toward to part) not = refl
+wrote_by s (Retiring written) not = refl
+
+device_by : (stage : Stage) → stage ≢ Off → not (is_none_under_way (stage_in stage)) ≡ true
+device_by Off not = absurd (not refl)
+device_by (Toward to part) not = refl
+device_by (Retiring written) not = refl
+
+-- the next base is the one that it was
+gone_toward : (stage : Stage) (to : Next) (part : Part) → gone_in stage ≡ Toward to part → (before : Part) × (stage ≡ Toward to before)
+gone_toward Off to part e = absurd cc
+gone_toward (Toward old before) to part e = (before, ap (λ (k : Next). Toward k before) (ap (next_in old) e))
+gone_toward (Retiring written) to part e = absurd cc
+
+module _ {D : Type 0} (honest : D → Type 0) (history : D → History) (size failures : D → ℕ) (sized : (disk : D) → honest disk → length (stable (history disk)) ≡ size disk) (laws : TheStageIsTheFacts)
+    (old : Engine D) (dk : D) (d : Checkpoint) (hl : Option Phase) (result : Result (Unit {0}) Refusal) (h : IsEngine old.layout old.checkpoint old.log old.kept old.block) (runs : old.halted ≡ None) (under : old.checkpoint.stage ≢ Off)
+    (none : next_refusal_at (stage_of old.checkpoint) ≡ None) (call : IsCall size failures honest old.disk dk (fault_of result)) (halted : hl ≡ halted_by old.log.phase result)
+    (goes : GoesOn honest history old.layout old.checkpoint d old.disk dk result) where
+  abbrev was : Standing
+  was = facts_of failures old
+
+  abbrev to : Engine D
+  to = record old { disk = dk; checkpoint = d; halted = hl }
+
+  abbrev c : Checkpoint
+  c = old.checkpoint
+
+  check_none : refusal_here was Check ≡ None
+  check_none = sym (laws.refused was c under) ∙ none
+
+  facts_gone : (f : Found) → d ≡ gone_on c → failures dk ≡ failures old.disk → hl ≡ None → facts_of failures to ≡ after was Check f
+  facts_gone f same rose still =
+      let moved_on : facts_of failures to ≡ record was { stage = stage_of (gone_on c) } = rw same (rw rose (rw still (rw runs refl))) in
+      moved_on ∙ ap (λ (stage : StageOf). record was { stage = stage }) (laws.gone_on was f.left c under)
+
+  -- on any device
+  pub gone_moves : d ≡ gone_on c → failures dk ≡ failures old.disk → hl ≡ None → Moves was Check Wrote (facts_of failures to)
+  gone_moves same rose still =
+      let f : Found = record { verdict = Commit; stale = false; left = []; row = None } in
+      subst (λ (a : Answer). Moves was Check a (facts_of failures to)) (wrote_by was c.stage under) (done_moves was Check f (facts_of failures to) (ap is_some runs) check_none (facts_gone f same rose still))
+
+  pub gone_fault : d ≡ c → Rises (failures old.disk) (failures dk) → hl ≡ Some old.log.phase → Moves was Check (Refused DiskFault) (facts_of failures to)
+  gone_fault same rises still = fault_moves was Check (facts_of failures to) (ap is_some runs) check_none (device_by c.stage under) rises (rw same (rw still (rw runs refl)))
+
+  -- at a node
+  module _ (n : Node) (holds : Holds honest history failures n old) (nodes : NodesStayNodes) (law : NodesLeaveTheirFronts) (apart : TheCheckpointIsApart) where
+    pub there_on : Stands history n old
+    there_on = holds.runs runs
+
+    abbrev l : Layout
+    l = layout_of c.base.params
+
+    abbrev long : ℕ
+    long = length (stable (history old.disk))
+
+    abbrev m : Node
+    m = moved n Check
+
+    pub moving : CheckpointSteps long l (history old.disk) (history dk) there_on.states (gone_on c) (gone_on c) n.base there_on.stands.goal result
+    moving =
+        let on : GoesOn honest history l c d old.disk dk result = subst (λ (k : Layout). GoesOn honest history k c d old.disk dk result) h.layout goes in
+        on.steps holds.is_honest long there_on.states n.base there_on.stands.goal (subst (λ (k : Layout). Assigns k (history old.disk) there_on.states) h.layout there_on.assigns) there_on.stands.checkpoint
+
+    stands_gone : StandsAs m long (gone_on c) old.log there_on.blocks there_on.sealed moving.states
+    stands_gone =
+        let k = there_on.stands in record {
+          uuid = k.uuid;
+          setting = k.setting;
+          goal = k.goal;
+          checkpoint = moving.during_is;
+          toward = λ other part e. let before = gone_toward c.stage other part e in let led = k.toward other before.0 before.1 in record {
+            past = led.past;
+            position = led.position;
+            within = led.within;
+            state = led.state;
+            cells = led.cells;
+            start = led.start;
+            few = led.few;
+            records = led.records;
+          };
+          start = k.start;
+          log_is = apart l old.log (c.base.position + 1) there_on.blocks there_on.sealed there_on.states moving.states moving.elsewhere k.log_is;
+          phase = k.phase;
+          durable = k.durable;
+          coming = k.coming;
+          judged = k.judged;
+          undefined = k.undefined;
+        }
+
+    stopped_not : n.facts.stopped ≡ false
+    stopped_not = ap (λ (t : Standing). t.stopped) holds.facts ∙ ap is_some runs
+
+    none_here : refusal_here n.facts Check ≡ None
+    none_here = ap (λ (t : Standing). refusal_here t Check) holds.facts ∙ check_none
+
+    steps_gone : Steps n Check Wrote m
+    steps_gone =
+        subst (λ (a : Answer). Steps n Check a m) (ap (check_answer n.facts) (ap (λ (t : Standing). t.stage) holds.facts) ∙ wrote_by n.facts c.stage under) (done_steps n Check stopped_not none_here)
+
+    steps_halt : Rises (failures old.disk) (failures dk) → Steps n Check (Refused DiskFault) (halted_node (failures dk) n)
+    steps_halt rises =
+        fault_steps n Check (failures dk) stopped_not none_here (ap (λ stage. not (is_none_under_way stage)) (ap (λ (t : Standing). t.stage) holds.facts) ∙ device_by c.stage under) (subst (λ k. Rises k (failures dk)) (sym (ap (λ (t : Standing). t.failures) holds.facts)) rises)
+
+    long_stays : length (stable (history dk)) ≡ long
+    long_stays = sized dk (call.stays_honest holds.is_honest) ∙ call.same_size ∙ sym (sized old.disk holds.is_honest)
+
+    images_gone : (image : List ℕ) → IsImage (history dk) image → IsFrontAt Means m image
+    images_gone = fronts_of law m (history dk) long (gone_on c) old.log there_on.blocks there_on.sealed moving.states (nodes n m Check Wrote holds.node steps_gone) stands_gone long_stays moving.reaches.images
+
+    pub gone_leaves : LeavesOnly (history old.disk) (history dk) (IsFrontAt Means n)
+    gone_leaves = leaves_weaker (history old.disk) (history dk) (λ image here. same_front m n image refl refl refl refl refl (images_gone image here)) moving.reaches.moments
+
+    pub gone_holds : Assigns l (history dk) moving.states → d ≡ gone_on c → failures dk ≡ failures old.disk → hl ≡ None → (m : Node) × Steps n Check Wrote m × Holds honest history failures m to
+    gone_holds assigns same rose still = (
+      m,
+      steps_gone,
+      record {
+        is_honest = call.stays_honest holds.is_honest;
+        facts = ap (λ (t : Standing). after t Check (found n Check)) holds.facts ∙ sym (facts_gone (found n Check) same rose still);
+        node = nodes n m Check Wrote holds.node steps_gone;
+        runs = λ on. record {
+          states = moving.states;
+          assigns = subst (λ (k : Layout). Assigns k (history dk) moving.states) (sym h.layout) assigns;
+          blocks = there_on.blocks;
+          sealed = there_on.sealed;
+          stands = subst (λ (k : Checkpoint). StandsAs m (length (stable (history dk))) k old.log there_on.blocks there_on.sealed moving.states) (sym same) (subst (λ i. StandsAs m i (gone_on c) old.log there_on.blocks there_on.sealed moving.states) (sym long_stays) stands_gone);
+          versions = there_on.versions;
+          gates = there_on.gates;
+        };
+        images = images_gone;
+      },
+    )
+
+    pub gone_halts : d ≡ c → Rises (failures old.disk) (failures dk) → hl ≡ Some old.log.phase → (m : Node) × Steps n Check (Refused DiskFault) m × Holds honest history failures m to
+    gone_halts same rises still = (
+      halted_node (failures dk) n,
+      steps_halt rises,
+      record {
+        is_honest = call.stays_honest holds.is_honest;
+        facts = rw holds.facts (rw same (rw still (rw runs refl)));
+        node = nodes n (halted_node (failures dk) n) Check (Refused DiskFault) holds.node (steps_halt rises);
+        runs = λ on. let never : Some old.log.phase ≡ None = sym still ∙ on in absurd cc;
+        images = λ image here. same_front m (halted_node (failures dk) n) image refl refl refl refl refl (images_gone image here);
+      },
+    )
+
+-- ---- what is due, as the engine asks it
+
+pub begin_due : (stage : Stage) → Begin ≡ due_in stage → stage ≡ Off
+begin_due Off e = refl
+begin_due (Toward to Flushing) e = by to.left e
+  where
+    by : (left : List ℕ) → Begin ≡ flush_due left → Toward to Flushing ≡ Off
+    by [] e = absurd cc
+    by (page ∷ left) e = absurd cc
+begin_due (Toward to Saving) e = absurd cc
+begin_due (Toward to Ready) e = absurd cc
+begin_due (Toward to SuperFilling) e = absurd cc
+begin_due (Toward to SuperFilled) e = absurd cc
+begin_due (Toward to SuperOpening) e = absurd cc
+begin_due (Retiring false) e = absurd cc
+begin_due (Retiring true) e = absurd cc
+
+-- a write is due
+pub next_due : (stage : Stage) → GoOn ≡ due_in stage → (stage ≢ Off) × (next_refusal_at (stage_in stage) ≡ None)
+next_due Off e = absurd cc
+next_due (Toward to Flushing) e = by to.left refl e
+  where
+    by : (left : List ℕ) → to.left ≡ left → GoOn ≡ flush_due left → (Toward to Flushing ≢ Off) × (next_refusal_at (stage_in (Toward to Flushing)) ≡ None)
+    by [] is e = ((λ off. absurd cc), rw is refl)
+    by (page ∷ left) is e = absurd cc
+next_due (Toward to Saving) e = absurd cc
+next_due (Toward to Ready) e = ((λ off. absurd cc), refl)
+next_due (Toward to SuperFilling) e = absurd cc
+next_due (Toward to SuperFilled) e = ((λ off. absurd cc), refl)
+next_due (Toward to SuperOpening) e = absurd cc
+next_due (Retiring false) e = ((λ off. absurd cc), refl)
+next_due (Retiring true) e = absurd cc
+
+-- ---- how a beginning comes out
+
+module _ {D : Type 0} (failures : D → ℕ) (old after_it : Engine D) (h : Holding) (position : ℕ) (runs : old.halted ≡ None) (off : old.checkpoint.stage ≡ Off) (rest : after_it ≡ record old { checkpoint = after_it.checkpoint })
+    (b : HasBegun h old after_it position) where
+  abbrev at_durable : ℕ
+  at_durable = durable_of old.log
+
+  abbrev window_there : List Entry
+  window_there = window_of h at_durable
+
+  above : old.checkpoint.base.position < at_durable
+  above = omega (arith, b.later, b.position_is)
+
+  begun_is : after_it.checkpoint ≡ begun old.checkpoint at_durable old.log.next window_there b.left
+  begun_is = b.checkpoint ∙ ap (λ i. begun old.checkpoint i old.log.next (window_of h i) b.left) b.position_is
+
+  becomes : after_it ≡ record old { checkpoint = begun old.checkpoint at_durable old.log.next window_there b.left }
+  becomes = rest ∙ ap (λ (k : Checkpoint). record old { checkpoint = k }) begun_is
+
+  pub began_moves : Moves (facts_of failures old) Check (Began position) (facts_of failures after_it)
+  began_moves =
+      subst (λ (e : Engine D). Moves (facts_of failures old) Check (Began position) (facts_of failures e)) (sym becomes)
+      (subst (λ i. Moves (facts_of failures old) Check (Began i) (facts_of failures (record old { checkpoint = begun old.checkpoint at_durable old.log.next window_there b.left }))) (sym b.position_is) (begun_moves failures old window_there b.left runs off above))
+
+  pub began_holds : (honest : D → Type 0) (history : D → History) → NodesStayNodes → VersionsLeadToTheState → (n : Node) → Holds honest history failures n old → window_there ≡ window_at n n.facts.durable
+      → (m : Node) × Steps n Check (Began position) m × Holds honest history failures m after_it
+  began_holds honest history nodes lead n holds window =
+      let pages : ArePages old.kept old.checkpoint.base.params.rows old.checkpoint.base.position at_durable b.left = subst (λ i. ArePages old.kept old.checkpoint.base.params.rows old.checkpoint.base.position i b.left) b.position_is b.pages in
+      let begins : Begins old.kept old.checkpoint (begun old.checkpoint at_durable old.log.next window_there b.left) (next_of old.checkpoint.base at_durable old.log.next window_there b.left) =
+      subst (λ i. Begins old.kept old.checkpoint (begun old.checkpoint i old.log.next (window_of h i) b.left) (next_of old.checkpoint.base i old.log.next (window_of h i) b.left)) b.position_is
+      (subst (λ (k : Checkpoint). Begins old.kept old.checkpoint k (next_of old.checkpoint.base position old.log.next (window_of h position) b.left)) b.checkpoint b.begins) in
+      let came = begun_holds failures old window_there b.left runs off above honest history nodes lead n holds window pages begins in
+      (came.0, subst (λ i. Steps n Check (Began i) came.0) (sym b.position_is) came.1, subst (λ (e : Engine D). Holds honest history failures came.0 e) (sym becomes) came.2)
+
+-- where it is refused
+pub begin_refused : {D : Type 0} (honest : D → Type 0) (history : D → History) (failures : D → ℕ) (old : Engine D) (n : Node) → Holds honest history failures n old → old.halted ≡ None → old.checkpoint.stage ≡ Off → (r : Refusal)
+    → ((r ≡ NotDue) × (nat_le (durable_of old.log) old.checkpoint.base.position ≡ true)) ⊎ ((r ≡ OutOfMemory) × (nat_le (durable_of old.log) old.checkpoint.base.position ≡ false)) → Steps n Check (Refused r) n
+begin_refused honest history failures old n holds runs off r why =
+    let stopped_not : n.facts.stopped ≡ false = ap (λ (t : Standing). t.stopped) holds.facts ∙ ap is_some runs in
+    let stage : n.facts.stage ≡ is_off = ap (λ (t : Standing). t.stage) holds.facts ∙ ap stage_in off in
+    let test : check_refusal n.facts is_off ≡ (if nat_le (durable_of old.log) old.checkpoint.base.position then Some NotDue else None) = ap (λ (t : Standing). check_refusal t is_off) holds.facts in
+    elim why [
+      | inl not ↦ subst (λ (e : Refusal). Steps n Check (Refused e) n) (sym not.0) (refused_steps n Check NotDue stopped_not (ap (check_refusal n.facts) stage ∙ test ∙ ap (λ b. if b then Some NotDue else None) not.1))
+      | inr out ↦ subst (λ (e : Refusal). Steps n Check (Refused e) n) (sym out.0)
+          (hungry_steps n Check stopped_not (ap (check_refusal n.facts) stage ∙ test ∙ ap (λ b. if b then Some NotDue else None) out.1) (ap is_none_under_way stage))
+    ]
+
+-- where it waits
+waiting : (stage : Stage) → ((due_in stage ≡ Begin) → ⊥) → ((due_in stage ≡ GoOn) → ⊥) → (stage ≢ Off) × (next_refusal_at (stage_in stage) ≡ Some NotDue)
+waiting Off not_begin not_next = absurd (not_begin refl)
+waiting (Toward to Flushing) not_begin not_next = ((λ off. absurd cc), by to.left refl)
+  where
+    by : (left : List ℕ) → to.left ≡ left → next_refusal_at (stage_in (Toward to Flushing)) ≡ Some NotDue
+    by [] is = absurd (not_next (rw is refl))
+    by (page ∷ left) is = rw is refl
+waiting (Toward to Saving) not_begin not_next = ((λ off. absurd cc), refl)
+waiting (Toward to Ready) not_begin not_next = absurd (not_next refl)
+waiting (Toward to SuperFilling) not_begin not_next = ((λ off. absurd cc), refl)
+waiting (Toward to SuperFilled) not_begin not_next = absurd (not_next refl)
+waiting (Toward to SuperOpening) not_begin not_next = ((λ off. absurd cc), refl)
+waiting (Retiring false) not_begin not_next = absurd (not_next refl)
+waiting (Retiring true) not_begin not_next = ((λ off. absurd cc), refl)
+
+-- on the places of its parameters
+own_layout : (l : Layout) → is_layout l l ≡ true
+own_layout l = grind (arith, nat_tests)
+
+pub here : (l : Layout) (c : Checkpoint) (o : Option Refusal) → l ≡ layout_of c.base.params → unless_other l c o ≡ o
+here l c o same = ap (λ b. if b then o else Some NotDue) (ap (is_layout l) (sym same) ∙ own_layout l)
+
+pub waits_steps : {D : Type 0} (honest : D → Type 0) (history : D → History) (failures : D → ℕ) (laws : TheStageIsTheFacts) (old : Engine D) (n : Node) → Holds honest history failures n old → old.halted ≡ None
+    → ((due_in old.checkpoint.stage ≡ Begin) → ⊥) → ((due_in old.checkpoint.stage ≡ GoOn) → ⊥) → Steps n Check (Refused NotDue) n
+waits_steps honest history failures laws old n holds runs not_begin not_next =
+    let due = waiting old.checkpoint.stage not_begin not_next in
+    refused_steps n Check NotDue (ap (λ (t : Standing). t.stopped) holds.facts ∙ ap is_some runs)
+    (ap (λ (t : Standing). refusal_here t Check) holds.facts ∙ sym (laws.refused (facts_of failures old) old.checkpoint due.0) ∙ due.1)

@@ -1,0 +1,43 @@
+use Rattle.std.proofs.Common.{ℕ, refl, sym, ap, subst, ◌∙◌, arith}
+use Rattle.rep_steps.specs.declared.event.Event.TheVariants.{Flush as to_flush}
+use Rattle.rep_steps.specs.Moves.{Moves}
+use Rattle.rep_steps.specs.Nodes.{Steps}
+use Rattle.rep_steps.specs.Standings.{flush_refusal}
+use Rattle.rep_checkpoint.specs.Standing.{stage_of, IsCheckpoint}
+use Rattle.rep_engine.specs.Engines.{Engine, IsEngine, facts_of}
+use Rattle.rep_engine.specs.Holding.{Holds, wrote}
+use Rattle.rep_engine.proofs.Answering.{none_of}
+use Rattle.rep_engine.proofs.Flushing.{IsFlushed, flush_moves, flush_holds, flush_leaves, far_steps}
+use Rattle.rep_engine.proofs.engine.Engine.flush.Goals as goal
+use Rattle.rep_engine.proofs.engine.Engine.flush.Goals.{After-flush_page}
+
+flushed_out : (g : _) (c : After-flush_page g) → IsFlushed g.D.Disk.honest g.D.Disk.history g.D.Disk.size g.D.Disk.failures c.args.self.now c.flush_page.new.self.disk c.flush_page.new.self.checkpoint c.flush_page.new.self.halted c.in-Ok.page c.flush_page.result
+flushed_out g c = record {
+  engine = subst (λ (e : Engine g.row.D.Denot). IsEngine e.layout e.checkpoint e.log e.kept e.block) c.self.view_is c.self.invariant.0;
+  runs = sym (ap (λ (e : Engine g.row.D.Denot). e.halted) c.self.view_is) ∙ none_of c.self.inside.halted c.if-is_some.ensures;
+  call = c.flush_page.ensures.call;
+  halted = c.flush_page.ensures.halted;
+  refused = c.flush_page.ensures.refused;
+  flushes = c.flush_page.ensures.flushes;
+}
+
+pub returns-in-Ok-clause-moves : goal.returns-in-Ok-clause-moves
+returns-in-Ok-clause-moves g c =
+    subst (λ (e : Engine g.row.D.Denot). Moves (facts_of g.D.Disk.failures c.args.self.now) (to_flush c.args.page) (wrote c.flush_page.result) (facts_of g.D.Disk.failures e)) (sym c.flush_page.ensures.rest)
+    (subst (λ (page : ℕ). Moves (facts_of g.D.Disk.failures c.args.self.now) (to_flush page) (wrote c.flush_page.result) (facts_of g.D.Disk.failures (record c.args.self.now { disk = c.flush_page.new.self.disk; checkpoint = c.flush_page.new.self.checkpoint; halted = c.flush_page.new.self.halted }))) c.in-Ok.ensures.1
+    (flush_moves g.D.Disk.honest g.D.Disk.history g.D.Disk.size g.D.Disk.failures g.met.D.Disk.sized c.the_stage_is_the_facts.ensures c.args.self.now c.flush_page.new.self.disk c.flush_page.new.self.checkpoint c.flush_page.new.self.halted c.in-Ok.page c.flush_page.result (flushed_out g c)))
+
+pub returns-in-Ok-clause-steps : goal.returns-in-Ok-clause-steps
+returns-in-Ok-clause-steps g c = λ n holds.
+    let came = flush_holds g.D.Disk.honest g.D.Disk.history g.D.Disk.size g.D.Disk.failures g.met.D.Disk.sized c.the_stage_is_the_facts.ensures c.args.self.now c.flush_page.new.self.disk c.flush_page.new.self.checkpoint c.flush_page.new.self.halted c.in-Ok.page c.flush_page.result (flushed_out g c) c.nodes_stay_nodes.ensures c.nodes_leave_their_fronts.ensures c.the_checkpoint_is_apart.ensures c.versions_lead_to_the_state.ensures n holds (flush_refusal (stage_of c.args.self.now.checkpoint) c.in-Ok.page) refl in
+    (came.0, subst (λ (page : ℕ). Steps n (to_flush page) (wrote c.flush_page.result) came.0) c.in-Ok.ensures.1 came.1, subst (λ (e : Engine g.row.D.Denot). Holds g.D.Disk.honest g.D.Disk.history g.D.Disk.failures came.0 e) (sym c.flush_page.ensures.rest) came.2)
+
+pub returns-in-Ok-clause-leaves : goal.returns-in-Ok-clause-leaves
+returns-in-Ok-clause-leaves g c = λ n holds. flush_leaves g.D.Disk.honest g.D.Disk.history g.D.Disk.size g.D.Disk.failures g.met.D.Disk.sized c.the_stage_is_the_facts.ensures c.args.self.now c.flush_page.new.self.disk c.flush_page.new.self.checkpoint c.flush_page.new.self.halted c.in-Ok.page c.flush_page.result (flushed_out g c) n holds c.nodes_stay_nodes.ensures c.nodes_leave_their_fronts.ensures c.the_checkpoint_is_apart.ensures c.versions_lead_to_the_state.ensures
+
+pub returns-in-Err-clause-steps : goal.returns-in-Err-clause-steps
+returns-in-Err-clause-steps g c = λ n holds.
+    let old : Engine g.row.D.Denot = c.args.self.now in
+    let runs = sym (ap (λ (e : Engine g.row.D.Denot). e.halted) c.self.view_is) ∙ none_of c.self.inside.halted c.if-is_some.ensures in
+    let checkpoint = subst (λ (e : Engine g.row.D.Denot). IsCheckpoint e.checkpoint) c.self.view_is c.self.invariant.0.checkpoint in
+    (n, far_steps g.D.Disk.honest g.D.Disk.history g.D.Disk.failures c.row_places_are_told.ensures old c.args.page n holds runs checkpoint (omega (arith, c.in-Err.ensures)), holds)

@@ -1,0 +1,118 @@
+//! The steps of a checkpoint: its beginning, its pages, and the writes behind them.
+
+ghost use Rattle.std.specs.Prelude.{◌≡◌, ◌⊎◌, nat_le, true, false, None, IfOk, IfErr, IfSome};
+ghost use Rattle.rep_types.specs.declared.refusal.Refusal.TheVariants.{NotDue, DiskFault, OutOfMemory};
+ghost use Rattle.rep_cert.specs.Holdings.{window_of};
+ghost use Rattle.rep_disk.specs.Calls.{IsCall};
+ghost use Rattle.rep_disk.specs.Moments.{LeavesOnly};
+ghost use Rattle.rep_log.specs.Moves.{fault_of};
+ghost use Rattle.rep_steps.specs.declared.event.Event.TheVariants.{Check as to_check};
+ghost use Rattle.rep_steps.specs.Moves.{Moves};
+ghost use Rattle.rep_steps.specs.Nodes.{Node, Steps, window_at};
+ghost use Rattle.rep_steps.specs.Images.{IsFrontAt};
+ghost use Rattle.rep_image.specs.Meanings.{Means};
+ghost use Rattle.rep_checkpoint.specs.declared.stage.Stage.TheVariants.{Off};
+ghost use Rattle.rep_checkpoint.specs.Moves.{next_refusal};
+ghost use Rattle.rep_checkpoint.specs.Calls.{IsRefused, GoesOn};
+ghost use Rattle.rep_engine.specs.Engines.{facts_of, durable_of};
+ghost use Rattle.rep_engine.specs.Holding.{Holds};
+ghost use Rattle.rep_engine.specs.Reading.{halted_by};
+ghost use Rattle.rep_engine.specs.Checking.{HoldsWindow, HasBegun, checked};
+
+use crate::engine::Engine;
+use rep_cert::Certifier;
+use rep_checkpoint::{
+    Step, nodes_leave_their_fronts, the_checkpoint_is_apart, the_stage_is_the_facts,
+    versions_lead_to_the_state,
+};
+use rep_disk::Disk;
+use rep_steps::nodes_stay_nodes;
+use rep_types::Refusal;
+
+impl<D: Disk> Engine<D> {
+    /// Begins a checkpoint to what is durable, with the certifier's window there.
+    ///
+    /// Refuses with `NotDue` where the base stands there, and else with `OutOfMemory`.
+    fn begin(&mut self, certifier: &Certifier) -> Result<u64, Refusal>
+        requires off { self.old.checkpoint.stage ≡ Off }
+        requires window { HoldsWindow self.old.checkpoint.base.params (durable_of self.old.log) certifier.now.current }
+        ensures rest { self.new ≡ record (self.old) { checkpoint = self.new.checkpoint } }
+        ensures begun { IfOk result (λ position. HasBegun certifier.now.current self.old self.new position) }
+        ensures refused { IfErr result (λ e. (self.new ≡ self.old) × (((e ≡ NotDue) × (nat_le (durable_of self.old.log) self.old.checkpoint.base.position ≡ true)) ⊎ ((e ≡ OutOfMemory) × (nat_le (durable_of self.old.log) self.old.checkpoint.base.position ≡ false)))) }
+    {
+        let position = self.log.durable();
+        if position <= self.checkpoint.base().position {
+            return Err(Refusal::NotDue);
+        }
+        let window = certifier.window_at(self.alloc, position)?;
+        let start = self.log.next();
+        let begun = self
+            .checkpoint
+            .begin(self.alloc, position, start, window, &self.versions);
+        // For its clause: what holds of every checkpoint.
+        self.checkpoint.base();
+        if let Err(refusal) = begun {
+            return Err(refusal);
+        }
+        Ok(position)
+    }
+
+    /// Takes a checkpoint that is under way on by its next write. Where the device fails, the engine is stopped.
+    fn go_on(&mut self) -> Result<(), Refusal>
+        requires { self.old.halted ≡ None }
+        ensures call { IsCall D.size D.failures D.honest self.old.disk self.new.disk (fault_of result) }
+        ensures rest { self.new ≡ record (self.old) { disk = self.new.disk; checkpoint = self.new.checkpoint; halted = self.new.halted } }
+        ensures halted { self.new.halted ≡ halted_by self.old.log.phase result }
+        ensures refused { IfSome (next_refusal self.old.layout self.old.checkpoint) (λ e. IsRefused e self.old.checkpoint self.new.checkpoint self.old.disk self.new.disk result) }
+        ensures goes { next_refusal self.old.layout self.old.checkpoint ≡ None → GoesOn D.honest D.history self.old.layout self.old.checkpoint self.new.checkpoint self.old.disk self.new.disk result }
+    {
+        let outcome = self.checkpoint.next(&mut self.cells);
+        // For its clause: what holds of every checkpoint.
+        self.checkpoint.base();
+        if outcome == Err(Refusal::DiskFault) {
+            self.halted = Some(self.log.phase());
+        }
+        outcome
+    }
+
+    /// Takes the checkpoint's next step: where none is under way, begins one to what is durable and says its
+    /// position; behind the last page writes the window, then the superblock, and then its open gate; and once
+    /// the base rose, the closed gate of the superblock before it. One write at most. Memory is taken where it
+    /// begins, and nowhere else.
+    ///
+    /// Refuses with `Stopped` where the device has failed before; with `NotDue` where the base stands at what
+    /// is durable, pages are left to be flushed, or a write awaits its sync; with `OutOfMemory` where one would
+    /// begin; and with `DiskFault` where the device failed: the engine is then stopped, and otherwise as it was.
+    pub fn check(&mut self, certifier: &Certifier) -> Result<Option<u64>, Refusal>
+        requires window { HoldsWindow self.old.checkpoint.base.params (durable_of self.old.log) certifier.now.current }
+        ensures call { IsCall D.size D.failures D.honest self.old.disk self.new.disk (fault_of result) }
+        // Nothing else changes, and where it is refused by anything but the device, nothing does.
+        ensures rest { self.new ≡ record (self.old) { disk = self.new.disk; checkpoint = self.new.checkpoint; halted = self.new.halted } }
+        ensures params { self.new.checkpoint.base.params ≡ self.old.checkpoint.base.params }
+        ensures unchanged { IfErr result (λ e. (e ≡ DiskFault) ⊎ (self.new ≡ self.old)) }
+        ensures moves { Moves (facts_of D.failures self.old) to_check (checked result) (facts_of D.failures self.new) }
+        ensures steps { (n : Node) → Holds D.honest D.history D.failures n self.old → window_of certifier.now.current (durable_of self.old.log) ≡ window_at n n.facts.durable → (m : Node) × Steps n to_check (checked result) m × Holds D.honest D.history D.failures m self.new }
+        ensures leaves { (n : Node) → Holds D.honest D.history D.failures n self.old → LeavesOnly (D.history self.old.disk) (D.history self.new.disk) (IsFrontAt Means n) }
+    {
+        nodes_stay_nodes();
+        nodes_leave_their_fronts();
+        the_checkpoint_is_apart();
+        the_stage_is_the_facts();
+        versions_lead_to_the_state();
+        if self.halted.is_some() {
+            return Err(Refusal::Stopped);
+        }
+        match self.checkpoint.step_due() {
+            Step::Begin => match self.begin(certifier) {
+                Ok(position) => Ok(Some(position)),
+                Err(refusal) => Err(refusal),
+            },
+            Step::Next => match self.go_on() {
+                Ok(()) => Ok(None),
+                Err(refusal) => Err(refusal),
+            },
+            Step::Flush(_) => Err(Refusal::NotDue),
+            Step::Sync => Err(Refusal::NotDue),
+        }
+    }
+}

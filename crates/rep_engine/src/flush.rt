@@ -1,0 +1,77 @@
+//! The pages of a checkpoint.
+
+ghost use Rattle.std.specs.Prelude.{◌≡◌, ◌⊎◌, None, IfErr, IfSome};
+ghost use Rattle.rep_types.specs.declared.refusal.Refusal.TheVariants.{DiskFault, OutOfMemory};
+ghost use Rattle.rep_disk.specs.Calls.{IsCall};
+ghost use Rattle.rep_disk.specs.Moments.{LeavesOnly};
+ghost use Rattle.rep_log.specs.Moves.{fault_of};
+ghost use Rattle.rep_steps.specs.declared.event.Event.TheVariants.{Flush as to_flush};
+ghost use Rattle.rep_steps.specs.Moves.{Moves};
+ghost use Rattle.rep_steps.specs.Nodes.{Node, Steps};
+ghost use Rattle.rep_steps.specs.Images.{IsFrontAt};
+ghost use Rattle.rep_image.specs.Meanings.{Means};
+ghost use Rattle.rep_checkpoint.specs.Moves.{flush_refusal};
+ghost use Rattle.rep_checkpoint.specs.Calls.{IsRefused, Flushes};
+ghost use Rattle.rep_engine.specs.Engines.{facts_of};
+ghost use Rattle.rep_engine.specs.Holding.{Holds, wrote};
+ghost use Rattle.rep_engine.specs.Reading.{halted_by};
+
+use crate::engine::Engine;
+use rep_checkpoint::{
+    nodes_leave_their_fronts, the_checkpoint_is_apart, the_stage_is_the_facts,
+    versions_lead_to_the_state,
+};
+use rep_disk::Disk;
+use rep_layout::row_places_are_told;
+use rep_steps::nodes_stay_nodes;
+use rep_types::Refusal;
+
+impl<D: Disk> Engine<D> {
+    /// Flushes a page that the checkpoint may have left. Where the device fails, the engine is stopped.
+    pub(crate) fn flush_page(&mut self, page: u32) -> Result<(), Refusal>
+        requires { self.old.halted ≡ None }
+        ensures call { IsCall D.size D.failures D.honest self.old.disk self.new.disk (fault_of result) }
+        ensures rest { self.new ≡ record (self.old) { disk = self.new.disk; checkpoint = self.new.checkpoint; halted = self.new.halted } }
+        ensures halted { self.new.halted ≡ halted_by self.old.log.phase result }
+        ensures refused { IfSome (flush_refusal self.old.layout self.old.checkpoint page) (λ e. IsRefused e self.old.checkpoint self.new.checkpoint self.old.disk self.new.disk result) }
+        ensures flushes { flush_refusal self.old.layout self.old.checkpoint page ≡ None → Flushes D.honest D.history self.old.layout self.old.kept page self.old.checkpoint self.new.checkpoint self.old.disk self.new.disk result }
+    {
+        let outcome = self.checkpoint.flush(&mut self.cells, &self.versions, page);
+        // For its clause: what holds of every checkpoint.
+        self.checkpoint.base();
+        if outcome == Err(Refusal::DiskFault) {
+            self.halted = Some(self.log.phase());
+        }
+        outcome
+    }
+
+    /// Flushes a page that the checkpoint has left: writes its rows as they are at the checkpoint's position,
+    /// whatever was accepted since, where the base has none of its own. One read and one write at most, and no
+    /// memory.
+    ///
+    /// Refuses with `Stopped` where the device has failed before; with `NotDue` where the page is not left;
+    /// with `Corrupt` of the pages where the base's page is not of its form; and with `DiskFault` where the
+    /// device failed: the engine is then stopped, and otherwise as it was.
+    pub fn flush(&mut self, page: u64) -> Result<(), Refusal>
+        ensures call { IsCall D.size D.failures D.honest self.old.disk self.new.disk (fault_of result) }
+        // Nothing else changes, and where it is refused by anything but the device, nothing does.
+        ensures rest { self.new ≡ record (self.old) { disk = self.new.disk; checkpoint = self.new.checkpoint; halted = self.new.halted } }
+        ensures moves { Moves (facts_of D.failures self.old) (to_flush page) (wrote result) (facts_of D.failures self.new) }
+        ensures steps { (n : Node) → Holds D.honest D.history D.failures n self.old → (m : Node) × Steps n (to_flush page) (wrote result) m × Holds D.honest D.history D.failures m self.new }
+        ensures leaves { (n : Node) → Holds D.honest D.history D.failures n self.old → LeavesOnly (D.history self.old.disk) (D.history self.new.disk) (IsFrontAt Means n) }
+    {
+        nodes_stay_nodes();
+        nodes_leave_their_fronts();
+        the_checkpoint_is_apart();
+        the_stage_is_the_facts();
+        versions_lead_to_the_state();
+        row_places_are_told();
+        if self.halted.is_some() {
+            return Err(Refusal::Stopped);
+        }
+        match u32::try_from(page) {
+            Ok(page) => self.flush_page(page),
+            Err(_) => Err(Refusal::NotDue),
+        }
+    }
+}

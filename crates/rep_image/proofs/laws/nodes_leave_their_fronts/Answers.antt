@@ -1,5 +1,0 @@
-use Rattle.rep_image.proofs.Leaving.{leave_fronts}
-use Rattle.rep_image.proofs.laws.nodes_leave_their_fronts.Goals as goal
-
-pub returns : goal.returns
-returns c = leave_fronts c.nodes_leave_their_ends.ensures

@@ -1,0 +1,354 @@
+-- What a replica does by itself, step by step.
+use Rattle.std.proofs.Common.{◌≡◌, ℕ, ◌+◌, ◌<◌, ◌≤◌, ◌⊎◌, inl, inr, Bool, true, false, List, [], ◌∷◌, ◌++◌, append_assoc, length, drop, Option, None, Some, Result, Ok, Err, refl, sym, ap, subst, ◌∙◌, arith}
+use Rattle.std.proofs.lemmas.Bool.Decides.{nat_tests}
+use Rattle.std.specs.Prelude.{OnOk, IfErr, is_some, is_err, ◌||◌, MatchOption, if◌then◌else◌, ◌==◌, not}
+use Rattle.std.specs.List.{filter, list_any}
+use Rattle.std.proofs.lemmas.Option.{same_Some}
+use Rattle.rep_types.specs.declared.reply.Reply.{Reply}
+use Rattle.rep_types.specs.declared.refusal.Refusal.{Refusal}
+use Rattle.rep_types.specs.declared.refusal.Refusal.TheVariants.{Stopped, NotDue, OutOfMemory, DiskFault, Corrupt}
+use Rattle.rep_types.specs.declared.refusal.Part.TheVariants.{Pages}
+use Rattle.rep_types.specs.Verdicts.{StateIsEnough}
+use Rattle.rep_record.specs.Fronts.{FrontsAreDetermined}
+use Rattle.rep_disk.specs.History.{History}
+use Rattle.rep_log.specs.declared.phase.Phase.{Phase}
+use Rattle.rep_log.specs.declared.phase.Phase.TheVariants.{Resting}
+use Rattle.rep_steps.specs.declared.event.Event.{Event}
+use Rattle.rep_steps.specs.declared.event.Event.TheVariants.{Deliver, Log, Sync, Check, Flush, Read}
+use Rattle.rep_steps.specs.declared.answer.Answer.{Answer}
+use Rattle.rep_steps.specs.declared.answer.Answer.TheVariants.{Gave, Wrote, Began, Synced, Row, Refused}
+use Rattle.rep_steps.specs.Standings.{Standing, refusal, refusal_here, check_refusal, flush_refusal, Goal, Part, Flushing, Saving, Ready, SuperFilling, SuperFilled, SuperOpening, Stage, Off, Toward, Retiring}
+use Rattle.rep_steps.specs.Moves.{Found, Moves, answer, check_answer, after, Fails, MeetsCorruption, checked, flushed, synced_stage, synced_phase, start_after, opening, taken}
+use Rattle.rep_steps.proofs.Driving.{moves_then, run_none, run_one, run_then}
+use Rattle.rep_image.specs.Meanings.{Means}
+use Rattle.rep_engine.specs.Holding.{wrote, synced}
+use Rattle.rep_replica.specs.Replicas.{Replica, facts_of}
+use Rattle.rep_replica.specs.Holding.{IsStep}
+use Rattle.rep_replica.specs.Settling.{IsRunning, IsOwn, AreOwn, outcome_of, AreDone, EndsIn, Works, EndsEarly, left_of, step_of_part, step_of, start_of, Rests}
+
+-- ---- what came of a step
+
+pub refused_done : (r : Refusal) → outcome_of (Refused r) ≡ Ok tt → ⊥
+refused_done r done = let never : Err r ≡ Ok tt = done in cc
+
+pub wrote_done : (result : Result (Unit {0}) Refusal) (P : Type 0) → outcome_of (wrote result) ≡ Ok tt → OnOk result P → P
+wrote_done (Ok x) P done p = p
+wrote_done (Err r) P done p = absurd (refused_done r done)
+
+pub synced_done : (result : Result (List Reply) Refusal) (P : Type 0) → outcome_of (synced result) ≡ Ok tt → OnOk result P → P
+synced_done (Ok x) P done p = p
+synced_done (Err r) P done p = absurd (refused_done r done)
+
+-- what is done where nothing refuses it
+abbrev Went : Standing → Event → Answer → Standing → Type 0
+Went s e a t = (f : Found) × (a ≡ answer s e f) × (t ≡ after s e f)
+
+went_by : (s t : Standing) (e : Event) (a : Answer) → refusal s e ≡ None → Moves s e a t → Went s e a t ⊎ (Fails s e a t ⊎ MeetsCorruption s e a t)
+went_by s t e a none m = subst (λ (o : Option Refusal). MatchOption o (Went s e a t ⊎ (Fails s e a t ⊎ MeetsCorruption s e a t)) (λ r. (a ≡ Refused r) × (t ≡ s))) none m
+
+pub done_by : (s t : Standing) (e : Event) (a : Answer) → refusal s e ≡ None → Moves s e a t → outcome_of a ≡ Ok tt → (f : Found) × (t ≡ after s e f)
+done_by s t e a none m done = elim (went_by s t e a none m) [
+  | inl went ↦ (went.0, went.2)
+  | inr failed ↦ elim failed [
+    | inl why ↦ elim why [
+      | inl hungry ↦ absurd (refused_done OutOfMemory (sym (ap outcome_of hungry.1) ∙ done))
+      | inr fault ↦ absurd (refused_done DiskFault (sym (ap outcome_of fault.1) ∙ done))
+    ]
+    | inr corrupt ↦ absurd (refused_done (Corrupt Pages) (sym (ap outcome_of corrupt.1) ∙ done))
+  ]
+]
+
+-- or it ended early
+check_done : (s : Standing) (stage : Stage) → outcome_of (check_answer s stage) ≡ Ok tt
+check_done s Off = refl
+check_done s (Toward goal part) = refl
+check_done s (Retiring written) = refl
+
+answer_done : (s : Standing) (e : Event) (f : Found) → outcome_of (answer s e f) ≡ Ok tt
+answer_done s (Deliver seqno w) f = refl
+answer_done s Log f = refl
+answer_done s Sync f = refl
+answer_done s Check f = check_done s s.stage
+answer_done s (Flush page) f = refl
+answer_done s (Read key at) f = refl
+
+abbrev Early : Answer → Type 0
+Early a = IfErr (outcome_of a) EndsEarly
+
+pub early_by : (s t : Standing) (e : Event) (a : Answer) → refusal s e ≡ None → Moves s e a t → Early a
+early_by s t e a none m = elim (went_by s t e a none m) [
+  | inl went ↦ subst Early (sym went.1) (subst (λ (o : Result (Unit {0}) Refusal). IfErr o EndsEarly) (sym (answer_done s e went.0)) tt)
+  | inr failed ↦ elim failed [
+    | inl why ↦ elim why [
+      | inl hungry ↦ subst Early (sym hungry.1) (inl refl)
+      | inr fault ↦ subst Early (sym fault.1) (inr (inl refl))
+    ]
+    | inr corrupt ↦ subst Early (sym corrupt.1) (inr (inr refl))
+  ]
+]
+
+-- ---- where it isn't stopped
+
+-- neither from outside nor by its device
+pub is_running : {D : Type 0} (failures : D → ℕ) (r : Replica D) → (facts_of failures r).stopped ≡ false → IsRunning r
+is_running failures r runs = by r.stopped r.engine.halted refl refl runs
+  where
+    by : (inside : Bool) (halted : Option Phase) → r.stopped ≡ inside → r.engine.halted ≡ halted → (inside || is_some halted) ≡ false → IsRunning r
+    by true halted a b e = absurd (let never : true ≡ false = e in cc)
+    by false (Some phase) a b e = absurd (let never : true ≡ false = e in cc)
+    by false None a b e = record { inside = a; device = b }
+
+pub runs_on : {D : Type 0} (failures : D → ℕ) (r : Replica D) → IsRunning r → (facts_of failures r).stopped ≡ false
+runs_on failures r running = ap (λ b. b || is_some r.engine.halted) running.inside ∙ ap is_some running.device
+
+pub not_refused : (s : Standing) (e : Event) → s.stopped ≡ false → refusal_here s e ≡ None → refusal s e ≡ None
+not_refused s e runs none = ap (λ b. if b then Some Stopped else refusal_here s e) runs ∙ none
+
+-- ---- steps one after another
+
+done_then : (answers told : List Answer) → AreDone answers → AreDone told → AreDone (answers ++ told)
+done_then [] told all more = more
+done_then (a ∷ answers) told all more = (all.0, done_then answers told all.1 more)
+
+ends_then : (result : Result (Unit {0}) Refusal) (answers told : List Answer) → AreDone answers → EndsIn result told → EndsIn result (answers ++ told)
+ends_then (Ok x) answers told all ends = done_then answers told all ends
+ends_then (Err e) answers told all ends =
+    (answers ++ ends.0, done_then answers ends.0 all ends.1, ap (λ (rest : List Answer). answers ++ rest) ends.2 ∙ sym (append_assoc answers ends.0 (Refused e ∷ [])))
+
+own_then : (events more : List Event) → AreOwn events → AreOwn more → AreOwn (events ++ more)
+own_then [] more all rest = rest
+own_then (e ∷ events) more all rest = (all.0, own_then events more all.1 rest)
+
+ends_by : (a : Answer) → EndsIn (outcome_of a) (a ∷ [])
+ends_by (Gave v) = (refl, tt)
+ends_by Wrote = (refl, tt)
+ends_by (Began c) = (refl, tt)
+ends_by (Synced replies) = (refl, tt)
+ends_by (Row row) = (refl, tt)
+ends_by (Refused r) = ([], tt, refl)
+
+module _ {D : Type 0} (honest : D → Type 0) (history : D → History) (failures : D → ℕ) where
+  pub works_none : (r : Replica D) → Works honest history failures r r (Ok tt)
+  works_none r = record {
+    events = [];
+    answers = [];
+    own = tt;
+    ends = tt;
+    moves = refl;
+    ran = λ n holds. (n, run_none Means (history r.engine.disk) n, holds);
+  }
+
+  pub works_one : StateIsEnough → (old new : Replica D) (e : Event) (a : Answer) → IsOwn e → IsStep honest history failures old e a new → Works honest history failures old new (outcome_of a)
+  works_one enough old new e a own step = record {
+    events = e ∷ [];
+    answers = a ∷ [];
+    own = (own, tt);
+    ends = ends_by a;
+    moves = (facts_of failures new, step.moves, refl);
+    ran = λ n holds.
+        let at = step.steps n holds in
+        (at.0, run_one enough Means (history old.engine.disk) (history new.engine.disk) n at.0 e a holds.node at.1 (step.leaves n holds), at.2);
+  }
+
+  pub works_then : StateIsEnough → FrontsAreDetermined → (old mid new : Replica D) (result : Result (Unit {0}) Refusal) → Works honest history failures old mid (Ok tt) → Works honest history failures mid new result
+      → Works honest history failures old new result
+  works_then enough fronts old mid new result w v = record {
+    events = w.events ++ v.events;
+    answers = w.answers ++ v.answers;
+    own = own_then w.events v.events w.own v.own;
+    ends = ends_then result w.answers v.answers w.ends v.ends;
+    moves = moves_then Moves (facts_of failures old) (facts_of failures mid) (facts_of failures new) w.events w.answers v.events v.answers w.moves v.moves;
+    ran = λ n holds.
+        let at = w.ran n holds in
+        let on = v.ran at.0 at.2 in
+        (on.0, run_then enough fronts Means (history old.engine.disk) (history mid.engine.disk) (history new.engine.disk) n at.0 on.0 w.events w.answers v.events v.answers holds.node at.1 on.1, on.2);
+  }
+
+-- ---- the checkpoint goes on
+
+-- what it waits for is not refused
+same_number : (n : ℕ) → (n == n) ≡ true
+same_number n = grind (arith, nat_tests)
+
+due_part : (s : Standing) (goal : Goal) (part : Part) → s.stage ≡ Toward goal part → refusal_here s (step_of_part part) ≡ None
+due_part s goal (Flushing []) is = ap (check_refusal s) is
+due_part s goal (Flushing (page ∷ left)) is = ap (λ (stage : Stage). flush_refusal stage page) is ∙ ap (λ b. if b || list_any (λ (p : ℕ). p == page) left then None else Some NotDue) (same_number page)
+due_part s goal Saving is = refl
+due_part s goal Ready is = ap (check_refusal s) is
+due_part s goal SuperFilling is = refl
+due_part s goal SuperFilled is = ap (check_refusal s) is
+due_part s goal SuperOpening is = refl
+
+due_by : (s : Standing) (stage : Stage) (e : Event) → s.stage ≡ stage → step_of stage ≡ Some e → refusal_here s e ≡ None
+due_by s Off e is due = absurd (let never : None ≡ Some e = due in cc)
+due_by s (Toward goal part) e is due = subst (λ (x : Event). refusal_here s x ≡ None) (same_Some (step_of_part part) e due) (due_part s goal part is)
+due_by s (Retiring false) e is due = subst (λ (x : Event). refusal_here s x ≡ None) (same_Some Check e due) (ap (check_refusal s) is)
+due_by s (Retiring true) e is due = subst (λ (x : Event). refusal_here s x ≡ None) (same_Some Sync e due) refl
+
+pub due_step : (s : Standing) (e : Event) → step_of s.stage ≡ Some e → refusal_here s e ≡ None
+due_step s e due = due_by s s.stage e refl due
+
+own_part : (part : Part) → IsOwn (step_of_part part)
+own_part (Flushing []) = tt
+own_part (Flushing (page ∷ left)) = tt
+own_part Saving = tt
+own_part Ready = tt
+own_part SuperFilling = tt
+own_part SuperFilled = tt
+own_part SuperOpening = tt
+
+pub own_step : (stage : Stage) (e : Event) → step_of stage ≡ Some e → IsOwn e
+own_step Off e due = absurd (let never : None ≡ Some e = due in cc)
+own_step (Toward goal part) e due = subst IsOwn (same_Some (step_of_part part) e due) (own_part part)
+own_step (Retiring false) e due = subst IsOwn (same_Some Check e due) tt
+own_step (Retiring true) e due = subst IsOwn (same_Some Sync e due) tt
+
+-- fewer pages are left
+counted : (b : Bool) (test : ℕ → Bool) (page : ℕ) (pages : List ℕ) → test page ≡ b → length (filter test pages) ≤ length pages → length (filter test (page ∷ pages)) ≤ length (page ∷ pages)
+counted true test page pages is le = omega (arith, le, ap (λ b. length (if b then page ∷ filter test pages else filter test pages)) is)
+counted false test page pages is le = omega (arith, le, ap (λ b. length (if b then page ∷ filter test pages else filter test pages)) is)
+
+at_most : (test : ℕ → Bool) (pages : List ℕ) → length (filter test pages) ≤ length pages
+at_most test [] = omega arith
+at_most test (page ∷ pages) = counted (test page) test page pages refl (at_most test pages)
+
+fewer : (page : ℕ) (left : List ℕ) → length (filter (λ (p : ℕ). not (p == page)) (page ∷ left)) + 8 < length (page ∷ left) + 8
+fewer page left =
+    let gone : filter (λ (p : ℕ). not (p == page)) (page ∷ left) ≡ filter (λ (p : ℕ). not (p == page)) left =
+    ap (λ b. if not b then page ∷ filter (λ (p : ℕ). not (p == page)) left else filter (λ (p : ℕ). not (p == page)) left) (same_number page) in
+    omega (arith, ap length gone, at_most (λ (p : ℕ). not (p == page)) left)
+
+-- It is nearer to its end, and leaves a log at rest as it is.
+pub record Goes (s t : Standing) : Type 0 where
+  pub running : t.stopped ≡ false
+  pub less : left_of t.stage < left_of s.stage
+  pub rests : s.phase ≡ Resting → Rests s t
+
+module _ (s t : Standing) (f : Found) (runs : s.stopped ≡ false) where
+  check_goes : (stage : Stage) → s.stage ≡ stage → t ≡ after s Check f → left_of (checked s f.left stage) < left_of stage → start_of s.start (checked s f.left stage) ≡ start_of s.start stage → Goes s t
+  check_goes stage is e less start =
+      let stage_is : t.stage ≡ checked s f.left stage = ap (λ (x : Standing). x.stage) e ∙ ap (checked s f.left) is in
+      record {
+        running = ap (λ (x : Standing). x.stopped) e ∙ runs;
+        less = subst (λ (x : Stage). left_of x < left_of s.stage) (sym stage_is) (subst (λ (x : Stage). left_of (checked s f.left stage) < left_of x) (sym is) less);
+        rests = λ rests. record {
+          phase = ap (λ (x : Standing). x.phase) e ∙ rests;
+          ahead = ap (λ (x : Standing). x.ahead) e;
+          setting = ap (λ (x : Standing). x.setting) e;
+          next = ap (λ (x : Standing). x.next) e;
+          start = ap (λ (x : Standing). start_of x.start t.stage) e ∙ ap (start_of s.start) stage_is ∙ start ∙ ap (start_of s.start) (sym is);
+        };
+      }
+
+  flush_goes : (page : ℕ) (stage : Stage) → s.stage ≡ stage → t ≡ after s (Flush page) f → left_of (flushed page stage) < left_of stage → start_of s.start (flushed page stage) ≡ start_of s.start stage → Goes s t
+  flush_goes page stage is e less start =
+      let stage_is : t.stage ≡ flushed page stage = ap (λ (x : Standing). x.stage) e ∙ ap (flushed page) is in
+      record {
+        running = ap (λ (x : Standing). x.stopped) e ∙ runs;
+        less = subst (λ (x : Stage). left_of x < left_of s.stage) (sym stage_is) (subst (λ (x : Stage). left_of (flushed page stage) < left_of x) (sym is) less);
+        rests = λ rests. record {
+          phase = ap (λ (x : Standing). x.phase) e ∙ rests;
+          ahead = ap (λ (x : Standing). x.ahead) e;
+          setting = ap (λ (x : Standing). x.setting) e;
+          next = ap (λ (x : Standing). x.next) e;
+          start = ap (λ (x : Standing). start_of x.start t.stage) e ∙ ap (start_of s.start) stage_is ∙ start ∙ ap (start_of s.start) (sym is);
+        };
+      }
+
+  sync_goes : (stage : Stage) → s.stage ≡ stage → t ≡ after s Sync f → left_of (synced_stage stage) < left_of stage → start_of (start_after s.start stage) (synced_stage stage) ≡ start_of s.start stage → Goes s t
+  sync_goes stage is e less start =
+      let stage_is : t.stage ≡ synced_stage stage = ap (λ (x : Standing). x.stage) e ∙ ap synced_stage is in
+      let start_is : t.start ≡ start_after s.start stage = ap (λ (x : Standing). x.start) e ∙ ap (start_after s.start) is in
+      record {
+        running = ap (λ (x : Standing). x.stopped) e ∙ runs;
+        less = subst (λ (x : Stage). left_of x < left_of s.stage) (sym stage_is) (subst (λ (x : Stage). left_of (synced_stage stage) < left_of x) (sym is) less);
+        rests = λ rests. record {
+          phase = ap (λ (x : Standing). x.phase) e ∙ ap synced_phase rests;
+          ahead = ap (λ (x : Standing). x.ahead) e ∙ ap (λ (p : _). drop (opening p) s.ahead) rests;
+          setting = ap (λ (x : Standing). x.setting) e;
+          next = (let none : taken s.phase ≡ 0 = ap taken rests in omega (arith, ap (λ (x : Standing). x.next) e, none));
+          start = ap (λ (n : ℕ). start_of n t.stage) start_is ∙ ap (start_of (start_after s.start stage)) stage_is ∙ start ∙ ap (start_of s.start) (sym is);
+        };
+      }
+
+  goes_part : (goal : Goal) (part : Part) → s.stage ≡ Toward goal part → t ≡ after s (step_of_part part) f → Goes s t
+  goes_part goal (Flushing []) is e = check_goes (Toward goal (Flushing [])) is e (omega arith) refl
+  goes_part goal (Flushing (page ∷ left)) is e = flush_goes page (Toward goal (Flushing (page ∷ left))) is e (fewer page left) refl
+  goes_part goal Saving is e = sync_goes (Toward goal Saving) is e (omega arith) refl
+  goes_part goal Ready is e = check_goes (Toward goal Ready) is e (omega arith) refl
+  goes_part goal SuperFilling is e = sync_goes (Toward goal SuperFilling) is e (omega arith) refl
+  goes_part goal SuperFilled is e = check_goes (Toward goal SuperFilled) is e (omega arith) refl
+  goes_part goal SuperOpening is e = sync_goes (Toward goal SuperOpening) is e (omega arith) refl
+
+  goes_by : (stage : Stage) (event : Event) → s.stage ≡ stage → step_of stage ≡ Some event → t ≡ after s event f → Goes s t
+  goes_by Off event is due e = absurd (let never : None ≡ Some event = due in cc)
+  goes_by (Toward goal part) event is due e = goes_part goal part is (e ∙ ap (λ (x : Event). after s x f) (sym (same_Some (step_of_part part) event due)))
+  goes_by (Retiring false) event is due e = check_goes (Retiring false) is (e ∙ ap (λ (x : Event). after s x f) (sym (same_Some Check event due))) (omega arith) refl
+  goes_by (Retiring true) event is due e = sync_goes (Retiring true) is (e ∙ ap (λ (x : Event). after s x f) (sym (same_Some Sync event due))) (omega arith) refl
+
+pub step_goes : (s t : Standing) (e : Event) (a : Answer) → s.stopped ≡ false → step_of s.stage ≡ Some e → Moves s e a t → outcome_of a ≡ Ok tt → Goes s t
+step_goes s t e a runs due m done =
+    let went = done_by s t e a (not_refused s e runs (due_step s e due)) m done in
+    goes_by s t went.0 runs s.stage e refl due went.1
+
+pub step_early : (s t : Standing) (e : Event) (a : Answer) → s.stopped ≡ false → step_of s.stage ≡ Some e → Moves s e a t → IfErr (outcome_of a) EndsEarly
+step_early s t e a runs due m = early_by s t e a (not_refused s e runs (due_step s e due)) m
+
+pub ok_of : (r : Result (Unit {0}) Refusal) → false ≡ is_err r → r ≡ Ok tt
+ok_of (Ok x) e = refl
+ok_of (Err e) is = absurd (let never : false ≡ true = is in cc)
+
+module _ {D : Type 0} (honest : D → Type 0) (history : D → History) (failures : D → ℕ) (old new : Replica D) (a : Answer) (result : Result (Unit {0}) Refusal) (is : result ≡ outcome_of a) where
+  -- some steps, and one more
+  pub works_on : StateIsEnough → FrontsAreDetermined → (first : Replica D) (e : Event) → IsOwn e → IsStep honest history failures old e a new → Works honest history failures first old (Ok tt) → Works honest history failures first new result
+  works_on enough fronts first e own step w =
+      works_then honest history failures enough fronts first old new result w
+      (subst (λ (r : Result (Unit {0}) Refusal). Works honest history failures old new r) (sym is) (works_one honest history failures enough old new e a own step))
+
+  -- a step that the checkpoint waits for
+  pub goes_on : IsRunning old → (due : (e : Event) × (step_of (facts_of failures old).stage ≡ Some e)) → IsStep honest history failures old due.0 a new → false ≡ is_err result → Goes (facts_of failures old) (facts_of failures new)
+  goes_on running due step went = step_goes (facts_of failures old) (facts_of failures new) due.0 a (runs_on failures old running) due.1 step.moves (sym is ∙ ok_of result went)
+
+  pub ends_on : IsRunning old → (due : (e : Event) × (step_of (facts_of failures old).stage ≡ Some e)) → IsStep honest history failures old due.0 a new → IfErr result EndsEarly
+  ends_on running due step = subst (λ (r : Result (Unit {0}) Refusal). IfErr r EndsEarly) (sym is) (step_early (facts_of failures old) (facts_of failures new) due.0 a (runs_on failures old running) due.1 step.moves)
+
+-- a step of the log, or a sync, where nothing refuses it
+module _ {D : Type 0} (honest : D → Type 0) (history : D → History) (failures : D → ℕ) (old new : Replica D) (e : Event) (a : Answer) (result : Result (Unit {0}) Refusal) (is : result ≡ outcome_of a)
+    (own : IsOwn e) (running : IsRunning old) (none : refusal_here (facts_of failures old) e ≡ None) (step : IsStep honest history failures old e a new) where
+  pub one_works : StateIsEnough → Works honest history failures old new result
+  one_works enough = subst (λ (r : Result (Unit {0}) Refusal). Works honest history failures old new r) (sym is) (works_one honest history failures enough old new e a own step)
+
+  pub one_early : IfErr result EndsEarly
+  one_early = subst (λ (r : Result (Unit {0}) Refusal). IfErr r EndsEarly) (sym is) (early_by (facts_of failures old) (facts_of failures new) e a (not_refused (facts_of failures old) e (runs_on failures old running) none) step.moves)
+
+  pub one_done : result ≡ Ok tt → (f : Found) × (facts_of failures new ≡ after (facts_of failures old) e f)
+  one_done done = done_by (facts_of failures old) (facts_of failures new) e a (not_refused (facts_of failures old) e (runs_on failures old running) none) step.moves (sym is ∙ done)
+
+pub on_ok : {P : Type 0} → (r : Result (Unit {0}) Refusal) → (r ≡ Ok tt → P) → OnOk r P
+on_ok (Ok x) f = f refl
+on_ok (Err e) f = tt
+
+pub ok_on : {P : Type 0} → (r : Result (Unit {0}) Refusal) → OnOk r P → r ≡ Ok tt → P
+ok_on (Ok x) p done = p
+ok_on (Err e) p done = absurd (let never : Err e ≡ Ok tt = done in cc)
+
+-- it still runs
+pub still_running : {D : Type 0} (failures : D → ℕ) (old new : Replica D) (e : Event) (f : Found) → IsOwn e → IsRunning old → facts_of failures new ≡ after (facts_of failures old) e f → IsRunning new
+still_running failures old new (Deliver seqno w) f own running is = absurd own
+still_running failures old new Log f own running is = is_running failures new (ap (λ (x : Standing). x.stopped) is ∙ runs_on failures old running)
+still_running failures old new Sync f own running is = is_running failures new (ap (λ (x : Standing). x.stopped) is ∙ runs_on failures old running)
+still_running failures old new Check f own running is = is_running failures new (ap (λ (x : Standing). x.stopped) is ∙ runs_on failures old running)
+still_running failures old new (Flush page) f own running is = is_running failures new (ap (λ (x : Standing). x.stopped) is ∙ runs_on failures old running)
+still_running failures old new (Read key at) f own running is = absurd own
+
+pub rests_none : (s : Standing) → s.phase ≡ Resting → Rests s s
+rests_none s rests = record { phase = rests; ahead = refl; setting = refl; next = refl; start = refl }
+
+pub rests_then : (s t u : Standing) → Rests s t → Rests t u → Rests s u
+rests_then s t u a b = record { phase = b.phase; ahead = b.ahead ∙ a.ahead; setting = b.setting ∙ a.setting; next = b.next ∙ a.next; start = b.start ∙ a.start }
+
+pub none_due : (stage : Stage) → step_of stage ≡ None → stage ≡ Off
+none_due Off none = refl
+none_due (Toward goal part) none = absurd (let never : Some (step_of_part part) ≡ None = none in cc)
+none_due (Retiring false) none = absurd (let never : Some Check ≡ None = none in cc)
+none_due (Retiring true) none = absurd (let never : Some Sync ≡ None = none in cc)
