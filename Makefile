@@ -10,7 +10,7 @@ COMPARE := crates/rep_compare/out/rep_compare
 VERSIONS := crates/rep_timed/out/rep_timed
 PEEKS := crates/rep_snap_timed/out/rep_snap_timed
 
-.PHONY: run try test check bench toolchain
+.PHONY: run try test check edits bench toolchain
 
 # Proves and builds what is missing, crate by crate, and judges the sample order.
 run: toolchain
@@ -28,6 +28,10 @@ test: toolchain
 # Proves what changed, crate by crate.
 check: toolchain
 	@rt all check
+
+# Tries the wrong bodies that the gate leaves out for its time (hours).
+edits: toolchain
+	@scripts/edits
 
 # Items judged in a second, for orders of 1,000, 10,000 and 100,000 items; what an item costs the certifier and the plain
 # node; what a version that is added and a look-up cost among few and among many; peeks in a second beside a publisher, and
