@@ -3,8 +3,6 @@
 
 mod cells;
 mod laws;
-#[cfg(test)]
-mod tests;
 
 pub use cells::Cells;
 pub use laws::{

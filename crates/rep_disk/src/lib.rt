@@ -6,13 +6,9 @@ mod counting;
 mod disk;
 mod fault_once;
 mod file;
-#[cfg(test)]
-mod file_tests;
 mod fuse;
 mod laws;
 mod memory;
-#[cfg(test)]
-mod tests;
 
 pub use disk::{Disk, DiskFault};
 pub use fault_once::FaultOnce;

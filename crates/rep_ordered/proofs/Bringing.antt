@@ -107,6 +107,7 @@ module _ {V E : Type 0} (law : List E → Type 0) (at_home : ℕ → ℕ → ℕ
       low = sp.low;
       stop_bit = sp.stop_bit;
       backed_up = sp.backed_up;
+      covered = sp.covered;
       short = sp.short;
       small = sp.small;
     };
@@ -117,7 +118,7 @@ module _ {V E : Type 0} (law : List E → Type 0) (at_home : ℕ → ℕ → ℕ
       counts = o.counts;
       counted = o.counted;
       gone = o.gone;
-      home = λ free. let h = o.home free in record { value = h.value; there = same j (o.counts ∙ free) ∙ h.there; keeps = h.keeps; backed = h.backed; common = h.common };
+      home = λ free. let h = o.home free in record { value = h.value; there = same j (o.counts ∙ free) ∙ h.there; keeps = h.keeps; backed = h.backed; covers = h.covers; common = h.common };
     };
     each_seat = λ i m at. let o = r.each_seat i m at in record {
       starts = o.starts;

@@ -2,6 +2,7 @@
 use Rattle.std.proofs.Common.{◌≡◌, ℕ, zero, suc, ◌+◌, ◌/◌, ◌<◌, ◌≤◌, Option, Some, None, List, [], ◌∷◌, ◌++◌, length, Bool, false, take, get_or, set, sym, refl, ap, ◌∙◌, subst, arith, get_or-set_other, get_or-set_same}
 use Rattle.std.specs.Prelude.{slice_get}
 use Rattle.std.specs.Slots.Ownership.{Filled}
+use Rattle.std.proofs.lemmas.Option.{same_Some}
 use mathlib.Core.Option as maybe
 use mathlib.Core.Option.{some, some-injective, some-ne-none}
 use mathlib.Core.Logic.{dite}
@@ -13,10 +14,10 @@ use Rattle.rep_ordered.specs.declared.view.Mind.{Mind}
 use Rattle.rep_ordered.specs.declared.view.View.{View}
 use Rattle.rep_ordered.specs.declared.rule.Opening.{Opening}
 use Rattle.rep_ordered.specs.Counts.{times, total, gave}
-use Rattle.rep_ordered.specs.Views.{Placed, held_at, count_of, drew, on, halted_of}
-use Rattle.rep_ordered.specs.Rule.{Figures, Kept, first_of}
-use Rattle.rep_ordered.specs.Ends.{Closed}
-use Rattle.rep_ordered.proofs.Sums.{every_map, total_only, get_or_there}
+use Rattle.rep_ordered.specs.Views.{Placed, held_at, floor_at, count_of, drew, on, halted_of}
+use Rattle.rep_ordered.specs.Rule.{Figures, HoldIsRight, Kept, first_of}
+use Rattle.rep_ordered.specs.Ends.{Closed, ClosedAt}
+use Rattle.rep_ordered.proofs.Sums.{every_at, every_map, total_only, get_or_there, within_list}
 use Rattle.rep_ordered.proofs.Keeping.{no_numbers, others_idle, knows_whole}
 use Rattle.rep_ordered.proofs.Drawing.{RuleOf}
 
@@ -34,11 +35,6 @@ value_or d maybe.none = d
 same_home : {V : Type 0} (x y : V) → maybe.some (maybe.some (Some x)) ≡ maybe.some (maybe.some (Some y)) → x ≡ y
 same_home x y e = ap (value_or x) e
 
-within_list : {A : Type 0} (xs : List A) (j : ℕ) (x : A) → slice_get xs j ≡ Some x → j < length xs
-within_list [] j x e = absurd (let d : None ≡ Some x = e in cc)
-within_list (z ∷ zs) zero x e = omega arith
-within_list (z ∷ zs) (suc j) x e = let t = within_list zs j x e in omega arith
-
 module _ {V E : Type 0} (law : List E → Type 0) (at_home : ℕ → ℕ → ℕ → List E → ℕ → V → Type 0) (durable_of common_of : V → ℕ) where
   abbrev Rule : Opening V → State (Option V) (Mind V E) → Type 0
   Rule = Kept law at_home durable_of common_of
@@ -50,31 +46,37 @@ module _ {V E : Type 0} (law : List E → Type 0) (at_home : ℕ → ℕ → ℕ
       let counted : total count_of s.views ≡ length v.own = total_only count_of s.views id m at (λ i d apart there. let t = idle i d apart there in let e = t.1 in omega arith) in
       let halts : total halted_of s.views ≡ v.halted = total_only halted_of s.views id m at (λ i d apart there. (idle i d apart there).3) in let stopped = r.stopped in let spelled = r.spelled in
       let whole : f.history ≡ v.seen = knows_whole law at_home durable_of common_of k s r id m at all told_none in
-      let whole_length : length f.history ≡ length v.seen = ap length whole in record {
+      let whole_length : length f.history ≡ length v.seen = ap length whole in let low = spelled.low in let backed_up = spelled.backed_up in let covered = spelled.covered in
+      let each_one : (j : ℕ) (found : Option V) → slice_get xs j ≡ Some found → held_at j v.held ≡ 0 → ClosedAt law at_home durable_of common_of v f.durable f.common j found = (λ j found is free. let inside = within_list xs j found is in let w : ℕ = get_or s.words (j + 2) 0 in let long : length s.words ≡ length ws = ap length as_words in
+      let there : get_elem? s.words (j + 2) ≡ some w = get_or_there s.words (j + 2) (omega arith) in let here = r.each_station j w there in
+      let only : total (on j) s.views ≡ on j m = total_only (on j) s.views id m at (λ i d apart at_d. ap (held_at j) (idle i d apart at_d).2) in let counts = here.counts in
+      let h = here.home (omega arith) in let begun = here.begun in let within = here.within in let gone = here.gone in record {
+        value = h.value;
+        number = w / 4;
+        is = read_both xs j found (Some h.value) is (home_is j (Some h.value) h.there);
+        given = gave w;
+        halted = omega arith;
+        kept = every_map _ _ v.given_up (λ (u : GivenUp V) q (same : u.station ≡ j). same_home u.value h.value (sym q.home ∙ (ap (get_elem? s.homes) same ∙ h.there))) mine.gone;
+        keeps = subst (λ l. at_home j (w / 4) (gave w) l f.durable h.value) whole h.keeps;
+        backed = λ one. let a = h.backed one in let b = mine.below in let c = spelled.backed_up in (omega arith, omega arith);
+        common = h.common;
+        begun = omega arith;
+        turn = mine.reached j w there;
+        within = omega arith;
+        limit = let a = dealt.tickets in let b = spelled.small in omega arith;
+        place = λ first. let a = here.counted first in omega arith;
+      }) in record {
         durable = f.durable;
         common = f.common;
         known = mine.lasts;
         stays = λ halted. let a = mine.stays halted in let b = mine.lasts in omega arith;
+        limit = low;
+        backed = λ free x is. let c = each_one 1 (Some x) is free in let b = (c.backed refl).1 in let same = ap durable_of (same_Some x c.value c.is) in omega arith;
+        floor = λ inside. let h = every_at (HoldIsRight f s.words v.own v.seen) 1 v.held inside mine.holds in let a = h.floor refl in omega arith;
         named = mine.named;
+        covered = omega arith;
         sees = record { legal = subst law whole r.lawful; placed = subst (λ (z : ℕ × List E). Placed z.0 z.1 v.own v.joined) (λ i. (sym starts i, whole i)) mine.placed };
-        each = λ j found is free. let inside = within_list xs j found is in let w : ℕ = get_or s.words (j + 2) 0 in let long : length s.words ≡ length ws = ap length as_words in
-            let there : get_elem? s.words (j + 2) ≡ some w = get_or_there s.words (j + 2) (omega arith) in let here = r.each_station j w there in
-            let only : total (on j) s.views ≡ on j m = total_only (on j) s.views id m at (λ i d apart at_d. ap (held_at j) (idle i d apart at_d).2) in let counts = here.counts in
-            let h = here.home (omega arith) in let begun = here.begun in let within = here.within in let gone = here.gone in record {
-              value = h.value;
-              number = w / 4;
-              is = read_both xs j found (Some h.value) is (home_is j (Some h.value) h.there);
-              given = gave w;
-              halted = omega arith;
-              kept = every_map _ _ v.given_up (λ (u : GivenUp V) q (same : u.station ≡ j). same_home u.value h.value (sym q.home ∙ (ap (get_elem? s.homes) same ∙ h.there))) mine.gone;
-              keeps = subst (λ l. at_home j (w / 4) (gave w) l f.durable h.value) whole h.keeps;
-              backed = λ one. let a = h.backed one in let b = mine.below in let c = spelled.backed_up in (omega arith, omega arith);
-              common = h.common;
-              begun = omega arith;
-              turn = mine.reached j w there;
-              within = omega arith;
-              place = λ first. let a = here.counted first in omega arith;
-            };
+        each = each_one;
         numbers = λ x. let d = dealt.drawn x in let t : total (drew x) s.views ≡ times x v.own = total_only (drew x) s.views id m at (λ i u apart there. let q = idle i u apart there in let e = q.1 in let n : u.view.own ≡ [] = no_numbers u.view.own (omega arith) in ap (times x) n) in
             let next : f.next ≡ v.start + length v.own = omega arith in let start : k.start ≡ v.start = omega arith in omega arith;
       }

@@ -13,12 +13,12 @@ use Rattle.rep_ordered.specs.declared.view.Mind.{Mind}
 use Rattle.rep_ordered.specs.declared.view.View.{View}
 use Rattle.rep_ordered.specs.declared.rule.Opening.{Opening}
 use Rattle.rep_ordered.specs.Counts.{one, times, total}
-use Rattle.rep_ordered.specs.Views.{StartsWith, halted_of, allowance_of, drew, with_number, knowing, untold, Lives}
+use Rattle.rep_ordered.specs.Views.{StartsWith, HasAll, allowance_of, drew, with_number, knowing, untold, Lives}
 use Rattle.rep_ordered.specs.Rule.{Figures, Spelled, Knows, Kept, first_of}
-use Rattle.rep_ordered.specs.Steps.{Learns, claimed, loaded, fronted, raised, stopped}
-use Rattle.rep_ordered.proofs.Sums.{total_at, total_only, total_snoc, every_map, get_or_is, below_length}
+use Rattle.rep_ordered.specs.Steps.{Learns, claimed, looked, fronted, raised, stopped}
+use Rattle.rep_ordered.proofs.Sums.{total_at, total_snoc, every_map, get_or_is, below_length}
 use Rattle.rep_ordered.proofs.Owning.{append_nil, placed_drawn}
-use Rattle.rep_ordered.proofs.Keeping.{seen_whole, knows_me, knows_still, knows_on, quiet, others_idle, knows_whole}
+use Rattle.rep_ordered.proofs.Keeping.{seen_whole, knows_me, knows_still, knows_on, quiet, knows_whole, knows_halt}
 
 pub halted_word : (durable stop : ℕ) → durable < 2 ^ 63 → stop ≤ 1 → bit_or (durable + 2 ^ 63 * stop) (2 ^ 63) ≡ durable + 2 ^ 63 * 1
 halted_word durable stop low bit =
@@ -66,6 +66,7 @@ module _ {V E : Type 0} (law : List E → Type 0) (at_home : ℕ → ℕ → ℕ
               low = sp.low;
               stop_bit = sp.stop_bit;
               backed_up = sp.backed_up;
+              covered = sp.covered;
               short = omega arith;
               small = sp.small;
             }
@@ -145,10 +146,10 @@ module _ {V E : Type 0} (law : List E → Type 0) (at_home : ℕ → ℕ → ℕ
         },
       )
 
-  loads_by : (k : Opening V) (slots id : ℕ) (me : M) (i : ℕ) → Lives me.0.view → Allows (Rule k) slots id me i (λ n. n) (loaded law (step slots i 0 0 none) me)
+  loads_by : (k : Opening V) (slots id : ℕ) (me : M) (i : ℕ) → Lives me.0.view → Allows (Rule k) slots id me i (λ n. n) (looked law (step slots i 0 0 none) me)
   loads_by k slots id me i lives s r _ at _ = let f : Figures E = r.figures in let m' : Mind V E = untold (knowing f.history f.durable f.stop me.0.view) in
       let t = learning k s r id me.0 s.words f.durable f.stop at (omega arith) (omega arith) (λ _. omega arith) (λ j. refl) r.spelled lives in
-      (m', keeps, tt, subst (λ (ws : List ℕ). Rule k record { words = ws; homes = s.homes; views = set s.views id m' }) (sym (set-get_or s.words i 0)) t.0, (t.1, (refl, refl)))
+      (m', keeps, tt, subst (λ (ws : List ℕ). Rule k record { words = ws; homes = s.homes; views = set s.views id m' }) (sym (set-get_or s.words i 0)) t.0, ((t.1, (refl, refl)), λ all. knows_halt law at_home durable_of common_of k s r id me.0 at all))
 
   fronts_by : (k : Opening V) (slots id : ℕ) (me : M) → Lives me.0.view → Allows (Rule k) slots id me 1 (λ n. n) (fronted law (step slots 1 0 0 none) me)
   fronts_by k slots id me lives s r deep at little = let f : Figures E = r.figures in let sp = r.spelled in let m' : Mind V E = untold (knowing f.history f.durable f.stop me.0.view) in
@@ -158,12 +159,8 @@ module _ {V E : Type 0} (law : List E → Type 0) (at_home : ℕ → ℕ → ℕ
         keeps,
         tt,
         subst (λ (ws : List ℕ). Rule k record { words = ws; homes = s.homes; views = set s.views id m' }) (sym (set-get_or s.words 1 0)) t.0,
-        ((t.1, (refl, refl)), record { durable = omega arith; halted = omega arith; low = low; stop_bit = bit }, knows_halt),
+        ((t.1, (refl, refl)), record { durable = omega arith; halted = omega arith; low = low; stop_bit = bit }, (λ told_none all. (knows_halt law at_home durable_of common_of k s r id me.0 at all, knows_whole law at_home durable_of common_of k s r id me.0 at all told_none))),
       )
-    where
-      knows_halt : me.0.told ≡ [] → me.0.view.allowance + length me.0.view.own ≡ me.0.view.whole → (r.figures.stop ≡ me.0.view.halted) × (r.figures.history ≡ me.0.view.seen)
-      knows_halt told_none all = let idle = others_idle law at_home durable_of common_of k s r id me.0 at all in let known = r.each_seat id me.0 at in let stops = known.stops in let stopped = r.stopped in
-          let halts : total halted_of s.views ≡ me.0.view.halted = total_only halted_of s.views id me.0 at (λ i d apart there. (idle i d apart there).3) in (omega arith, knows_whole law at_home durable_of common_of k s r id me.0 at all told_none)
 
   -- the second word is set
   front_set : (k : Opening V) (s : St) (r : Rule k s) (id : ℕ) (m : Mind V E) (y durable stop : ℕ) → get_elem? s.views id ≡ some m → r.figures.durable ≤ durable → r.figures.stop ≤ stop → (0 < r.figures.stop → durable ≤ r.figures.durable)
@@ -177,6 +174,7 @@ module _ {V E : Type 0} (law : List E → Type 0) (at_home : ℕ → ℕ → ℕ
         low = low;
         stop_bit = bit;
         backed_up = risen;
+        covered = sp.covered;
         short = sp.short;
         small = sp.small;
       } lives
@@ -186,9 +184,9 @@ module _ {V E : Type 0} (law : List E → Type 0) (at_home : ℕ → ℕ → ℕ
       let n : ℕ = get_or s.words 1 0 in let is : n ≡ f.durable + 2 ^ 63 * f.stop = get_or_is s.words 1 _ sp.durable_is in let under = sp.low in let bit = sp.stop_bit in let backed = sp.backed_up in
       dite (ℕ_discrete f.stop 0)
       (λ run. let b : ℕ = max f.durable a in let t = front_set k s r id me.0 (max n a) b 0 at (omega arith) (omega arith) (λ stop. absurd (omega arith)) (omega arith) (omega arith) (omega arith) (omega arith) lives in
-      (untold (knowing f.history b 0 v), keeps, tt, t.0, ((t.1, (refl, refl)), λ _. omega arith)))
+      (untold (knowing f.history b 0 v), keeps, tt, t.0, ((t.1, (refl, refl)), (λ _. omega arith), (λ all. let h = knows_halt law at_home durable_of common_of k s r id me.0 at all in omega arith))))
       (λ stop. let t = front_set k s r id me.0 (max n a) f.durable 1 at (omega arith) (omega arith) (λ _. omega arith) (omega arith) under (omega arith) backed lives in
-      (untold (knowing f.history f.durable 1 v), keeps, tt, t.0, ((t.1, (refl, refl)), λ none. absurd (omega arith))))
+      (untold (knowing f.history f.durable 1 v), keeps, tt, t.0, ((t.1, (refl, refl)), (λ none. absurd (omega arith)), (λ all. let h = knows_halt law at_home durable_of common_of k s r id me.0 at all in omega arith))))
 
   halts_by : (k : Opening V) (slots id : ℕ) (me : M) (bit : ℕ) → bit ≡ 2 ^ 63 → Lives me.0.view → Allows (Rule k) slots id me 1 (λ n. bit_or n bit) (stopped law (step slots 1 bit 0 none) me)
   halts_by k slots id me top is_top lives s r _ at _ = let f : Figures E = r.figures in let sp = r.spelled in let v : View V E = me.0.view in
@@ -208,8 +206,8 @@ module _ {V E : Type 0} (legal : List V → List E → Type 0) (at_home : List V
       (t.0, t.1, t.2, t.3, subst (λ (fs : List V). then fs (get_or s.words i 0) (t.0, carried_after me.1 t.1)) (sym known.firsts) t.4)
 
   module _ (grows : (first : List V) (station number given durable later : ℕ) (history more : List E) (x : V) → at_home first station number given history durable x → durable ≤ later → at_home first station number given (history ++ more) later x) where
-    pub loads : (k : Opening V) (slots id : ℕ) (me : Me (Option V) (Mind V E)) (i : ℕ) → Lives me.0.view → Allows (RuleOf k) slots id me i (λ n. n) (loaded (legal me.0.view.first) (step slots i 0 0 none) me)
-    loads k slots id me i lives = as_first k slots id me i (λ n. n) (λ fs. loaded (legal fs) (step slots i 0 0 none) me) (loads_by (legal (first_of k)) (at_home (first_of k)) durable_of common_of (grows (first_of k)) k slots id me i lives)
+    pub loads : (k : Opening V) (slots id : ℕ) (me : Me (Option V) (Mind V E)) (i : ℕ) → Lives me.0.view → Allows (RuleOf k) slots id me i (λ n. n) (looked (legal me.0.view.first) (step slots i 0 0 none) me)
+    loads k slots id me i lives = as_first k slots id me i (λ n. n) (λ fs. looked (legal fs) (step slots i 0 0 none) me) (loads_by (legal (first_of k)) (at_home (first_of k)) durable_of common_of (grows (first_of k)) k slots id me i lives)
 
     pub fronts : (k : Opening V) (slots id : ℕ) (me : Me (Option V) (Mind V E)) → Lives me.0.view → Allows (RuleOf k) slots id me 1 (λ n. n) (fronted (legal me.0.view.first) (step slots 1 0 0 none) me)
     fronts k slots id me lives = as_first k slots id me 1 (λ n. n) (λ fs. fronted (legal fs) (step slots 1 0 0 none) me) (fronts_by (legal (first_of k)) (at_home (first_of k)) durable_of common_of (grows (first_of k)) k slots id me lives)

@@ -17,9 +17,9 @@ use Rattle.rep_ordered.specs.Counts.{times, busy, gave}
 use Rattle.rep_ordered.specs.Views.{StartsWith, Placed, hold, held_at, word_at, reach, names, backed_after, common_after, on, knowing, untold, Lives}
 use Rattle.rep_ordered.specs.Rule.{Figures, Knows, Kept, first_of}
 use Rattle.rep_ordered.specs.Steps.{Entered, tried}
-use Rattle.rep_ordered.proofs.Sums.{total_at, every_away, get_or_there, below_length, reached_more, backed_here, backed_else, common_here, common_else}
+use Rattle.rep_ordered.proofs.Sums.{total_at, every_away, get_or_there, below_length, reached_more, backed_here, backed_else, covered_after, common_here, common_else}
 use Rattle.rep_ordered.proofs.Owning.{append_nil}
-use Rattle.rep_ordered.proofs.Keeping.{seen_whole, knows_me}
+use Rattle.rep_ordered.proofs.Keeping.{seen_whole, knows_me, knows_halt}
 use Rattle.rep_ordered.proofs.Moving.{after, gone_on, moved}
 use Rattle.rep_ordered.proofs.Drawing.{RuleOf, as_first}
 
@@ -132,6 +132,8 @@ module _ {V E : Type 0} (law : List E → Type 0) (at_home : ℕ → ℕ → ℕ
         keeps = keeps_it;
         backed = λ one. let a = backed_up one in let b = known.below in let c = sp.backed_up in (omega arith, omega arith);
         common = λ some_name. let a = same some_name in let b = known.named in (omega arith, λ holds. let c = known.exact holds in omega arith);
+        covers = λ some_name. let a = same some_name in let b = sp.covered in let c = sp.backed_up in let e = sp.low in omega arith;
+        last = λ all. knows_halt law at_home durable_of common_of k s r id m at all;
         begun = omega arith;
         limit = omega arith;
         turn = let a = known.reached j (4 * n) was in omega arith;
@@ -161,6 +163,7 @@ module _ {V E : Type 0} (law : List E → Type 0) (at_home : ℕ → ℕ → ℕ
       moved law at_home durable_of common_of grows k s r id m m' j (4 * n) new [] e' f.common (set s.homes j none) at was (omega arith) (omega arith) (omega arith) (λ _. omega arith) (λ _. refl) (λ some_more. absurd (omega arith))
       (subst law (sym (append_nil f.history)) r.lawful)
       (risen_above j d f.backed h.backed) (backed_else j d f.backed)
+      (covered_after j d f.backed f.common (λ one. let a = h.covers one in let b = h.common (omega arith) in omega arith) sp.covered)
       (omega arith) (inl refl)
       (λ i apart. set_else s.homes j i none apart) (length-set s.homes j none) refl refl (λ i apart. omega arith) (omega arith) (omega arith) (omega arith) known.stops (λ none_held. absurd (omega arith))
       (knows_entered k f s.words s.homes m j n new x was turn new_kinds (λ ticket. drawn (⊎_elim (λ (e : kind ≡ 1). e) (λ (e : kind ≡ 2). absurd {A = kind ≡ 1} (omega arith)) kinds)) h.backed h.common alone lives known)

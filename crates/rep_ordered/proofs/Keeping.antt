@@ -12,9 +12,9 @@ use Rattle.rep_ordered.specs.declared.view.Hold.{Hold}
 use Rattle.rep_ordered.specs.declared.view.Mind.{Mind}
 use Rattle.rep_ordered.specs.declared.rule.Opening.{Opening}
 use Rattle.rep_ordered.specs.Counts.{total, times, once_below}
-use Rattle.rep_ordered.specs.Views.{Every, StartsWith, held_at, word_at, allowance_of, count_of, drew, on, halted_of}
+use Rattle.rep_ordered.specs.Views.{Every, HasAll, StartsWith, held_at, word_at, allowance_of, count_of, drew, on, halted_of}
 use Rattle.rep_ordered.specs.Rule.{Figures, Spelled, Dealt, HoldIsRight, Knows, Known, Station, Kept}
-use Rattle.rep_ordered.proofs.Sums.{total_at, total_set, total_two, every_at, every_map, below_length}
+use Rattle.rep_ordered.proofs.Sums.{total_at, total_set, total_two, total_only, every_at, every_map, below_length}
 use Rattle.rep_ordered.proofs.Owning.{append_nil}
 
 pub no_numbers : {E : Type 0} (held : List E) → length held ≡ 0 → held ≡ []
@@ -131,6 +131,11 @@ module _ {V E : Type 0} (law : List E → Type 0) (at_home : ℕ → ℕ → ℕ
       no_longer r.figures.history m.view.seen mine.begins (omega arith))
       (λ other. let t = idle o.seat o.mind other o.there in let l = o.lives t.0 in let e = t.1 in absurd (omega arith))
 
+  -- and knows of every halt
+  pub knows_halt : (k : Opening V) (s : St) (r : Kept law at_home durable_of common_of k s) (id : ℕ) (m : Mind V E) → get_elem? s.views id ≡ some m → HasAll m.view → r.figures.stop ≡ m.view.halted
+  knows_halt k s r id m at all = let idle = others_idle k s r id m at all in let known = r.each_seat id m at in let stops = known.stops in let stopped = r.stopped in
+      let halts : total halted_of s.views ≡ m.view.halted = total_only halted_of s.views id m at (λ i d apart there. (idle i d apart there).3) in omega arith
+
   -- a step of the seat id, whose view v becomes w
   pub rebuilt : (k : Opening V) (s : St) (r : Kept law at_home durable_of common_of k s) (id : ℕ) (v w : Mind V E) (words' : List ℕ) (homes' : Homes) (f' : Figures E) → get_elem? s.views id ≡ some v
       → Spelled k f' words' (length homes')
@@ -179,7 +184,7 @@ module _ {V E : Type 0} (law : List E → Type 0) (at_home : ℕ → ℕ → ℕ
           counts = omega arith;
           counted = o.counted;
           gone = omega arith;
-          home = λ free. let h = o.home free in record { value = h.value; there = h.there; keeps = later_home (y / 4) j _ f.durable durable f.history h.value h.keeps durable_up; backed = h.backed; common = h.common };
+          home = λ free. let h = o.home free in record { value = h.value; there = h.there; keeps = later_home (y / 4) j _ f.durable durable f.history h.value h.keeps durable_up; backed = h.backed; covers = h.covers; common = h.common };
         })
         mine
         (λ i d _ e. knows_on k f next durable stop s.words words' s.homes d durable_up stop_up over same (r.each_seat i d e))

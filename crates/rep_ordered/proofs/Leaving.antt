@@ -1,5 +1,5 @@
 -- The steps by which a seat leaves a station: its slot is given back, and the word is changed.
-use Rattle.std.proofs.Common.{◌≡◌, ◌≢◌, ℕ, ◌+◌, ◌-◌, ◌*◌, ◌/◌, ◌%◌, ◌^◌, ◌<◌, ◌≤◌, ◌⊎◌, Option, Some, None, List, [], ◌∷◌, ◌++◌, length, get_or, set, bit_or, inl, inr, ⊎_elim, sym, refl, ap, ◌∙◌, subst, arith, length-append, length-set}
+use Rattle.std.proofs.Common.{◌≡◌, ◌≢◌, ℕ, ◌+◌, ◌-◌, ◌*◌, ◌/◌, ◌%◌, ◌^◌, ◌<◌, ◌≤◌, min, ◌⊎◌, Option, Some, None, List, [], ◌∷◌, ◌++◌, length, get_or, set, bit_or, inl, inr, ⊎_elim, sym, refl, ap, ◌∙◌, subst, arith, length-append, length-set}
 use Rattle.std.specs.Prelude.{IsSome, IsNone}
 use mathlib.Core.Option as maybe
 use mathlib.Core.Option.{some, none}
@@ -16,9 +16,9 @@ use Rattle.rep_ordered.specs.declared.view.View.{View}
 use Rattle.rep_ordered.specs.declared.rule.Opening.{Opening}
 use Rattle.rep_ordered.specs.Counts.{total, times, busy, gave}
 use Rattle.rep_ordered.specs.Views.{abandoned_with, gone_at, Every, StartsWith, Names, held_at, reach, word_at, floor_at, except, grown, joining, names, backed_after, common_after, on, without, Lives, Holds}
-use Rattle.rep_ordered.specs.Rule.{Figures, Gone, HoldIsRight, Knows, Kept, first_of}
+use Rattle.rep_ordered.specs.Rule.{Covers, Figures, Gone, HoldIsRight, Knows, Kept, first_of}
 use Rattle.rep_ordered.specs.Steps.{abandons, left}
-use Rattle.rep_ordered.proofs.Sums.{every_append, every_map, total_at, every_away, every_at, every_except, held_here, held_else, get_or_is, below_length, reached_more, backed_here, backed_else, common_here, common_else}
+use Rattle.rep_ordered.proofs.Sums.{every_append, every_map, total_at, every_away, every_at, every_except, held_here, held_else, get_or_is, below_length, reached_more, backed_here, backed_else, covered_after, common_here, common_else}
 use Rattle.rep_ordered.proofs.Owning.{append_nil, entries_of, joined_with, joining_is, longer, placed_mine}
 use Rattle.rep_ordered.proofs.Keeping.{knows_me, knows_still, held_once}
 use Rattle.rep_ordered.proofs.Moving.{after, gone_on, nothing_more, moved}
@@ -90,6 +90,7 @@ module _ {V E : Type 0} (law : List E → Type 0) (at_home : ℕ → ℕ → ℕ
     pub meets : at_home j n g (grown v.seen entry) v.durable x
     pub floor : j ≡ 1 → floor_at j v.held ≤ durable_of x
     pub common : 0 < names j → Names v (common_of x)
+    pub covered : j ≡ 1 → Covers durable_of common_of x
     pub lives : Lives v
 
 module _ {V E : Type 0} (law : List E → Type 0) (at_home : ℕ → ℕ → ℕ → List E → ℕ → V → Type 0) (durable_of common_of : V → ℕ) (grows : (station number given durable later : ℕ) (history more : List E) (x : V) → at_home station number given history durable x → durable ≤ later → at_home station number given (history ++ more) later x) where
@@ -169,10 +170,13 @@ module _ {V E : Type 0} (law : List E → Type 0) (at_home : ℕ → ℕ → ℕ
       (λ none_more. subst law (sym (nothing_more f.history more (no_entries entry none_more))) r.lawful)
       (λ some_more. subst law (grew ∙ ap (λ l. l ++ more) (all (at_first (omega arith)))) (p.legal (omega arith))) in
       let two = named_up j c v.common f.common (on 1 m) (on 2 m) p.common (λ some_name. known.exact (holds_named j some_name v.held some_hold)) (held_once law at_home durable_of common_of k s r id m at 1) (held_once law at_home durable_of common_of k s r id m at 2) in
+      let raised : f.common ≤ c' = two.0 in let was_covered = sp.covered in
+      let covers : min e' (2 ^ 60) ≤ c' = covered_after j d f.backed c' (λ one. let a = p.covered one in let b : c' ≡ c = common_here j c f.common (omega arith) in omega arith) (omega arith) in
       let wide = sp.wide in let stops = known.stops in let halted : g ≤ v.halted = p.halted in
       let kept_rule : Rule k record { words = set s.words (j + 2) y; homes = set s.homes j (some (Some x)); views = set s.views id m' } =
       moved law at_home durable_of common_of grows k s r id m m' j h y more e' c' (set s.homes j (some (Some x))) at was (omega arith) (omega arith) (omega arith) (λ z. let c = p.counted z in omega arith) p.kept joins lawful
       (risen_above j d f.backed (λ one. let a = top.floor one in let b = p.floor one in omega arith)) (backed_else j d f.backed)
+      covers
       two.0 two.1
       (λ i other. set_else s.homes j i (some (Some x)) other) (length-set s.homes j (some (Some x))) refl refl
       (λ i other. held_else i j v.held other)
@@ -182,6 +186,7 @@ module _ {V E : Type 0} (law : List E → Type 0) (at_home : ℕ → ℕ → ℕ
         there = set_here s.homes j (some (Some x)) (omega arith);
         keeps = subst (λ (z : ℕ × ℕ). at_home j z.0 z.1 (f.history ++ more) f.durable x) (λ i. (sym turn i, sym gone i)) (subst (λ l. at_home j n g l f.durable x) (sym begins.1) (grows j n g v.durable f.durable (v.seen ++ more) begins.0 x (subst (λ l. at_home j n g l v.durable x) grew p.meets) known.lasts));
         backed = λ one. let a = backed_here j d f.backed one in let z : ℕ = e' in let q : z ≡ d = a in let goal : z ≤ durable_of x = omega arith in goal;
+        covers = p.covered;
         common = λ some_name. sym (common_here j c f.common some_name);
       })
       (knows_left k f s.words s.homes (set s.homes j (some (Some x))) m j h y n d c more lost was refl forth turn all p.kept apart (λ some_more. let q = joins some_more in (here.counted (at_first some_more), q.0, q.1)) (omega arith) (λ i other. set_else s.homes j i (some (Some x)) other)

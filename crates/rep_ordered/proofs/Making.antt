@@ -1,14 +1,15 @@
 -- A lock as it is made keeps the rule.
-use Rattle.std.proofs.Common.{◌≡◌, ℕ, zero, suc, ◌+◌, ◌*◌, ◌/◌, ◌^◌, ◌<◌, ◌≤◌, Option, Some, None, List, [], ◌∷◌, map, length, replicate, sym, refl, ap, ◌∙◌, subst, arith}
+use Rattle.std.proofs.Common.{◌≡◌, ℕ, zero, suc, ◌+◌, ◌*◌, ◌/◌, ◌^◌, ◌<◌, ◌≤◌, min, Option, Some, None, List, [], ◌∷◌, map, length, replicate, sym, refl, ap, ◌∙◌, subst, arith}
 use Rattle.std.specs.Prelude.{slice_get, IsSome}
+use Rattle.std.proofs.lemmas.Option.{same_Some}
 use mathlib.Core.Option.{some, some-injective, some-ne-none}
 use lib.ListN.{get_elem?, length-map, length-replicate}
 use Rattle.atomic_table.specs.Table.{opening}
 use Rattle.rep_ordered.specs.declared.rule.Opening.{Opening}
 use Rattle.rep_ordered.specs.Counts.{gave}
-use Rattle.rep_ordered.specs.Views.{Every, opened, untold}
+use Rattle.rep_ordered.specs.Views.{Every, names, opened, second_of, untold}
 use Rattle.rep_ordered.specs.Rule.{Figures, Knows, Kept, first_of}
-use Rattle.rep_ordered.specs.Ends.{AllMeet, AllName}
+use Rattle.rep_ordered.specs.Ends.{AllCover, AllMeet, AllName}
 use Rattle.rep_ordered.proofs.Owning.{placed_none}
 
 later_word : (a b w : ℕ) (ws : List ℕ) (j : ℕ) → get_elem? (a ∷ b ∷ ws) (j + 2) ≡ some w → get_elem? ws j ≡ some w
@@ -29,10 +30,43 @@ alone : {A : Type 0} (a b : A) (j : ℕ) → get_elem? (a ∷ []) j ≡ some b �
 alone a b zero e = (refl, some-injective a b e)
 alone a b (suc j) e = absurd (some-ne-none b (sym e))
 
+module _ {V : Type 0} (durable_of common_of : V → ℕ) where
+  -- the number that stations 1 and 2 name: without station 1 nobody names one, and it is the greatest
+  abbrev shared : List V → ℕ
+  shared values = second_of common_of (2 ^ 60) values
+
+  all_share : (values : List V) → AllName common_of values → (j : ℕ) (x : V) → slice_get values j ≡ Some x → 0 < names j → common_of x ≡ shared values
+  all_share [] named j x is some_name = absurd (let d : None ≡ Some x = is in cc)
+  all_share (y ∷ []) named zero x is some_name = absurd (omega arith)
+  all_share (y ∷ []) named (suc j) x is some_name = absurd (let d : None ≡ Some x = is in cc)
+  all_share (y ∷ z ∷ zs) named j x is some_name = named.1 j x is some_name ∙ sym (named.1 1 z refl (omega arith))
+
+  shared_covers : (durable : ℕ) (values : List V) → durable ≤ 2 ^ 60 → AllCover durable_of common_of values → min (second_of durable_of durable values) (2 ^ 60) ≤ shared values
+  shared_covers durable [] low covered = omega arith
+  shared_covers durable (y ∷ []) low covered = omega arith
+  shared_covers durable (y ∷ z ∷ zs) low covered = covered 1 z refl refl
+
+  known_share : (values : List V) → second_of common_of 0 values ≤ shared values
+  known_share [] = omega arith
+  known_share (y ∷ []) = omega arith
+  known_share (y ∷ z ∷ zs) = omega arith
+
+  backed_by : (durable : ℕ) (values : List V) → ((x : V) → slice_get values 1 ≡ Some x → durable ≤ durable_of x) → durable ≤ second_of durable_of durable values
+  backed_by durable [] meet = omega arith
+  backed_by durable (y ∷ []) meet = omega arith
+  backed_by durable (y ∷ z ∷ zs) meet = meet z refl
+
+  backs : (durable : ℕ) (values : List V) (j : ℕ) (x : V) → slice_get values j ≡ Some x → j ≡ 1 → second_of durable_of durable values ≤ durable_of x
+  backs durable [] j x is one = absurd (let d : None ≡ Some x = is in cc)
+  backs durable (y ∷ []) zero x is one = absurd (omega arith)
+  backs durable (y ∷ []) (suc j) x is one = absurd (let d : None ≡ Some x = is in cc)
+  backs durable (y ∷ z ∷ zs) j x is one = let same : z ≡ x = same_Some z x (sym (ap (slice_get (y ∷ z ∷ zs)) one) ∙ is) in let e = ap durable_of same in omega arith
+
 module _ {V E : Type 0} (law : List E → Type 0) (at_home : ℕ → ℕ → ℕ → List E → ℕ → V → Type 0) (durable_of common_of : V → ℕ) where
-  pub opens : (k : Opening V) (values : List V) (n : ℕ) → n ≡ length values → k.start + k.whole ≡ 2 ^ 60 + 1 → k.durable < k.start → k.start ≤ 2 ^ 60 + 1 → law [] → AllName common_of values → AllMeet law at_home durable_of common_of k.start k.durable values
-      → Kept law at_home durable_of common_of k (opening (k.start ∷ k.durable ∷ replicate n (4 * k.start)) (map Some values) (untold (opened k.start k.whole (first_of k) k.durable)))
-  opens k values n count wide low small lawful named meet = let f : Figures E = record { history = []; next = k.start; durable = k.durable; stop = 0; backed = k.durable; common = named.0 } in
+  pub opens : (k : Opening V) (values : List V) (n : ℕ) → n ≡ length values → k.start + k.whole ≡ 2 ^ 60 + 1 → k.durable < k.start → k.start ≤ 2 ^ 60 + 1 → law [] → first_of k ≡ values → AllName common_of values → AllCover durable_of common_of values → AllMeet law at_home durable_of common_of k.start k.durable values
+      → Kept law at_home durable_of common_of k (opening (k.start ∷ k.durable ∷ replicate n (4 * k.start)) (map Some values) (untold (opened durable_of common_of k.start k.whole (first_of k) k.durable)))
+  opens k values n count wide low small lawful firsts named covered meet = let f : Figures E = record { history = []; next = k.start; durable = k.durable; stop = 0; backed = second_of durable_of k.durable values; common = shared durable_of common_of values } in
+      let backed_too = ap (second_of durable_of k.durable) firsts in let common_too = ap (second_of common_of 0) firsts in let known = known_share durable_of common_of values in
       let lengths : length (map some (map Some values)) ≡ length values = length-map (map Some values) (λ (x : Option V). some x) ∙ length-map values (λ (x : V). Some x) in record {
         figures = f;
         spelled = record {
@@ -41,7 +75,8 @@ module _ {V E : Type 0} (law : List E → Type 0) (at_home : ℕ → ℕ → ℕ
           durable_is = let e : k.durable ≡ k.durable + 2 ^ 63 * 0 = omega arith in ap some e;
           low = omega arith;
           stop_bit = omega arith;
-          backed_up = omega arith;
+          backed_up = backed_by durable_of common_of k.durable values (λ x is. (meet 1 x is).1 refl);
+          covered = shared_covers durable_of common_of k.durable values (omega arith) covered;
           short = omega arith;
           small = omega arith;
         };
@@ -52,7 +87,7 @@ module _ {V E : Type 0} (law : List E → Type 0) (at_home : ℕ → ℕ → ℕ
           counts = omega arith;
           counted = λ _. omega arith;
           gone = omega arith;
-          home = λ _. let x = at_values values j (omega arith) in let m = meet j x.0 x.1 in record { value = x.0; there = x.2; keeps = subst (λ (z : ℕ × ℕ). at_home j z.0 z.1 [] k.durable x.0) (λ i. (turn i, free i)) m.0; backed = m.1; common = λ some_name. named.1 j x.0 x.1 some_name };
+          home = λ _. let x = at_values values j (omega arith) in let m = meet j x.0 x.1 in record { value = x.0; there = x.2; keeps = subst (λ (z : ℕ × ℕ). at_home j z.0 z.1 [] k.durable x.0) (λ i. (turn i, free i)) m.0; backed = backs durable_of common_of k.durable values j x.0 x.1; covers = covered j x.0 x.1; common = all_share durable_of common_of values named j x.0 x.1 };
         };
         each_seat = λ i v e. subst (Knows k f (k.start ∷ k.durable ∷ replicate n (4 * k.start)) (map some (map Some values))) (alone _ v i e).1 record {
           starts = refl;
@@ -73,7 +108,7 @@ module _ {V E : Type 0} (law : List E → Type 0) (at_home : ℕ → ℕ → ℕ
           placed = placed_none k.start [];
           idle = λ _ _. refl;
         };
-        known = record { seat = 0; mind = untold (opened k.start k.whole (first_of k) k.durable); there = refl; lives = λ some_number. omega arith; knows = omega arith };
+        known = record { seat = 0; mind = untold (opened durable_of common_of k.start k.whole (first_of k) k.durable); there = refl; lives = λ some_number. omega arith; knows = omega arith };
         lone = λ _. refl;
         lawful = lawful;
         stopped = omega arith;

@@ -1,5 +1,5 @@
 -- A step that changes one station's word keeps the rule.
-use Rattle.std.proofs.Common.{◌≡◌, ◌≢◌, ℕ, ◌+◌, ◌/◌, ◌<◌, ◌≤◌, ◌⊎◌, Option, List, [], ◌++◌, length, set, ⊎_elim, sym, ap, ◌∙◌, subst, arith, length-append, length-set}
+use Rattle.std.proofs.Common.{◌≡◌, ◌≢◌, ℕ, ◌+◌, ◌/◌, ◌^◌, ◌<◌, ◌≤◌, min, ◌⊎◌, Option, List, [], ◌++◌, length, set, ⊎_elim, sym, ap, ◌∙◌, subst, arith, length-append, length-set}
 use mathlib.Core.Option as maybe
 use mathlib.Core.Option.{some}
 use mathlib.Core.Logic.{dite}
@@ -101,6 +101,7 @@ module _ {V E : Type 0} (law : List E → Type 0) (at_home : ℕ → ℕ → ℕ
         → (j ≡ 0 → length more + x / 4 ≡ y / 4) → (j ≢ 0 → more ≡ []) → (0 < length more → (length more ≡ 1) × (0 < times (x / 4) v.view.own))
         → law (r.figures.history ++ more)
         → r.figures.backed ≤ backed → (j ≢ 1 → backed ≡ r.figures.backed)
+        → min backed (2 ^ 60) ≤ common
         → r.figures.common ≤ common → (common ≡ r.figures.common) ⊎ ((0 < on 1 v) × (0 < on 2 v))
         → ((i : ℕ) → i ≢ j → get_elem? homes' i ≡ get_elem? s.homes i) → length homes' ≡ length s.homes
         → w.view.allowance ≡ v.view.allowance → w.view.own ≡ v.view.own → ((i : ℕ) → i ≢ j → on i w ≡ on i v)
@@ -110,7 +111,7 @@ module _ {V E : Type 0} (law : List E → Type 0) (at_home : ℕ → ℕ → ℕ
         → Knows k (after r.figures more backed common) (set s.words (j + 2) y) homes' w
         → Known k (after r.figures more backed common) (set s.views id w)
         → Kept law at_home durable_of common_of k record { words = set s.words (j + 2) y; homes = homes'; views = set s.views id w }
-    moved k s r id v w j x y more backed common homes' at was not_gone up within counted_more kept joins lawful risen same raised named homes_same slots allowed own on_same alone mine_now gone halted home mine known =
+    moved k s r id v w j x y more backed common homes' at was not_gone up within counted_more kept joins lawful risen same covers raised named homes_same slots allowed own on_same alone mine_now gone halted home mine known =
         let f : Figures E = r.figures in let sp = r.spelled in let here = r.each_station j x was in
         let own_length : length w.view.own ≡ length v.view.own = ap length own in
         let none_at : j ≢ 0 → length more ≡ 0 = (λ nz. ap length (kept nz)) in
@@ -125,6 +126,7 @@ module _ {V E : Type 0} (law : List E → Type 0) (at_home : ℕ → ℕ → ℕ
           low = sp.low;
           stop_bit = sp.stop_bit;
           backed_up = let a = sp.backed_up in omega arith;
+          covered = covers;
           short = short_more;
           small = sp.small;
         }
@@ -151,6 +153,7 @@ module _ {V E : Type 0} (law : List E → Type 0) (at_home : ℕ → ℕ → ℕ
             there = homes_same i apart ∙ h.there;
             keeps = grows i (z / 4) _ f.durable f.durable f.history more h.value h.keeps (omega arith);
             backed = λ one. let a = h.backed one in let e = same (λ is. apart (one ∙ sym is)) in omega arith;
+            covers = h.covers;
             common = λ some_name. let a = h.common some_name in let e = alike_home k s id v i f common at (omega arith) named some_name in omega arith;
           };
         })

@@ -1,5 +1,6 @@
 -- Sums over lists, and lists read by `get_elem?`.
-use Rattle.std.proofs.Common.{◌≡◌, ◌≢◌, ℕ, zero, suc, ◌+◌, ◌<◌, ◌≤◌, eqb, max, List, [], ◌∷◌, ◌++◌, length, get_or, set, if◌then◌else◌, sym, refl, ap, subst, arith, eq-eqb, ne_eqb}
+use Rattle.std.proofs.Common.{◌≡◌, ◌≢◌, ℕ, zero, suc, ◌+◌, ◌^◌, ◌<◌, ◌≤◌, eqb, max, min, Option, Some, None, List, [], ◌∷◌, ◌++◌, length, get_or, set, if◌then◌else◌, sym, refl, ap, subst, arith, eq-eqb, ne_eqb}
+use Rattle.std.specs.Prelude.{slice_get}
 use mathlib.Core.Option.{some, some-injective, some-ne-none}
 use mathlib.Core.Logic.{dite}
 use native.Mathlib.Decide.{ℕ_discrete}
@@ -51,6 +52,11 @@ module _ {A : Type 0} where
   below_length [] i a e = absurd (some-ne-none a (sym e))
   below_length (x ∷ xs) zero a e = omega arith
   below_length (x ∷ xs) (suc i) a e = let s = below_length xs i a e in omega arith
+
+pub within_list : {A : Type 0} (xs : List A) (j : ℕ) (x : A) → slice_get xs j ≡ Some x → j < length xs
+within_list [] j x e = absurd (let d : None ≡ Some x = e in cc)
+within_list (z ∷ zs) zero x e = omega arith
+within_list (z ∷ zs) (suc j) x e = let t = within_list zs j x e in omega arith
 
 -- what holds of each hold, where the station j is not among them
 pub every_away : (P Q : Hold → Type 0) (j : ℕ) (held : List Hold) → held_at j held ≡ 0 → ((h : Hold) → h.station ≢ j → P h → Q h) → Every P held → Every Q held
@@ -122,6 +128,12 @@ backed_here j a b e = subst (λ t. (if t then a else b) ≡ a) (sym (eq-eqb j 1 
 
 pub backed_else : (j a b : ℕ) → j ≢ 1 → backed_after j a b ≡ b
 backed_else j a b n = subst (λ t. (if t then a else b) ≡ b) (sym (ne_eqb j 1 n)) refl
+
+-- the number that is named covers the durable number of station 1's value still, after a station was entered or left
+pub covered_after : (j d known now : ℕ) → (j ≡ 1 → min d (2 ^ 60) ≤ now) → min known (2 ^ 60) ≤ now → min (backed_after j d known) (2 ^ 60) ≤ now
+covered_after j d known now here away = let x : ℕ = backed_after j d known in dite (ℕ_discrete j 1)
+    (λ e. let a = here e in let p : x ≡ d = backed_here j d known e in let goal : min x (2 ^ 60) ≤ now = omega arith in goal)
+    (λ n. let p : x ≡ known = backed_else j d known n in let goal : min x (2 ^ 60) ≤ now = omega arith in goal)
 
 pub common_here : (j a b : ℕ) → 0 < names j → common_after j a b ≡ a
 common_here j a b some_name = subst (λ t. (if t then b else a) ≡ a) (sym (ne_eqb (names j) 0 (λ e. omega arith))) refl

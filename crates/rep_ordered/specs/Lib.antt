@@ -4,3 +4,5 @@ pub mod Rule
 pub mod Steps
 pub mod Ends
 pub mod Seats
+pub mod Going
+pub mod GoingLaws

@@ -1,6 +1,6 @@
 -- What holds of the lock at every moment: of its words, of the values at home, and of what the seats know.
 -- Word 0 is the next ticket. Word 1 is the durable number, and 2 ^ 63 more after a halt. Word j + 2 is the one of station j, four times the number of its turn, and 0 where it is free, 1 where it is held by the ticket of that number, 2 where it is held from the side, and 3 where it was given up. Its value lies in slot j.
-use Rattle.std.specs.Prelude.{◌≡◌, ℕ, ◌+◌, ◌*◌, ◌/◌, ◌%◌, ◌^◌, ◌<◌, ◌≤◌, max, Option, Some, List, length}
+use Rattle.std.specs.Prelude.{◌≡◌, ℕ, ◌+◌, ◌*◌, ◌/◌, ◌%◌, ◌^◌, ◌<◌, ◌≤◌, max, min, Option, Some, List, length}
 use mathlib.Core.Option as maybe
 use lib.ListN.{get_elem?}
 use Rattle.atomic_table.specs.Table.{State}
@@ -14,6 +14,10 @@ use Rattle.rep_ordered.specs.Views.{Every, StartsWith, Placed, held_at, reached_
 -- the values that the lock was made with
 abbrev pub first_of : {V : Type 0} → Opening V → List V
 first_of k = k.first.value.items
+
+-- the number that stations 1 and 2 name covers the durable number that this value names, as far as a durable number can go
+abbrev pub Covers : {V : Type 0} → (V → ℕ) → (V → ℕ) → V → Type 0
+Covers durable_of common_of x = min (durable_of x) (2 ^ 60) ≤ common_of x
 
 -- what the rule keeps beside the words: the history, what the words mean, the durable number of station 1's value, and the number that stations 1 and 2 name
 pub record Figures (E : Type 0) : Type 0 where
@@ -47,6 +51,7 @@ module _ {V E : Type 0} where
     pub low : f.durable ≤ 2 ^ 60
     pub stop_bit : f.stop ≤ 1
     pub backed_up : f.durable ≤ f.backed
+    pub covered : min f.backed (2 ^ 60) ≤ f.common
     pub short : k.start + length f.history ≤ f.next
     pub small : k.start + k.whole ≤ 2 ^ 60 + 1
 
@@ -98,6 +103,8 @@ module _ {V E : Type 0} (law : List E → Type 0) (at_home : ℕ → ℕ → ℕ
     pub there : get_elem? homes j ≡ maybe.some (maybe.some (Some value))
     pub keeps : at_home j n g f.history f.durable value
     pub backed : j ≡ 1 → f.backed ≤ durable_of value
+    -- who enters raises `backed` to the value's own number, so this is kept of the value itself
+    pub covers : j ≡ 1 → Covers durable_of common_of value
     pub common : 0 < names j → common_of value ≡ f.common
 
   pub record Station (k : Opening V) (f : Figures E) (homes : List (maybe.Option (Option V))) (count j w : ℕ) : Type 0 where

@@ -5,7 +5,7 @@ use Rattle.rep_ordered.specs.declared.view.Hold.{Hold}
 use Rattle.rep_ordered.specs.declared.view.Mind.{Mind}
 use Rattle.rep_ordered.specs.declared.view.View.{View}
 use Rattle.rep_ordered.specs.Counts.{times}
-use Rattle.rep_ordered.specs.Views.{abandoned_with, Every, StartsWith, Sees, held_at, reached_at, hold, reach, backed_after, common_after, names, turn_of, word_at, with_number, knowing, except, without}
+use Rattle.rep_ordered.specs.Views.{abandoned_with, Every, HasAll, StartsWith, Sees, held_at, reached_at, hold, reach, backed_after, common_after, names, turn_of, word_at, with_number, knowing, except, without}
 use Rattle.rep_ordered.specs.Seats.{empty_slot}
 
 module _ {V E : Type 0} where
@@ -57,6 +57,10 @@ module _ {V E : Type 0} (law : List E → Type 0) (at_home : ℕ → ℕ → ℕ
     pub backed : station ≡ 1 → (v.backed ≤ durable_of x) × (w.durable ≤ durable_of x)
     -- the number that stations 1 and 2 name is not below what the seat saw, and the same where it holds the other one
     pub common : 0 < names station → (v.common ≤ common_of x) × (0 < held_at 1 v.held + held_at 2 v.held → v.common ≡ common_of x)
+    -- that number covers what is durable
+    pub covers : 0 < names station → w.durable ≤ common_of x
+    -- a seat that has all the numbers knew of every halt
+    pub last : HasAll v → w.halted ≡ v.halted
     -- the turns begin at the first number, and end behind the last
     pub begun : v.start ≤ number
     pub limit : number ≤ 2 ^ 60 + 1
@@ -85,12 +89,16 @@ module _ {V E : Type 0} where
   abbrev pub loaded : (List E → Type 0) → Step (Option V) → Me (Option V) (Mind V E) → ℕ → Me (Option V) (Mind V E) → Type 0
   loaded law st m r m' = Learns law m.0.told m.0.view m'.0.view × Plain m m'
 
+  -- a load by which a seat that has all the numbers learns of no halt
+  abbrev pub looked : (List E → Type 0) → Step (Option V) → Me (Option V) (Mind V E) → ℕ → Me (Option V) (Mind V E) → Type 0
+  looked law st m r m' = loaded law st m r m' × (HasAll m.0.view → m'.0.view.halted ≡ m.0.view.halted)
+
   -- a load of word 1. A seat that has all the numbers knows the whole history, and of every halt
   abbrev pub fronted : (List E → Type 0) → Step (Option V) → Me (Option V) (Mind V E) → ℕ → Me (Option V) (Mind V E) → Type 0
-  fronted law st m r m' = loaded law st m r m' × Reads m'.0.view r × (m.0.told ≡ [] → m.0.view.allowance + length m.0.view.own ≡ m.0.view.whole → (m'.0.view.halted ≡ m.0.view.halted) × (m'.0.view.seen ≡ m.0.view.seen))
+  fronted law st m r m' = loaded law st m r m' × Reads m'.0.view r × (m.0.told ≡ [] → HasAll m.0.view → (m'.0.view.halted ≡ m.0.view.halted) × (m'.0.view.seen ≡ m.0.view.seen))
 
   abbrev pub raised : (List E → Type 0) → Step (Option V) → Me (Option V) (Mind V E) → ℕ → Me (Option V) (Mind V E) → Type 0
-  raised law st m r m' = loaded law st m r m' × (m'.0.view.halted ≡ 0 → st.first ≤ m'.0.view.durable)
+  raised law st m r m' = loaded law st m r m' × (m'.0.view.halted ≡ 0 → st.first ≤ m'.0.view.durable) × (HasAll m.0.view → m'.0.view.halted ≡ m.0.view.halted)
 
   abbrev pub stopped : (List E → Type 0) → Step (Option V) → Me (Option V) (Mind V E) → ℕ → Me (Option V) (Mind V E) → Type 0
   stopped law st m r m' = loaded law st m r m' × (m'.0.view.halted ≡ 1)

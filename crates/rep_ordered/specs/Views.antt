@@ -77,6 +77,12 @@ common_after j seen known = if names j == 0 then known else seen
 abbrev pub gone_at : {V : Type 0} → ℕ → V → GivenUp V
 gone_at j x = record { station = j; value = x }
 
+-- what the value of station 1 names, or this number where there is no such station
+abbrev pub second_of : {V : Type 0} → (V → ℕ) → ℕ → List V → ℕ
+second_of f none [] = none
+second_of f none (x ∷ []) = none
+second_of f none (x ∷ y ∷ xs) = f y
+
 module _ {E : Type 0} where
   -- the entry stands in the history at its number, which is among the seat's own
   pub record OwnEntry (start : ℕ) (history : List E) (own : List ℕ) (o : Joined E) : Type 0 where
@@ -110,9 +116,9 @@ module _ {V E : Type 0} where
   abbrev pub untold : View V E → Mind V E
   untold v = record { view = v; told = [] }
 
-  -- the first seat's view: it has the whole allowance, and knows the durable number that the lock is made with
-  abbrev pub opened : ℕ → ℕ → List V → ℕ → View V E
-  opened start whole first durable = record { start = start; whole = whole; first = first; allowance = whole; seen = []; own = []; joined = []; durable = durable; halted = 0; backed = durable; common = 0; reached = []; held = []; given_up = [] }
+  -- the first seat's view: it has the whole allowance, and knows the durable number that the lock is made with, and what the first values name
+  abbrev pub opened : (V → ℕ) → (V → ℕ) → ℕ → ℕ → List V → ℕ → View V E
+  opened durable_of common_of start whole first durable = record { start = start; whole = whole; first = first; allowance = whole; seen = []; own = []; joined = []; durable = durable; halted = 0; backed = second_of durable_of durable first; common = second_of common_of 0 first; reached = []; held = []; given_up = [] }
 
   -- the view of a seat that was joined to another
   abbrev pub spent : ℕ → ℕ → List V → View V E
@@ -186,6 +192,10 @@ module _ {V E : Type 0} where
   -- the station was given up with this value
   abbrev pub abandoned : ℕ → V → View V E → View V E
   abandoned j x v = record v { given_up = gone_at j x ∷ v.given_up }
+
+  -- the seat has all the numbers of the lock, drawn or not: no other seat may act
+  abbrev pub HasAll : View V E → Type 0
+  HasAll v = v.allowance + length v.own ≡ v.whole
 
   -- a seat that may still act: it may draw a number or has drawn one, unless there is none at all
   abbrev pub Lives : View V E → Type 0

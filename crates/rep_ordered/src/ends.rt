@@ -3,7 +3,7 @@
 ghost use Rattle.std.specs.Prelude.{◌≡◌, ◌+◌, ◌-◌, ◌*◌, ◌≤◌, [], ◌∷◌, length, map, replicate, Some, IfOk, IfErr, IfSome, IsSome, vec_capacity};
 ghost use Rattle.rep_ordered.specs.Views.{Every, opened};
 ghost use Rattle.rep_ordered.specs.Rule.{first_of};
-ghost use Rattle.rep_ordered.specs.Ends.{AllMeet, AllName, Closed};
+ghost use Rattle.rep_ordered.specs.Ends.{AllCover, AllMeet, AllName, Closed};
 ghost use Rattle.rep_ordered.specs.Seats.{seat_of, stations_of};
 
 use crate::lock::OrderedLock;
@@ -106,8 +106,12 @@ impl<V: Keeps<E>, E> OrderedLock<V, E> {
     /// Each value may lie at home in its station at the first number, after an empty history, which is
     /// lawful, and at the durable number. The values of stations 1 and 2, where there are such, name the
     /// same number. At station 1 the durable number is not above the value's own: the lock keeps it
-    /// so, and says so to whoever enters that station and where it is closed. No `Keeps` could, since
-    /// what it says stays so while the durable number rises.
+    /// so, and says so to whoever enters that station and where it is closed. That number in turn, or
+    /// `MAX_SEQNO` where it is above that, is not above the number that stations 1 and 2 name: so the
+    /// durable number is not above it either, which the lock says to whoever enters one of the two. No
+    /// `Keeps` could say either, since what it says stays so while the durable number rises.
+    ///
+    /// The first seat knows what the first values name.
     ///
     /// Where there is no memory the values are handed back, in their order. It takes the memory that
     /// `close` needs as well.
@@ -120,9 +124,10 @@ impl<V: Keeps<E>, E> OrderedLock<V, E> {
         requires position { (durable ≤ position) × (position ≤ MAX_SEQNO) }
         requires legal { V.legal values.items [] }
         requires names { AllName V.common_of values.items }
+        requires covered { AllCover V.durable_of V.common_of values.items }
         requires values { AllMeet (V.legal values.items) (V.at_home values.items) V.durable_of V.common_of (position + 1) durable values.items }
         ensures stations { IfOk result (λ made. stations_of made.0 ≡ length values.items) }
-        ensures seat { IfOk result (λ made. made.1 ≡ seat_of made.0 (opened (position + 1) (MAX_SEQNO - position) values.items durable)) }
+        ensures seat { IfOk result (λ made. made.1 ≡ seat_of made.0 (opened V.durable_of V.common_of (position + 1) (MAX_SEQNO - position) values.items durable)) }
         ensures refused { IfErr result (λ refusal. refusal.values.items ≡ values.items) }
     {
         let opening = opening_at(&values, position, durable);
@@ -156,7 +161,8 @@ impl<V: Keeps<E>, E> OrderedLock<V, E> {
     /// allowance. `None` stands only for a station that this seat still holds.
     ///
     /// Each value may lie at home in its station, at the number where the station's turn is, at the
-    /// history that the seat has seen, which is the whole one, and at the durable number. A value was
+    /// history that the seat has seen, which is the whole one, and at the durable number, which is not
+    /// above that of station 1's value, nor above the number that stations 1 and 2 name. A value was
     /// given up only after a halt, of which the seat then knows. The seat's numbers are all from the
     /// first on, each once, and what it let join the history stands there.
     ///

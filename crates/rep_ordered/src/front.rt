@@ -45,7 +45,8 @@ impl<V: Keeps<E>, E> OrderedLock<V, E> {
     }
 
     /// Raises the durable number to this one, unless it is there already. A number above `MAX_SEQNO`
-    /// counts as `MAX_SEQNO`. After a halt the durable number stays as it is.
+    /// counts as `MAX_SEQNO`. After a halt the durable number stays as it is. It does not halt the lock: a
+    /// seat that has all the numbers learns of no halt by it.
     ///
     /// The seat saw this number durable at the value of station 1, when it entered or left it.
     ///
@@ -57,10 +58,12 @@ impl<V: Keeps<E>, E> OrderedLock<V, E> {
         ensures later { Later seat.old.view seat.new.view }
         ensures sees { Sees (V.legal seat.old.view.first) seat.new.view }
         ensures raised { seat.new.view.halted ≡ 0 → min durable MAX_SEQNO ≤ seat.new.view.durable }
+        ensures last { seat.old.view.allowance + length seat.old.view.own ≡ seat.old.view.whole → seat.new.view.halted ≡ seat.old.view.halted }
     {
+        let least = durable.min(MAX_SEQNO);
         self.table
             .shared
-            .fetch_max::<Raise>(&mut seat.seat, 1, durable.min(MAX_SEQNO));
+            .fetch_max::<Raise>(&mut seat.seat, 1, least);
     }
 
     /// Halts the lock, for good: whoever waits for a station, and whoever comes to enter one, is

@@ -4,6 +4,7 @@
 
 mod ends;
 mod front;
+mod laws;
 mod lock;
 mod numbers;
 mod plays;
@@ -14,6 +15,7 @@ mod view;
 
 pub use ends::Refused;
 pub use front::Front;
+pub use laws::{numbers_pass, views_go_on};
 pub use lock::OrderedLock;
 pub use rule::{Keeps, Opening};
 pub use seat::Seat;

@@ -2,7 +2,7 @@
 
 ghost use Rattle.std.specs.Prelude.{ℕ, Option, None, List, []};
 ghost use Rattle.rep_ordered.specs.Views.{giving, given, both, spent, untold};
-ghost use Rattle.rep_ordered.specs.Steps.{claimed, loaded, fronted, raised, stopped, tried, brought, left, abandons};
+ghost use Rattle.rep_ordered.specs.Steps.{claimed, looked, fronted, raised, stopped, tried, brought, left, abandons};
 
 use crate::rule::Keeps;
 use crate::view::Mind;
@@ -18,7 +18,7 @@ impl<V, E> Play<Option<V>, Mind<V, E>> for Claim {
 pub(crate) struct Look;
 
 impl<V: Keeps<E>, E> Play<Option<V>, Mind<V, E>> for Look {
-    ghost then = { λ st m r m'. loaded (V.legal m.0.view.first) st m r m' };
+    ghost then = { λ st m r m'. looked (V.legal m.0.view.first) st m r m' };
 }
 
 pub(crate) struct ReadFront;

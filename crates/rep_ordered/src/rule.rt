@@ -50,5 +50,5 @@ impl<V: Keeps<E>, E> TableRule<Option<V>, Mind<V, E>, Opening<V>> for Ordered {
 
     ghost holds = { λ (k : Opening V). Kept (V.legal (first_of k)) (V.at_home (first_of k)) V.durable_of V.common_of k };
 
-    ghost first = { λ (k : Opening V). untold (opened k.start k.whole (first_of k) k.durable) };
+    ghost first = { λ (k : Opening V). untold (opened V.durable_of V.common_of k.start k.whole (first_of k) k.durable) };
 }

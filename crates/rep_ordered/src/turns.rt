@@ -1,6 +1,6 @@
 //! The turns: how a station is entered and left.
 
-ghost use Rattle.std.specs.Prelude.{◌≡◌, ◌≢◌, ℕ, ◌+◌, ◌/◌, ◌<◌, ◌≤◌, IfOk, IfErr, IsErr, IfSome, IfNone, IsSome, IsNone, Option, Some, None, [], ◌∷◌, map};
+ghost use Rattle.std.specs.Prelude.{◌≡◌, ◌≢◌, ℕ, ◌+◌, ◌/◌, ◌<◌, ◌≤◌, IfOk, IfErr, IsErr, IfSome, IfNone, IsSome, IsNone, Option, Some, None, [], ◌∷◌, length, map, min};
 ghost use Rattle.rep_ordered.specs.Counts.{times};
 ghost use Rattle.rep_ordered.specs.Views.{HoldsTurn, HoldsSide, Holds, Later, Names, Sees, abandoned, except, floor_of, grown, names, turn_of, without};
 ghost use Rattle.rep_ordered.specs.Steps.{Entered};
@@ -12,7 +12,7 @@ use crate::rule::Keeps;
 use crate::seat::Seat;
 use crate::view::Mind;
 use crossbeam_utils::Backoff;
-use rep_types::Refusal;
+use rep_types::{MAX_SEQNO, Refusal};
 use std::marker::Brand;
 use std::sync::Wait;
 
@@ -41,15 +41,16 @@ impl<V: Keeps<E>, E> OrderedLock<V, E> {
     /// station come in the order of the tickets: what the seat saw of it before is no later than this.
     /// Nobody else is inside until the seat leaves, and while it is inside station 0 nothing joins the
     /// history. The history is lawful, and the seat's own entries stand in it at their numbers. At
-    /// stations 1 and 2 the number that the two name is not below what the seat saw, and the same where
-    /// it holds the other one.
+    /// stations 1 and 2 the number that the two name is not below what the seat saw, the same where it
+    /// holds the other one, and not below the durable number that it has then seen.
     ///
     /// The ticket is one that the seat drew. A ticket enters each station once; where a ticket was
     /// never brought to a station, no later one can enter it. A seat may hold several stations, and
     /// leaves them in any order.
     ///
     /// Refuses with `Stopped` where it reads that the lock was halted, and always where the seat saw
-    /// that before. The seat then holds what it held.
+    /// that before. The seat then holds what it held. It does not halt the lock: a seat that has all the
+    /// numbers knows of every halt, and is refused only if it knew of one.
     ///
     /// It takes no memory. It is not promised that it returns: it waits for the tickets before this one
     /// to pass and for who is inside from the side, and no order is promised among those who wait from
@@ -68,6 +69,7 @@ impl<V: Keeps<E>, E> OrderedLock<V, E> {
         ensures entered { IfOk result (Entered (V.legal seat.old.view.first) (V.at_home seat.old.view.first) V.durable_of V.common_of station ticket 1 seat.old.view seat.new.view) }
         ensures stopped { IfErr result (λ refusal. (refusal ≡ Refusal.Stopped) × Later seat.old.view seat.new.view × Sees (V.legal seat.old.view.first) seat.new.view × (seat.new.view.halted ≡ 1)) }
         ensures halted { seat.old.view.halted ≡ 1 → IsErr result }
+        ensures last { seat.old.view.allowance + length seat.old.view.own ≡ seat.old.view.whole → IfErr result (λ _. seat.old.view.halted ≡ 1) }
     {
         let backoff = Backoff::new();
         for _ in rt.forever() {
@@ -108,7 +110,8 @@ impl<V: Keeps<E>, E> OrderedLock<V, E> {
     /// then stays. It gives the station's value as `enter` does.
     ///
     /// Refuses with `Stopped` where it reads that the lock was halted, and always where the seat saw
-    /// that before. The seat then holds what it held.
+    /// that before. The seat then holds what it held. It does not halt the lock: a seat that has all the
+    /// numbers knows of every halt, and is refused only if it knew of one.
     ///
     /// It takes no memory. It is not promised that it returns, however often the station is free: a
     /// ticket or another seat may be inside each time that it looks.
@@ -124,6 +127,7 @@ impl<V: Keeps<E>, E> OrderedLock<V, E> {
         ensures entered { IfOk result (λ value. (number : ℕ) × Entered (V.legal seat.old.view.first) (V.at_home seat.old.view.first) V.durable_of V.common_of station number 2 seat.old.view seat.new.view value) }
         ensures stopped { IfErr result (λ refusal. (refusal ≡ Refusal.Stopped) × Later seat.old.view seat.new.view × Sees (V.legal seat.old.view.first) seat.new.view × (seat.new.view.halted ≡ 1)) }
         ensures halted { seat.old.view.halted ≡ 1 → IsErr result }
+        ensures last { seat.old.view.allowance + length seat.old.view.own ≡ seat.old.view.whole → IfErr result (λ _. seat.old.view.halted ≡ 1) }
     {
         let backoff = Backoff::new();
         for _ in rt.forever() {
@@ -189,7 +193,8 @@ impl<V: Keeps<E>, E> OrderedLock<V, E> {
     /// number, at what the seat has seen of the history, the entry included, and at the durable number
     /// that it has seen. At station 1 its durable number is not below that of the value that was found
     /// there. At stations 1 and 2 the number that the two name is not lowered, and is as it was unless
-    /// the seat holds both.
+    /// the seat holds both. At station 1 that number covers the value's durable number, of which
+    /// `MAX_SEQNO` counts at most, since the durable number of the lock goes no higher.
     pub fn leave(&self, seat: &mut Seat<V, E>, station: usize, value: V, entry: &Option<E>)
         requires lock { seat.old.lock ≡ self.now }
         requires turn { HoldsTurn seat.old.view station }
@@ -198,6 +203,7 @@ impl<V: Keeps<E>, E> OrderedLock<V, E> {
         requires value { V.at_home seat.old.view.first station (turn_of station seat.old.view + 1) 0 (grown seat.old.view.seen entry.now) seat.old.view.durable value }
         requires floor { station ≡ 1 → floor_of station seat.old.view ≤ V.durable_of value }
         requires common { 0 < names station → Names seat.old.view (V.common_of value) }
+        requires covered { station ≡ 1 → min (V.durable_of value) MAX_SEQNO ≤ V.common_of value }
         ensures seat { seat.new ≡ seat_of seat.old.lock (without entry.now station (turn_of station seat.old.view + 1) (V.durable_of value) (V.common_of value) seat.old.view) }
     {
         self.leave_as::<Brand>(seat, station, value, entry);
@@ -217,6 +223,7 @@ impl<V: Keeps<E>, E> OrderedLock<V, E> {
         requires value { V.at_home seat.old.view.first station (turn_of station seat.old.view + 1) 0 (grown seat.old.view.seen entry.now) seat.old.view.durable value }
         requires floor { station ≡ 1 → floor_of station seat.old.view ≤ V.durable_of value }
         requires common { 0 < names station → Names seat.old.view (V.common_of value) }
+        requires covered { station ≡ 1 → min (V.durable_of value) MAX_SEQNO ≤ V.common_of value }
         requires pick { (L.entry ≡ entry.now) × (L.durable ≡ V.durable_of value) × (L.common ≡ V.common_of value) × (L.number ≡ turn_of station seat.old.view + 1) }
         ensures seat { seat.new ≡ seat_of seat.old.lock (without entry.now station (turn_of station seat.old.view + 1) (V.durable_of value) (V.common_of value) seat.old.view) }
     {
@@ -238,6 +245,7 @@ impl<V: Keeps<E>, E> OrderedLock<V, E> {
         requires value { V.at_home seat.old.view.first station (turn_of station seat.old.view) 0 seat.old.view.seen seat.old.view.durable value }
         requires floor { station ≡ 1 → floor_of station seat.old.view ≤ V.durable_of value }
         requires common { 0 < names station → Names seat.old.view (V.common_of value) }
+        requires covered { station ≡ 1 → min (V.durable_of value) MAX_SEQNO ≤ V.common_of value }
         ensures seat { seat.new ≡ seat_of seat.old.lock (without None station (turn_of station seat.old.view) (V.durable_of value) (V.common_of value) seat.old.view) }
     {
         self.side_leave_as::<Brand>(seat, station, value);
@@ -249,6 +257,7 @@ impl<V: Keeps<E>, E> OrderedLock<V, E> {
         requires value { V.at_home seat.old.view.first station (turn_of station seat.old.view) 0 seat.old.view.seen seat.old.view.durable value }
         requires floor { station ≡ 1 → floor_of station seat.old.view ≤ V.durable_of value }
         requires common { 0 < names station → Names seat.old.view (V.common_of value) }
+        requires covered { station ≡ 1 → min (V.durable_of value) MAX_SEQNO ≤ V.common_of value }
         requires pick { (L.entry ≡ None) × (L.durable ≡ V.durable_of value) × (L.common ≡ V.common_of value) × (L.number ≡ turn_of station seat.old.view) }
         ensures seat { seat.new ≡ seat_of seat.old.lock (without None station (turn_of station seat.old.view) (V.durable_of value) (V.common_of value) seat.old.view) }
     {
@@ -273,6 +282,7 @@ impl<V: Keeps<E>, E> OrderedLock<V, E> {
         requires value { V.at_home seat.old.view.first station (turn_of station seat.old.view) 1 seat.old.view.seen seat.old.view.durable value }
         requires floor { station ≡ 1 → floor_of station seat.old.view ≤ V.durable_of value }
         requires common { 0 < names station → Names seat.old.view (V.common_of value) }
+        requires covered { station ≡ 1 → min (V.durable_of value) MAX_SEQNO ≤ V.common_of value }
         ensures seat { seat.new ≡ seat_of seat.old.lock (abandoned station value (without None station (turn_of station seat.old.view) (V.durable_of value) (V.common_of value) seat.old.view)) }
     {
         self.give_up_as::<Brand>(seat, station, value);
@@ -285,6 +295,7 @@ impl<V: Keeps<E>, E> OrderedLock<V, E> {
         requires value { V.at_home seat.old.view.first station (turn_of station seat.old.view) 1 seat.old.view.seen seat.old.view.durable value }
         requires floor { station ≡ 1 → floor_of station seat.old.view ≤ V.durable_of value }
         requires common { 0 < names station → Names seat.old.view (V.common_of value) }
+        requires covered { station ≡ 1 → min (V.durable_of value) MAX_SEQNO ≤ V.common_of value }
         requires pick { (L.values ≡ value ∷ []) × (L.durable ≡ V.durable_of value) × (L.common ≡ V.common_of value) × (L.number ≡ turn_of station seat.old.view) }
         ensures seat { seat.new ≡ seat_of seat.old.lock (abandoned station value (without None station (turn_of station seat.old.view) (V.durable_of value) (V.common_of value) seat.old.view)) }
     {

@@ -1,9 +1,11 @@
 -- The node at its start and at its end.
-use Rattle.std.proofs.Common.{◌≡◌, ℕ, zero, suc, ◌+◌, ◌-◌, ◌<◌, ◌≤◌, Option, Some, None, List, [], ◌∷◌, ◌++◌, map, length, get_or, take, sym, refl, ap, ◌∙◌, subst, arith}
+use Rattle.std.proofs.Common.{◌≡◌, ℕ, zero, suc, ◌+◌, ◌-◌, ◌^◌, ◌<◌, ◌≤◌, Option, Some, None, List, [], ◌∷◌, ◌++◌, map, length, get_or, take, sym, refl, ap, ◌∙◌, subst, arith}
 use mathlib.Core.Logic.{dite}
 use native.Mathlib.Decide.{ℕ_discrete}
 use Rattle.rep_ordered.specs.declared.view.View.{View}
+use Rattle.rep_ordered.specs.Counts.{times, once_below}
 use Rattle.rep_ordered.specs.Views.{Later, StartsWith, held_at, reached_at}
+use Rattle.rep_ordered.specs.GoingLaws.{append_nil}
 use Rattle.rep_ordered.specs.Ends.{AllMeet, Closed, ClosedAt}
 use Rattle.rep_ordered_node.specs.declared.certifier.Certifier.{Certifier}
 use Rattle.rep_ordered_node.specs.declared.done.Done.{Done}
@@ -13,11 +15,11 @@ use Rattle.rep_ordered_node.specs.declared.home.Home.TheVariants.{Certifier as A
 use Rattle.rep_ordered_node.specs.Judging.{Legal, highest, item_of, commits_of}
 use Rattle.rep_ordered_node.specs.Homes.{AtHome, CertifierAt, EngineAt, durable_in, order_of, commits_first}
 use Rattle.rep_ordered_node.specs.Seats.{EndsAs, Follows, IsSeat, PassedOrStopped, Quiet}
-use Rattle.rep_ordered_node.proofs.Lists.{append_nil, shorter, whole_front, items_long}
+use Rattle.rep_ordered_node.proofs.Lists.{shorter, whole_front, items_long}
 
 -- the two parts may lie at home at the start
 pub starts : (c : Certifier) (e : Engine) (number durable : ℕ) → Quiet e → Follows e.log.items c → number ≡ length e.log.items + 1 → durable ≡ length e.log.items
-    → let values : List Home = AtFirst c ∷ AtSecond e ∷ [] in AllMeet (Legal (order_of values)) (AtHome values) durable_in (λ _. 0) number durable values
+    → let values : List Home = AtFirst c ∷ AtSecond e ∷ [] in AllMeet (Legal (order_of values)) (AtHome values) durable_in (λ _. 2 ^ 60) number durable values
 starts c e number durable q f here synced zero x is = subst (λ (h : Home). AtHome (AtFirst c ∷ AtSecond e ∷ []) 0 number 0 [] durable h × (◌≡◌ {A = ℕ} 0 1 → durable ≤ durable_in h)) (same_found (AtFirst c) x is) (
   (
     refl,
@@ -73,13 +75,13 @@ second_is first n g history durable (AtFirst c) at = absurd (let d : 1 ≡ 0 = a
 second_is first n g history durable (AtSecond e) at = (e, refl, at.1)
 
 -- without a halt the engine's turn is behind the last number that was drawn
-all_passed : (v : View Home Done) (values : List (Option Home)) (number : ℕ) → Closed (Legal (order_of v.first)) (AtHome v.first) durable_in (λ _. 0) v values → v.halted ≡ 0 → PassedOrStopped v → v.start ≤ number → reached_at 1 v.reached ≤ number → v.start + length v.own ≤ number
+all_passed : (v : View Home Done) (values : List (Option Home)) (number : ℕ) → Closed (Legal (order_of v.first)) (AtHome v.first) durable_in (λ _. 2 ^ 60) v values → v.halted ≡ 0 → PassedOrStopped v → v.start ≤ number → reached_at 1 v.reached ≤ number → v.start + length v.own ≤ number
 all_passed v values number closed running passed begun turn = dite (ℕ_discrete (length v.own) 0)
     (λ none_drawn. omega arith)
     (λ some_drawn. let last : ℕ = v.start + length v.own - 1 in let once = closed.numbers last in let p = passed running last (omega arith) in omega arith)
 
-ends_as : (v : View Home Done) (values : List (Option Home)) (closed : Closed (Legal (order_of v.first)) (AtHome v.first) durable_in (λ _. 0) v values) (x y : Option Home) → IsSeat v → PassedOrStopped v
-    → ClosedAt (Legal (order_of v.first)) (AtHome v.first) durable_in (λ _. 0) v closed.durable closed.common 0 x → ClosedAt (Legal (order_of v.first)) (AtHome v.first) durable_in (λ _. 0) v closed.durable closed.common 1 y
+ends_as : (v : View Home Done) (values : List (Option Home)) (closed : Closed (Legal (order_of v.first)) (AtHome v.first) durable_in (λ _. 2 ^ 60) v values) (x y : Option Home) → IsSeat v → PassedOrStopped v
+    → ClosedAt (Legal (order_of v.first)) (AtHome v.first) durable_in (λ _. 2 ^ 60) v closed.durable closed.common 0 x → ClosedAt (Legal (order_of v.first)) (AtHome v.first) durable_in (λ _. 2 ^ 60) v closed.durable closed.common 1 y
     → (c : Certifier) × (e : Engine) × (x ≡ Some (AtFirst c)) × (y ≡ Some (AtSecond e)) × EndsAs v c e
 ends_as v values closed x y seat passed p q = let f = first_is v.first p.number p.given v.seen closed.durable p.value p.keeps in let s = second_is v.first q.number q.given v.seen closed.durable q.value q.keeps in
     let c : Certifier = f.0 in let e : Engine = s.0 in let at_first = f.2 in let at_second = s.2 in
@@ -104,11 +106,13 @@ ends_as v values closed x y seat passed p q = let f = first_is v.first p.number 
           greatest = at_first.greatest (omega arith) ∙ ap (λ (l : List Done). highest (order_of v.first ++ map item_of l)) same_first;
         };
         commits = λ running. at_first.commits (omega arith) ∙ ap (λ (l : List Done). commits_first v.first ++ commits_of l) same_first;
+        numbers = closed.numbers;
+        drawn = omega arith;
       },
     )
 
 -- what the lock is closed with
-pub closed_homes : (v : View Home Done) (values : List (Option Home)) → Closed (Legal (order_of v.first)) (AtHome v.first) durable_in (λ _. 0) v values → length values ≡ 2 → v.held ≡ [] → IsSeat v → PassedOrStopped v
+pub closed_homes : (v : View Home Done) (values : List (Option Home)) → Closed (Legal (order_of v.first)) (AtHome v.first) durable_in (λ _. 2 ^ 60) v values → length values ≡ 2 → v.held ≡ [] → IsSeat v → PassedOrStopped v
     → (c : Certifier) × (e : Engine) × (values ≡ Some (AtFirst c) ∷ Some (AtSecond e) ∷ []) × EndsAs v c e
 closed_homes v [] closed two free seat passed = absurd (omega arith)
 closed_homes v (x ∷ []) closed two free seat passed = absurd (omega arith)
@@ -128,6 +132,8 @@ ends_before v w c e later halted seen h = let first : w.first ≡ v.first = ap (
   whole = λ running. let t = h.whole (omega arith) in (t.0 ∙ seen, t.1);
   follows = λ running. subst (λ (z : List Home × List Done). Follows (order_of z.0 ++ map item_of z.1) c) (λ i. (first i, seen i)) (h.follows (omega arith));
   commits = λ running. h.commits (omega arith) ∙ (λ i. commits_first (first i) ++ commits_of (seen i));
+  numbers = λ x. subst (λ (z : View Home Done). times x z.own + once_below x z.start ≡ once_below x (z.start + length z.own)) later.same (h.numbers x);
+  drawn = let d = h.drawn in let own : length w.own ≡ length v.own = ap (λ (z : View Home Done). length z.own) later.same in let as_long : length w.seen ≡ length v.seen = ap length seen in omega arith;
 }
 
 -- the last two of a list of two
@@ -139,7 +145,7 @@ popped_first items left a b n m s two n_is m_is rest second = let n_two : n ≡ 
     second a (omega arith) ∙ (λ i. Some (get_or (left_is i) (m_one i - 1) a))
 
 -- what the node is closed with, after a last look at the front
-pub close_parts : (v w : View Home Done) (values : List (Option Home)) → Later v w → (w.halted ≡ v.halted) × (w.seen ≡ v.seen) → v.held ≡ [] → IsSeat v → PassedOrStopped v → Closed (Legal (order_of w.first)) (AtHome w.first) durable_in (λ _. 0) w values → length values ≡ 2
+pub close_parts : (v w : View Home Done) (values : List (Option Home)) → Later v w → (w.halted ≡ v.halted) × (w.seen ≡ v.seen) → v.held ≡ [] → IsSeat v → PassedOrStopped v → Closed (Legal (order_of w.first)) (AtHome w.first) durable_in (λ _. 2 ^ 60) w values → length values ≡ 2
     → (c : Certifier) × (e : Engine) × (values ≡ Some (AtFirst c) ∷ Some (AtSecond e) ∷ []) × EndsAs v c e
 close_parts v w values later last free seat passed closed two = let halted = last.0 in
     let t = closed_homes w values closed two (ap (λ (z : View Home Done). z.held) later.same ∙ free) (subst IsSeat (sym later.same) seat) (subst PassedOrStopped (sym later.same) (λ running. passed (omega arith))) in

@@ -1,16 +1,9 @@
 -- Orders and histories, one item longer.
 use Rattle.std.proofs.Common.{◌≡◌, ℕ, suc, ◌+◌, ◌<◌, ◌≤◌, max, List, [], ◌∷◌, ◌++◌, map, length, sym, refl, ap, ◌∙◌, subst, arith, length-append, append_assoc}
-use Rattle.rep_ordered.specs.Counts.{times}
 use Rattle.rep_ordered.specs.Views.{StartsWith}
+use Rattle.rep_ordered.specs.GoingLaws.{append_nil}
 use Rattle.rep_ordered_node.specs.declared.done.Done.{Done}
 use Rattle.rep_ordered_node.specs.Judging.{Judged, Legal, highest, item_of, commit_of, commits_of}
-
-pub append_nil : {A : Type 0} (l : List A) → l ++ [] ≡ l
-append_nil [] = refl
-append_nil (e ∷ es) = ap (λ z. e ∷ z) (append_nil es)
-
-pub begins_on : {A : Type 0} (a b c : List A) → StartsWith b a → StartsWith c b → StartsWith c a
-begins_on a b c p q = (p.0 ++ q.0, q.1 ∙ (ap (λ l. l ++ q.0) p.1 ∙ append_assoc a p.0 q.0))
 
 abbrev head_or : {A : Type 0} → A → List A → A
 head_or d [] = d
@@ -58,10 +51,3 @@ commits_more (e ∷ ds) d = ap (λ l. commit_of e ++ l) (commits_more ds d) ∙ 
 pub legal_more : (order : List ℕ) (ds : List Done) (d : Done) → Legal order ds → Judged (order ++ map item_of ds) d → Legal order (ds ++ d ∷ [])
 legal_more order [] d h j = (subst (λ (l : List ℕ). Judged l d) (append_nil order) j, tt)
 legal_more order (e ∷ ds) d h j = (h.0, legal_more (order ++ e.item ∷ []) ds d h.1 (subst (λ (l : List ℕ). Judged l d) (sym (append_assoc order (e.item ∷ []) (map item_of ds))) j))
-
-pub times_append : (x : ℕ) (xs ys : List ℕ) → times x (xs ++ ys) ≡ times x xs + times x ys
-times_append x [] ys = omega arith
-times_append x (y ∷ xs) ys = let e = times_append x xs ys in omega arith
-
-pub times_one : (x t : ℕ) → 0 < times x (t ∷ []) → x ≡ t
-times_one x t drawn = omega arith

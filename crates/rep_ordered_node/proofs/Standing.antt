@@ -2,6 +2,7 @@
 use Rattle.std.proofs.Common.{◌≡◌, ℕ, ◌+◌, ◌<◌, ◌≤◌, max, List, [], ◌∷◌, ◌++◌, map, length, sym, refl, ap, ◌∙◌, subst, arith, length-append, append_assoc}
 use Rattle.std.specs.Prelude.{◌↔◌, IsTrue, IsFalse}
 use Rattle.rep_ordered.specs.Views.{StartsWith, OwnEntry}
+use Rattle.rep_ordered.specs.GoingLaws.{append_nil, begins_on}
 use Rattle.rep_ordered_node.specs.declared.certifier.Certifier.{Certifier}
 use Rattle.rep_ordered_node.specs.declared.done.Done.{Done}
 use Rattle.rep_ordered_node.specs.declared.engine.Engine.{Engine}
@@ -9,7 +10,7 @@ use Rattle.rep_ordered_node.specs.declared.home.Home.{Home}
 use Rattle.rep_ordered_node.specs.Judging.{Judged, highest, item_of, commit_of, commits_of}
 use Rattle.rep_ordered_node.specs.Homes.{CertifierAt, EngineAt, order_of, commits_first}
 use Rattle.rep_ordered_node.specs.Seats.{own_entry}
-use Rattle.rep_ordered_node.proofs.Lists.{append_nil, begins_on, one_front, whole_front, items_long, items_more, highest_more, commits_more}
+use Rattle.rep_ordered_node.proofs.Lists.{one_front, whole_front, items_long, items_more, highest_more, commits_more}
 
 -- inside station 0 the certifier has judged the whole history
 all_judged : (first : List Home) (t : ℕ) (history : List Done) (word : ℕ) (c : Certifier) (h : CertifierAt first t 0 history word c) → length (order_of first) + 1 + length history ≡ t → h.front ≡ history

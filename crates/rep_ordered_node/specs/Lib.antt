@@ -2,3 +2,4 @@ pub mod Judging
 pub mod Homes
 pub mod Growing
 pub mod Seats
+pub mod Batches

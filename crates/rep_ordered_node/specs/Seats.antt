@@ -2,8 +2,9 @@
 use Rattle.std.specs.Prelude.{◌≡◌, ℕ, ◌+◌, ◌<◌, ◌≤◌, ◌⊎◌, IsFalse, List, [], ◌∷◌, ◌++◌, length, map}
 use Rattle.rep_ordered.specs.declared.view.Joined.{Joined}
 use Rattle.rep_ordered.specs.declared.view.View.{View}
-use Rattle.rep_ordered.specs.Counts.{times}
-use Rattle.rep_ordered.specs.Views.{StartsWith, reached_at}
+use Rattle.rep_ordered.specs.Counts.{times, once_below}
+use Rattle.rep_ordered.specs.Views.{StartsWith}
+use Rattle.rep_ordered.specs.Going.{AllPassed}
 use Rattle.rep_ordered_node.specs.declared.certifier.Certifier.{Certifier}
 use Rattle.rep_ordered_node.specs.declared.done.Done.{Done}
 use Rattle.rep_ordered_node.specs.declared.engine.Engine.{Engine}
@@ -15,21 +16,9 @@ use Rattle.rep_ordered_node.specs.Homes.{order_of, commits_first}
 abbrev pub IsSeat : View Home Done → Type 0
 IsSeat v = v.start ≡ length (order_of v.first) + 1
 
--- the seat has its numbers still, or has drawn them, has seen as much or more, and holds nothing
-pub record Went (v w : View Home Done) : Type 0 where
-  pub start : w.start ≡ v.start
-  pub whole : w.whole ≡ v.whole
-  pub first : w.first ≡ v.first
-  pub kept : w.allowance + length w.own ≡ v.allowance + length v.own
-  pub free : w.held ≡ []
-  pub seen : StartsWith w.seen v.seen
-  pub durable : v.durable ≤ w.durable
-  pub halted : v.halted ≤ w.halted
-  pub reached : (j : ℕ) → reached_at j v.reached ≤ reached_at j w.reached
-
 -- each number that the seat drew has passed the engine
 abbrev pub Passed : View Home Done → Type 0
-Passed v = (x : ℕ) → 0 < times x v.own → x < reached_at 1 v.reached
+Passed v = AllPassed 1 v
 
 -- unless it knows of a halt
 abbrev pub PassedOrStopped : View Home Done → Type 0
@@ -39,9 +28,9 @@ PassedOrStopped v = v.halted ≡ 0 → Passed v
 abbrev pub own_entry : Done → Joined Done
 own_entry d = record { number = d.seqno; entry = d }
 
--- the seat let nothing join the history, or this item alone
+-- the seat let nothing join the history, or this item alone, at a number that the history had not come to
 abbrev pub Joins : ℕ → View Home Done → View Home Done → Type 0
-Joins item v w = (w.joined ≡ v.joined) ⊎ (d : Done) × (d.item ≡ item) × (w.joined ≡ own_entry d ∷ v.joined)
+Joins item v w = (w.joined ≡ v.joined) ⊎ (d : Done) × (d.item ≡ item) × (v.start + length v.seen ≤ d.seqno) × (w.joined ≡ own_entry d ∷ v.joined)
 
 -- nothing waits, all is durable, and the engine works
 pub record Quiet (e : Engine) : Type 0 where
@@ -65,3 +54,6 @@ pub record EndsAs (v : View Home Done) (c : Certifier) (e : Engine) : Type 0 whe
   pub whole : v.halted ≡ 0 → (front ≡ v.seen) × IsFalse e.failed
   pub follows : v.halted ≡ 0 → Follows (order_of v.first ++ map item_of v.seen) c
   pub commits : v.halted ≡ 0 → c.commits.items ≡ commits_first v.first ++ commits_of v.seen
+  -- the seat's numbers are those from the first on, each once, and the history has no more entries than that
+  pub numbers : (x : ℕ) → times x v.own + once_below x v.start ≡ once_below x (v.start + length v.own)
+  pub drawn : length v.seen ≤ length v.own

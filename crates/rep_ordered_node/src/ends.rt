@@ -1,9 +1,9 @@
 //! How the node is started and closed.
 
-ghost use Rattle.std.specs.Prelude.{◌≡◌, ◌+◌, ◌-◌, ◌≤◌, [], ◌++◌, length, IfOk, IfErr, IsTrue, IsFalse};
+ghost use Rattle.std.specs.Prelude.{◌≡◌, ◌+◌, ◌-◌, ◌^◌, ◌≤◌, [], ◌++◌, length, IfOk, IfErr, IsTrue, IsFalse};
 ghost use Rattle.rep_ordered.specs.Views.{opened};
 ghost use Rattle.rep_ordered.specs.Seats.{seat_of, stations_of};
-ghost use Rattle.rep_ordered_node.specs.Homes.{order_of};
+ghost use Rattle.rep_ordered_node.specs.Homes.{durable_in, order_of};
 ghost use Rattle.rep_ordered_node.specs.Judging.{Legal};
 ghost use Rattle.rep_ordered_node.specs.Seats.{EndsAs, Follows, IsSeat, PassedOrStopped, Quiet};
 
@@ -72,7 +72,7 @@ pub fn start(
     requires follows { Follows engine.log.items certifier }
     requires limit { length engine.log.items ≤ MAX_SEQNO }
     ensures stations { IfOk result (λ made. stations_of made.0 ≡ 2) }
-    ensures seat { IfOk result (λ made. made.1 ≡ seat_of made.0 (opened (length engine.log.items + 1) (MAX_SEQNO - length engine.log.items) made.1.view.first (length engine.log.items))) }
+    ensures seat { IfOk result (λ made. made.1 ≡ seat_of made.0 (opened durable_in (λ _. 2 ^ 60) (length engine.log.items + 1) (MAX_SEQNO - length engine.log.items) made.1.view.first (length engine.log.items))) }
     ensures order { IfOk result (λ made. order_of made.1.view.first ≡ engine.log.items) }
     ensures refused { IfErr result (λ refusal. refusal ≡ Refusal.OutOfMemory) }
 {

@@ -13,7 +13,7 @@ pub enum Home {
 }
 
 impl Keeps<Done> for Home {
-    ghost use Rattle.std.specs.Prelude.{};
+    ghost use Rattle.std.specs.Prelude.{◌^◌};
     ghost use Rattle.rep_ordered_node.specs.Judging.{Legal};
     ghost use Rattle.rep_ordered_node.specs.Homes.{AtHome, order_of, durable_in};
     ghost use Rattle.rep_ordered_node.specs.Growing.{home_grows};
@@ -24,7 +24,8 @@ impl Keeps<Done> for Home {
 
     ghost durable_of = { λ home. durable_in home };
 
-    ghost common_of = { λ _. 0 };
+    // Station 1 names the greatest, which covers each durable number.
+    ghost common_of = { λ _. 2 ^ 60 };
 
     ghost grows = { λ first station number given durable later history more home fits up. home_grows first station number given durable later history more home fits up };
 }

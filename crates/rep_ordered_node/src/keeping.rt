@@ -3,9 +3,9 @@
 ghost use Rattle.std.specs.Prelude.{◌≡◌, ◌≤◌, [], IfOk, IfErr};
 ghost use Rattle.rep_ordered.specs.Views.{Later, Sees};
 ghost use Rattle.rep_ordered.specs.Seats.{stations_of};
+ghost use Rattle.rep_ordered.specs.Going.{Went};
 ghost use Rattle.rep_ordered_node.specs.Homes.{order_of};
 ghost use Rattle.rep_ordered_node.specs.Judging.{Legal};
-ghost use Rattle.rep_ordered_node.specs.Seats.{Went};
 
 use crate::done::Done;
 use crate::home::Home;

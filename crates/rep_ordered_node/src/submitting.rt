@@ -5,9 +5,10 @@ ghost use Rattle.rep_ordered.specs.declared.view.Joined.{Joined};
 ghost use Rattle.rep_ordered.specs.Counts.{times};
 ghost use Rattle.rep_ordered.specs.Views.{OwnEntry, Sees, reached_at};
 ghost use Rattle.rep_ordered.specs.Seats.{stations_of};
+ghost use Rattle.rep_ordered.specs.Going.{Went};
 ghost use Rattle.rep_ordered_node.specs.Homes.{order_of};
 ghost use Rattle.rep_ordered_node.specs.Judging.{Legal};
-ghost use Rattle.rep_ordered_node.specs.Seats.{IsSeat, Went, PassedOrStopped, Joins, own_entry};
+ghost use Rattle.rep_ordered_node.specs.Seats.{IsSeat, PassedOrStopped, Joins, own_entry};
 
 use crate::done::Done;
 use crate::home::Home;

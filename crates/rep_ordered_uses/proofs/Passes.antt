@@ -1,5 +1,5 @@
 -- Lists of tickets, one ticket later.
-use Rattle.std.proofs.Common.{◌≡◌, ℕ, zero, suc, ◌+◌, ◌-◌, ◌*◌, ◌/◌, ◌<◌, ◌≤◌, max, eqb, List, [], ◌∷◌, ◌++◌, length, get_or, take, sym, refl, ap, ◌∙◌, subst, arith, length-append, mul-le-mul_right, if◌then◌else◌}
+use Rattle.std.proofs.Common.{◌≡◌, ℕ, zero, suc, ◌+◌, ◌-◌, ◌*◌, ◌/◌, ◌^◌, ◌<◌, ◌≤◌, max, eqb, List, [], ◌∷◌, ◌++◌, length, get_or, take, sym, refl, ap, ◌∙◌, subst, arith, length-append, mul-le-mul_right, if◌then◌else◌}
 use Rattle.std.specs.Prelude.{slice_get, Option, None, Some, Result, Ok, Err, OnOk, IsSomeAnd, All}
 use Rattle.std.proofs.lemmas.Option.{same_Some, slice_get-get_or}
 use Rattle.rep_ordered_uses.specs.declared.notes.Note.{Note}
@@ -10,19 +10,8 @@ use Rattle.rep_ordered.specs.declared.view.Reached.{Reached}
 use Rattle.rep_ordered.specs.declared.view.View.{View}
 use Rattle.rep_ordered.specs.Counts.{times}
 use Rattle.rep_ordered.specs.Views.{StartsWith, held_at, reached_at, reach}
+use Rattle.rep_ordered.specs.GoingLaws.{append_nil, passed_more, passed_joined}
 use Rattle.rep_ordered_uses.specs.Passing.{Anything, HavePassed, numbers, AllDone}
-
-append_nil : {A : Type 0} (l : List A) → l ++ [] ≡ l
-append_nil [] = refl
-append_nil (e ∷ es) = ap (λ z. e ∷ z) (append_nil es)
-
-times_append : (x : ℕ) (xs ys : List ℕ) → times x (xs ++ ys) ≡ times x xs + times x ys
-times_append x [] ys = omega arith
-times_append x (y ∷ xs) ys = let e = times_append x xs ys in omega arith
-
--- the only number of a list of one
-times_one : (x t : ℕ) → 0 < times x (t ∷ []) → x ≡ t
-times_one x t drawn = omega arith
 
 pub length-numbers : (first n : ℕ) → length (numbers first n) ≡ n
 length-numbers first zero = refl
@@ -62,11 +51,7 @@ next_second start t before seen old tickets g place begins h = let count = h.cou
 
 -- the number drawn has passed both stations, and so have those before it
 all_done : {V : Type 0} (v w : View V ℕ) (t : ℕ) → w.own ≡ v.own ++ t ∷ [] → t < reached_at 0 w.reached → t < reached_at 1 w.reached → reached_at 0 v.reached ≤ reached_at 0 w.reached → reached_at 1 v.reached ≤ reached_at 1 w.reached → AllDone v → AllDone w
-all_done v w t own here there up_here up_there old x drawn = go (times x v.own) refl
-  where
-    go : (n : ℕ) → n ≡ times x v.own → (x < reached_at 0 w.reached) × (x < reached_at 1 w.reached)
-    go zero none = let s = times_append x v.own (t ∷ []) in let counted : times x w.own ≡ times x (v.own ++ t ∷ []) = ap (times x) own in let is = times_one x t (omega arith) in (omega arith, omega arith)
-    go (suc n) some = let o = old x (omega arith) in let a = o.0 in let b = o.1 in (omega arith, omega arith)
+all_done v w t own here there up_here up_there old x drawn = (passed_more 0 v w t up_here own here (λ y d. (old y d).0) x drawn, passed_more 1 v w t up_there own there (λ y d. (old y d).1) x drawn)
 
 -- the number drawn has left the first station, and then passed the second
 pub done_more : {V : Type 0} (v w : View V ℕ) (t : ℕ) → w.own ≡ v.own ++ t ∷ [] → w.reached ≡ reach 1 (t + 1) ∷ reach 1 t ∷ reach 0 (t + 1) ∷ reach 0 t ∷ v.reached → AllDone v → AllDone w
@@ -77,7 +62,7 @@ pub done_coupled : {V : Type 0} (v w : View V ℕ) (t : ℕ) → w.own ≡ v.own
 done_coupled v w t own reached old = let here = ap (reached_at 0) reached in let there = ap (reached_at 1) reached in all_done v w t own (omega arith) (omega arith) (omega arith) (omega arith) old
 
 -- the notes that a lock is closed with whose seat holds no station
-pub closed_marks : (v : View Note ℕ) (values : List (Option Note)) → Closed Anything (λ _ _ _ _ _ note. note.mark ≤ 100) (λ note. note.mark) (λ _. 0) v values → v.held ≡ [] → All (λ found. IsSomeAnd found (λ note. note.mark ≤ 100)) values
+pub closed_marks : (v : View Note ℕ) (values : List (Option Note)) → Closed Anything (λ _ _ _ _ _ note. note.mark ≤ 100) (λ note. note.mark) (λ _. 2 ^ 60) v values → v.held ≡ [] → All (λ found. IsSomeAnd found (λ note. note.mark ≤ 100)) values
 closed_marks v values closed free k d below = let c = closed.each k (get_or values k d) (slice_get-get_or values k d below) (ap (held_at k) free) in subst (λ found. IsSomeAnd found (λ (note : Note). note.mark ≤ 100)) (sym c.is) c.keeps
 
 pub no_more : (start n m : ℕ) (before after first second : List ℕ) → HavePassed start n before first → start + length before ≡ n → HavePassed start m after second → after ≡ before → length second ≤ length first
@@ -91,22 +76,9 @@ ok_both (Ok a) (Ok b) p q f = f p q
 ok_both (Ok a) (Err e) p q f = tt
 ok_both (Err e) s p q f = tt
 
-reached_left : (j : ℕ) (rs ts : List Reached) → reached_at j rs ≤ reached_at j (rs ++ ts)
-reached_left j [] ts = omega arith
-reached_left j (r ∷ rs) ts = let s = reached_left j rs ts in let x : ℕ = if eqb j r.station then r.number else 0 in let y : ℕ = reached_at j rs in let z : ℕ = reached_at j (rs ++ ts) in let t : y ≤ z = s in let goal : max x y ≤ max x z = omega arith in goal
-
-reached_right : (j : ℕ) (rs ts : List Reached) → reached_at j ts ≤ reached_at j (rs ++ ts)
-reached_right j [] ts = omega arith
-reached_right j (r ∷ rs) ts = let s = reached_right j rs ts in let x : ℕ = if eqb j r.station then r.number else 0 in let y : ℕ = reached_at j ts in let z : ℕ = reached_at j (rs ++ ts) in let t : y ≤ z = s in let goal : y ≤ max x z = omega arith in goal
-
 -- what two seats drew has passed, once they are joined
 pub done_both : {V : Type 0} (v w u : View V ℕ) → u.own ≡ v.own ++ w.own → u.reached ≡ v.reached ++ w.reached → AllDone v → AllDone w → AllDone u
-done_both v w u own reached p q x drawn = subst (λ rs. (x < reached_at 0 rs) × (x < reached_at 1 rs)) (sym reached) (go (times x v.own) refl)
-  where
-    go : (n : ℕ) → n ≡ times x v.own → (x < reached_at 0 (v.reached ++ w.reached)) × (x < reached_at 1 (v.reached ++ w.reached))
-    go zero none = let s = times_append x v.own w.own in let counted : times x u.own ≡ times x (v.own ++ w.own) = ap (times x) own in let o = q x (omega arith) in let a = o.0 in let b = o.1 in
-        let l = reached_right 0 v.reached w.reached in let m = reached_right 1 v.reached w.reached in (omega arith, omega arith)
-    go (suc n) some = let o = p x (omega arith) in let a = o.0 in let b = o.1 in let l = reached_left 0 v.reached w.reached in let m = reached_left 1 v.reached w.reached in (omega arith, omega arith)
+done_both v w u own reached p q x drawn = (passed_joined 0 v w u own reached (λ y d. (p y d).0) (λ y d. (q y d).0) x drawn, passed_joined 1 v w u own reached (λ y d. (p y d).1) (λ y d. (q y d).1) x drawn)
 
 -- what a lock is closed with whose seat has drawn so many tickets, each of which has passed both stations
 pub closed_lists : {V : Type 0} (tickets : V → List ℕ) (durable_of : V → ℕ) (start count : ℕ) (v : View V ℕ) (values : List (Option V)) → Closed Anything (λ _ number _ history _ x. HavePassed start number history (tickets x)) durable_of (λ _. 0) v values

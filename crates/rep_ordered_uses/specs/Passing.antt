@@ -20,13 +20,6 @@ pub record HavePassed (start number : ℕ) (history tickets : List ℕ) : Type 0
 abbrev pub Anything : List ℕ → Type 0
 Anything history = Unit {0}
 
--- the seat has its numbers still, or has drawn them, and holds nothing
-pub record Went {V : Type 0} (v w : View V ℕ) : Type 0 where
-  pub start : w.start ≡ v.start
-  pub whole : w.whole ≡ v.whole
-  pub kept : w.allowance + length w.own ≡ v.allowance + length v.own
-  pub free : w.held ≡ []
-
 -- each number that the seat drew has passed both stations
 abbrev pub AllDone : {V : Type 0} → View V ℕ → Type 0
 AllDone v = (x : ℕ) → 0 < times x v.own → (x < reached_at 0 v.reached) × (x < reached_at 1 v.reached)

@@ -3,7 +3,8 @@
 ghost use Rattle.std.specs.Prelude.{◌≡◌, ◌+◌, ◌<◌, ◌≤◌, [], length, IfOk, IfErr, OnOk, ◌⊎◌};
 ghost use Rattle.std.specs.Thread.{IsSync};
 ghost use Rattle.rep_ordered.specs.Seats.{stations_of};
-ghost use Rattle.rep_ordered_uses.specs.Passing.{AllDone, Went};
+ghost use Rattle.rep_ordered.specs.Going.{Went};
+ghost use Rattle.rep_ordered_uses.specs.Passing.{AllDone};
 
 use crate::passed::Passed;
 use crate::passing::{lock_of_lists, passed_counts};

@@ -4,7 +4,7 @@ ghost use Rattle.std.specs.Prelude.{◌≡◌, ◌<◌, ◌≤◌, [], length, I
 ghost use Rattle.rep_ordered.specs.Counts.{times};
 ghost use Rattle.rep_ordered.specs.Views.{Holds, except};
 ghost use Rattle.rep_ordered.specs.Seats.{stations_of};
-ghost use Rattle.rep_ordered_uses.specs.Passing.{Went};
+ghost use Rattle.rep_ordered.specs.Going.{Went};
 
 use rep_ordered::{Front, Keeps, OrderedLock, Seat};
 use rep_types::{MAX_SEQNO, Refusal};
@@ -20,7 +20,7 @@ pub struct Note {
 }
 
 impl Keeps<u64> for Note {
-    ghost use Rattle.std.specs.Prelude.{◌≤◌};
+    ghost use Rattle.std.specs.Prelude.{◌≤◌, ◌^◌};
     ghost use Rattle.rep_ordered_uses.specs.Passing.{Anything};
 
     ghost legal = { λ _ history. Anything history };
@@ -29,7 +29,8 @@ impl Keeps<u64> for Note {
 
     ghost durable_of = { λ note. note.mark };
 
-    ghost common_of = { λ _. 0 };
+    // Station 1 names the greatest, which covers each durable number.
+    ghost common_of = { λ _. 2 ^ 60 };
 
     ghost grows = { λ _ _ _ _ _ _ _ _ _ home _. home };
 }

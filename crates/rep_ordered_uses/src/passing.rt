@@ -4,7 +4,8 @@ ghost use Rattle.std.specs.Prelude.{◌≡◌, ◌+◌, ◌*◌, ◌-◌, ◌^�
 ghost use Rattle.std.specs.Thread.{IsSync};
 ghost use Rattle.rep_ordered.specs.Views.{opened};
 ghost use Rattle.rep_ordered.specs.Seats.{seat_of, stations_of};
-ghost use Rattle.rep_ordered_uses.specs.Passing.{AllDone, Went, numbers};
+ghost use Rattle.rep_ordered.specs.Going.{Went};
+ghost use Rattle.rep_ordered_uses.specs.Passing.{AllDone, numbers};
 
 use crate::passed::Passed;
 use rep_ordered::{OrderedLock, Seat};
@@ -153,7 +154,7 @@ pub fn lock_of_lists<const START: u64>(
 ) -> Result<(OrderedLock<Passed<START>, u64>, Seat<Passed<START>, u64>), Refusal>
     requires start { (0 < START) × (START ≤ MAX_SEQNO + 1) }
     ensures stations { IfOk result (λ made. stations_of made.0 ≡ 2) }
-    ensures seat { IfOk result (λ made. made.1 ≡ seat_of made.0 (opened START (MAX_SEQNO + 1 - START) made.1.view.first 0)) }
+    ensures seat { IfOk result (λ made. made.1 ≡ seat_of made.0 (opened (λ _. 0) (λ _. 0) START (MAX_SEQNO + 1 - START) made.1.view.first 0)) }
     ensures refused { IfErr result (λ refusal. refusal ≡ Refusal.OutOfMemory) }
 {
     let mut values = Vec::with_capacity(alloc, 2)?;

@@ -3,7 +3,7 @@
 
 ghost use Rattle.std.specs.Prelude.{◌≡◌, ◌+◌, ◌<◌, ◌≤◌, [], length, IfOk, IfErr};
 ghost use Rattle.rep_ordered.specs.Seats.{stations_of};
-ghost use Rattle.rep_ordered_uses.specs.Passing.{Went};
+ghost use Rattle.rep_ordered.specs.Going.{Went};
 
 use rep_ordered::{Keeps, OrderedLock, Seat};
 use rep_types::{MAX_SEQNO, Refusal};

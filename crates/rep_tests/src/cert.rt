@@ -2,54 +2,113 @@
 
 use rep_cert::Certifier;
 use rep_types::{Entry, Key, Params, Refusal, Verdict, Write, WriteSet};
+use std::alloc::Global;
+use std::process::Abort;
 use std::test::Fail;
 
-#[test]
-fn certifies(rt: HostRuntime) -> Result<(), Fail> {
-    let alloc = rt.alloc();
-    let params = Params::new(4, 4, &[10])?;
-    let mut certifier = Certifier::new(alloc, params, 0, Vec::new(alloc))?;
+/// An item that deletes the row 7, and saw so many items.
+fn item(last_seen: u64) -> Result<WriteSet, Refusal> {
     let write = Write {
         key: Key { table: 0, row: 7 },
         value: None,
     };
-    let item = WriteSet::new(1, 1, 0, &[], &[write])?;
-    assert_eq!(rt; certifier.judge(&item), Verdict::Commit);
-    assert_eq!(rt; certifier.admit(&item)?, (1, Verdict::Commit));
-    assert_eq!(rt; certifier.admit(&item)?, (2, Verdict::Conflict(1)));
+    WriteSet::new(1, 1, last_seen, &[], &[write])
+}
+
+/// A certifier with a window of 4 seqnos at this position, which holds entries of the item with these seqnos.
+fn certifier(
+    alloc: Global,
+    position: u64,
+    item: &WriteSet,
+    seqnos: &[u64],
+) -> Result<Certifier, Refusal> {
+    let mut window = Vec::new(alloc);
+    for seqno in seqnos {
+        window.push(Entry::new(*seqno, item.written()))?;
+    }
+    Certifier::new(alloc, Params::new(4, 4, &[10])?, position, window)
+}
+
+/// Compares what the item is judged and admitted with.
+fn answers(
+    rt: &impl Abort,
+    certifier: &mut Certifier,
+    item: &WriteSet,
+    verdict: Verdict,
+    admitted: Result<(u64, Verdict), Refusal>,
+) {
+    let judged = certifier.judge(item);
+    assert_eq!(rt; (judged, certifier.admit(item)), (verdict, admitted));
+}
+
+/// Admits the item, and takes it back.
+fn taken_back(certifier: &mut Certifier, item: &WriteSet) -> Result<(u64, Verdict), Refusal> {
+    let judged = certifier.admit(item)?;
     certifier.undo_last();
-    assert_eq!(rt; certifier.delivered(), 1);
-    let window = certifier.window_at(alloc, certifier.delivered())?;
-    assert_eq!(rt; window.len(), 1);
-    assert_eq!(rt; window[0].seqno(), 1);
-    assert_eq!(rt; window[0].keys().len(), 1);
+    Ok(judged)
+}
+
+/// Whether the entries have these seqnos, and each of them the row 7 alone.
+fn are(entries: &[Entry], seqnos: &[u64]) -> bool {
+    let mut right = entries.len() == seqnos.len();
+    for (entry, seqno) in entries.iter().zip(seqnos) {
+        let key = Key { table: 0, row: 7 };
+        right = right && entry.seqno() == *seqno && entry.keys() == [key].as_slice();
+    }
+    right
+}
+
+/// Compares the position, and the window there.
+fn stands(
+    rt: &(impl Abort + AllocGlobal),
+    certifier: &Certifier,
+    position: u64,
+    seqnos: &[u64],
+) -> Result<(), Refusal> {
+    let window = certifier.window_at(rt.alloc(), certifier.delivered())?;
+    assert_eq!(rt;
+        (certifier.delivered(), are(&window, seqnos)),
+        (position, true)
+    );
     Ok(())
 }
+
+#[test]
+fn certifies(rt: HostRuntime) -> Result<(), Fail> {
+    let item = item(0)?;
+    let mut certifier = certifier(rt.alloc(), 0, &item, &[])?;
+    answers(
+        &rt,
+        &mut certifier,
+        &item,
+        Verdict::Commit,
+        Ok((1, Verdict::Commit)),
+    );
+    let second = taken_back(&mut certifier, &item);
+    assert_eq!(rt; second, Ok((2, Verdict::Conflict(1))));
+    stands(&rt, &certifier, 1, &[1])?;
+    Ok(())
+}
+
+/// The greatest number.
+const TOP: u64 = u64::MAX;
+
+/// Entries near the top, in any order, one of them twice.
+const GIVEN: [u64; 7] = [TOP, TOP - 2, TOP - 5, TOP - 3, TOP - 3, 0, TOP - 4];
 
 // At the last positions of all, with a window of 4 seqnos: the entries above the position and
 // below its window go, the others stay as they are.
 #[test]
 fn is_made_of_any_entries(rt: HostRuntime) -> Result<(), Fail> {
-    let alloc = rt.alloc();
-    let write = Write {
-        key: Key { table: 0, row: 7 },
-        value: None,
-    };
-    let item = WriteSet::new(1, 1, u64::MAX - 5, &[], &[write])?;
-    let mut window = Vec::new(alloc);
-    for below in [0, 2, 5, 3, 3, u64::MAX, 4] {
-        window.push(Entry::new(u64::MAX - below, item.written()))?;
-    }
-    let params = Params::new(4, 4, &[10])?;
-    let mut certifier = Certifier::new(alloc, params, u64::MAX - 1, window)?;
-    assert_eq!(rt; certifier.judge(&item), Verdict::Conflict(u64::MAX - 2));
-    assert_eq!(rt; certifier.admit(&item), Err(Refusal::Exhausted));
-    assert_eq!(rt; certifier.delivered(), u64::MAX - 1);
-    let held = certifier.window_at(alloc, certifier.delivered())?;
-    let below: Vec<u64> = held
-        .iter()
-        .map(|entry| u64::MAX - entry.seqno())
-        .collect(alloc)?;
-    assert_eq!(rt; below.as_slice(), [2, 3, 3, 4].as_slice());
+    let item = item(TOP - 5)?;
+    let mut certifier = certifier(rt.alloc(), TOP - 1, &item, &GIVEN)?;
+    let verdict = Verdict::Conflict(TOP - 2);
+    answers(&rt, &mut certifier, &item, verdict, Err(Refusal::Exhausted));
+    stands(
+        &rt,
+        &certifier,
+        TOP - 1,
+        &[TOP - 2, TOP - 3, TOP - 3, TOP - 4],
+    )?;
     Ok(())
 }

@@ -1,12 +1,12 @@
-//! The layout of the device: the sizes, and each byte of the forms that may not be another.
+//! The layout of the device: the sizes, and each byte of a superblock that may not be another.
 
+use crate::bytes::{exchanged, has_parts};
 use arrayvec::ArrayVec;
 use rep_layout::{
-    Layout, PageState, Place, RowPlace, Side, Slot, SuperBody, WINDOW_BODY, WindowBody,
-    WindowReader, need, page_of, row_at,
+    Layout, PageState, Place, RowPlace, SUPER_BODY, Side, Slot, SuperBody, need, page_of, row_at,
 };
-use rep_types::{Entry, Key, Params, Part, Refusal};
-use std::alloc::{AllocError, Global};
+use rep_types::{Key, Params, Part, Refusal, Schema};
+use std::process::Abort;
 use std::test::Fail;
 use uuid::Uuid;
 
@@ -14,315 +14,276 @@ const SUPERBLOCK: Refusal = Refusal::Corrupt {
     part: Part::Superblock,
 };
 
-const WINDOW: Refusal = Refusal::Corrupt { part: Part::Window };
-
 /// A window of 4, 4 cells, and one table of 126 rows: two pages.
-fn small() -> Result<Params, Refusal> {
+pub(crate) fn small() -> Result<Params, Refusal> {
     Params::new(4, 4, &[126])
 }
 
 /// The largest parameters: 1,024 cells and 4,096 pages.
-fn largest() -> Result<Params, Refusal> {
+pub(crate) fn largest() -> Result<Params, Refusal> {
     Params::new(256, 1024, &[63 * 4096])
 }
 
 #[test]
 fn devices_have_the_sizes_of_the_format(rt: HostRuntime) -> Result<(), Fail> {
-    assert_eq!(rt; need(&small()?), 103_424);
-    assert_eq!(rt; need(&largest()?), 41_997_312);
-    let layout = Layout::new(&small()?);
-    let places: [(Place, usize); 8] = [
-        (Place::Super(Side::A), 0),
-        (Place::Super(Side::B), 4_096),
-        (Place::Window(Side::A), 8_192),
-        (Place::Window(Side::B), 31_232),
-        (Place::Log(0), 54_272),
-        (Place::Log(3), 78_848),
-        (Place::Page(0, Slot::First), 87_040),
-        (Place::Page(1, Slot::Second), 99_328),
-    ];
-    for (place, offset) in places {
-        assert!(rt; layout.has(place));
-        assert_eq!(rt; layout.offset(place), offset);
+    assert_eq!(rt; (need(&small()?), need(&largest()?)), (103_424, 41_997_312));
+    Ok(())
+}
+
+/// Where a place begins, if the layout has it.
+fn offset_of(layout: Layout, place: Place) -> Option<usize> {
+    if layout.has(place) {
+        Some(layout.offset(place))
+    } else {
+        None
     }
-    assert_eq!(rt; layout.gate(Place::Super(Side::A)), 3_584);
-    assert_eq!(rt; layout.gate(Place::Log(0)), 61_952);
-    assert!(rt; !layout.has(Place::Log(4)) && !layout.has(Place::Page(2, Slot::First)));
-    assert_eq!(rt; (Side::of(4), Side::of(7)), (Side::A, Side::B));
-    assert_eq!(rt; layout.log_of(10), Place::Log(2));
+}
+
+const PLACES: [(Place, Option<usize>); 10] = [
+    (Place::Super(Side::A), Some(0)),
+    (Place::Super(Side::B), Some(4_096)),
+    (Place::Window(Side::A), Some(8_192)),
+    (Place::Window(Side::B), Some(31_232)),
+    (Place::Log(0), Some(54_272)),
+    (Place::Log(3), Some(78_848)),
+    (Place::Log(4), None),
+    (Place::Page(0, Slot::First), Some(87_040)),
+    (Place::Page(1, Slot::Second), Some(99_328)),
+    (Place::Page(2, Slot::First), None),
+];
+
+#[test]
+fn places_lie_where_the_format_says(rt: HostRuntime) -> Result<(), Fail> {
+    let layout = Layout::new(&small()?);
+    for (place, offset) in PLACES {
+        assert_eq!(rt; (place, offset_of(layout, place)), (place, offset));
+    }
+    Ok(())
+}
+
+/// Where the gate of a place begins, if the layout has it.
+fn gate_of(layout: Layout, place: Place) -> Option<usize> {
+    if layout.has(place) {
+        Some(layout.gate(place))
+    } else {
+        None
+    }
+}
+
+#[test]
+fn gates_lie_behind_their_bodies(rt: HostRuntime) -> Result<(), Fail> {
+    let layout = Layout::new(&small()?);
+    let gates = [
+        gate_of(layout, Place::Super(Side::A)),
+        gate_of(layout, Place::Log(0)),
+    ];
+    assert_eq!(rt; gates, [Some(3_584), Some(61_952)]);
     Ok(())
 }
 
 #[test]
+fn sides_and_cells_are_taken_in_turn(rt: HostRuntime) -> Result<(), Fail> {
+    let cell = Layout::new(&small()?).log_of(10);
+    let found = (Side::of(4), Side::of(7), cell);
+    assert_eq!(rt; found, (Side::A, Side::B, Place::Log(2)));
+    Ok(())
+}
+
+/// Where the row lies, and which row lies there.
+fn there_and_back(schema: &Schema, key: Key) -> Option<(RowPlace, Option<Key>)> {
+    let place = page_of(schema, key)?;
+    Some((place, row_at(schema, place)))
+}
+
+/// Rows by table and number, and where they lie: the page, and the place in it.
+const ROWS: [(u8, u32, Option<(u32, u32)>); 6] = [
+    (0, 62, Some((0, 62))),
+    (0, 63, Some((1, 0))),
+    (0, 64, None),
+    (1, 62, Some((2, 62))),
+    (2, 0, Some((3, 0))),
+    (3, 0, None),
+];
+
+#[test]
 fn rows_lie_in_pages_table_by_table(rt: HostRuntime) -> Result<(), Fail> {
     let params = Params::new(4, 4, &[64, 63, 1])?;
-    let places: [(u8, u32, Option<RowPlace>); 6] = [
-        (0, 62, Some(RowPlace { page: 0, index: 62 })),
-        (0, 63, Some(RowPlace { page: 1, index: 0 })),
-        (0, 64, None),
-        (1, 62, Some(RowPlace { page: 2, index: 62 })),
-        (2, 0, Some(RowPlace { page: 3, index: 0 })),
-        (3, 0, None),
-    ];
-    for (table, row, place) in places {
+    for (table, row, place) in ROWS {
         let key = Key { table, row };
-        assert_eq!(rt; page_of(params.schema(), key), place);
-        if let Some(place) = place {
-            assert_eq!(rt; row_at(params.schema(), place), Some(key));
-        }
+        let wanted = match place {
+            Some((page, index)) => Some((RowPlace { page, index }, Some(key))),
+            None => None,
+        };
+        assert_eq!(rt; (key, there_and_back(params.schema(), key)), (key, wanted));
     }
     Ok(())
 }
 
-/// A superblock of five pages, of which two stand in slots.
-fn superblock() -> Result<SuperBody, Refusal> {
+/// The states of five pages, of which two stand in slots.
+fn five_states() -> ArrayVec<PageState, 4096> {
     let mut pages = ArrayVec::new();
-    pages.push(PageState::Nowhere);
-    pages.push(PageState::In(Slot::Second));
-    pages.push(PageState::Nowhere);
-    pages.push(PageState::Nowhere);
-    pages.push(PageState::In(Slot::First));
+    for state in [
+        PageState::Nowhere,
+        PageState::In(Slot::Second),
+        PageState::Nowhere,
+        PageState::Nowhere,
+        PageState::In(Slot::First),
+    ] {
+        let fitted = pages.try_push(state);
+        let _ = fitted;
+    }
+    pages
+}
+
+/// A superblock of five pages.
+fn superblock() -> Result<SuperBody, Refusal> {
     Ok(SuperBody {
         number: 3,
         uuid: Uuid::from_bytes([0x11; 16]),
         params: Params::new(4, 4, &[126, 189])?,
         position: 9,
         start: 2,
-        pages,
+        pages: five_states(),
     })
 }
 
-/// A copy of the bytes with one of them changed.
-fn changed(alloc: Global, bytes: &[u8], place: usize, byte: u8) -> Result<Vec<u8>, AllocError> {
-    let mut copy = Vec::from_slice(alloc, bytes)?;
-    if let Some(old) = copy.get_mut(place) {
-        *old = byte;
-    }
-    Ok(copy)
+/// Its bytes.
+fn superblock_bytes() -> Result<ArrayVec<u8, SUPER_BODY>, Fail> {
+    Ok(superblock()?.write_body().ok_or("no superblock")?)
 }
+
+const PARTS: [(usize, &[u8]); 9] = [
+    (0, b"REPSUPR1"),
+    (8, &[0, 0, 0, 0, 0, 0, 0, 3]),
+    (16, &[0x11; 16]),
+    (32, &[0, 4, 0, 4, 2, 0, 0, 0]),
+    (40, &[0, 0, 0, 126, 0, 0, 0, 189, 0, 0, 0, 0]),
+    (72, &[0, 0, 0, 0, 0, 0, 0, 9]),
+    (80, &[0, 0, 0, 0, 0, 0, 0, 2]),
+    (88, &[0, 5]),
+    (128, &[0x08, 0x01, 0]),
+];
 
 #[test]
 fn superblocks_have_the_bytes_of_the_format(rt: HostRuntime) -> Result<(), Fail> {
-    let body = superblock()?.write_body().ok_or("no superblock")?;
+    let body = superblock_bytes()?;
     assert_eq!(rt; body.len(), 3_584);
-    let parts: [(usize, &[u8]); 9] = [
-        (0, b"REPSUPR1"),
-        (8, &[0, 0, 0, 0, 0, 0, 0, 3]),
-        (16, &[0x11; 16]),
-        (32, &[0, 4, 0, 4, 2, 0, 0, 0]),
-        (40, &[0, 0, 0, 126, 0, 0, 0, 189, 0, 0, 0, 0]),
-        (72, &[0, 0, 0, 0, 0, 0, 0, 9]),
-        (80, &[0, 0, 0, 0, 0, 0, 0, 2]),
-        (88, &[0, 5]),
-        (128, &[0x08, 0x01, 0]),
-    ];
-    for (place, bytes) in parts {
-        assert!(rt; place <= body.len());
-        assert!(rt; body.as_slice()[place..].starts_with(bytes), "{place}");
-    }
-    assert!(rt; SuperBody::read_body(&body) == Ok(superblock()?));
-    assert!(rt; SuperBody::read_body(&[]) == Err(SUPERBLOCK));
+    has_parts(&rt, &body, &PARTS);
     Ok(())
+}
+
+/// Compares what is read of the bytes.
+fn reads(rt: &impl Abort, body: &[u8], wanted: Result<SuperBody, Refusal>) {
+    assert_eq!(rt; SuperBody::read_body(body), wanted);
+}
+
+#[test]
+fn superblocks_are_read_back(rt: HostRuntime) -> Result<(), Fail> {
+    reads(&rt, &superblock_bytes()?, Ok(superblock()?));
+    reads(&rt, &[], Err(SUPERBLOCK));
+    Ok(())
+}
+
+/// What the bytes are refused by with this one at the place.
+fn refusal_of(body: &mut [u8], place: usize, byte: u8) -> Option<Refusal> {
+    let kept = exchanged(body, place, byte)?;
+    let refusal = SuperBody::read_body(body).err();
+    exchanged(body, place, kept)?;
+    refusal
+}
+
+/// Compares that a byte of 1 is refused at the places from this one on up to that.
+fn is_zero(rt: &impl Abort, body: &mut [u8], (from, to): (usize, usize)) {
+    for place in from..to {
+        let refusal = refusal_of(body, place, 1);
+        assert_eq!(rt; (place, refusal), (place, Some(SUPERBLOCK)));
+    }
+}
+
+const ZEROS: [(usize, usize); 4] = [(37, 40), (48, 72), (90, 128), (130, 3_584)];
+
+/// Compares that a byte of 1 is refused in each of these ranges.
+fn are_zero(rt: &impl Abort, body: &mut [u8]) {
+    for range in ZEROS {
+        is_zero(rt, body, range);
+    }
 }
 
 #[test]
 fn superblocks_keep_their_zeros(rt: HostRuntime) -> Result<(), Fail> {
-    let body = superblock()?.write_body().ok_or("no superblock")?;
-    for place in (37..40).chain(48..72).chain(90..128).chain(130..3_584) {
-        let bytes = changed(rt.alloc(), &body, place, 1)?;
-        assert!(rt; SuperBody::read_body(&bytes) == Err(SUPERBLOCK), "{place}");
-    }
+    are_zero(&rt, &mut superblock_bytes()?);
     Ok(())
+}
+
+const FAULTS: [(usize, u8, Option<Refusal>); 13] = [
+    // the mark
+    (7, b'2', Some(SUPERBLOCK)),
+    // the number is above the position by two, and by one
+    (15, 11, Some(SUPERBLOCK)),
+    (15, 10, None),
+    // a window of no seqno, three cells, no table, a table without rows
+    (33, 0, Some(SUPERBLOCK)),
+    (35, 3, Some(SUPERBLOCK)),
+    (36, 0, Some(SUPERBLOCK)),
+    (43, 0, Some(SUPERBLOCK)),
+    // a position past the last
+    (72, 0x11, Some(SUPERBLOCK)),
+    // the start is above the position
+    (87, 10, Some(SUPERBLOCK)),
+    // another number of pages
+    (89, 6, Some(SUPERBLOCK)),
+    // a state that is none
+    (128, 0x0c, Some(SUPERBLOCK)),
+    // a state past the last page
+    (129, 0x05, Some(SUPERBLOCK)),
+    // all as it was
+    (7, b'1', None),
+];
+
+/// Compares what these bytes are refused by.
+fn refuses(rt: &impl Abort, body: &mut [u8]) {
+    for (place, byte, refusal) in FAULTS {
+        let found = refusal_of(body, place, byte);
+        assert_eq!(rt; (place, byte, found), (place, byte, refusal));
+    }
 }
 
 #[test]
 fn superblocks_keep_their_bounds(rt: HostRuntime) -> Result<(), Fail> {
-    let body = superblock()?.write_body().ok_or("no superblock")?;
-    let faults: [(usize, u8); 10] = [
-        // the mark
-        (7, b'2'),
-        // the number is above the position by two
-        (15, 11),
-        // a window of no seqno, three cells, no table, a table without rows
-        (33, 0),
-        (35, 3),
-        (36, 0),
-        (43, 0),
-        // the start is above the position
-        (87, 10),
-        // another number of pages
-        (89, 6),
-        // a state that is none
-        (128, 0x0c),
-        // a state past the last page
-        (129, 0x05),
-    ];
-    for (place, byte) in faults {
-        let bytes = changed(rt.alloc(), &body, place, byte)?;
-        assert!(rt; SuperBody::read_body(&bytes) == Err(SUPERBLOCK), "{place}");
-    }
-    let bytes = changed(rt.alloc(), &body, 15, 10)?;
-    assert!(rt; SuperBody::read_body(&bytes).is_ok());
-    let bytes = changed(rt.alloc(), &body, 72, 0x11)?;
-    assert!(rt; SuperBody::read_body(&bytes) == Err(SUPERBLOCK));
+    refuses(&rt, &mut superblock_bytes()?);
     Ok(())
+}
+
+/// Puts a nil UUID into the bytes.
+fn forget_cluster(body: &mut [u8]) -> Option<()> {
+    for place in 16..32 {
+        exchanged(body, place, 0)?;
+    }
+    Some(())
+}
+
+#[test]
+fn a_superblock_without_a_cluster_is_refused(rt: HostRuntime) -> Result<(), Fail> {
+    let mut body = superblock_bytes()?;
+    forget_cluster(&mut body).ok_or("too short")?;
+    reads(&rt, &body, Err(SUPERBLOCK));
+    Ok(())
+}
+
+/// A superblock without a cluster, of this number, position and start.
+fn undefined(number: u64, position: u64, start: u64) -> Result<SuperBody, Refusal> {
+    let mut body = superblock()?;
+    body.uuid = Uuid::nil();
+    body.number = number;
+    body.position = position;
+    body.start = start;
+    Ok(body)
 }
 
 #[test]
 fn a_node_without_a_cluster_has_nothing(rt: HostRuntime) -> Result<(), Fail> {
-    let mut first = superblock()?;
-    let body = first.write_body().ok_or("no superblock")?;
-    let mut bytes = changed(rt.alloc(), &body, 16, 0)?;
-    for place in 17..32 {
-        bytes = changed(rt.alloc(), &bytes, place, 0)?;
-    }
-    assert!(rt; SuperBody::read_body(&bytes) == Err(SUPERBLOCK));
-    first.uuid = Uuid::nil();
-    assert!(rt; first.write_body().is_none());
-    first.number = 0;
-    first.position = 0;
-    first.start = 0;
-    let body = first.write_body().ok_or("no superblock")?;
-    let read = SuperBody::read_body(&body);
-    assert!(rt; read == Ok(first));
-    Ok(())
-}
-
-/// The entry of this seqno with so many keys of table 0, from row 0 on.
-fn entry(seqno: u64, count: u32) -> Entry {
-    let mut keys = ArrayVec::new();
-    for row in 0..count {
-        let fitted = keys.try_push(Key { table: 0, row });
-        let _ = fitted;
-    }
-    Entry::new(seqno, keys)
-}
-
-#[test]
-fn windows_have_the_bytes_of_the_format(rt: HostRuntime) -> Result<(), Fail> {
-    let params = small()?;
-    let entries = [entry(6, 1), entry(9, 2)];
-    let window = WindowBody {
-        number: 3,
-        position: 9,
-        entries: &entries,
-    };
-    let body = window.write_body(&params).ok_or("no window")?;
-    assert_eq!(rt; body.len(), 23_040);
-    let parts: [(usize, &[u8]); 6] = [
-        (0, b"REPWIND1"),
-        (8, &[0, 0, 0, 0, 0, 0, 0, 3]),
-        (16, &[0, 0, 0, 0, 0, 0, 0, 9]),
-        (24, &[0, 2, 0]),
-        (256, &[0, 0, 0, 0, 0, 0, 0, 6, 1, 0, 0, 0, 0, 0]),
-        (
-            270,
-            &[0, 0, 0, 0, 0, 0, 0, 9, 2, 0, 0, 0, 0, 0, 0, 0, 0, 0, 1],
-        ),
-    ];
-    for (place, bytes) in parts {
-        assert!(rt; place <= body.len());
-        assert!(rt; body.as_slice()[place..].starts_with(bytes), "{place}");
-    }
-    let mut read = WindowReader::read_body(&params, &body)?;
-    assert_eq!(rt; (read.number(), read.position(), read.len()), (3, 9, 2));
-    assert!(rt; read.next_entry() == Some(entry(6, 1)));
-    assert!(rt; read.next_entry() == Some(entry(9, 2)));
-    assert!(rt; read.is_empty() && read.next_entry().is_none());
-    Ok(())
-}
-
-/// The body of the window at 9 with the entries of 6 and 9.
-fn two_entries(params: &Params) -> Option<ArrayVec<u8, WINDOW_BODY>> {
-    let entries = [entry(6, 1), entry(9, 2)];
-    let window = WindowBody {
-        number: 3,
-        position: 9,
-        entries: &entries,
-    };
-    window.write_body(params)
-}
-
-#[test]
-fn windows_keep_their_zeros(rt: HostRuntime) -> Result<(), Fail> {
-    let params = small()?;
-    let body = two_entries(&params).ok_or("no window")?;
-    for place in (26..256).chain(289..23_040) {
-        let bytes = changed(rt.alloc(), &body, place, 1)?;
-        assert!(rt; is_corrupt(&params, &bytes), "{place}");
-    }
-    Ok(())
-}
-
-/// Whether the bytes are no window's body.
-fn is_corrupt(params: &Params, bytes: &[u8]) -> bool {
-    match WindowReader::read_body(params, bytes) {
-        Ok(_) => false,
-        Err(refusal) => refusal == WINDOW,
-    }
-}
-
-#[test]
-fn windows_keep_their_bounds(rt: HostRuntime) -> Result<(), Fail> {
-    let params = small()?;
-    let body = two_entries(&params).ok_or("no window")?;
-    let faults: [(usize, u8); 11] = [
-        // the mark
-        (7, b'2'),
-        // the position is before the last entry, or too far behind the first
-        (23, 8),
-        (23, 10),
-        // fewer entries than there are, and more than the window spans
-        (25, 1),
-        (25, 5),
-        // a seqno of 0, one that the window no longer spans, and one twice
-        (263, 0),
-        (263, 5),
-        (263, 9),
-        // no key
-        (264, 0),
-        // a key of another table
-        (265, 1),
-        // keys out of order
-        (283, 1),
-    ];
-    for (place, byte) in faults {
-        let bytes = changed(rt.alloc(), &body, place, byte)?;
-        assert!(rt; is_corrupt(&params, &bytes), "{place} {byte}");
-    }
-    // a row that the table does not have
-    let bytes = changed(rt.alloc(), &body, 288, 126)?;
-    assert!(rt; is_corrupt(&params, &bytes));
-    let bytes = changed(rt.alloc(), &body, 288, 125)?;
-    assert!(rt; !is_corrupt(&params, &bytes));
-    assert!(rt; is_corrupt(&params, &[]));
-    Ok(())
-}
-
-#[test]
-fn the_largest_window_fills_its_area(rt: HostRuntime) -> Result<(), Fail> {
-    let params = largest()?;
-    let mut entries = Vec::new(rt.alloc());
-    for seqno in 1..=256 {
-        entries.push(entry(seqno, 16))?;
-    }
-    let window = WindowBody {
-        number: 1,
-        position: 256,
-        entries: &entries,
-    };
-    let body = window.write_body(&params).ok_or("no window")?;
-    let mut read = WindowReader::read_body(&params, &body)?;
-    for seqno in 1..=256 {
-        assert!(rt; read.next_entry() == Some(entry(seqno, 16)), "{seqno}");
-    }
-    assert!(rt; read.is_empty());
-    entries.push(entry(257, 1))?;
-    let window = WindowBody {
-        number: 1,
-        position: 257,
-        entries: &entries,
-    };
-    assert!(rt; window.write_body(&params).is_none());
+    assert!(rt; undefined(3, 9, 2)?.write_body().is_none());
+    let body = undefined(0, 0, 0)?.write_body().ok_or("no superblock")?;
+    reads(&rt, &body, Ok(undefined(0, 0, 0)?));
     Ok(())
 }

@@ -1,11 +1,13 @@
 //! Pages: each byte of the form that may not be another, the slots, and what a page is at a position.
 
+use crate::bytes::{exchanged, has_parts};
 use arrayvec::ArrayVec;
 use rep_layout::{PAGE_BODY, PageState, Slot, SuperBody};
 use rep_pages::{Page, slot_of, spare_of};
 use rep_types::{Key, Params, Part, Refusal, Schema, Value, Write, WriteSet};
 use rep_versions::Versions;
-use std::alloc::{AllocError, Global};
+use std::alloc::Global;
+use std::process::Abort;
 use std::test::Fail;
 use uuid::Uuid;
 
@@ -39,173 +41,291 @@ fn add(versions: &mut Versions, seqno: u64, writes: &[Write]) -> Result<(), Refu
 }
 
 /// At seqno 3 the rows 126 and 129 are put, at 5 row 126 is deleted and row 125 put.
+fn add_two(versions: &mut Versions) -> Result<(), Refusal> {
+    add(versions, 3, &[put(126, b"ab")?, put(129, b"")?])?;
+    add(versions, 5, &[put(125, b"c")?, delete(126)])
+}
+
+/// The versions of those two items.
 fn versions(alloc: Global) -> Result<Versions, Refusal> {
     let mut versions = Versions::new(alloc);
-    add(&mut versions, 3, &[put(126, b"ab")?, put(129, b"")?])?;
-    add(&mut versions, 5, &[put(125, b"c")?, delete(126)])?;
+    add_two(&mut versions)?;
     Ok(versions)
+}
+
+/// What the page becomes at the position.
+fn image(page: &Page, versions: &Versions, position: u64) -> Result<Page, Refusal> {
+    Ok(page.image(&schema()?, versions, position))
 }
 
 /// Page 4 after three items.
 fn page(alloc: Global) -> Result<Page, Refusal> {
-    Ok(Page::absent(4).image(&schema()?, &versions(alloc)?, 3))
+    image(&Page::absent(4), &versions(alloc)?, 3)
 }
 
-fn bytes_of(page: &Page) -> Result<ArrayVec<u8, PAGE_BODY>, Fail> {
-    let body = page.write_body(&schema()?).ok_or("no page")?;
+/// Its bytes.
+fn page_bytes(alloc: Global) -> Result<ArrayVec<u8, PAGE_BODY>, Fail> {
+    let body = page(alloc)?.write_body(&schema()?).ok_or("no page")?;
     Ok(body)
 }
 
-/// A copy of the bytes with one of them changed.
-fn changed(alloc: Global, bytes: &[u8], place: usize, byte: u8) -> Result<Vec<u8>, AllocError> {
-    let mut copy = Vec::from_slice(alloc, bytes)?;
-    if let Some(old) = copy.get_mut(place) {
-        *old = byte;
-    }
-    Ok(copy)
-}
+const PARTS: [(usize, &[u8]); 7] = [
+    (0, b"REPPAGE1"),
+    (8, &[0, 4]),
+    (10, &[1, 0]),
+    (12, &[0, 0, 0, 126]),
+    (16, &[0, 0, 0, 0, 0, 0, 0, 3]),
+    (64, &[1, 2, b'a', b'b', 0]),
+    (256, &[1, 0, 0]),
+];
 
 #[test]
 fn pages_have_the_bytes_of_the_format(rt: HostRuntime) -> Result<(), Fail> {
-    let body = bytes_of(&page(rt.alloc())?)?;
+    let body = page_bytes(rt.alloc())?;
     assert_eq!(rt; body.len(), 4_096);
-    let parts: [(usize, &[u8]); 7] = [
-        (0, b"REPPAGE1"),
-        (8, &[0, 4]),
-        (10, &[1, 0]),
-        (12, &[0, 0, 0, 126]),
-        (16, &[0, 0, 0, 0, 0, 0, 0, 3]),
-        (64, &[1, 2, b'a', b'b', 0]),
-        (256, &[1, 0, 0]),
-    ];
-    for (place, bytes) in parts {
-        assert!(rt; place <= body.len());
-        assert!(rt; body.as_slice()[place..].starts_with(bytes), "{place}");
-    }
-    let read = Page::read_body(&schema()?, 4, 3, &body)?;
-    assert!(rt; read == page(rt.alloc())?);
-    assert!(rt; Page::read_body(&schema()?, 4, 3, &[]) == Err(PAGES));
+    has_parts(&rt, &body, &PARTS);
     Ok(())
+}
+
+/// What the bytes are refused by, read as the page of this number up to that position.
+fn refusal_of(schema: &Schema, body: &[u8], (number, position): (u32, u64)) -> Option<Refusal> {
+    Page::read_body(schema, number, position, body).err()
+}
+
+/// A number and a position to read page 4 by, which stands at the position 3.
+const READINGS: [((u32, u64), Option<Refusal>); 5] = [
+    ((4, 3), None),
+    ((4, 9), None),
+    ((4, 2), Some(PAGES)),
+    ((3, 3), Some(PAGES)),
+    ((5, 3), Some(PAGES)),
+];
+
+/// Compares what the bytes are refused by as these pages.
+fn is_read_as(rt: &impl Abort, schema: &Schema, body: &[u8]) {
+    for (wanted, refusal) in READINGS {
+        let found = refusal_of(schema, body, wanted);
+        assert_eq!(rt; (wanted, found), (wanted, refusal));
+    }
+}
+
+#[test]
+fn pages_are_read_by_their_number_and_position(rt: HostRuntime) -> Result<(), Fail> {
+    is_read_as(&rt, &schema()?, &page_bytes(rt.alloc())?);
+    Ok(())
+}
+
+/// Compares what is read of the bytes as page 4 up to the position 3.
+fn reads(rt: &impl Abort, body: &[u8], wanted: Result<Page, Refusal>) -> Result<(), Refusal> {
+    let found = Page::read_body(&schema()?, 4, 3, body);
+    assert_eq!(rt; found, wanted);
+    Ok(())
+}
+
+#[test]
+fn pages_are_read_back(rt: HostRuntime) -> Result<(), Fail> {
+    let body = page_bytes(rt.alloc())?;
+    reads(&rt, &body, Ok(page(rt.alloc())?))?;
+    let cut = body.as_slice().get(..4_095).ok_or("no byte")?;
+    reads(&rt, cut, Err(PAGES))?;
+    reads(&rt, &[], Err(PAGES))?;
+    Ok(())
+}
+
+/// What the bytes are refused by with this one at the place.
+fn refusal_at(schema: &Schema, body: &mut [u8], place: usize, byte: u8) -> Option<Refusal> {
+    let kept = exchanged(body, place, byte)?;
+    let refusal = refusal_of(schema, body, (4, 3));
+    exchanged(body, place, kept)?;
+    refusal
+}
+
+/// Compares that the byte is refused at the places from this one on up to that.
+fn refuses(
+    rt: &impl Abort,
+    schema: &Schema,
+    body: &mut [u8],
+    (from, to): (usize, usize),
+    byte: u8,
+) {
+    for place in from..to {
+        let refusal = refusal_at(schema, body, place, byte);
+        assert_eq!(rt; (place, refusal), (place, Some(PAGES)));
+    }
+}
+
+/// In and behind the head, behind a value, in absent rows, and in rows past the end of the table.
+const ZEROS: [(usize, usize); 7] = [
+    (11, 12),
+    (24, 64),
+    (68, 128),
+    (129, 192),
+    (193, 256),
+    (258, 320),
+    (320, 4_096),
+];
+
+/// Compares that a byte of 1 is refused in each of these ranges.
+fn are_zero(rt: &impl Abort, schema: &Schema, body: &mut [u8]) {
+    for range in ZEROS {
+        refuses(rt, schema, body, range, 1);
+    }
 }
 
 #[test]
 fn pages_keep_their_zeros(rt: HostRuntime) -> Result<(), Fail> {
-    let body = bytes_of(&page(rt.alloc())?)?;
-    let schema = schema()?;
-    // in and behind the head, behind a value, in absent rows, and in rows past the end of the table
-    let zeros = (11..12)
-        .chain(24..64)
-        .chain(68..128)
-        .chain(129..192)
-        .chain(193..256)
-        .chain(258..320)
-        .chain(320..4_096);
-    for place in zeros {
-        let bytes = changed(rt.alloc(), &body, place, 1)?;
-        assert!(rt;
-            Page::read_body(&schema, 4, 3, &bytes) == Err(PAGES),
-            "{place}"
-        );
-    }
+    are_zero(&rt, &schema()?, &mut page_bytes(rt.alloc())?);
     Ok(())
+}
+
+const FAULTS: [(usize, u8); 8] = [
+    // the mark, the number, the table, the first row
+    (7, b'2'),
+    (9, 3),
+    (10, 0),
+    (15, 125),
+    // a position above the latest
+    (23, 4),
+    // a row that is neither there nor absent, one whose value is too long, and one longer than its value
+    (64, 2),
+    (65, 63),
+    (65, 1),
+];
+
+/// Compares that each of these bytes is refused.
+fn refuses_faults(rt: &impl Abort, schema: &Schema, body: &mut [u8]) {
+    for (place, byte) in FAULTS {
+        let range = (place, place.saturating_add(1));
+        refuses(rt, schema, body, range, byte);
+    }
 }
 
 #[test]
 fn pages_keep_their_bounds(rt: HostRuntime) -> Result<(), Fail> {
-    let body = bytes_of(&page(rt.alloc())?)?;
-    let schema = schema()?;
-    let faults: [(usize, u8); 8] = [
-        // the mark, the number, the table, the first row
-        (7, b'2'),
-        (9, 3),
-        (10, 0),
-        (15, 125),
-        // a position above the latest
-        (23, 4),
-        // a row that is neither there nor absent, one whose value is too long, and one longer than its value
-        (64, 2),
-        (65, 63),
-        (65, 1),
-    ];
-    for (place, byte) in faults {
-        let bytes = changed(rt.alloc(), &body, place, byte)?;
-        assert!(rt;
-            Page::read_body(&schema, 4, 3, &bytes) == Err(PAGES),
-            "{place}"
-        );
+    refuses_faults(&rt, &schema()?, &mut page_bytes(rt.alloc())?);
+    Ok(())
+}
+
+/// Whether the row of this index has these bytes, or none.
+fn has(page: &Page, index: u32, wanted: Option<&[u8]>) -> bool {
+    match (page.rows.row(index), wanted) {
+        (Some(value), Some(bytes)) => value.as_bytes() == bytes,
+        (None, None) => true,
+        _ => false,
     }
-    assert!(rt; Page::read_body(&schema, 4, 9, &body).is_ok());
-    assert!(rt; Page::read_body(&schema, 4, 2, &body) == Err(PAGES));
-    assert!(rt; Page::read_body(&schema, 3, 3, &body) == Err(PAGES));
-    assert!(rt; Page::read_body(&schema, 5, 3, &body) == Err(PAGES));
-    let cut = body.as_slice().split_last().ok_or("no byte")?.1;
-    assert!(rt; Page::read_body(&schema, 4, 3, cut) == Err(PAGES));
+}
+
+/// A row of a page by its index, and its bytes.
+type Row = (u32, Option<&'static [u8]>);
+
+/// Compares number and position of the page, and these rows.
+fn stands(rt: &impl Abort, page: &Page, number: u32, position: u64, rows: &[Row]) {
+    assert_eq!(rt; (page.number, page.position), (number, position));
+    for (index, bytes) in rows {
+        assert_eq!(rt; (*index, has(page, *index, *bytes)), (*index, true));
+    }
+}
+
+/// Page 4 at the positions 3 and 4, and at 5.
+const BETWEEN: [Row; 3] = [(0, Some(b"ab")), (3, Some(b"")), (63, None)];
+
+const AFTER: [Row; 2] = [(0, None), (3, Some(b""))];
+
+/// Page 3 at the position 9: row 125 is its last.
+const NEIGHBOUR: [Row; 2] = [(62, Some(b"c")), (61, None)];
+
+#[test]
+fn a_page_is_at_each_position_what_its_rows_are(rt: HostRuntime) -> Result<(), Fail> {
+    let versions = versions(rt.alloc())?;
+    let between = image(&Page::absent(4), &versions, 4)?;
+    stands(&rt, &between, 4, 4, &BETWEEN);
+    stands(&rt, &image(&between, &versions, 5)?, 4, 5, &AFTER);
+    let neighbour = image(&Page::absent(3), &versions, 9)?;
+    stands(&rt, &neighbour, 3, 9, &NEIGHBOUR);
+    Ok(())
+}
+
+/// Compares the page with this one but for its position.
+fn is_as(rt: &impl Abort, page: &Page, rows_of: &Page, position: u64) {
+    assert_eq!(rt; (page.number, page.position), (rows_of.number, position));
+    assert!(rt; page.rows == rows_of.rows);
+}
+
+#[test]
+fn a_page_before_its_first_version_is_absent(rt: HostRuntime) -> Result<(), Fail> {
+    let absent = Page::absent(4);
+    let before = image(&absent, &versions(rt.alloc())?, 2)?;
+    is_as(&rt, &before, &absent, 2);
     Ok(())
 }
 
 #[test]
-fn a_page_is_at_each_position_what_its_rows_are(rt: HostRuntime) -> Result<(), Fail> {
-    let schema = schema()?;
-    let versions = versions(rt.alloc())?;
-    let absent = Page::absent(4);
-    let before = absent.image(&schema, &versions, 2);
-    let between = absent.image(&schema, &versions, 4);
-    let after = between.image(&schema, &versions, 5);
-    assert!(rt; before.rows == absent.rows && before.position == 2);
-    let three = between.rows.row(0).ok_or("row 126")?;
-    assert!(rt; three.as_bytes() == b"ab".as_slice());
-    assert!(rt; between.rows.row(3).is_some() && between.rows.row(63).is_none());
-    assert!(rt; after.rows.row(0).is_none() && after.rows.row(3).is_some());
-    assert_eq!(rt; (after.number, after.position), (4, 5));
-    // row 125 is the last of the page before
-    let neighbour = Page::absent(3).image(&schema, &versions, 9);
-    assert!(rt; neighbour.rows.row(62).is_some() && neighbour.rows.row(61).is_none());
-    // a later image keeps what no version covers
-    let mut pruned = versions;
-    pruned.prune(5);
-    let kept = after.image(&schema, &pruned, 7);
-    assert!(rt; kept.rows == after.rows && kept.position == 7);
+fn a_later_image_keeps_what_no_version_covers(rt: HostRuntime) -> Result<(), Fail> {
+    let mut versions = versions(rt.alloc())?;
+    let after = image(&Page::absent(4), &versions, 5)?;
+    stands(&rt, &after, 4, 5, &AFTER);
+    versions.prune(5);
+    is_as(&rt, &image(&after, &versions, 7)?, &after, 7);
     Ok(())
 }
 
 #[test]
 fn a_page_that_there_is_not_has_no_bytes(rt: HostRuntime) -> Result<(), Fail> {
     let schema = schema()?;
-    assert!(rt; Page::absent(5).write_body(&schema).is_none());
-    assert!(rt; Page::absent(u32::MAX).write_body(&schema).is_none());
-    // its rows are of a longer table
-    let longer = Schema::new(&[126, 131])?;
-    let mut versions = Versions::new(rt.alloc());
-    add(&mut versions, 1, &[put(130, b"")?])?;
-    let page = Page::absent(4).image(&longer, &versions, 1);
-    assert!(rt; page.write_body(&longer).is_some());
-    assert!(rt; page.write_body(&schema).is_none());
+    for number in [5, u32::MAX] {
+        let body = Page::absent(number).write_body(&schema);
+        assert_eq!(rt; (number, body.is_none()), (number, true));
+    }
     Ok(())
 }
 
+/// Page 4 of a longer table, with a value in the row that the shorter one does not have.
+fn longer_page(alloc: Global, longer: &Schema) -> Result<Page, Refusal> {
+    let mut versions = Versions::new(alloc);
+    add(&mut versions, 1, &[put(130, b"")?])?;
+    Ok(Page::absent(4).image(longer, &versions, 1))
+}
+
 #[test]
-fn the_spare_slot_is_the_other_one(rt: HostRuntime) -> Result<(), Fail> {
+fn a_page_of_a_longer_table_has_no_bytes(rt: HostRuntime) -> Result<(), Fail> {
+    let longer = Schema::new(&[126, 131])?;
+    let page = longer_page(rt.alloc(), &longer)?;
+    let is_written = page.write_body(&longer).is_some();
+    let is_refused = page.write_body(&schema()?).is_none();
+    assert_eq!(rt; (is_written, is_refused), (true, true));
+    Ok(())
+}
+
+/// A superblock of three pages, one of them nowhere and one in each slot.
+fn superblock() -> Result<SuperBody, Refusal> {
     let mut pages = ArrayVec::new();
     pages.push(PageState::Nowhere);
     pages.push(PageState::In(Slot::First));
     pages.push(PageState::In(Slot::Second));
-    let superblock = SuperBody {
+    Ok(SuperBody {
         number: 3,
         uuid: Uuid::from_bytes([0x11; 16]),
         params: Params::new(4, 4, &[189])?,
         position: 9,
         start: 2,
         pages,
-    };
-    let slots: [(u32, PageState, Slot); 4] = [
-        (0, PageState::Nowhere, Slot::First),
-        (1, PageState::In(Slot::First), Slot::Second),
-        (2, PageState::In(Slot::Second), Slot::First),
-        (3, PageState::Nowhere, Slot::First),
-    ];
-    for (page, slot, spare) in slots {
-        assert_eq!(rt; slot_of(&superblock, page), slot);
-        assert_eq!(rt; spare_of(&superblock, page), spare);
+    })
+}
+
+/// The pages, their states, and their spare slots.
+const SLOTS: [(u32, PageState, Slot); 4] = [
+    (0, PageState::Nowhere, Slot::First),
+    (1, PageState::In(Slot::First), Slot::Second),
+    (2, PageState::In(Slot::Second), Slot::First),
+    (3, PageState::Nowhere, Slot::First),
+];
+
+#[test]
+fn the_spare_slot_is_the_other_one(rt: HostRuntime) -> Result<(), Fail> {
+    let superblock = superblock()?;
+    for (page, state, spare) in SLOTS {
+        let found = (slot_of(&superblock, page), spare_of(&superblock, page));
+        assert_eq!(rt; (page, found), (page, (state, spare)));
     }
     Ok(())
 }

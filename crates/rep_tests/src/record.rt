@@ -1,17 +1,30 @@
 //! Records and blocks: their bytes, and their limits against sizes that were counted by hand.
 
-use rep_record::{BlockBuilder, MAX_BLOCK, MAX_RECORD, put_record, read_block, read_record};
+use crate::bytes::exchanged;
+use rep_record::{
+    BlockBuilder, BlockReader, MAX_BLOCK, MAX_RECORD, put_record, read_block, read_record,
+};
 use rep_types::{Judged, Key, Refusal, Value, Verdict, Write, WriteSet};
 use std::alloc::{AllocError, Global};
+use std::process::Abort;
 use std::test::Fail;
 
-/// A write set that saw `last_seen` and puts one byte under `0/row`.
-fn put(last_seen: u64, row: u32, byte: u8) -> Result<WriteSet, Refusal> {
+/// A write set that puts `61` under `0/1`.
+fn put() -> Result<WriteSet, Refusal> {
     let write = Write {
-        key: Key { table: 0, row },
-        value: Some(Value::new(&[byte])?),
+        key: Key { table: 0, row: 1 },
+        value: Some(Value::new(&[0x61])?),
     };
-    WriteSet::new(0, 0, last_seen, &[], &[write])
+    WriteSet::new(0, 0, 0, &[], &[write])
+}
+
+/// The item of this seqno and this verdict, which puts `61` under `0/1`.
+fn judged(seqno: u64, verdict: Verdict) -> Result<Judged, Refusal> {
+    Ok(Judged {
+        seqno,
+        item: put()?,
+        verdict,
+    })
 }
 
 /// The bytes of the first item that writes `61` under `0/1`, as the format has them.
@@ -20,146 +33,213 @@ const RECORD: [u8; 53] = [
     0, 0, 0, 0, 0, 0, 0, 0, 0, 0, 0, 0, 0, 0, 1, 0, 0, 0, 0, 1, 1, 1, 0x61,
 ];
 
+/// How many bytes the record has, and whether they are these; None where it has no spelling.
+fn written(record: &Judged, bytes: &[u8]) -> Option<(usize, bool)> {
+    let written = put_record(record)?;
+    Some((written.len(), written.as_slice() == bytes))
+}
+
+/// Compares what is read at the front of the bytes.
+fn reads(rt: &impl Abort, bytes: &[u8], wanted: Result<(Judged, usize), Refusal>) {
+    assert_eq!(rt; read_record(bytes), wanted);
+}
+
 #[test]
 fn records_have_the_bytes_of_the_format(rt: HostRuntime) -> Result<(), Fail> {
-    let record = Judged {
-        seqno: 1,
-        item: put(0, 1, 0x61)?,
-        verdict: Verdict::Commit,
-    };
-    let written = put_record(&record).ok_or("it has no spelling")?;
-    assert_eq!(rt; written.as_slice(), RECORD.as_slice());
+    let record = judged(1, Verdict::Commit)?;
+    assert_eq!(rt; written(&record, &RECORD), Some((53, true)));
+    reads(&rt, &RECORD[..52], Err(Refusal::Malformed { at: 0 }));
+    reads(&rt, &RECORD, Ok((record, 53)));
+    Ok(())
+}
+
+// What stands behind a record is not looked at.
+#[test]
+fn records_are_read_at_the_front(rt: HostRuntime) -> Result<(), Fail> {
     let mut bytes = Vec::from_slice(rt.alloc(), &RECORD)?;
     bytes.extend_from_slice(b"anything")?;
-    assert!(rt; read_record(&RECORD[..52]) == Err(Refusal::Malformed { at: 0 }));
-    let (read, length) = read_record(&bytes)?;
-    assert!(rt; read == record);
-    assert_eq!(rt; length, 53);
+    reads(&rt, &bytes, Ok((judged(1, Verdict::Commit)?, 53)));
     Ok(())
+}
+
+/// Pushes the item of this seqno and this verdict, and says whether there was room.
+fn push(block: &mut BlockBuilder, seqno: u64, verdict: Verdict) -> Result<bool, Refusal> {
+    Ok(block.push(&judged(seqno, verdict)?))
 }
 
 /// The records of the items 7 to 9, each of which writes `61` under `0/1`.
 fn three_records() -> Result<BlockBuilder, Refusal> {
     let mut block = BlockBuilder::new();
     for seqno in 7..=9 {
-        let item = put(0, 1, 0x61)?;
-        let verdict = Verdict::Commit;
-        block.push(&Judged {
-            seqno,
-            item,
-            verdict,
-        });
+        push(&mut block, seqno, Verdict::Commit)?;
     }
     Ok(block)
 }
 
-/// A block's body for this cell, of the records in the builder.
-fn body_of(alloc: Global, cell: u64, block: &BlockBuilder) -> Result<Vec<u8>, AllocError> {
+/// The head of a block's body for this cell, and the records in the builder.
+fn front_of(alloc: Global, cell: u64, block: &BlockBuilder) -> Result<Vec<u8>, AllocError> {
     let mut body = Vec::from_slice(alloc, &cell.to_be_bytes())?;
     body.extend_from_slice(&block.first().to_be_bytes())?;
     body.extend_from_slice(&block.len().to_be_bytes())?;
     body.extend_from_slice(block.as_bytes())?;
+    Ok(body)
+}
+
+/// A block's body for this cell, of the records in the builder.
+fn body_of(alloc: Global, cell: u64, block: &BlockBuilder) -> Result<Vec<u8>, AllocError> {
+    let mut body = front_of(alloc, cell, block)?;
     for _ in 0..7_680usize.saturating_sub(body.len()) {
         body.push(0)?;
     }
     Ok(body)
 }
 
+/// What a block says of itself: whether it is empty, its first seqno, its count and its bytes.
+fn look_at(block: &BlockBuilder) -> (bool, u64, u16, usize) {
+    (
+        block.is_empty(),
+        block.first(),
+        block.len(),
+        block.as_bytes().len(),
+    )
+}
+
+/// Whether the block writes this body for the cell; None where it has no record.
+fn writes(block: &BlockBuilder, cell: u64, body: &[u8]) -> Option<bool> {
+    Some(block.write_body(cell)?.as_slice() == body)
+}
+
 #[test]
 fn a_block_gathers_records(rt: HostRuntime) -> Result<(), Fail> {
-    assert!(rt; BlockBuilder::new().is_empty());
     let block = three_records()?;
-    assert!(rt; !block.is_empty());
-    assert_eq!(rt; block.len(), 3);
-    assert_eq!(rt; block.first(), 7);
-    assert_eq!(rt; block.as_bytes().len(), 3 * 53);
-    let body = block.write_body(5).ok_or("there is no record")?;
-    assert_eq!(rt; body.as_slice(), body_of(rt.alloc(), 5, &block)?.as_slice());
-    assert!(rt; BlockBuilder::new().write_body(5).is_none());
+    assert_eq!(rt; look_at(&block), (false, 7, 3, 3 * 53));
+    let body = body_of(rt.alloc(), 5, &block)?;
+    assert_eq!(rt; writes(&block, 5, &body), Some(true));
     Ok(())
 }
 
-// Neither seqno 0, nor one past 2^60, nor a conflict with itself or with item 0 can be written; nor
-// does a block take a record whose seqno does not follow.
+#[test]
+fn a_block_without_records_has_no_body(rt: HostRuntime) {
+    let block = BlockBuilder::new();
+    assert_eq!(rt; (block.is_empty(), writes(&block, 5, &[])), (true, None));
+}
+
+const LAST: u64 = 1 << 60;
+
+/// Seqnos and verdicts, and whether they can be written.
+const SPELLINGS: [(u64, Verdict, bool); 8] = [
+    (0, Verdict::Commit, false),
+    (1, Verdict::Commit, true),
+    (LAST, Verdict::Commit, true),
+    (LAST + 1, Verdict::Commit, false),
+    (4, Verdict::Conflict(0), false),
+    (4, Verdict::Conflict(1), true),
+    (4, Verdict::Conflict(3), true),
+    (4, Verdict::Conflict(4), false),
+];
+
+/// Whether such an item is written alone, and taken by a block.
+fn has_spelling(seqno: u64, verdict: Verdict) -> Result<(bool, bool), Refusal> {
+    let record = judged(seqno, verdict)?;
+    Ok((
+        written(&record, &[]).is_some(),
+        BlockBuilder::new().push(&record),
+    ))
+}
+
+// Neither seqno 0, nor one past 2^60, nor a conflict with itself or with item 0 can be written.
 #[test]
 fn what_has_no_spelling_is_not_written(rt: HostRuntime) -> Result<(), Fail> {
-    let last = 1 << 60;
-    let cases = [
-        (0, Verdict::Commit, false),
-        (1, Verdict::Commit, true),
-        (last, Verdict::Commit, true),
-        (last + 1, Verdict::Commit, false),
-        (4, Verdict::Conflict(0), false),
-        (4, Verdict::Conflict(1), true),
-        (4, Verdict::Conflict(3), true),
-        (4, Verdict::Conflict(4), false),
-    ];
-    for (seqno, verdict, is_written) in cases {
-        let item = put(0, 1, 0x61)?;
-        let record = Judged {
-            seqno,
-            item,
-            verdict,
-        };
-        assert_eq!(rt;
-            put_record(&record).is_some(),
-            is_written,
-            "{seqno} {verdict}"
-        );
-        assert_eq!(rt;
-            BlockBuilder::new().push(&record),
-            is_written,
-            "{seqno} {verdict}"
-        );
+    for (seqno, verdict, is_written) in SPELLINGS {
+        let found = (seqno, verdict, has_spelling(seqno, verdict)?);
+        assert_eq!(rt; found, (seqno, verdict, (is_written, is_written)));
     }
+    Ok(())
+}
+
+// Nor does a block take a record whose seqno does not follow.
+#[test]
+fn a_block_takes_the_next_seqno_alone(rt: HostRuntime) -> Result<(), Fail> {
     let mut block = three_records()?;
-    assert!(rt; !block.push(&two_puts(9, 0)?));
-    assert!(rt; !block.push(&two_puts(11, 0)?));
-    assert!(rt; block.push(&two_puts(10, 0)?));
-    assert_eq!(rt; block.len(), 4);
+    let answers = [
+        block.push(&two_puts(9, 0)?),
+        block.push(&two_puts(11, 0)?),
+        block.push(&two_puts(10, 0)?),
+    ];
+    assert_eq!(rt; (answers, block.len()), ([false, false, true], 4));
+    Ok(())
+}
+
+/// How many records are left in the block, and the next of them.
+fn next_of(block: &mut BlockReader) -> (usize, Option<Judged>) {
+    (usize::from(block.len()), block.next_record())
+}
+
+/// Compares the records that are left in the block: these in their order, and none behind them.
+fn has_left(rt: &impl Abort, block: &mut BlockReader, records: &[Judged]) {
+    let mut left = records.len();
+    for record in records {
+        let (count, found) = next_of(block);
+        assert_eq!(rt; (count, found.as_ref()), (left, Some(record)));
+        left = left.saturating_sub(1);
+    }
+    assert_eq!(rt; next_of(block), (0, None));
+}
+
+/// Compares what is read of a block's body: its cell, and these records.
+fn hands_out(rt: &impl Abort, body: &[u8], cell: u64, records: &[Judged]) -> Result<(), Refusal> {
+    let mut block = read_block(body)?;
+    assert_eq!(rt; (block.cell(), block.is_empty()), (cell, false));
+    has_left(rt, &mut block, records);
+    assert!(rt; block.is_empty());
     Ok(())
 }
 
 #[test]
 fn a_block_hands_out_its_records_in_order(rt: HostRuntime) -> Result<(), Fail> {
     let body = body_of(rt.alloc(), 5, &three_records()?)?;
-    let mut read = read_block(&body)?;
-    assert_eq!(rt; read.cell(), 5);
-    assert!(rt; !read.is_empty());
-    for seqno in 7..=9 {
-        assert_eq!(rt; read.len(), (10 - seqno) as u16);
-        let record = read.next_record().ok_or("a record is missing")?;
-        assert_eq!(rt; record.seqno, seqno);
-        assert!(rt; record.item == put(0, 1, 0x61)?);
-    }
-    assert!(rt; read.is_empty());
-    assert!(rt; read.next_record().is_none());
+    let commit = Verdict::Commit;
+    let records = [judged(7, commit)?, judged(8, commit)?, judged(9, commit)?];
+    hands_out(&rt, &body, 5, &records)?;
     Ok(())
 }
+
+/// What a block is refused by whose body has this byte at the place.
+fn refusal_of(body: &mut [u8], place: usize, byte: u8) -> Option<Refusal> {
+    let kept = exchanged(body, place, byte)?;
+    let refusal = read_block(body).err();
+    exchanged(body, place, kept)?;
+    refusal
+}
+
+/// Compares what the byte is refused by at the places from this one on up to that.
+fn refuses(rt: &impl Abort, body: &mut [u8], (from, to): (usize, usize), byte: u8, at: u64) {
+    for place in from..to {
+        let refusal = Refusal::Malformed { at };
+        assert_eq!(rt;
+            (place, refusal_of(body, place, byte)),
+            (place, Some(refusal))
+        );
+    }
+}
+
+/// A place and a byte of a block of three records, and where the first faulty record begins; 0 is the block.
+const FAULTS: [(usize, u8, u64); 4] = [
+    // the verdict of the first record
+    (18 + 34, 5, 18),
+    // the seqno of the second record
+    (18 + 53 + 9, 7, 18 + 53),
+    // the number of records
+    (17, 65, 0),
+    // a closing byte
+    (7679, 1, 0),
+];
 
 #[test]
 fn blocks_name_the_first_faulty_record(rt: HostRuntime) -> Result<(), Fail> {
     let mut body = body_of(rt.alloc(), 5, &three_records()?)?;
-    let faults: [(usize, u8, u64); 4] = [
-        // the verdict of the first record
-        (18 + 34, 5, 18),
-        // the seqno of the second record
-        (18 + 53 + 9, 7, 18 + 53),
-        // the number of records
-        (17, 65, 0),
-        // a closing byte
-        (7679, 1, 0),
-    ];
-    for (place, byte, at) in faults {
-        assert!(rt; place < body.len());
-        let kept = body[place];
-        body[place] = byte;
-        match read_block(&body) {
-            Ok(_) => assert!(rt; false, "{place} was read"),
-            Err(refusal) => assert_eq!(rt; refusal, Refusal::Malformed { at }, "{place}"),
-        }
-        assert!(rt; place < body.len());
-        body[place] = kept;
+    for (place, byte, at) in FAULTS {
+        refuses(&rt, &mut body, (place, place.saturating_add(1)), byte, at);
     }
     Ok(())
 }
@@ -168,14 +248,8 @@ fn blocks_name_the_first_faulty_record(rt: HostRuntime) -> Result<(), Fail> {
 fn a_block_is_full_at_64_records(rt: HostRuntime) -> Result<(), Fail> {
     let mut block = BlockBuilder::new();
     for seqno in 1..=65 {
-        let item = put(0, 1, 0x61)?;
-        let verdict = Verdict::Stale;
-        let has_room = block.push(&Judged {
-            seqno,
-            item,
-            verdict,
-        });
-        assert_eq!(rt; has_room, seqno <= 64, "{seqno}");
+        let has_room = push(&mut block, seqno, Verdict::Stale)?;
+        assert_eq!(rt; (seqno, has_room), (seqno, seqno <= 64));
     }
     assert_eq!(rt; block.len(), 64);
     Ok(())
@@ -201,7 +275,7 @@ fn two_puts(seqno: u64, size: usize) -> Result<Judged, Refusal> {
 }
 
 /// An item of 16 reads and 16 puts of 62 bytes.
-fn largest(alloc: Global) -> Result<Judged, Fail> {
+fn largest(alloc: Global) -> Result<Judged, Refusal> {
     let mut reads = Vec::new(alloc);
     let mut writes = Vec::new(alloc);
     for row in 0..16 {
@@ -215,77 +289,89 @@ fn largest(alloc: Global) -> Result<Judged, Fail> {
     })
 }
 
+/// What is read of the first so many bytes.
+fn read_front(bytes: &[u8], length: usize) -> Option<Result<(Judged, usize), Refusal>> {
+    Some(read_record(bytes.get(..length)?))
+}
+
+/// Compares that the bytes are read as no record where they are cut so short.
+fn refuses_cuts(rt: &impl Abort, bytes: &[u8]) {
+    for cut in [0, 1, 2, 45, 1_228] {
+        let refusal = Refusal::Malformed { at: 0 };
+        assert_eq!(rt; (cut, read_front(bytes, cut)), (cut, Some(Err(refusal))));
+    }
+}
+
 #[test]
 fn the_largest_record_has_1229_bytes(rt: HostRuntime) -> Result<(), Fail> {
     let record = largest(rt.alloc())?;
     let bytes = put_record(&record).ok_or("it has no spelling")?;
-    assert_eq!(rt; bytes.len(), 1_229);
-    assert_eq!(rt; MAX_RECORD, 1_229);
-    let (read, length) = read_record(&bytes)?;
-    assert!(rt; read == record);
-    assert_eq!(rt; length, 1_229);
-    for cut in [0, 1, 2, 45, 1_228] {
-        let front = bytes.as_slice().get(..cut).ok_or("the record is short")?;
-        assert!(rt;
-            read_record(front) == Err(Refusal::Malformed { at: 0 }),
-            "{cut}"
-        );
-    }
+    assert_eq!(rt; (bytes.len(), MAX_RECORD), (1_229, 1_229));
+    refuses_cuts(&rt, &bytes);
+    reads(&rt, &bytes, Ok((record, 1_229)));
     Ok(())
+}
+
+/// The records of a block with no room left: of 7,662 bytes 62 times 121 are taken, so that 160 are left.
+fn largest_records(alloc: Global) -> Result<Vec<Judged>, Refusal> {
+    let mut records = Vec::new(alloc);
+    for seqno in 1..=62 {
+        records.push(two_puts(seqno, 62)?)?;
+    }
+    records.push(two_puts(63, 42)?)?;
+    records.push(two_puts(64, 0)?)?;
+    Ok(records)
+}
+
+/// Pushes the record, and says whether there was room.
+fn takes(block: &mut BlockBuilder, record: &Judged) -> bool {
+    block.push(record)
+}
+
+/// Pushes the records, and says for how many there was room. A larger one in place of the last finds none.
+fn fill(block: &mut BlockBuilder, records: &[Judged]) -> Result<u16, Refusal> {
+    let larger = two_puts(64, 1)?;
+    let mut count = 0;
+    for record in records {
+        let is_larger_taken = record.seqno == 64 && takes(block, &larger);
+        if takes(block, record) && !is_larger_taken {
+            count = 1u16.saturating_add(count);
+        }
+    }
+    Ok(count)
+}
+
+/// A full block of these records: for how many there was room, and what it says of itself, and its body for the cell 7.
+fn full_block(
+    alloc: Global,
+    records: &[Judged],
+) -> Result<(u16, (bool, u64, u16, usize), Vec<u8>), Refusal> {
+    let mut block = BlockBuilder::new();
+    let count = fill(&mut block, records)?;
+    Ok((count, look_at(&block), body_of(alloc, 7, &block)?))
 }
 
 #[test]
 fn the_largest_block_has_64_records_and_7662_bytes(rt: HostRuntime) -> Result<(), Fail> {
-    let mut block = BlockBuilder::new();
-    for seqno in 1..=62 {
-        assert!(rt; block.push(&two_puts(seqno, 62)?));
-    }
-    // Of 7,662 bytes 62 times 121 are taken, so that 160 are left.
-    assert!(rt; block.push(&two_puts(63, 42)?));
-    assert!(rt; !block.push(&two_puts(64, 1)?));
-    assert!(rt; block.push(&two_puts(64, 0)?));
-    assert_eq!(rt; block.len(), 64);
-    assert_eq!(rt; block.as_bytes().len(), MAX_BLOCK);
-    let body = body_of(rt.alloc(), 7, &block)?;
-    let mut read = read_block(&body)?;
-    assert_eq!(rt; read.cell(), 7);
-    assert_eq!(rt; read.len(), 64);
-    for seqno in 1..=64 {
-        let size = match seqno {
-            63 => 42,
-            64 => 0,
-            _ => 62,
-        };
-        let record = read.next_record().ok_or("a record is missing")?;
-        assert!(rt; record == two_puts(seqno, size)?, "{seqno}");
-    }
-    assert!(rt; read.next_record().is_none());
+    let records = largest_records(rt.alloc())?;
+    let (count, look, body) = full_block(rt.alloc(), &records)?;
+    assert_eq!(rt;
+        (count, look, MAX_BLOCK),
+        (64, (false, 1, 64, MAX_BLOCK), 7_662)
+    );
+    hands_out(&rt, &body, 7, &records)?;
     Ok(())
 }
 
+// The seqno of a conflict, which the record of a commit has not; then all behind the record.
 #[test]
 fn records_and_blocks_keep_their_zeros(rt: HostRuntime) -> Result<(), Fail> {
     let mut block = BlockBuilder::new();
-    assert!(rt; block.push(&two_puts(1, 3)?));
+    let has_room = block.push(&two_puts(1, 3)?);
     let mut body = body_of(rt.alloc(), 7, &block)?;
-    assert_eq!(rt; body.len(), 7_680);
-    // The seqno of a conflict, which the record of a commit has not; then all behind the record.
-    for (place, at) in (53..61)
-        .map(|place| (place, 18))
-        .chain((80..7_680).map(|place| (place, 0)))
-    {
-        let Some(byte) = body.get_mut(place) else {
-            return Err(Fail::new("the body is too short"));
-        };
-        *byte = 1;
-        assert!(rt;
-            read_block(&body).err() == Some(Refusal::Malformed { at }),
-            "{place}"
-        );
-        if let Some(byte) = body.get_mut(place) {
-            *byte = 0;
-        }
-    }
+    assert_eq!(rt; (has_room, body.len()), (true, 7_680));
+    refuses(&rt, &mut body, (53, 61), 1, 18);
+    refuses(&rt, &mut body, (80, 7_680), 1, 0);
     assert!(rt; read_block(&body).is_ok());
     Ok(())
 }

@@ -3,6 +3,7 @@
 use rep_types::{Key, Refusal, Schema, Value, Write, WriteSet};
 use rep_versions::{At, Versions};
 use std::alloc::Global;
+use std::process::Abort;
 use std::test::Fail;
 
 fn key(row: u32) -> Key {
@@ -23,21 +24,31 @@ fn delete(row: u32) -> Write {
     }
 }
 
-fn item(writes: &[Write]) -> Result<WriteSet, Refusal> {
-    WriteSet::new(1, 1, 0, &[], writes)
+/// Adds the versions of an item of these writes.
+fn add(versions: &mut Versions, seqno: u64, writes: &[Write]) -> Result<(), Refusal> {
+    versions.add(seqno, &WriteSet::new(1, 1, 0, &[], writes)?)
 }
 
 /// Row 5 is put at seqno 2 and at 9 and deleted at 6; row 7 is put at 2; row 130 is deleted at 6.
-fn versions(alloc: Global) -> Result<Versions, Refusal> {
+fn add_three(versions: &mut Versions) -> Result<(), Refusal> {
+    add(versions, 2, &[put(5, b"two")?, put(7, b"")?])?;
+    add(versions, 6, &[delete(5), delete(130)])?;
+    add(versions, 9, &[put(5, b"nine")?])
+}
+
+/// The versions of those three items.
+fn three(alloc: Global) -> Result<Versions, Refusal> {
     let mut versions = Versions::new(alloc);
-    versions.add(2, &item(&[put(5, b"two")?, put(7, b"")?])?)?;
-    versions.add(6, &item(&[delete(5), delete(130)])?)?;
-    versions.add(9, &item(&[put(5, b"nine")?])?)?;
+    add_three(&mut versions)?;
     Ok(versions)
 }
 
-/// What the row is at the snapshot, as bytes: None where it is deleted or there is no version.
-fn is(versions: &Versions, row: u32, seqno: u64, bytes: Option<&[u8]>, below: bool) -> bool {
+/// A row at a snapshot, its bytes there, and whether it has no version so old: None where it is deleted
+/// or there is no version.
+type Case = (u32, u64, Option<&'static [u8]>, bool);
+
+/// Whether the row is this at the snapshot.
+fn is(versions: &Versions, (row, seqno, bytes, below): Case) -> bool {
     match versions.at(key(row), seqno) {
         At::Found(value) => bytes == Some(value.as_bytes()),
         At::Deleted => bytes.is_none() && !below,
@@ -45,62 +56,94 @@ fn is(versions: &Versions, row: u32, seqno: u64, bytes: Option<&[u8]>, below: bo
     }
 }
 
+/// Compares these rows.
+fn are(rt: &impl Abort, versions: &Versions, cases: &[Case]) {
+    for case in cases {
+        assert_eq!(rt;
+            (case.0, case.1, is(versions, *case)),
+            (case.0, case.1, true)
+        );
+    }
+}
+
+const NEWEST: [Case; 12] = [
+    (5, 0, None, true),
+    (5, 1, None, true),
+    (5, 2, Some(b"two"), false),
+    (5, 5, Some(b"two"), false),
+    (5, 6, None, false),
+    (5, 8, None, false),
+    (5, 9, Some(b"nine"), false),
+    (5, u64::MAX, Some(b"nine"), false),
+    (6, 9, None, true),
+    (7, 9, Some(b""), false),
+    (130, 5, None, true),
+    (130, 6, None, false),
+];
+
 #[test]
 fn the_newest_version_at_most_at_the_snapshot_is_found(rt: HostRuntime) -> Result<(), Fail> {
-    let versions = versions(rt.alloc())?;
-    let rows: [(u32, u64, Option<&[u8]>, bool); 12] = [
-        (5, 0, None, true),
-        (5, 1, None, true),
-        (5, 2, Some(b"two"), false),
-        (5, 5, Some(b"two"), false),
-        (5, 6, None, false),
-        (5, 8, None, false),
-        (5, 9, Some(b"nine"), false),
-        (5, u64::MAX, Some(b"nine"), false),
-        (6, 9, None, true),
-        (7, 9, Some(b""), false),
-        (130, 5, None, true),
-        (130, 6, None, false),
-    ];
-    for (row, seqno, bytes, below) in rows {
-        assert!(rt; is(&versions, row, seqno, bytes, below), "{row} {seqno}");
-    }
+    are(&rt, &three(rt.alloc())?, &NEWEST);
+    Ok(())
+}
+
+const TAKEN_BACK: [Case; 2] = [(5, 9, None, false), (5, 5, Some(b"two"), false)];
+
+const PRUNED: [Case; 3] = [
+    (5, 8, None, true),
+    (7, 9, None, true),
+    (5, 9, Some(b"nine"), false),
+];
+
+#[test]
+fn versions_are_taken_back_by_seqno(rt: HostRuntime) -> Result<(), Fail> {
+    let mut versions = three(rt.alloc())?;
+    versions.take_back(9);
+    are(&rt, &versions, &TAKEN_BACK);
     Ok(())
 }
 
 #[test]
-fn versions_go_by_seqno(rt: HostRuntime) -> Result<(), Fail> {
-    let mut newest_gone = versions(rt.alloc())?;
-    newest_gone.take_back(9);
-    assert!(rt; is(&newest_gone, 5, 9, None, false));
-    assert!(rt; is(&newest_gone, 5, 5, Some(b"two"), false));
-    let mut pruned = versions(rt.alloc())?;
-    pruned.prune(6);
-    assert!(rt; is(&pruned, 5, 8, None, true));
-    assert!(rt; is(&pruned, 7, 9, None, true));
-    assert!(rt; is(&pruned, 5, 9, Some(b"nine"), false));
+fn versions_are_pruned_by_seqno(rt: HostRuntime) -> Result<(), Fail> {
+    let mut versions = three(rt.alloc())?;
+    versions.prune(6);
+    are(&rt, &versions, &PRUNED);
+    Ok(())
+}
+
+/// A base, a position, and the pages with a version between.
+const PAGES: [(u64, u64, &[u32]); 7] = [
+    (0, 0, &[]),
+    (0, 2, &[0]),
+    (2, 5, &[]),
+    (2, 6, &[0, 2]),
+    (6, 9, &[0]),
+    (9, 10, &[1]),
+    (0, 10, &[0, 1, 2]),
+];
+
+/// Compares the pages with a change.
+fn has_changed(
+    rt: &(impl Abort + AllocGlobal),
+    versions: &Versions,
+    schema: &Schema,
+) -> Result<(), Refusal> {
+    for (base, position, wanted) in PAGES {
+        let found = versions.pages(rt.alloc(), schema, base, position)?;
+        assert_eq!(rt;
+            (base, position, found.as_slice()),
+            (base, position, wanted)
+        );
+    }
     Ok(())
 }
 
 #[test]
 fn changed_pages_are_those_of_the_versions_between(rt: HostRuntime) -> Result<(), Fail> {
-    let alloc = rt.alloc();
-    let schema = Schema::new(&[131])?;
-    let mut versions = versions(alloc)?;
+    let mut versions = three(rt.alloc())?;
     // the first and the last row of page 1, and a row that the schema does not have
-    versions.add(10, &item(&[delete(63), put(125, b"1")?, put(131, b"1")?])?)?;
-    let pages: [(u64, u64, &[u32]); 7] = [
-        (0, 0, &[]),
-        (0, 2, &[0]),
-        (2, 5, &[]),
-        (2, 6, &[0, 2]),
-        (6, 9, &[0]),
-        (9, 10, &[1]),
-        (0, 10, &[0, 1, 2]),
-    ];
-    for (base, position, wanted) in pages {
-        let found = versions.pages(alloc, &schema, base, position)?;
-        assert!(rt; found.as_slice() == wanted, "{base} {position}");
-    }
+    let writes = [delete(63), put(125, b"1")?, put(131, b"1")?];
+    add(&mut versions, 10, &writes)?;
+    has_changed(&rt, &versions, &Schema::new(&[131])?)?;
     Ok(())
 }

@@ -1,5 +1,5 @@
 use Rattle.std.proofs.Common.{refl}
-use Rattle.rep_ordered_node.proofs.Moves.{went_same}
+use Rattle.rep_ordered.specs.GoingLaws.{went_same}
 use Rattle.rep_ordered_node.proofs.keeping.keep.Goals as goal
 
 pub loop-init : goal.loop-init

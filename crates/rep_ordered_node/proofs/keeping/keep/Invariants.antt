@@ -1,5 +1,5 @@
 use Rattle.std.proofs.Common.{◌≡◌}
-use Rattle.rep_ordered_node.specs.Seats.{Went}
+use Rattle.rep_ordered.specs.Going.{Went}
 use Rattle.rep_ordered_node.proofs.keeping.keep.Given as goal
 
 abbrev pub invariant-loop : goal.invariant-loop

@@ -4,8 +4,9 @@ use Rattle.rep_ordered.specs.Seats.{Place}
 use Rattle.rep_ordered.specs.Views.{reached_at}
 use Rattle.rep_ordered_node.specs.declared.done.Done.{Done}
 use Rattle.rep_ordered_node.specs.declared.home.Home.{Home}
-use Rattle.rep_ordered_node.specs.Seats.{Went}
-use Rattle.rep_ordered_node.proofs.Moves.{went_claimed, went_later, went_on, passed_more}
+use Rattle.rep_ordered.specs.Going.{Went}
+use Rattle.rep_ordered.specs.GoingLaws.{went_claimed, went_later, went_on}
+use Rattle.rep_ordered_node.proofs.Moves.{passed_next}
 use Rattle.rep_ordered_node.proofs.submitting.submit.Goals as goal
 
 pub returns-clause-passed : goal.returns-clause-passed
@@ -14,5 +15,5 @@ returns-clause-passed g c = let v : View Home Done = c.args.seat.now.view in let
     let d = c.certify.ensures.went in let e = c.queue.ensures.went in let f = went_later v4 w c.wait_durable-2.ensures.later e.free in
     let went : Went v w = went_on v v1 w a (went_on v1 v2 w b (went_on v2 v3 w d (went_on v3 v4 w e f))) in
     let own : w.own ≡ v.own ++ t ∷ [] = ap (λ (z : View Home Done). z.own) c.wait_durable-2.ensures.later.same ∙ (c.queue.ensures.own.0 ∙ (c.certify.ensures.own ∙ (ap (λ (z : View Home Done). z.own) c.wait_durable.ensures.later.same ∙ ap (λ (z : View Home Done). z.own) drew))) in
-    let seqno : c.in_ok-done.done.seqno ≡ t = c.in_ok-done.ensures.joined.1 in let passed : c.in_ok-done.done.seqno < reached_at 1 v4.reached = search rules in let up = f.reached 1 in
-    passed_more v w t went own (omega arith)
+    let seqno : c.in_ok-done.done.seqno ≡ t = c.in_ok-done.ensures.joined.1 in let passed : c.in_ok-done.done.seqno < reached_at 1 v4.reached = search rules in let up = f.goes.reached 1 in
+    passed_next v w t went own (omega arith)

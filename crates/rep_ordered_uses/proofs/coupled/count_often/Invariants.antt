@@ -1,5 +1,5 @@
 use Rattle.std.proofs.Common.{◌≡◌, ◌≤◌}
-use Rattle.rep_ordered_uses.specs.Passing.{Went}
+use Rattle.rep_ordered.specs.Going.{Went}
 use Rattle.rep_ordered_uses.proofs.coupled.count_often.Given as goal
 
 abbrev pub invariant-loop-time : goal.invariant-loop-time

@@ -1,5 +1,6 @@
 use Rattle.std.proofs.Common.{◌≡◌, ◌+◌, length}
-use Rattle.rep_ordered_uses.specs.Passing.{AllDone, Went}
+use Rattle.rep_ordered.specs.Going.{Went}
+use Rattle.rep_ordered_uses.specs.Passing.{AllDone}
 use Rattle.rep_ordered_uses.proofs.passing.pass_all.Given as goal
 
 abbrev pub invariant-loop-ticket : goal.invariant-loop-ticket

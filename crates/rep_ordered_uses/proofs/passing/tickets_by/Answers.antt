@@ -14,7 +14,7 @@ unwrap-second-requires g c = let seat = c.pass_by-seat.result.0 in let went = c.
     let start : c.in_ok-lock.seat.view.start ≡ g.row.START = ap (λ (z : Place _ ℕ). z.view.start) made in let own : length c.in_ok-lock.seat.view.own ≡ 0 = ap (λ (z : Place _ ℕ). length z.view.own) made in
     let two : length c.close-values.result.items ≡ 2 = search rules in
     let drawn_all : length seat.view.own ≡ all = drawn ∙ (let z : length c.in_ok-lock.seat.view.own + all ≡ all = omega arith in z) in
-    let lists = closed_lists (λ (x : Passed g.row.START). x.tickets.items) (λ _. 0) g.row.START all seat.view c.close-values.result.items c.close-values.ensures.values two went.free done (went.start ∙ start) drawn_all (product_some c.args.threads c.args.count c.requires.some.0 c.requires.some.1) in
+    let lists = closed_lists (λ (x : Passed g.row.START). x.tickets.items) (λ _. 0) g.row.START all seat.view c.close-values.result.items c.close-values.ensures.values two went.free done (went.goes.start ∙ start) drawn_all (product_some c.args.threads c.args.count c.requires.some.0 c.requires.some.1) in
     let n_is : vec_len c.close-values.result ≡ length c.close-values.result.items = search rules in
     let last = popped_last c.close-values.result.items (Some lists.0) (Some lists.1) (vec_len c.close-values.result) c.pop.result lists.2 n_is c.pop.ensures.value in
     subst IsSome (sym (c.flatten.ensures ∙ ap option_flatten last)) refl
@@ -25,7 +25,7 @@ unwrap-first-requires g c = let seat = c.pass_by-seat.result.0 in let went = c.p
     let start : c.in_ok-lock.seat.view.start ≡ g.row.START = ap (λ (z : Place _ ℕ). z.view.start) made in let own : length c.in_ok-lock.seat.view.own ≡ 0 = ap (λ (z : Place _ ℕ). length z.view.own) made in
     let two : length c.close-values.result.items ≡ 2 = search rules in
     let drawn_all : length seat.view.own ≡ all = drawn ∙ (let z : length c.in_ok-lock.seat.view.own + all ≡ all = omega arith in z) in
-    let lists = closed_lists (λ (x : Passed g.row.START). x.tickets.items) (λ _. 0) g.row.START all seat.view c.close-values.result.items c.close-values.ensures.values two went.free done (went.start ∙ start) drawn_all (product_some c.args.threads c.args.count c.requires.some.0 c.requires.some.1) in
+    let lists = closed_lists (λ (x : Passed g.row.START). x.tickets.items) (λ _. 0) g.row.START all seat.view c.close-values.result.items c.close-values.ensures.values two went.free done (went.goes.start ∙ start) drawn_all (product_some c.args.threads c.args.count c.requires.some.0 c.requires.some.1) in
     let n_is : vec_len c.close-values.result ≡ length c.close-values.result.items = search rules in
     let m_is : vec_len c.pop.new.self ≡ length c.pop.new.self.items = search rules in
     let both = popped c.close-values.result.items c.pop.new.self.items (Some lists.0) (Some lists.1) (vec_len c.close-values.result) (vec_len c.pop.new.self) c.pop.result c.pop-2.result lists.2 n_is m_is c.pop.ensures.value c.pop.ensures.rest c.pop-2.ensures.value in
@@ -37,7 +37,7 @@ returns g c = let seat = c.pass_by-seat.result.0 in let went = c.pass_by-seat.en
     let start : c.in_ok-lock.seat.view.start ≡ g.row.START = ap (λ (z : Place _ ℕ). z.view.start) made in let own : length c.in_ok-lock.seat.view.own ≡ 0 = ap (λ (z : Place _ ℕ). length z.view.own) made in
     let two : length c.close-values.result.items ≡ 2 = search rules in
     let drawn_all : length seat.view.own ≡ all = drawn ∙ (let z : length c.in_ok-lock.seat.view.own + all ≡ all = omega arith in z) in
-    let lists = closed_lists (λ (x : Passed g.row.START). x.tickets.items) (λ _. 0) g.row.START all seat.view c.close-values.result.items c.close-values.ensures.values two went.free done (went.start ∙ start) drawn_all (product_some c.args.threads c.args.count c.requires.some.0 c.requires.some.1) in
+    let lists = closed_lists (λ (x : Passed g.row.START). x.tickets.items) (λ _. 0) g.row.START all seat.view c.close-values.result.items c.close-values.ensures.values two went.free done (went.goes.start ∙ start) drawn_all (product_some c.args.threads c.args.count c.requires.some.0 c.requires.some.1) in
     let n_is : vec_len c.close-values.result ≡ length c.close-values.result.items = search rules in
     let m_is : vec_len c.pop.new.self ≡ length c.pop.new.self.items = search rules in
     let both = popped c.close-values.result.items c.pop.new.self.items (Some lists.0) (Some lists.1) (vec_len c.close-values.result) (vec_len c.pop.new.self) c.pop.result c.pop-2.result lists.2 n_is m_is c.pop.ensures.value c.pop.ensures.rest c.pop-2.ensures.value in

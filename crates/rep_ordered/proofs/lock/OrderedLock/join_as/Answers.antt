@@ -26,4 +26,4 @@ load-requires g c = let t = c.join_seat.ensures.2 in
 pub invariant_of-seat : goal.invariant_of-seat
 invariant_of-seat g c = let t = c.join_seat.ensures.2 in
     let both_seated = seated_both _ c.seat.inside.seat.me c.join_seat.new.seat.me c.other.inside.seat.me.0.view c.seat.invariant c.other.invariant.lives c.other.invariant.small (ap (λ z. z.0.view) t) (ap (λ z. z.1) t) in
-    let l = c.load.ensures.2 in learnt _ _ _ _ _ (ap (λ (z : TableId). z.slots) (c.load.ensures.0 ∙ c.join_seat.ensures.0)) both_seated.0 both_seated.1 both_seated.2 both_seated.3 l.0 l.1
+    let l = c.load.ensures.2 in learnt _ _ _ _ _ (ap (λ (z : TableId). z.slots) (c.load.ensures.0 ∙ c.join_seat.ensures.0)) both_seated.0 both_seated.1 both_seated.2 both_seated.3 l.0.0 l.0.1

@@ -34,6 +34,7 @@ fetch_add-requires g c = let v : View g.row.V.Denot g.row.E.Denot = c.args.seat.
             meets = c.requires.value;
             floor = c.requires.floor;
             common = c.requires.common;
+            covered = (λ one. let a = c.requires.covered one in omega arith);
             lives = subst Lives is c.seat.invariant.lives;
           }
           (omega arith) (front_is _ _ _ (Some c.args.value) _ refl (ap (λ z. z.1) put)),

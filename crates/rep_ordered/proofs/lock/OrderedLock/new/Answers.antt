@@ -14,9 +14,9 @@ new-requires g c = let k : Opening g.row.V.Denot = c.opening_at-opening.result i
     let words = c.as_slice.ensures.value ∙ (c.in-Some.ensures.0 ∙ ap (λ (d : ℕ). k.start ∷ d ∷ replicate c.len.result (4 * k.start)) (sym same)) in
     let meet = subst (λ (z : ℕ × ℕ × List g.row.V.Denot). AllMeet (g.V.Keeps.legal z.2) (g.V.Keeps.at_home z.2) g.V.Keeps.durable_of g.V.Keeps.common_of z.0 z.1 values) (λ i. (sym start i, sym same i, sym first i)) c.requires.values in
     let lawful = subst (λ (fs : List g.row.V.Denot). g.V.Keeps.legal fs []) (sym first) c.requires.legal in
-    subst (λ (z : List ℕ × List (Option g.row.V.Denot)). Kept (g.V.Keeps.legal (first_of k)) (g.V.Keeps.at_home (first_of k)) g.V.Keeps.durable_of g.V.Keeps.common_of k (opening z.0 z.1 (untold (opened k.start k.whole (first_of k) k.durable))))
+    subst (λ (z : List ℕ × List (Option g.row.V.Denot)). Kept (g.V.Keeps.legal (first_of k)) (g.V.Keeps.at_home (first_of k)) g.V.Keeps.durable_of g.V.Keeps.common_of k (opening z.0 z.1 (untold (opened g.V.Keeps.durable_of g.V.Keeps.common_of k.start k.whole (first_of k) k.durable))))
     (λ i. (sym words i, sym c.wrap.ensures.slots i))
-    (opens (g.V.Keeps.legal (first_of k)) (g.V.Keeps.at_home (first_of k)) g.V.Keeps.durable_of g.V.Keeps.common_of k values c.len.result (search rules) (omega arith) (omega arith) (omega arith) lawful c.requires.names meet)
+    (opens (g.V.Keeps.legal (first_of k)) (g.V.Keeps.at_home (first_of k)) g.V.Keeps.durable_of g.V.Keeps.common_of k values c.len.result (search rules) (omega arith) (omega arith) (omega arith) lawful first c.requires.names c.requires.covered meet)
 
 pub unwrap-requires-clause-full : goal.unwrap-requires-clause-full
 unwrap-requires-clause-full g c = subst (Every IsSome) (sym (c.in-Err.ensures.err ∙ c.wrap.ensures.slots)) (all_some c.args.values.items)

@@ -1,0 +1,297 @@
+//! What a stop leaves, call by call, and which calls fail.
+
+use rep_disk::{Disk, DiskFault, FaultOnce, FileDisk, FuseDisk, Loss, MemDisk};
+use std::alloc::Global;
+use std::fs;
+use std::fs::OpenOptions;
+use std::process::Abort;
+use std::test::Fail;
+
+const FOUND: [u8; 4] = [1, 2, 3, 4];
+
+const NO_FAULT: u64 = u64::MAX;
+
+#[derive(Clone, Copy)]
+enum Step {
+    Write(usize, &'static [u8]),
+    Sync,
+}
+
+/// Calls on the bytes `FOUND`, of which the one of the number `fault` fails, and what each loss
+/// leaves then.
+#[derive(Clone, Copy)]
+struct Case {
+    name: &'static str,
+    steps: &'static [Step],
+    fault: u64,
+    keep: [u8; 4],
+    drop: [u8; 4],
+    junk: [u8; 4],
+}
+
+const CASES: [Case; 10] = [
+    Case {
+        name: "a write is pending",
+        steps: &[Step::Write(1, &[7, 8])],
+        fault: NO_FAULT,
+        keep: [1, 7, 8, 4],
+        drop: [1, 2, 3, 4],
+        junk: [1, 0xEE, 0xEE, 4],
+    },
+    Case {
+        name: "a sync makes it stable",
+        steps: &[Step::Write(1, &[7, 8]), Step::Sync],
+        fault: NO_FAULT,
+        keep: [1, 7, 8, 4],
+        drop: [1, 7, 8, 4],
+        junk: [1, 7, 8, 4],
+    },
+    Case {
+        name: "a write that fails on purpose does not reach the disk",
+        steps: &[Step::Write(1, &[7, 8])],
+        fault: 0,
+        keep: [1, 2, 3, 4],
+        drop: [1, 2, 3, 4],
+        junk: [1, 2, 3, 4],
+    },
+    Case {
+        name: "a failed sync makes nothing stable",
+        steps: &[Step::Write(1, &[7, 8]), Step::Sync],
+        fault: 1,
+        keep: [1, 7, 8, 4],
+        drop: [1, 2, 3, 4],
+        junk: [1, 0xEE, 0xEE, 4],
+    },
+    Case {
+        name: "the sync after a failed one makes all stable",
+        steps: &[Step::Write(1, &[7, 8]), Step::Sync, Step::Sync],
+        fault: 1,
+        keep: [1, 7, 8, 4],
+        drop: [1, 7, 8, 4],
+        junk: [1, 7, 8, 4],
+    },
+    Case {
+        name: "pending ranges overlap",
+        steps: &[Step::Write(0, &[7, 8]), Step::Write(1, &[9, 9])],
+        fault: NO_FAULT,
+        keep: [7, 9, 9, 4],
+        drop: [1, 2, 3, 4],
+        junk: [0xEE, 0xEE, 0xEE, 4],
+    },
+    Case {
+        name: "a pending range overlaps what is stable",
+        steps: &[Step::Write(0, &[7, 8]), Step::Sync, Step::Write(1, &[9])],
+        fault: NO_FAULT,
+        keep: [7, 9, 3, 4],
+        drop: [7, 8, 3, 4],
+        junk: [7, 0xEE, 3, 4],
+    },
+    Case {
+        name: "an empty write changes nothing",
+        steps: &[Step::Write(2, &[]), Step::Write(4, &[])],
+        fault: NO_FAULT,
+        keep: [1, 2, 3, 4],
+        drop: [1, 2, 3, 4],
+        junk: [1, 2, 3, 4],
+    },
+    Case {
+        name: "the last byte is written",
+        steps: &[Step::Write(3, &[9])],
+        fault: NO_FAULT,
+        keep: [1, 2, 3, 9],
+        drop: [1, 2, 3, 4],
+        junk: [1, 2, 3, 0xEE],
+    },
+    Case {
+        name: "all bytes are written",
+        steps: &[Step::Write(0, &[6, 7, 8, 9])],
+        fault: NO_FAULT,
+        keep: [6, 7, 8, 9],
+        drop: [1, 2, 3, 4],
+        junk: [0xEE, 0xEE, 0xEE, 0xEE],
+    },
+];
+
+fn ask<D: Disk>(disk: &mut D, step: Step) -> Result<(), DiskFault> {
+    match step {
+        Step::Sync => disk.sync(),
+        Step::Write(at, bytes) => {
+            if bytes.len() <= disk.size() && at <= disk.size() - bytes.len() {
+                disk.write_at(at, bytes)
+            } else {
+                Err(DiskFault)
+            }
+        }
+    }
+}
+
+/// The device behind the calls of the case, and whether each of them failed that was to fail, and no other.
+fn asked(alloc: Global, case: Case) -> Result<(MemDisk, bool), Fail> {
+    let mut disk = FaultOnce::new(MemDisk::from_bytes(alloc, &FOUND)?, case.fault);
+    let mut right = true;
+    let mut number = 0u64;
+    for step in case.steps {
+        right = right && ask(&mut disk, *step).is_err() == (number == case.fault);
+        number = number.saturating_add(1);
+    }
+    Ok((disk.into_inner(), right))
+}
+
+/// Whether a stop leaves these bytes, and all of them stable.
+fn leaves(disk: &mut MemDisk, loss: Loss, left: [u8; 4]) -> (bool, bool) {
+    disk.crash(loss);
+    let at_once = disk.bytes() == left.as_slice();
+    disk.crash(Loss::Drop);
+    (at_once, disk.bytes() == left.as_slice())
+}
+
+fn stop(
+    rt: &(impl Abort + AllocGlobal),
+    case: Case,
+    loss: Loss,
+    left: [u8; 4],
+) -> Result<(), Fail> {
+    let (mut disk, right) = asked(rt.alloc(), case)?;
+    let found = (right, leaves(&mut disk, loss, left));
+    assert_eq!(rt;
+        (case.name, loss, found),
+        (case.name, loss, (true, (true, true)))
+    );
+    Ok(())
+}
+
+#[test]
+fn a_stop_leaves_what_the_loss_says(rt: HostRuntime) -> Result<(), Fail> {
+    for case in CASES {
+        stop(&rt, case, Loss::Keep, case.keep)?;
+        stop(&rt, case, Loss::Drop, case.drop)?;
+        stop(&rt, case, Loss::Junk, case.junk)?;
+    }
+    Ok(())
+}
+
+/// Fills these bytes from the offset 2 on.
+fn read_two<D: Disk>(disk: &mut D, out: &mut [u8; 2]) -> bool {
+    disk.size() >= 4 && disk.read_at(2, out).is_ok()
+}
+
+/// Writes two bytes at the offset 2, reads them, and syncs twice: which of these calls succeed.
+fn ask_four<D: Disk>(disk: &mut D, out: &mut [u8; 2]) -> [bool; 4] {
+    [
+        ask(disk, Step::Write(2, &[7, 8])).is_ok(),
+        read_two(disk, out),
+        disk.sync().is_ok(),
+        disk.sync().is_ok(),
+    ]
+}
+
+/// How often the device has failed, and the one inside it, and whether that reads as these bytes.
+fn look_at(disk: &FuseDisk<MemDisk>, left: [u8; 4]) -> (u64, u64, bool) {
+    (
+        disk.failures(),
+        disk.inner().failures(),
+        disk.inner().bytes() == left.as_slice(),
+    )
+}
+
+/// By the number of the calls that pass: which of four calls succeed, what was read, and what is left inside.
+const FUSES: [(u64, [bool; 4], [u8; 2], [u8; 4]); 4] = [
+    (0, [false, false, false, false], [5, 5], [0, 0, 0, 0]),
+    (1, [true, false, false, false], [5, 5], [0, 0, 7, 8]),
+    (2, [true, true, false, false], [7, 8], [0, 0, 7, 8]),
+    (3, [true, true, true, false], [7, 8], [0, 0, 7, 8]),
+];
+
+#[test]
+fn a_fuse_passes_its_calls_and_no_more(rt: HostRuntime) -> Result<(), Fail> {
+    for (calls, succeed, read, left) in FUSES {
+        let mut disk = FuseDisk::new(MemDisk::new(rt.alloc(), 4)?, calls);
+        let mut out = [5; 2];
+        let answers = ask_four(&mut disk, &mut out);
+        assert_eq!(rt; (calls, answers, out), (calls, succeed, read));
+        let failures = 4u64.saturating_sub(calls);
+        assert_eq!(rt; (calls, look_at(&disk, left)), (calls, (failures, 0, true)));
+        assert!(rt; disk.into_inner().bytes() == left.as_slice());
+    }
+    Ok(())
+}
+
+/// Writes a byte and syncs twice: which of these calls succeed.
+fn ask_three<D: Disk>(disk: &mut D) -> [bool; 3] {
+    [
+        ask(disk, Step::Write(0, &[9])).is_ok(),
+        disk.sync().is_ok(),
+        disk.sync().is_ok(),
+    ]
+}
+
+#[test]
+fn one_fault_comes_once(rt: HostRuntime) -> Result<(), Fail> {
+    let mut disk = FaultOnce::new(MemDisk::new(rt.alloc(), 1)?, 1);
+    let answers = ask_three(&mut disk);
+    assert_eq!(rt;
+        (answers, disk.failures(), disk.size()),
+        ([true, false, true], 1, 1)
+    );
+    assert_eq!(rt; disk.inner().bytes(), [9].as_slice());
+    Ok(())
+}
+
+/// A path for a file of this process.
+fn new_path(rt: &HostRuntime) -> Result<String, Fail> {
+    let path = format!(in rt.alloc();
+        "{}/rep_disk_{}",
+        std::env::temp_dir(rt)?.display(),
+        std::process::id(rt.process())
+    )?;
+    let _ = fs::remove_file(rt, path.as_str());
+    Ok(path)
+}
+
+/// Reads so many bytes at the offset, and says whether that succeeded.
+fn read<D: Disk>(disk: &mut D, at: usize, out: &mut [u8]) -> bool {
+    out.len() <= disk.size() && at <= disk.size() - out.len() && disk.read_at(at, out).is_ok()
+}
+
+/// Makes a file of four bytes, and writes two of them: which of the calls succeed.
+fn write_file(rt: &HostRuntime, path: &str) -> Result<[bool; 3], Fail> {
+    let mut disk = FileDisk::create(rt, path, 4)?;
+    let answers = [
+        disk.size() == 4,
+        ask(&mut disk, Step::Write(1, &[7, 8])).is_ok(),
+        disk.sync().is_ok(),
+    ];
+    Ok(answers)
+}
+
+/// Reads all of the file: its size, whether it is read, and the bytes.
+fn read_file(rt: &HostRuntime, path: &str) -> Result<(usize, bool, [u8; 4]), Fail> {
+    let mut disk = FileDisk::open(rt, path)?;
+    let mut out = [5; 4];
+    let is_read = read(&mut disk, 0, &mut out);
+    Ok((disk.size(), is_read, out))
+}
+
+/// Cuts the file to two bytes behind the disk's back, and reads two bytes and one: which of these are read, how often the
+/// disk has failed, and the length of the file.
+fn read_cut(rt: &HostRuntime, path: &str) -> Result<([bool; 2], u64, u64), Fail> {
+    let mut disk = FileDisk::open(rt, path)?;
+    OpenOptions::new().write(true).open(rt, path)?.set_len(2)?;
+    let answers = [
+        read(&mut disk, 1, &mut [5; 2]),
+        read(&mut disk, 1, &mut [5; 1]),
+    ];
+    let failures = disk.failures();
+    Ok((answers, failures, disk.into_file().metadata()?.len()))
+}
+
+#[test]
+fn a_file_keeps_what_was_written(rt: HostRuntime) -> Result<(), Fail> {
+    let path = new_path(&rt)?;
+    let path = path.as_str();
+    assert_eq!(rt; write_file(&rt, path)?, [true; 3]);
+    assert_eq!(rt; read_file(&rt, path)?, (4, true, [0, 7, 8, 0]));
+    assert_eq!(rt; read_cut(&rt, path)?, ([false, true], 1, 2));
+    fs::remove_file(&rt, path)?;
+    Ok(())
+}

@@ -1,0 +1,194 @@
+//! What a disk on a file asks the file for.
+ghost use Rattle.std.specs.Prelude.{◌+◌, ◌≤◌};
+
+use rep_disk::{Disk, FileDisk};
+use std::cell::Cell;
+use std::fs::{Metadata, OpenFile};
+use std::io;
+use std::os::unix::fs::FileExt;
+use std::process::Abort;
+use std::test::Fail;
+
+/// What a file was asked for, with the offset and the length of a read or a write.
+#[derive(Clone, Copy, Debug, PartialEq, Eq)]
+enum Asked {
+    Nothing,
+    Read(u64, usize),
+    Write(u64, usize),
+    Sync,
+}
+
+use Asked::{Nothing, Read, Sync, Write};
+
+const SIZE: usize = 8;
+
+const NO_FAULT: usize = usize::MAX;
+
+/// A file in memory that notes what it is asked for, moves two bytes at a time at most, and fails the
+/// call of one number.
+#[derive(Drop)]
+struct NotedFile {
+    bytes: Cell<[u8; SIZE]>,
+    asked: Cell<[Asked; 7]>,
+    count: Cell<usize>,
+    fault: usize,
+}
+
+impl NotedFile {
+    fn new(fault: usize) -> NotedFile {
+        NotedFile {
+            bytes: Cell::new([0; SIZE]),
+            asked: Cell::new([Nothing; 7]),
+            count: Cell::new(0),
+            fault,
+        }
+    }
+
+    fn note(&self, call: Asked) -> io::Result<()> {
+        let number = self.count.get();
+        self.count.set(number.saturating_add(1));
+        let mut asked = self.asked.get();
+        if let Some(place) = asked.get_mut(number) {
+            *place = call;
+        }
+        self.asked.set(asked);
+        if number == self.fault {
+            return Err(io::Error::from(io::ErrorKind::Other));
+        }
+        Ok(())
+    }
+
+    /// Where a range of bytes starts, and how many of them are moved at once.
+    fn piece(offset: u64, len: usize) -> (usize, usize)
+        ensures fits { result.0 + result.1 ≤ 8 }
+        ensures few { result.1 ≤ len }
+    {
+        let start = offset.min(SIZE as u64) as usize;
+        (start, len.min(2).min(SIZE - start))
+    }
+}
+
+impl FileExt for NotedFile {
+    fn read_at(&self, buf: &mut [u8], offset: u64) -> io::Result<usize> {
+        self.note(Read(offset, buf.len()))?;
+        let (start, len) = NotedFile::piece(offset, buf.len());
+        buf[..len].copy_from_slice(&self.bytes.get()[start..start + len]);
+        Ok(len)
+    }
+
+    fn write_at(&self, buf: &[u8], offset: u64) -> io::Result<usize> {
+        self.note(Write(offset, buf.len()))?;
+        let (start, len) = NotedFile::piece(offset, buf.len());
+        let mut bytes = self.bytes.get();
+        bytes[start..start + len].copy_from_slice(&buf[..len]);
+        self.bytes.set(bytes);
+        Ok(len)
+    }
+}
+
+impl OpenFile for NotedFile {
+    fn metadata(&self) -> io::Result<Metadata> {
+        Ok(Metadata::of_file(SIZE as u64))
+    }
+
+    fn set_len(&self, _size: u64) -> io::Result<()> {
+        Err(io::Error::from(io::ErrorKind::Unsupported))
+    }
+
+    fn sync_all(&self) -> io::Result<()> {
+        self.note(Sync)
+    }
+
+    fn sync_data(&self) -> io::Result<()> {
+        Err(io::Error::from(io::ErrorKind::Unsupported))
+    }
+}
+
+/// All that a write, two syncs and a read ask for.
+const ALL: [Asked; 7] = [
+    Write(3, 3),
+    Write(5, 1),
+    Sync,
+    Sync,
+    Read(2, 4),
+    Read(4, 2),
+    Nothing,
+];
+
+/// The same where the first sync fails: the file is not asked for another.
+const ONE_SYNC: [Asked; 7] = [
+    Write(3, 3),
+    Write(5, 1),
+    Sync,
+    Read(2, 4),
+    Read(4, 2),
+    Nothing,
+    Nothing,
+];
+
+/// The number of the file's call that fails, which of a write, two syncs and a read then succeed, and
+/// what the file is asked for.
+const CASES: [(usize, [bool; 4], [Asked; 7]); 5] = [
+    (NO_FAULT, [true, true, true, true], ALL),
+    // A piece of the write is refused.
+    (1, [false, true, true, true], ALL),
+    (2, [true, false, false, true], ONE_SYNC),
+    (3, [true, true, false, true], ALL),
+    // A piece of the read is refused.
+    (5, [true, true, true, false], ALL),
+];
+
+/// A disk on such a file, of which the call of this number fails.
+fn noted_disk(fault: usize) -> Result<FileDisk<NotedFile>, Fail> {
+    let disk = FileDisk::new(NotedFile::new(fault))?;
+    if disk.size() != SIZE {
+        return Err(Fail::new("another size"));
+    }
+    Ok(disk)
+}
+
+/// Writes three bytes, syncs twice and reads four: which of these calls succeed.
+fn ask_four(disk: &mut FileDisk<NotedFile>, out: &mut [u8; 4]) -> [bool; 4] {
+    if disk.size() < 6 {
+        return [false; 4];
+    }
+    [
+        disk.write_at(3, &[7, 8, 9]).is_ok(),
+        disk.sync().is_ok(),
+        disk.sync().is_ok(),
+        disk.read_at(2, out).is_ok(),
+    ]
+}
+
+/// How many calls failed.
+fn count_failed(answers: [bool; 4]) -> u64 {
+    let mut count = 0u64;
+    for answer in answers {
+        count = count.saturating_add(u64::from(!answer));
+    }
+    count
+}
+
+/// Makes the calls on a file that fails its call of this number: which of them succeed, whether as many failures were
+/// counted as failed, and what the file was asked for. Without a fault the bytes are those that were written.
+fn ask_noted(rt: &impl Abort, fault: usize) -> Result<([bool; 4], bool, [Asked; 7]), Fail> {
+    let mut disk = noted_disk(fault)?;
+    let mut out = [5; 4];
+    let answers = ask_four(&mut disk, &mut out);
+    let is_counted = disk.failures() == count_failed(answers);
+    let file = disk.into_file();
+    if fault == NO_FAULT {
+        let found = (out, file.bytes.get());
+        assert_eq!(rt; found, ([0, 7, 8, 9], [0, 0, 0, 7, 8, 9, 0, 0]));
+    }
+    Ok((answers, is_counted, file.asked.get()))
+}
+
+#[test]
+fn a_file_is_asked_for_all_bytes_and_each_sync(rt: HostRuntime) -> Result<(), Fail> {
+    for (fault, succeed, asked) in CASES {
+        let found = ask_noted(&rt, fault)?;
+        assert_eq!(rt; (fault, found), (fault, (succeed, true, asked)));
+    }
+    Ok(())
+}

@@ -1,0 +1,93 @@
+//! The device below a replica: a disk in memory that fails at one call, or from one call on.
+
+use rep_disk::{Disk, FaultOnce, FuseDisk, Loss, MemDisk};
+use rep_types::Refusal;
+use std::alloc::Global;
+
+/// A disk in memory behind both kinds of failures, of which at most one is armed.
+pub(crate) type Device = FaultOnce<FuseDisk<MemDisk>>;
+
+/// A number of calls that nobody makes.
+const NEVER: u64 = u64::MAX;
+
+/// Which calls of the device fail.
+#[derive(Clone, Copy)]
+pub(crate) enum Failing {
+    /// That of this number alone, counted from 0.
+    Once(u64),
+    /// All from that of this number on.
+    FromThenOn(u64),
+}
+
+/// The disk, which serves every call.
+pub(crate) fn serving(disk: MemDisk) -> Device {
+    FaultOnce::new(FuseDisk::new(disk, NEVER), NEVER)
+}
+
+/// A new disk of so many bytes, each of which is this one.
+pub(crate) fn blank(alloc: Global, size: usize, byte: u8) -> Result<Device, Refusal> {
+    let bytes = vec![in alloc; byte; size]?;
+    Ok(serving(MemDisk::from_bytes(alloc, &bytes)?))
+}
+
+/// The disk in memory inside.
+fn memory(device: Device) -> MemDisk {
+    device.into_inner().into_inner()
+}
+
+/// The bytes of the disk in memory, as the last writes left them.
+pub(crate) fn bytes(device: &Device) -> &[u8] {
+    device.inner().inner().bytes()
+}
+
+/// The same disk, which fails so from now on.
+pub(crate) fn armed(device: Device, failing: Failing) -> Device {
+    let disk = memory(device);
+    match failing {
+        Failing::Once(call) => FaultOnce::new(FuseDisk::new(disk, NEVER), call),
+        Failing::FromThenOn(call) => FaultOnce::new(FuseDisk::new(disk, call), NEVER),
+    }
+}
+
+/// The disk as a stop with this loss leaves it, which serves every call again.
+pub(crate) fn crashed(device: Device, loss: Loss) -> Device {
+    let mut disk = memory(device);
+    disk.crash(loss);
+    serving(disk)
+}
+
+/// How often the device failed since it was armed.
+pub(crate) fn failures(device: &Device) -> u64 {
+    device.failures()
+}
+
+/// A disk with the first so many bytes of this one, all of them stable.
+pub(crate) fn cut(alloc: Global, device: &Device, size: usize) -> Result<Device, Refusal> {
+    let bytes = bytes(device);
+    let front = &bytes[..size.min(bytes.len())];
+    Ok(serving(MemDisk::from_bytes(alloc, front)?))
+}
+
+/// Writes these bytes at this place, and says whether they fit and the device served.
+pub(crate) fn written(device: &mut Device, at: usize, part: &[u8]) -> bool {
+    let size = device.size();
+    if at > size || part.len() > size - at {
+        return false;
+    }
+    device.write_at(at, part).is_ok()
+}
+
+/// A disk whose bytes are all stable, with these at this place; none where they do not fit.
+pub(crate) fn changed(
+    alloc: Global,
+    device: &Device,
+    at: usize,
+    part: &[u8],
+) -> Result<Option<Device>, Refusal> {
+    let mut all = bytes(device).to_vec(alloc)?;
+    if at > all.len() || part.len() > all.len() - at {
+        return Ok(None);
+    }
+    all[at..at + part.len()].copy_from_slice(part);
+    Ok(Some(serving(MemDisk::from_bytes(alloc, &all)?)))
+}

@@ -1,0 +1,29 @@
+//! `rep_harness`: reads from standard input what is to be done to a replica and to the disk below it, line by line, and writes what
+//! came of each line: a device that fails at a call, stops, bytes that change, and the events between them. It compares nothing
+//! itself: `scripts/lives` writes such texts, beside models of what has to come.
+#![tactic(auto)]
+
+mod bench;
+mod device;
+mod order;
+mod shown;
+
+use bench::Bench;
+use rep_types::Refusal;
+use std::io;
+use std::process::ExitCode;
+
+fn run<R: Input + Print + AllocGlobal>(rt: &R) -> Result<(), Refusal> {
+    Bench::new(rt.alloc())?.run(rt.alloc(), &mut rt.reader(), &mut io::writer(rt))
+}
+
+fn main(rt: HostRuntime) -> ExitCode {
+    match run(&rt) {
+        Ok(()) => ExitCode::SUCCESS,
+        Err(refusal) => {
+            let number = refusal.number();
+            let _ = println!(rt; "fault {number} {refusal}");
+            ExitCode::FAILURE
+        }
+    }
+}

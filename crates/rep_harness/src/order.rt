@@ -1,0 +1,229 @@
+//! What a line asks for.
+
+ghost use Rattle.std.specs.Prelude.{◌<◌, IfSome};
+
+use crate::device::Failing;
+use arrayvec::ArrayVec;
+use rep_disk::Loss;
+use rep_record::{Words, read_params_line};
+use rep_script::{Command, read_command};
+use rep_types::{Params, Refusal, read_number};
+
+/// The most bytes that a line can put into the disk.
+const MAX_PUT: usize = 1024;
+
+/// The bytes that a line puts into the disk.
+type Part = ArrayVec<u8, MAX_PUT>;
+
+/// What changes the bytes of the disk.
+#[derive(Drop)]
+pub(crate) enum Change {
+    /// A new disk of so many bytes, each of which is this one.
+    Blank(u64, u8),
+    /// These bytes stand at this place, and all bytes are stable.
+    Put(u64, Part),
+    /// These bytes are written at this place.
+    Write(u64, Part),
+    /// The disk keeps so many bytes, all of them stable.
+    Cut(u64),
+}
+
+/// What is shown of the disk.
+#[derive(Clone, Copy)]
+pub(crate) enum Sight {
+    /// So many bytes from this place on.
+    Bytes(u64, u64),
+    /// A sum over all bytes.
+    Sum,
+    /// How often it failed.
+    Failures,
+}
+
+/// What is done to the disk. A node on it is let go.
+#[derive(Drop)]
+pub(crate) enum DiskOrder {
+    /// Its bytes change.
+    Change(Change),
+    /// It is formatted for these parameters.
+    Format(Params),
+    /// What a stop with this loss does to it.
+    Crash(Loss),
+    /// From now on it fails so.
+    Arm(Failing),
+    /// It is shown.
+    Show(Sight),
+}
+
+/// What is done to the node.
+#[derive(Drop)]
+pub(crate) enum NodeOrder {
+    /// What a script asks for.
+    Script(Command),
+    /// It settles by itself.
+    Settle,
+    /// It is taken apart and put together again, as a stopped one or as it was.
+    Apart(bool),
+    /// What it says of itself is shown.
+    Node,
+    /// Its window is shown, with the keys.
+    Window,
+}
+
+/// What a line asks for.
+#[derive(Drop)]
+pub(crate) enum Order {
+    Disk(DiskOrder),
+    Node(NodeOrder),
+    /// The disk is opened.
+    Open,
+    /// The events of so many lines that follow are run together.
+    Batch(u64),
+}
+
+/// The next word as a number.
+fn next_number(words: &mut Words) -> Option<u64> {
+    read_number(words.next_word()?)
+}
+
+/// The digit that the byte is, from 0 to 15.
+fn digit_of(byte: u8) -> Option<u8>
+    ensures { IfSome result (λ digit. digit < 16) }
+{
+    match byte {
+        b'0'..=b'9' => Some(byte - b'0'),
+        b'a'..=b'f' => Some(byte - b'a' + 10),
+        _ => None,
+    }
+}
+
+/// The byte that the two digits are.
+fn byte_of(high: u8, low: u8) -> Option<u8> {
+    Some(digit_of(high)? * 16 + digit_of(low)?)
+}
+
+/// The bytes that the word writes, two digits each.
+fn bytes_in(word: &[u8]) -> Option<Part> {
+    let mut bytes = Part::new();
+    for digits in word.chunks(2) {
+        let [high, low] = digits else {
+            return None;
+        };
+        if bytes.is_full() {
+            return None;
+        }
+        bytes.push(byte_of(*high, *low)?);
+    }
+    Some(bytes)
+}
+
+/// What a stop loses.
+fn read_loss(words: &mut Words) -> Option<Loss> {
+    if words.skip(b"keep") {
+        Some(Loss::Keep)
+    } else if words.skip(b"drop") {
+        Some(Loss::Drop)
+    } else if words.skip(b"junk") {
+        Some(Loss::Junk)
+    } else {
+        None
+    }
+}
+
+/// Which calls fail: `once n`, or `from n` on.
+fn read_failing(words: &mut Words) -> Option<Failing> {
+    if words.skip(b"once") {
+        Some(Failing::Once(next_number(words)?))
+    } else if words.skip(b"from") {
+        Some(Failing::FromThenOn(next_number(words)?))
+    } else {
+        None
+    }
+}
+
+/// What changes the bytes of the disk.
+fn read_change(words: &mut Words) -> Option<Change> {
+    if words.skip(b"disk") {
+        let size = next_number(words)?;
+        let byte = u8::try_from(next_number(words)?).ok()?;
+        Some(Change::Blank(size, byte))
+    } else if words.skip(b"put") {
+        let at = next_number(words)?;
+        Some(Change::Put(at, bytes_in(words.next_word()?)?))
+    } else if words.skip(b"write") {
+        let at = next_number(words)?;
+        Some(Change::Write(at, bytes_in(words.next_word()?)?))
+    } else if words.skip(b"cut") {
+        Some(Change::Cut(next_number(words)?))
+    } else {
+        None
+    }
+}
+
+/// What is shown of the disk.
+fn read_sight(words: &mut Words) -> Option<Sight> {
+    if words.skip(b"bytes") {
+        let at = next_number(words)?;
+        Some(Sight::Bytes(at, next_number(words)?))
+    } else if words.skip(b"sum") {
+        Some(Sight::Sum)
+    } else if words.skip(b"failures") {
+        Some(Sight::Failures)
+    } else {
+        None
+    }
+}
+
+/// What is done to the disk, but for its formatting.
+fn read_disk(words: &mut Words) -> Option<DiskOrder> {
+    if words.skip(b"crash") {
+        return Some(DiskOrder::Crash(read_loss(words)?));
+    }
+    if words.skip(b"fail") {
+        return Some(DiskOrder::Arm(read_failing(words)?));
+    }
+    match read_change(words) {
+        Some(change) => Some(DiskOrder::Change(change)),
+        None => read_sight(words).map(DiskOrder::Show),
+    }
+}
+
+/// What is done to the node, beside what a script knows.
+fn read_node(words: &mut Words) -> Option<NodeOrder> {
+    if words.skip(b"settle") {
+        Some(NodeOrder::Settle)
+    } else if words.skip(b"apart") {
+        Some(NodeOrder::Apart(words.skip(b"stopped")))
+    } else if words.skip(b"node") {
+        Some(NodeOrder::Node)
+    } else if words.skip(b"window") {
+        Some(NodeOrder::Window)
+    } else {
+        None
+    }
+}
+
+/// What no line of a script asks for.
+fn read_own(words: &mut Words) -> Option<Order> {
+    if words.skip(b"open") {
+        return Some(Order::Open);
+    }
+    if words.skip(b"batch") {
+        return Some(Order::Batch(next_number(words)?));
+    }
+    if let Some(order) = read_disk(words) {
+        return Some(Order::Disk(order));
+    }
+    read_node(words).map(Order::Node)
+}
+
+/// What the line with this number asks for.
+pub(crate) fn read_order(line: &[u8], number: u64) -> Result<Order, Refusal> {
+    if Words::new(line).is_next(b"params") {
+        let params = read_params_line(line, number)?;
+        return Ok(Order::Disk(DiskOrder::Format(params)));
+    }
+    match read_own(&mut Words::new(line)) {
+        Some(order) => Ok(order),
+        None => Ok(Order::Node(NodeOrder::Script(read_command(line, number)?))),
+    }
+}

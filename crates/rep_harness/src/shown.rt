@@ -1,0 +1,87 @@
+//! The lines that show a disk or a node.
+
+use crate::device::{Device, bytes};
+use arrayvec::ArrayVec;
+use rep_disk::Disk;
+use rep_record::put_all;
+use rep_replica::Replica;
+use rep_script::write_line;
+use rep_types::{Entry, Refusal};
+use std::io::Write;
+
+/// The most bytes of a disk that a line shows.
+const MAX_SHOWN: usize = 512;
+
+/// A line of bytes.
+type Line = ArrayVec<u8, 1100>;
+
+/// Writes what the node says of itself: how many items were delivered, are durable, and are in the base, whether it is quiet, and
+/// whether it is stopped.
+pub(crate) fn write_node<D: Disk, W: Write>(
+    writer: &mut W,
+    node: &Replica<D>,
+) -> Result<(), Refusal> {
+    let quiet = if node.is_quiet() { "quiet" } else { "busy" };
+    let stopped = if node.is_stopped() {
+        "stopped"
+    } else {
+        "running"
+    };
+    let (delivered, durable, base) = (node.delivered(), node.durable(), node.base());
+    write_line(
+        writer,
+        format_args!("node {delivered} {durable} {base} {quiet} {stopped}"),
+    )
+}
+
+/// Writes the entry of a window: its seqno and how many keys it has, and then each of these.
+fn write_entry<W: Write>(writer: &mut W, entry: &Entry) -> Result<(), Refusal> {
+    let (seqno, count) = (entry.seqno(), entry.keys().len());
+    write_line(writer, format_args!("entry {seqno} {count}"))?;
+    for key in entry.keys() {
+        write_line(writer, format_args!("key {}/{}", key.table, key.row))?;
+    }
+    Ok(())
+}
+
+/// Writes a window: how many entries it has, and then each of these.
+pub(crate) fn write_window<W: Write>(writer: &mut W, window: &[Entry]) -> Result<(), Refusal> {
+    let count = window.len();
+    write_line(writer, format_args!("window {count}"))?;
+    for entry in window {
+        write_entry(writer, entry)?;
+    }
+    Ok(())
+}
+
+/// Writes so many bytes of the disk from this place on, at most 512, two digits each.
+pub(crate) fn write_bytes<W: Write>(
+    writer: &mut W,
+    device: &Device,
+    at: usize,
+    count: usize,
+) -> Result<(), Refusal> {
+    let shown = bytes(device).get(at..).unwrap_or_default();
+    let mut line = Line::new();
+    for byte in shown.iter().take(count.min(MAX_SHOWN)) {
+        let text = format_args!("{byte:02x}");
+        line.write_fmt(text).map_err(|_| Refusal::StreamFault)?;
+    }
+    line.write_fmt("\n").map_err(|_| Refusal::StreamFault)?;
+    put_all(writer, line.as_slice())
+}
+
+/// A sum over the bytes, which differs where any byte does that stands alone (FNV-1a, 64 bits).
+fn sum_of(bytes: &[u8]) -> u64 {
+    let mut sum = 0xcbf2_9ce4_8422_2325_u64;
+    for byte in bytes {
+        sum = (sum ^ u64::from(*byte)).wrapping_mul(0x100_0000_01b3);
+    }
+    sum
+}
+
+/// Writes how many bytes the disk has, and a sum over them.
+pub(crate) fn write_sum<W: Write>(writer: &mut W, device: &Device) -> Result<(), Refusal> {
+    let (size, sum) = (bytes(device).len(), sum_of(bytes(device)));
+    write_line(writer, format_args!("sum {size} {sum}"))
+}

@@ -1,0 +1,66 @@
+-- What a line of a script asks for: functions of its words, each None where there is nothing of the form.
+use Rattle.std.specs.Prelude.{ℕ, ◌^◌, ◌==◌, if◌then◌else◌, List, length, drop, codes, Option, None, Some, Result, Ok, Err}
+use Rattle.rep_types.specs.declared.refusal.Refusal.{Refusal}
+use Rattle.rep_types.specs.declared.refusal.Refusal.TheVariants.{Malformed}
+use Rattle.rep_types.specs.Transactions.{Transaction}
+use Rattle.rep_forms.specs.Options.{◌>>=◌}
+use Rattle.rep_record.specs.Words.{words}
+use Rattle.rep_record.specs.Reading.{number_in, given, key_in, is_next, next, tail_in, outcome, item_outcome}
+use Rattle.rep_disk.specs.declared.memory.Loss.{Loss}
+use Rattle.rep_disk.specs.declared.memory.Loss.TheVariants.{Keep, Drop, Junk}
+use Rattle.rep_steps.specs.declared.event.Event.TheVariants.{Deliver, Log, Sync, Check, Flush, Read}
+use Rattle.rep_script.specs.declared.script_line.Command.{Command}
+use Rattle.rep_script.specs.declared.script_line.Command.TheVariants.{Step, State, Stop}
+
+-- what a stop loses, and the words after it
+unfoldable pub loss_in : List (List ℕ) → Option (Loss × List (List ℕ))
+loss_in words =
+    if is_next (codes "keep") words then Some (Keep, drop 1 words)
+    else if is_next (codes "drop") words then Some (Drop, drop 1 words)
+    else if is_next (codes "junk") words then Some (Junk, drop 1 words)
+    else None
+
+-- a flush of the page with this number, and the words after it
+unfoldable pub flush_in : List (List ℕ) → Option (Command × List (List ℕ))
+flush_in words = next (number_in (2 ^ 64)) words >>= λ x. Some (Step (Flush x.0), x.1)
+
+-- a read of a key after so many items, and the words after it
+unfoldable pub read_in : List (List ℕ) → Option (Command × List (List ℕ))
+read_in words = next key_in words >>= λ x. next (number_in (2 ^ 64)) x.1 >>= λ y. Some (Step (Read x.0 y.0), y.1)
+
+-- a stop with its loss, and the words after it
+unfoldable pub stop_in : List (List ℕ) → Option (Command × List (List ℕ))
+stop_in words = loss_in words >>= λ x. Some (Stop x.0, x.1)
+
+-- a command other than a delivery, and the words after it
+unfoldable pub plain_in : List (List ℕ) → Option (Command × List (List ℕ))
+plain_in words =
+    if is_next (codes "log") words then Some (Step Log, drop 1 words)
+    else if is_next (codes "sync") words then Some (Step Sync, drop 1 words)
+    else if is_next (codes "check") words then Some (Step Check, drop 1 words)
+    else if is_next (codes "state") words then Some (State, drop 1 words)
+    else if is_next (codes "flush") words then flush_in (drop 1 words)
+    else if is_next (codes "read") words then read_in (drop 1 words)
+    else if is_next (codes "stop") words then stop_in (drop 1 words)
+    else None
+
+-- such a command that is the whole line
+unfoldable pub whole_in : List (List ℕ) → Option Command
+whole_in words = plain_in words >>= λ x. given (length x.1 == 0) x.0
+
+-- the delivery of an item under this seqno
+abbrev pub delivered : ℕ → Result Transaction Refusal → Result Command Refusal
+delivered seqno (Ok w) = Ok (Step (Deliver seqno w))
+delivered seqno (Err refusal) = Err refusal
+
+-- a delivery by its seqno and the words of its tail
+abbrev pub delivery : ℕ → Option (ℕ × List (List ℕ)) → Result Command Refusal
+delivery number None = Err (Malformed number)
+delivery number (Some x) = delivered x.0 (item_outcome number (tail_in x.1))
+
+-- What comes of a script's line with this number: `deliver seqno tail`, `log`, `sync`, `check`, `flush p`, `read key s`, `state`, `stop keep`,
+-- `stop drop` or `stop junk`.
+abbrev pub script_line : ℕ → List ℕ → Result Command Refusal
+script_line number line =
+    if is_next (codes "deliver") (words line) then delivery number (next (number_in (2 ^ 64)) (drop 1 (words line)))
+    else outcome Ok number (whole_in (words line))

@@ -1,0 +1,60 @@
+//! Formatting a disk.
+
+ghost use Rattle.std.specs.Prelude.{◌≡◌, ◌<◌, ◌≤◌, ◌⊎◌, [], Err, IfErr, OnOk, MatchResult};
+ghost use Rattle.rep_layout.specs.Places.{layout_of, need_of};
+ghost use Rattle.rep_recover.specs.Formatting.{uuid_of, ImagesStandFor};
+ghost use Rattle.rep_script.specs.Formatting.{first_gtid};
+
+use crate::answers::write_line;
+use rep_disk::Disk;
+use rep_recover::format_disk;
+use rep_types::{Gtid, Params, Refusal};
+use std::io::Write;
+use uuid::Uuid;
+
+/// The GTID of a new node of this state UUID: no item came yet. Without a UUID, or with the nil one, it is the
+/// undefined one.
+fn first_gtid(uuid: Option<Uuid>) -> Gtid
+    ensures { result ≡ first_gtid uuid }
+{
+    let uuid = uuid.unwrap_or(Uuid::nil());
+    let seqno = if uuid.is_nil() { -1 } else { 0 };
+    match Gtid::new(uuid, seqno) {
+        Some(gtid) => gtid,
+        None => unreachable!(),
+    }
+}
+
+/// Writes the line of a disk that was formatted, or not.
+fn write_formatted<W: Write>(
+    writer: &mut W,
+    outcome: Result<(), Refusal>,
+    gtid: Gtid,
+) -> Result<(), Refusal>
+    ensures { MatchResult outcome (λ _. IfErr result (λ refusal. refusal ≡ Refusal.StreamFault)) (λ refusal. result ≡ Err refusal) }
+{
+    outcome?;
+    write_line(writer, format_args!("formatted {gtid}"))
+}
+
+/// Makes a new node's disk of this one, and then writes the line `formatted <gtid>`. The disk comes back beside
+/// the answer.
+///
+/// Refuses as `format_disk` does, and with `StreamFault` where the writer fails; the disk is formatted then.
+pub fn format_text<D: Disk, W: Write>(
+    disk: D,
+    params: &Params,
+    uuid: Option<Uuid>,
+    writer: &mut W,
+) -> (D, Result<(), Refusal>)
+    ensures small { D.size disk < need_of (layout_of params.now) → (result.1 ≡ Err (Refusal.TooSmall (need_of (layout_of params.now)))) × (result.0 ≡ disk) }
+    ensures refused { need_of (layout_of params.now) ≤ D.size disk → IfErr result.1 (λ refusal. (refusal ≡ Refusal.DiskFault) ⊎ (refusal ≡ Refusal.StreamFault)) }
+    // Every image of the disk then stands for the empty order.
+    ensures formatted { D.honest disk → OnOk result.1 (ImagesStandFor (uuid_of uuid) params.now [] (D.history result.0)) }
+{
+    let state = uuid;
+    let gtid = first_gtid(state);
+    let (disk, outcome) = format_disk(disk, params, uuid);
+    let outcome = write_formatted(writer, outcome, gtid);
+    (disk, outcome)
+}

@@ -1,0 +1,88 @@
+//! Judging an order text.
+
+ghost use Rattle.std.specs.Prelude.{◌≡◌, ◌++◌, [], IfSome};
+ghost use Rattle.std.specs.Io.KnownBytes.{Appends};
+ghost use Rattle.rep_record.specs.Lines.{Unread, ahead};
+ghost use Rattle.rep_script.specs.Judging.{reading, reading_of, items_ahead, Ends, ReadsParams, JudgesLine, content};
+
+use arrayvec::ArrayVec;
+use rep_plain::PlainNode;
+use rep_record::{TextReader, is_blank, read_item_line, read_params_line, write_verdict};
+use rep_types::{Params, Refusal};
+use std::alloc::Global;
+use std::io::{Read, Write};
+
+/// Reads the params line, which is the first line with words; the reader of lines then stands behind it. The line is
+/// read into the buffer.
+///
+/// Refuses with `Malformed` a text without words, at the number after that of its last line, and a params line as
+/// `read_params_line` does; a line or a text that is too long, and a reader that fails, as `TextReader::next_line` does.
+pub fn read_params<R: Read>(
+    text: &mut TextReader,
+    reader: &mut R,
+    line: &mut ArrayVec<u8, 4096>,
+) -> Result<Params, Refusal>
+    ensures { IfSome (ahead text.old (R.remaining reader.old)) (λ known. ReadsParams known text.old result text.new (R.remaining reader.new)) }
+{
+    'lines: while text.next_line(reader, line)? {
+        if !is_blank(line) {
+            return read_params_line(line, text.number());
+        }
+    }
+    Err(Refusal::Malformed {
+        at: text.number() + 1,
+    })
+}
+
+/// Judges the item of the line, if the line has words, and writes its verdict line.
+fn judge_line<W: Write>(
+    node: &mut PlainNode,
+    line: &[u8],
+    number: u64,
+    writer: &mut W,
+) -> Result<(), Refusal>
+    ensures { JudgesLine node.old (content number line.now) result node.new (W.contents writer.old) (W.contents writer.new) }
+{
+    if is_blank(line) {
+        return Ok(());
+    }
+    let item = read_item_line(line, number)?;
+    let verdict = node.deliver(item)?;
+    write_verdict(writer, node.position(), verdict)
+}
+
+/// Judges the items of the rest of the text at a node with these parameters.
+fn judge_items<R: Read, W: Write>(
+    mut node: PlainNode,
+    text: &mut TextReader,
+    reader: &mut R,
+    writer: &mut W,
+) -> Result<(), Refusal>
+    ensures { node.order ≡ [] → IfSome (ahead text.old (R.remaining reader.old)) (λ known.
+        Ends (reading_of node.setting (items_ahead text.old known)) (W.contents writer.old) (W.contents writer.new) result) }
+{
+    let mut line = ArrayVec::new();
+    'lines: while text.next_line(reader, &mut line)? {
+        judge_line(&mut node, &line, text.number(), writer)?;
+    }
+    Ok(())
+}
+
+/// Judges an order text: writes a verdict line for each of its items, as soon as the item's line is
+/// read.
+///
+/// Refuses a params line as `read_params_line` does, an item's line as `read_item_line` does, want of
+/// memory with `OutOfMemory`, and with `StreamFault` a reader or a writer that fails and a text of more
+/// than 67,108,864 bytes. The verdict lines of the items before stand.
+pub fn judge_text<R: Read, W: Write>(
+    alloc: Global,
+    reader: &mut R,
+    writer: &mut W,
+) -> Result<(), Refusal>
+    ensures { IfSome (R.remaining reader.old) (λ text. Ends (reading text) (W.contents writer.old) (W.contents writer.new) result) }
+{
+    let mut text = TextReader::new();
+    let mut line = ArrayVec::new();
+    let params = read_params(&mut text, reader, &mut line)?;
+    judge_items(PlainNode::new(alloc, params), &mut text, reader, writer)
+}

@@ -1,0 +1,23 @@
+//! What a node's program does, over any reader, writer and disk: it judges order texts, formats disks, runs scripts on
+//! replicas, and reads and writes saved states. The program itself adds the command line, the files and the standard
+//! streams. A program that drives replicas in its own way takes the lines of a script, and those of their answers, from
+//! here one by one.
+#![tactic(auto)]
+
+mod answers;
+mod format;
+mod judge;
+mod laws;
+mod saved_file;
+mod script;
+mod script_line;
+mod state;
+
+pub use answers::{write_answer, write_line, write_open, write_refused, write_state};
+pub use format::format_text;
+pub use judge::{judge_text, read_params};
+pub use laws::reading_is_the_text_grammar;
+pub use saved_file::read_saved;
+pub use script::{on_new_disk, opened, run_on_disk, run_script};
+pub use script_line::{Command, read_command};
+pub use state::state_text;

@@ -1,0 +1,138 @@
+//! The lines of a script.
+
+ghost use Rattle.std.specs.Prelude.{◌≡◌, ◌^◌};
+ghost use Rattle.rep_record.specs.Reading.{number_in, next};
+ghost use Rattle.rep_record.specs.Drafts.{Gives};
+ghost use Rattle.rep_script.specs.ScriptLines.{loss_in, flush_in, read_in, stop_in, plain_in, whole_in, delivery, script_line};
+
+use rep_disk::Loss;
+use rep_record::{Words, read_key, read_tail};
+use rep_steps::Event;
+use rep_types::{Refusal, read_number};
+
+/// What a line of a script asks for.
+#[derive(Drop)]
+pub enum Command {
+    /// A step of the replica.
+    Step(Event),
+    /// The line of the replica's state.
+    State,
+    /// A stop, with this loss, and the opening of what is left.
+    Stop(Loss),
+}
+
+/// The next word as a number.
+fn next_number(words: &mut Words) -> Option<u64>
+    ensures { Gives (λ number. number) result words.new (next (number_in (2 ^ 64)) words.old) }
+{
+    read_number(words.next_word()?)
+}
+
+/// What a stop loses.
+#[tactic(auto, unfolding(crate::specs::ScriptLines::loss_in))]
+fn read_loss(words: &mut Words) -> Option<Loss>
+    ensures { Gives (λ loss. loss) result words.new (loss_in words.old) }
+{
+    if words.skip(b"keep") {
+        Some(Loss::Keep)
+    } else if words.skip(b"drop") {
+        Some(Loss::Drop)
+    } else if words.skip(b"junk") {
+        Some(Loss::Junk)
+    } else {
+        None
+    }
+}
+
+/// The flush of a page.
+#[tactic(auto, unfolding(crate::specs::ScriptLines::flush_in))]
+fn read_flush(words: &mut Words) -> Option<Command>
+    ensures { Gives (λ command. command) result words.new (flush_in words.old) }
+{
+    let page = next_number(words)?;
+    Some(Command::Step(Event::Flush(page)))
+}
+
+/// The read of a row.
+#[tactic(auto, unfolding(crate::specs::ScriptLines::read_in))]
+fn read_read(words: &mut Words) -> Option<Command>
+    ensures { Gives (λ command. command) result words.new (read_in words.old) }
+{
+    let key = read_key(words.next_word()?)?;
+    let after = next_number(words)?;
+    Some(Command::Step(Event::Read(key, after)))
+}
+
+/// A stop.
+#[tactic(auto, unfolding(crate::specs::ScriptLines::stop_in))]
+fn read_stop(words: &mut Words) -> Option<Command>
+    ensures { Gives (λ command. command) result words.new (stop_in words.old) }
+{
+    let loss = read_loss(words)?;
+    Some(Command::Stop(loss))
+}
+
+/// The command, but for a delivery.
+#[tactic(auto, unfolding(crate::specs::ScriptLines::plain_in))]
+fn read_plain(words: &mut Words) -> Option<Command>
+    ensures { Gives (λ command. command) result words.new (plain_in words.old) }
+{
+    if words.skip(b"log") {
+        Some(Command::Step(Event::Log))
+    } else if words.skip(b"sync") {
+        Some(Command::Step(Event::Sync))
+    } else if words.skip(b"check") {
+        Some(Command::Step(Event::Check))
+    } else if words.skip(b"state") {
+        Some(Command::State)
+    } else if words.skip(b"flush") {
+        read_flush(words)
+    } else if words.skip(b"read") {
+        read_read(words)
+    } else if words.skip(b"stop") {
+        read_stop(words)
+    } else {
+        None
+    }
+}
+
+/// The command, but for a delivery, that all of the words are.
+#[tactic(auto, unfolding(crate::specs::ScriptLines::whole_in))]
+fn read_whole(mut words: Words) -> Option<Command>
+    ensures { result ≡ whole_in words.entry }
+{
+    let command = read_plain(&mut words)?;
+    if !words.is_empty() {
+        return None;
+    }
+    Some(command)
+}
+
+/// The delivery of the item that the words say behind its seqno, in the line with this number.
+fn read_delivery(mut words: Words, number: u64) -> Result<Command, Refusal>
+    ensures { result ≡ delivery number (next (number_in (2 ^ 64)) words.entry) }
+{
+    let Some(seqno) = next_number(&mut words) else {
+        return Err(Refusal::Malformed { at: number });
+    };
+    let item = read_tail(words, number)?;
+    Ok(Command::Step(Event::Deliver(seqno, item)))
+}
+
+/// What the line with this number asks for: `deliver seqno tail`, `log`, `sync`, `check`, `flush p`,
+/// `read key s`, `state`, `stop keep`, `stop drop` or `stop junk`.
+///
+/// Refuses with `Malformed`, `at` being the line's number, a line of no such form, and a tail as
+/// `read_item_line` does.
+pub fn read_command(line: &[u8], number: u64) -> Result<Command, Refusal>
+    ensures { result ≡ script_line number line.now }
+{
+    let mut words = Words::new(line);
+    if words.skip(b"deliver") {
+        return read_delivery(words, number);
+    }
+    match read_whole(words) {
+        Some(command) => Ok(command),
+        None => Err(Refusal::Malformed { at: number }),
+    }
+}

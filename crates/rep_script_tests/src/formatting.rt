@@ -1,0 +1,62 @@
+//! Formatting a disk that is too small, and one that nobody can be told of.
+
+use crate::streams::{ShortWriter, with_room, wrote};
+use rep_disk::MemDisk;
+use rep_script::{format_text, run_on_disk};
+use rep_types::{Params, Refusal};
+use std::alloc::Global;
+use std::test::Fail;
+use uuid::Uuid;
+
+/// Formats a disk of so many bytes: the disk, what a writer with this room takes, and how it ends.
+fn formatted(
+    alloc: Global,
+    size: usize,
+    room: usize,
+) -> Result<(MemDisk, ShortWriter, Result<(), Refusal>), Refusal> {
+    let params = Params::new(4, 4, &[126])?;
+    let disk = MemDisk::new(alloc, size)?;
+    let mut writer = with_room(alloc, room);
+    let cluster = Uuid::from_bytes([0x11; 16]);
+    let (disk, end) = format_text(disk, &params, Some(cluster), &mut writer);
+    Ok((disk, writer, end))
+}
+
+/// The line of the state of the replica on the disk, and how it ends.
+fn state_on(alloc: Global, disk: MemDisk) -> (Vec<u8>, Result<(), Refusal>) {
+    let mut script: &[u8] = b"state";
+    let mut written = Vec::new(alloc);
+    let (_, end) = run_on_disk(alloc, disk, &mut script, &mut written);
+    (written, end)
+}
+
+#[test]
+fn a_disk_that_is_too_small_is_not_said_to_be_formatted(rt: HostRuntime) -> Result<(), Fail> {
+    let (_, writer, end) = formatted(rt.alloc(), 103_423, 100)?;
+    wrote(
+        &rt,
+        (&writer.taken, end),
+        (b"", Err(Refusal::TooSmall { need: 103_424 })),
+    );
+    Ok(())
+}
+
+#[test]
+fn a_disk_is_formatted_before_that_is_said(rt: HostRuntime) -> Result<(), Fail> {
+    let (disk, writer, end) = formatted(rt.alloc(), 103_424, 9)?;
+    wrote(
+        &rt,
+        (&writer.taken, end),
+        (b"formatted", Err(Refusal::StreamFault)),
+    );
+    let (written, end) = state_on(rt.alloc(), disk);
+    wrote(
+        &rt,
+        (&written, end),
+        (
+            b"state 11111111-1111-1111-1111-111111111111:0 base 0 window\n",
+            Ok(()),
+        ),
+    );
+    Ok(())
+}

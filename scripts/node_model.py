@@ -1,0 +1,360 @@
+"""What a node on a disk has to answer, written again from the tables of its rules alone (docs/definitions.md, docs/architecture.md):
+an order is judged by comparing all pairs, and beside it stand the stages of the log's next block and the phases of a checkpoint.
+Nothing here knows bytes, pages' contents, an index or a page table. A line of a script goes in, and the lines of its answer come out.
+"""
+
+CLUSTER = "11111111-1111-4111-8111-111111111111"
+ROWS_OF_A_PAGE = 63
+LOSSES = ("keep", "drop", "junk")
+
+
+def refused(text):
+    return ["refused " + text]
+
+
+NOT_DUE = refused("7 not-due")
+BAD_KEY = refused("10 bad-key")
+
+
+def key_text(key):
+    return "%d/%d" % key
+
+
+class Item:
+    """What a transaction read and wrote, and how many items it had seen. A write has a value, or None where it deletes."""
+
+    def __init__(self, last_seen, writes, reads=(), source=7, trx=0):
+        self.last_seen, self.writes, self.reads, self.source, self.trx = last_seen, list(writes), list(reads), source, trx
+
+    def tail(self):
+        """The item as the end of a line."""
+        words = ["%d id %d:%d" % (self.last_seen, self.source, self.trx)]
+        if self.reads:
+            words.append("r " + " ".join(key_text(key) for key in self.reads))
+        words.append("w " + " ".join(key_text(key) + ("-" if value is None else "=" + value.hex()) for key, value in self.writes))
+        return " ".join(words)
+
+    def delivery(self, seqno):
+        return "deliver %d %s" % (seqno, self.tail())
+
+    def keys(self):
+        """The keys that it writes."""
+        return [key for key, _ in self.writes]
+
+    def size(self):
+        """How many bytes its record has."""
+        return 45 + 5 * len(self.reads) + sum(7 + len(value or b"") for _, value in self.writes)
+
+
+class Order:
+    """An order, each item with its verdict: by the table of verdicts, over all pairs."""
+
+    def __init__(self, window, rows):
+        self.window, self.rows, self.items, self.verdicts = window, rows, [], []
+
+    def has(self, key):
+        return key[0] < len(self.rows) and key[1] < self.rows[key[0]]
+
+    def committed(self, first, last):
+        """The seqnos from the first to the last whose items committed."""
+        return [m for m in range(max(first, 1), last + 1) if self.verdicts[m - 1] == "commit"]
+
+    def verdict(self, item):
+        """The verdict of the item behind all others."""
+        n, seen, keys = len(self.items) + 1, item.last_seen, set(item.reads) | set(item.keys())
+        if seen >= n:
+            return "future"
+        if not all(self.has(key) for key in keys):
+            return "badkey"
+        if seen + self.window + 1 < n:
+            return "stale"
+        meets = [m for m in self.committed(seen + 1, n - 1) if keys & set(self.items[m - 1].keys())]
+        return "conflict %d" % meets[-1] if meets else "commit"
+
+    def add(self, item):
+        self.verdicts.append(self.verdict(item))
+        self.items.append(item)
+
+    def row(self, key, s):
+        """The row after the first `s` items: its bytes, or None."""
+        for m in reversed(self.committed(1, min(s, len(self.items)))):
+            for written, value in self.items[m - 1].writes:
+                if written == key:
+                    return value
+        return None
+
+    def window_at(self, position):
+        """The seqnos of the window at the position."""
+        return [m for m in self.committed(1, position) if m + self.window > position]
+
+    def text(self, cells):
+        """The order as a text for `replicad judge`, and the verdict lines of it."""
+        lines = ["params %d %d %s" % (self.window, cells, " ".join(map(str, self.rows)))]
+        lines += ["item " + item.tail() for item in self.items]
+        return lines, ["%d %s" % told for told in enumerate(self.verdicts, 1)]
+
+
+class Log:
+    """Blocks go into the cells in turn, lap by lap. The stages of the next block: gathering, closing (the closed gate was written
+    over an earlier lap's block), body (written), stable (the body is), gate (the open gate was written)."""
+
+    def __init__(self, cells):
+        self.open, self.start, self.next, self.stage, self.gathered = [False] * cells, 0, 0, "gathering", 0
+
+    def cell(self):
+        return self.next % len(self.open)
+
+    def laps(self):
+        return self.next // len(self.open)
+
+    def is_full(self):
+        """Whether the next block's cell has a block that is still needed."""
+        return self.next - self.start >= len(self.open)
+
+    def awaits_sync(self):
+        return self.stage in ("closing", "body", "gate")
+
+    def write(self, front):
+        """Writes what comes next. A body that is written has so many items."""
+        if self.stage == "stable":
+            self.stage = "gate"
+        elif self.open[self.cell()]:
+            self.stage = "closing"
+        else:
+            self.stage, self.gathered = "body", front
+
+    def set_open(self, is_open):
+        self.open[self.cell()], self.stage = is_open, "gathering"
+
+    def take_block(self):
+        self.set_open(True)
+        self.next += 1
+        return self.gathered
+
+    def sync(self):
+        """What was written is stable. Gives the number of the items that are durable by it."""
+        if self.stage == "gate":
+            return self.take_block()
+        if self.stage == "closing":
+            self.set_open(False)
+        elif self.stage == "body":
+            self.stage = "stable"
+        return 0
+
+    def stop(self, loss):
+        """What a stop leaves: an open gate that is pending stands where the loss keeps it, and a closed one where it does not drop
+        it, since a gate of junk is closed. Gives the number of the items that are durable by it."""
+        if self.stage == "gate" and loss == "keep":
+            return self.take_block()
+        if self.stage == "closing" and loss != "drop":
+            self.set_open(False)
+        self.stage = "gathering"
+        return 0
+
+
+class Checkpoint:
+    """A base, and the next one on its way: off, flushing, saving (the window was written), ready, filling (the superblock's body was
+    written), filled, opening (its open gate was written), retiring (it is the base, the superblock before it stands open), closing
+    (the closed gate of that was written)."""
+
+    WRITES = {"flushing": "saving", "ready": "filling", "filled": "opening", "retiring": "closing"}
+    SYNCED = {"saving": "ready", "filling": "filled", "closing": "off"}
+
+    def __init__(self):
+        self.base, self.phase, self.position, self.start, self.left = 0, "off", 0, 0, set()
+
+    def begin(self, position, start, pages):
+        self.position, self.start, self.phase, self.left = position, start, "flushing", set(pages)
+
+    def flush(self, page):
+        """Flushes the page, and says whether it was left."""
+        if self.phase != "flushing" or page not in self.left:
+            return False
+        self.left.remove(page)
+        return True
+
+    def awaits_sync(self):
+        """A page alone awaits no sync."""
+        return self.phase in ("saving", "filling", "opening", "closing")
+
+    def write(self):
+        """Writes what comes next behind the pages, and says whether there is anything."""
+        if self.phase not in self.WRITES or (self.phase == "flushing" and self.left):
+            return False
+        self.phase = self.WRITES[self.phase]
+        return True
+
+    def rise(self):
+        """The next base is the base. Gives the number of the log's block behind it."""
+        self.base, self.phase = self.position, "retiring"
+        return self.start
+
+    def sync(self):
+        """What was written is stable. Where the base rose, gives the number of the log's block behind it."""
+        if self.phase == "opening":
+            return self.rise()
+        self.phase = self.SYNCED.get(self.phase, self.phase)
+        return None
+
+    def stop(self, loss):
+        """What a stop leaves: the next base is the base where the loss keeps its superblock's gate, and else it is lost; and the
+        superblock before it still stands open unless its closed gate is pending and not dropped, since a gate of junk is closed.
+        Where the base rose, gives the number of the log's block behind it."""
+        self.left = set()
+        if self.phase == "opening" and loss == "keep":
+            return self.rise()
+        is_retiring = self.phase == "retiring" or (self.phase == "closing" and loss == "drop")
+        self.phase = "retiring" if is_retiring else "off"
+        return None
+
+
+class Node:
+    """A node in its order, of which it was handed some items and has made some durable."""
+
+    def __init__(self, window, cells, rows):
+        self.order, self.log, self.checkpoint = Order(window, rows), Log(cells), Checkpoint()
+        self.delivered = self.durable = 0
+
+    def base(self):
+        return self.checkpoint.base
+
+    def phase(self):
+        return self.checkpoint.phase
+
+    def gtid(self):
+        return "%s:%d" % (CLUSTER, self.durable)
+
+    def page_of(self, key):
+        before = sum(-(-rows // ROWS_OF_A_PAGE) for rows in self.order.rows[: key[0]])
+        return before + key[1] // ROWS_OF_A_PAGE
+
+    def waiting(self):
+        """The seqnos behind what is durable."""
+        return range(self.durable + 1, self.delivered + 1)
+
+    def deliver(self, seqno, item):
+        """Where the order ends it grows by the item."""
+        if seqno != self.delivered + 1:
+            return refused("4 out-of-order %d" % (self.delivered + 1))
+        if self.delivered - self.durable == 256:
+            return refused("5 backlogged")
+        if self.delivered == len(self.order.items):
+            self.order.add(item)
+        self.delivered += 1
+        return ["%d %s" % (seqno, self.order.verdicts[seqno - 1])]
+
+    def front(self):
+        """How many of the items that wait fit a block: 64 at most, of 7,662 bytes."""
+        count = size = 0
+        for seqno in self.waiting():
+            size += self.order.items[seqno - 1].size()
+            if count == 64 or size > 7_662:
+                break
+            count += 1
+        return count
+
+    def write_log(self):
+        if self.log.awaits_sync() or self.delivered == self.durable:
+            return NOT_DUE
+        if self.log.is_full():
+            return refused("6 log-full")
+        self.log.write(self.front())
+        return ["wrote"]
+
+    def begin(self):
+        """Begins a checkpoint to what is durable: the pages are left in which a committed item behind the base wrote."""
+        changed = [key for m in self.order.committed(self.base() + 1, self.durable) for key in self.order.items[m - 1].keys()]
+        self.checkpoint.begin(self.durable, self.log.next, {self.page_of(key) for key in changed})
+        return ["began %d" % self.durable]
+
+    def check(self):
+        if self.phase() == "off":
+            return NOT_DUE if self.durable == self.base() else self.begin()
+        return ["wrote"] if self.checkpoint.write() else NOT_DUE
+
+    def rose(self, start):
+        """The log begins at this block, where the base rose."""
+        if start is not None:
+            self.log.start = start
+
+    def sync(self):
+        count = self.log.sync()
+        replies = []
+        for seqno in list(self.waiting())[:count]:
+            item = self.order.items[seqno - 1]
+            replies.append("reply %d %s %d:%d" % (seqno, self.order.verdicts[seqno - 1], item.source, item.trx))
+        self.durable += count
+        self.rose(self.checkpoint.sync())
+        return ["synced %d" % count] + replies
+
+    def read(self, key, s):
+        if not self.order.has(key):
+            return BAD_KEY
+        if s > self.durable:
+            return refused("9 not-yet %d" % self.durable)
+        if s < self.base():
+            return refused("8 too-old %d" % self.base())
+        value = self.order.row(key, s)
+        return ["absent" if value is None else ("value " + value.hex()).rstrip()]
+
+    def answer(self, line):
+        """What the line of a script is answered by; a delivery is an item of its own, `deliver`."""
+        words = line.split()
+        if words[0] == "read":
+            table, row = words[1].split("/")
+            return self.read((int(table), int(row)), int(words[2]))
+        if words[0] == "flush":
+            return ["wrote"] if self.checkpoint.flush(int(words[1])) else NOT_DUE
+        return {"log": self.write_log, "sync": self.sync, "check": self.check, "state": self.state}[line]()
+
+    def state(self):
+        words = ["state %s base %d window" % (self.gtid(), self.base())]
+        return [" ".join(words + [str(m) for m in self.order.window_at(self.durable)])]
+
+    def window(self):
+        """The lines of the window with its keys."""
+        lines, entries = [], self.order.window_at(self.durable)
+        for m in entries:
+            keys = self.order.items[m - 1].keys()
+            lines += ["entry %d %d" % (m, len(keys))] + ["key " + key_text(key) for key in keys]
+        return ["window %d" % len(entries)] + lines
+
+    def shown(self, stopped=False):
+        """What the node says of itself."""
+        quiet = "quiet" if self.is_quiet() else "busy"
+        running = "stopped" if stopped else "running"
+        return ["node %d %d %d %s %s" % (self.delivered, self.durable, self.base(), quiet, running)]
+
+    def stop(self, loss):
+        """The node is stopped with this loss and opened again: what was only delivered is lost."""
+        self.durable += self.log.stop(loss)
+        self.delivered = self.durable
+        self.rose(self.checkpoint.stop(loss))
+        return ["open " + self.gtid()]
+
+    def due(self):
+        """What is to be done next, up to where all that was delivered is durable and the base stands there. A checkpoint begins where
+        nothing waits, or the log is full."""
+        if self.log.awaits_sync() or self.checkpoint.awaits_sync():
+            return "sync"
+        if self.phase() == "flushing" and self.checkpoint.left:
+            return "flush %d" % min(self.checkpoint.left)
+        if self.phase() != "off":
+            return "check"
+        if self.delivered > self.durable and not self.log.is_full():
+            return "log"
+        return "check" if self.durable > self.base() else None
+
+    def is_quiet(self):
+        """Whether nothing is left to do for a node that settles."""
+        return self.delivered == self.durable and self.phase() == "off"
+
+    def settle(self):
+        """Does all that a node does by itself that settles: it ends the checkpoint that is under way, makes durable what was
+        delivered, and takes a checkpoint where the log is full."""
+        while not self.is_quiet():
+            if self.phase() == "off" and not self.log.awaits_sync():
+                self.answer("check" if self.log.is_full() else "log")
+            else:
+                self.answer(self.due() or "sync")
+        return ["settled"]

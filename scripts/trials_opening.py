@@ -1,0 +1,362 @@
+"""Disks whose bytes are written by hand, at their offsets (docs/formats.md): what an opening refuses, what it does not look at, which
+superblock counts, what rows stand in pages, what an opening makes stable, and the last seqno."""
+from node_model import CLUSTER
+from trials import SMALL_SIZE, Trial, answers, one_item, put
+
+# Where each superblock, its gate and its window begin.
+FIRST, SECOND = (0, 3_584, 8_192), (4_096, 7_680, 31_232)
+# Where the log begins, the gate of its first cell, and the pages.
+CELLS, FIRST_CELL_GATE, PAGES = 54_272, 61_952, 87_040
+UUID = bytes.fromhex(CLUSTER.replace("-", ""))
+OPEN = "a5"
+# The last seqno, 2^60.
+LAST = 1 << 60
+ROW = "read 0/1 %d"
+# The body of a cell with the block of the item that `one_item` delivers: the cell's number, the first seqno, how many records there
+# are, and the record of 53 bytes.
+BLOCK = (
+    "0000000000000000" "0000000000000001" "0001"
+    "0035" "0000000000000001" "0000000000000000" "0000000000000007" "0000000000000008" "00" "0000000000000000" "00" "01"
+    "0000000001" "01" "01" "61"
+)
+
+
+def number(value, size=8):
+    return value.to_bytes(size, "big").hex()
+
+
+def superblock(q, position, first_page=0):
+    """The bytes of a superblock of the small parameters, up to its page states: zeros follow. The first page is in no slot (0) or in
+    one (1, 2)."""
+    head = b"REPSUPR1".hex() + number(q) + UUID.hex() + number(4, 2) + number(4, 2) + "01" + "000000" + number(126, 4) + "00" * 28
+    return head + number(position) + number(0) + number(2, 2) + "00" * 38 + number(first_page, 1)
+
+
+def with_base(trial, at, q, position, first_page=0):
+    """Writes a superblock at these places, with an open gate, and an empty window of its position."""
+    body, gate, window = at
+    for place, text in (
+        (body, superblock(q, position, first_page)), (gate, OPEN), (window, b"REPWIND1".hex() + number(q) + number(position) + number(0, 2)),
+    ):
+        trial.say("put %d %s" % (place, text), "put")
+    return trial
+
+
+def with_page(trial, place, page, position, row=None):
+    """Writes a page at this place, whose row 1 has this byte."""
+    head = b"REPPAGE1".hex() + number(page, 2) + "00" + "00" + number(63 * page, 4) + number(position) + "00" * 40
+    trial.say("put %d %s" % (place, head + "00" * 64 + ("0101" + row if row else "")), "put")
+    return trial
+
+
+def new(title, *puts):
+    """A new disk with these bytes at these places."""
+    trial = Trial(title)
+    trial.new_disk()
+    return with_puts(trial, puts)
+
+
+def with_puts(trial, puts):
+    for at, text in puts:
+        trial.say("put %d %s" % (at, text), "put")
+    return trial
+
+
+def with_item(title, *puts):
+    """A disk with one durable item, and these bytes at these places. Its disk had bytes that look like open gates before."""
+    trial = Trial(title)
+    trial.say("disk %d 165" % (SMALL_SIZE + 7), "blank")
+    trial.say("params 4 4 126", "formatted %s:0" % CLUSTER)
+    trial.say("open", "open %s:0" % CLUSTER)
+    script = one_item()
+    for event, wanted in zip(script.events, script.answers):
+        trial.say(event if isinstance(event, str) else event[1].delivery(event[0]), *wanted)
+    return with_puts(trial, puts)
+
+
+def last_line(program, text):
+    return answers(program, text)[0][-1]
+
+
+def comes_back(program, trial, refusal):
+    """The opening is refused, once and again, and the disk's bytes are as they were."""
+    before = last_line(program, trial.text() + "sum\n")
+    for _ in range(2):
+        trial.say("open", "refused " + refusal)
+        trial.say("sum", before)
+    return trial
+
+
+def opens(trial, position, base=0, quiet="quiet"):
+    trial.say("open", "open %s:%d" % (CLUSTER, position))
+    trial.say("node", "node %d %d %d %s running" % (position, position, base, quiet))
+    return trial
+
+
+def behind_the_item(trial):
+    """What opens behind the one item: its row, its window, and how the next items are judged over that."""
+    opens(trial, 1)
+    for line, *wanted in (
+        ["state", "state %s:1 base 0 window 1" % CLUSTER], ["window", "window 1", "entry 1 1", "key 0/1"], [ROW % 1, "value 61"],
+        [ROW % 0, "absent"], [ROW % 2, "refused 9 not-yet 1"], ["log", "refused 7 not-due"], ["deliver 2 0 w 0/1-", "2 conflict 1"],
+        ["deliver 3 1 w 0/1-", "3 commit"], ["deliver 4 2 w 0/1-", "4 conflict 3"],
+    ):
+        trial.say(line, *wanted)
+    return trial
+
+
+def not_formatted(program):
+    for size in (0, 54_271, 54_272, 103_424):
+        trial = Trial("%d zero bytes" % size)
+        trial.say("disk %d 0" % size, "blank")
+        yield comes_back(program, trial, "12 not-formatted")
+
+
+def too_small(program):
+    """A device of one byte less than the parameters need is left as it is; one of as many is not."""
+    trial = Trial("one byte less")
+    trial.say("disk 103423 7", "blank")
+    before = last_line(program, "disk 103423 7\nsum\n")
+    trial.say("params 4 4 126", "refused 14 too-small 103424")
+    trial.say("sum", before)
+    trial.say("disk 103424 7", "blank")
+    trial.say("params 4 4 126", "formatted %s:0" % CLUSTER)
+    yield trial
+
+
+def opens_at_nothing(_):
+    """Whatever the device held: each of its bytes was that of an open gate. The pages are not touched."""
+    trial = Trial("of open gates")
+    trial.say("disk %d 165" % (SMALL_SIZE + 7), "blank")
+    trial.say("params 4 4 126", "formatted %s:0" % CLUSTER)
+    for gate in (SECOND[1], FIRST_CELL_GATE, FIRST_CELL_GATE + 8_192, FIRST_CELL_GATE + 2 * 8_192, FIRST_CELL_GATE + 3 * 8_192):
+        trial.say("bytes %d 512" % gate, "00" * 512)
+    trial.say("bytes %d 512" % FIRST[1], OPEN + "00" * 511)
+    trial.say("bytes 0 129", superblock(0, 0))
+    trial.say("bytes 129 512", "00" * 512)
+    trial.say("bytes 8192 512", b"REPWIND1".hex() + "00" * 504)
+    for at in range(PAGES, SMALL_SIZE, 512):
+        trial.say("bytes %d 512" % at, OPEN * 512)
+    trial.say("bytes %d 512" % SMALL_SIZE, OPEN * 7)
+    opens(trial, 0)
+    for line, wanted in (("window", "window 0"), (ROW % 0, "absent"), ("log", "refused 7 not-due"), ("check", "refused 7 not-due")):
+        trial.say(line, wanted)
+    yield trial
+
+
+def item_is_found(_):
+    trial = with_item("one item")
+    trial.say("bytes %d 71" % CELLS, BLOCK)
+    trial.say("bytes %d 512" % FIRST_CELL_GATE, OPEN + "00" * 511)
+    yield behind_the_item(trial)
+
+
+# A byte of each part that is not of the form, and what it makes of the device with one item.
+CORRUPT = [
+    ("13 corrupt log", (54_324, "02")),
+    ("13 corrupt log", (54_299, "02")),
+    ("13 corrupt superblock", (0, "00")),
+    ("13 corrupt window", (8_192, "00")),
+    ("13 corrupt window", (8_207, "01")),
+    ("12 not-formatted", (3_584, "00")),
+    ("13 corrupt superblock", (7_680, OPEN)),
+    # The first page stands in its first slot, into which none was written.
+    ("13 corrupt pages", (128, "01")),
+    # The undefined node's log holds no block.
+    ("13 corrupt log", (16, "00" * 16)),
+    # Of several the first is answered: superblock, window, log.
+    ("13 corrupt window", (54_324, "02"), (8_192, "00")),
+    ("13 corrupt superblock", (54_324, "02"), (8_192, "00"), (0, "00")),
+]
+
+
+def each_part(program):
+    for refusal, *puts in CORRUPT:
+        yield comes_back(program, with_item("%s at %d" % (refusal, puts[0][0]), *puts), refusal)
+    trial = with_item("without room for its places")
+    trial.say("cut 103423", "cut")
+    yield comes_back(program, trial, "13 corrupt superblock")
+
+
+def not_looked_at(_):
+    """Neither a closed cell nor a page in no slot is looked at, nor a byte behind those that are needed."""
+    for at in (62_464, PAGES, 103_423, 103_424):
+        yield opens(with_item("a byte at %d" % at, (at, "01")), 1)
+    yield opens(with_item("a closed gate", (FIRST_CELL_GATE, "00")), 0)
+
+
+def greater_counts(program):
+    """Of two superblocks the greater counts. The lesser one has to be of the form too, though its window is not looked at."""
+    make = lambda title: with_base(new(title), SECOND, 1, 3)
+    yield opens(make("two superblocks"), 3, 3, "busy")
+    yield comes_back(program, with_puts(make("a lesser one of no form"), [(0, "00")]), "13 corrupt superblock")
+    yield opens(with_puts(make("a lesser window of no form"), [(8_192, "00")]), 3, 3, "busy")
+    yield comes_back(program, with_puts(make("a greater window of no form"), [(31_232, "00")]), "13 corrupt window")
+
+
+def pages_in_a_slot(program):
+    """A page is read, and has to be of the form, of its number and at most of the superblock's position."""
+    make = lambda title: with_base(new(title), SECOND, 1, 3, 2)
+    yield comes_back(program, make("no page"), "13 corrupt pages")
+    yield opens(with_page(make("a page"), PAGES + 4_096, 0, 3), 3, 3, "busy")
+    yield comes_back(program, with_page(make("of a later position"), PAGES + 4_096, 0, 4), "13 corrupt pages")
+    yield comes_back(program, with_page(make("of another number"), PAGES + 4_096, 1, 3), "13 corrupt pages")
+
+
+def opens_at_the_last(_):
+    trial = opens(with_base(new("the last position"), FIRST, 2, LAST), LAST, LAST)
+    trial.say(ROW % (LAST - 1), "refused 8 too-old %d" % LAST)
+    trial.say(ROW % LAST, "absent")
+    trial.say("deliver %d 0 w 0/1-" % (LAST + 1), "refused 23 exhausted")
+    yield trial
+
+
+def makes_stable_what_it_finds(_):
+    """What is durable after an opening has to be stable: the bytes that were pending before it are."""
+    for loss in ("drop", "junk"):
+        trial = new("pending bytes, " + loss)
+        trial.say("write %d %s" % (CELLS, BLOCK), "written")
+        trial.say("write %d %s" % (FIRST_CELL_GATE, OPEN), "written")
+        opens(trial, 1)
+        trial.say("stop " + loss, "open %s:1" % CLUSTER)
+        yield behind_the_item(trial)
+        trial = new("lost bytes, " + loss)
+        trial.say("write %d %s" % (CELLS, BLOCK), "written")
+        trial.say("write %d %s" % (FIRST_CELL_GATE, OPEN), "written")
+        trial.say("crash " + loss, "crashed")
+        yield opens(trial, 0)
+
+
+def behind_the_last(title):
+    """A node behind the item with the last seqno, on a disk that was opened again: its base stands at the one before."""
+    trial = opens(with_base(new(title), FIRST, 0, LAST - 1), LAST - 1, LAST - 1)
+    trial.say(put(LAST - 1, 8, b"a").delivery(LAST), "%d commit" % LAST)
+    for line, *wanted in (["log", "wrote"], ["sync", "synced 0"], ["log", "wrote"], ["sync", "synced 1", "reply %d commit 7:8" % LAST]):
+        trial.say(line, *wanted)
+    return opens(trial, LAST, LAST - 1)
+
+
+def no_item_behind_the_last(_):
+    trial = behind_the_last("behind the last seqno")
+    for seqno in (0, LAST, LAST + 1, 2**64 - 1):
+        trial.say(put(0, 8, b"a").delivery(seqno), "refused 23 exhausted")
+    yield trial
+
+
+def rows_below_the_base(_):
+    trial = behind_the_last("rows at the last seqno")
+    for s, wanted in (
+        (LAST + 1, "refused 9 not-yet %d" % LAST), (LAST, "value 61"), (LAST - 1, "absent"), (LAST - 2, "refused 8 too-old %d" % (LAST - 1)),
+    ):
+        trial.say(ROW % s, wanted)
+    yield trial
+
+
+def base_at_the_last(_):
+    trial = behind_the_last("the base at the last seqno")
+    trial.say("check", "began %d" % LAST)
+    trial.say("flush 0", "wrote")
+    for _ in range(4):
+        trial.say("check", "wrote")
+        trial.say("sync", "synced 0")
+    for is_opened in (False, True):
+        if is_opened:
+            opens(trial, LAST, LAST)
+        trial.say("node", "node %d %d %d quiet running" % (LAST, LAST, LAST))
+        trial.say("check", "refused 7 not-due")
+        trial.say(ROW % LAST, "value 61")
+        trial.say(ROW % (LAST - 1), "refused 8 too-old %d" % LAST)
+    yield trial
+
+
+def with_a_page(title):
+    """A disk whose base stands at the position 1. The first page stands in its first slot, and has `b` in its row 1."""
+    return with_page(with_base(new(title), FIRST, 0, 1, 1), PAGES, 0, 1, "62")
+
+
+def rows_until_they_are_written(_):
+    """Rows are those of the base until they are written."""
+    trial = opens(with_a_page("a row of a page"), 1, 1)
+    trial.say(put(1, 9, b"a").delivery(2), "2 commit")
+    for line, *wanted in (["log", "wrote"], ["sync", "synced 0"], ["log", "wrote"], ["sync", "synced 1", "reply 2 commit 7:9"]):
+        trial.say(line, *wanted)
+    trial.say("node", "node 2 2 1 quiet running")
+    for s, wanted in ((2, "value 61"), (1, "value 62"), (0, "refused 8 too-old 1")):
+        trial.say(ROW % s, wanted)
+    yield trial
+
+
+def rows_that_no_page_has(_):
+    """Rows that the page does not have, and those of one that stands in no slot, are absent."""
+    trial = opens(with_a_page("rows of no page"), 1, 1)
+    for row in (0, 2, 62, 63, 125):
+        trial.say("read 0/%d 1" % row, "absent")
+    yield trial
+
+
+def a_read_that_meets_a_fault(program):
+    """It stops the node, and the row is there once the device serves."""
+    text = with_a_page("").text()
+    call = next(n for n in range(100) if last_line(program, text + "fail once %d\nopen\n" % n).startswith("open "))
+    trial = with_a_page("a read that meets a fault")
+    trial.say("fail once %d" % call, "armed")
+    opens(trial, 1, 1)
+    trial.say(ROW % 1, "refused 2 disk-fault")
+    trial.say(ROW % 1, "refused 3 stopped")
+    trial.say("failures", "failures 1")
+    opens(trial, 1, 1)
+    trial.say(ROW % 1, "value 62")
+    yield trial
+
+
+def refused_openings(program):
+    """A device that fails while it is opened is as it was, and opens once it serves. With an item it makes ten calls: a sync, a gate
+    and a body, the other gate, the window, a gate and a body, and three gates."""
+    before = last_line(program, with_item("").text() + "sum\n")
+    for kind in ("once", "from"):
+        for call in range(11):
+            trial = with_item("%s %d" % (kind, call))
+            trial.say("fail %s %d" % (kind, call), "armed")
+            if call < 10:
+                trial.say("open", "refused 2 disk-fault")
+                trial.say("sum", before)
+                trial.say("failures", "failures 1")
+                if kind == "from":
+                    trial.say("crash drop", "crashed")
+            yield behind_the_item(trial)
+
+
+def refused_formats(_):
+    """A device that fails while it is formatted tells of it, and is formatted once it serves. It makes twelve calls: the six gates, a
+    sync, the body, the window, a sync, the gate, a sync."""
+    for call in range(13):
+        trial = Trial("formatting, once %d" % call)
+        trial.say("disk 103424 0", "blank")
+        trial.say("fail once %d" % call, "armed")
+        trial.say("params 4 4 126", "formatted %s:0" % CLUSTER if call == 12 else "refused 2 disk-fault")
+        trial.say("failures", "failures %d" % (call < 12))
+        trial.say("crash drop", "crashed")
+        trial.say("params 4 4 126", "formatted %s:0" % CLUSTER)
+        yield opens(trial, 0)
+
+
+TRIALS = [
+    ("a disk that is not formatted comes back", not_formatted),
+    ("a device that is too small is left as it is", too_small),
+    ("a formatted device opens at nothing", opens_at_nothing),
+    ("an item of the log is found", item_is_found),
+    ("each part is corrupt at a byte of its own", each_part),
+    ("neither a closed cell nor a page in no slot is looked at", not_looked_at),
+    ("of two superblocks the greater counts", greater_counts),
+    ("pages in a slot are held to their form", pages_in_a_slot),
+    ("a node opens at the last position and takes no item", opens_at_the_last),
+    ("an opening makes stable what it finds", makes_stable_what_it_finds),
+    ("no item comes behind the last seqno", no_item_behind_the_last),
+    ("rows below the base are too old", rows_below_the_base),
+    ("the base can stand at the last seqno", base_at_the_last),
+    ("rows are those of the base until they are written", rows_until_they_are_written),
+    ("rows that no page has are absent", rows_that_no_page_has),
+    ("a read that meets a fault stops the replica", a_read_that_meets_a_fault),
+    ("a fault at each call of an opening changes nothing", refused_openings),
+    ("a fault at each call of a formatting is told", refused_formats),
+]
