@@ -9,25 +9,27 @@ use std::fs::{File, Files, OpenFile, OpenOptions};
 use std::io;
 use std::os::unix::fs::FileExt;
 
-/// A disk on a file, or on a device that opens as one. Nothing is claimed of it but its size, its
-/// count of failures, and that no sync succeeds once one has failed: that it is honest is for the
-/// system to keep, and no proof says so.
+/// A disk on a file. Nothing is claimed of it but its size, its count of failures, and that no sync
+/// succeeds once one has failed: that it is honest is for the system to keep, and no proof says so.
 ///
 /// What it does on Linux:
 ///
 /// - A read is `pread`, and a write `pwrite`, each called again until all bytes have gone, and
 ///   where a signal interrupts it. Past the file's end a read fails. Bytes that were written go to
 ///   the kernel's memory, and from there to the device at any moment, in any order and in parts.
-/// - A sync is `fsync`: it ends once the file's bytes and its length are on the device, as far as
-///   the device tells. The name of a new file is in its folder, which this does not sync.
-/// - A failed `fsync` tells of a write that the device refused, once: the kernel may have dropped
-///   the bytes, reads may still give them, and a later `fsync` may succeed without them. So once a
-///   sync has failed every later one fails too, and the file is not asked again. Nothing is known
-///   then of what was written since the last sync that succeeded, and the file is to be opened
-///   again. Bytes of the kernel's that the device never got may even then be read, until they leave
-///   its memory.
+/// - A sync is `fdatasync`: it ends once the file's bytes are on the device, as far as the device
+///   tells. What else is known of the file stays as `create` left it: its length, and where its
+///   bytes lie, since each of them was written. So a sync has no more to wait for, and no write finds
+///   a full file system.
+/// - A failed sync tells of a write that the device refused, once: the kernel may have dropped the
+///   bytes, reads may still give them, and a later sync may succeed without them. So once a sync has
+///   failed every later one fails too, and the file is not asked again. Nothing is known then of
+///   what was written since the last sync that succeeded, and the file is to be opened again. Bytes
+///   of the kernel's that the device never got may even then be read, until they leave its memory.
 ///
-/// No other program, and no other handle, may change the file meanwhile.
+/// `open`, `open_to_read` and `create` hold the file's lock (`flock`), which ends with the disk: two
+/// programs that both ask for it don't change one disk at a time. Nothing keeps other programs from
+/// changing the file, and no other handle may.
 #[derive(Drop)]
 pub struct FileDisk<F: FileExt + OpenFile + Drop> {
     file: F,
@@ -71,19 +73,58 @@ impl<F: FileExt + OpenFile + Drop> FileDisk<F> {
     }
 }
 
+/// How many zero bytes are written at once.
+const ZEROS: usize = 16_384;
+
+/// Writes so many zero bytes from the file's beginning on.
+fn write_zeros(file: &File, size: usize) -> io::Result<()> {
+    let zeros = [0; ZEROS];
+    for at in (0..size).step_by(ZEROS) {
+        let count = ZEROS.min(size - at);
+        file.write_all_at(&zeros[..count], at as u64)?;
+    }
+    Ok(())
+}
+
+/// The folder in which the file at this path lies.
+fn folder_of(path: &str) -> &str {
+    match path.rsplit_once('/') {
+        Some(("", _)) => "/",
+        Some((folder, _)) => folder,
+        None => ".",
+    }
+}
+
 impl FileDisk<File> {
     ghost use Rattle.rep_disk.specs.Fuses.{file_size, file_failures, file_lost};
 
-    /// A disk on the file at this path, which has to be there. Refuses what the system refuses.
+    /// A disk on the file at this path, which has to be there, under its lock. Refuses what the system
+    /// refuses, and a file whose lock another program holds.
     pub fn open<R: Files<File = File>>(rt: &R, path: &str) -> io::Result<FileDisk<File>>
         ensures unfailed { IfOk result (λ disk. file_failures disk ≡ 0) }
         ensures kept { IfOk result (λ disk. file_lost disk ≡ false) }
     {
-        FileDisk::new(OpenOptions::new().read(true).write(true).open(rt, path)?)
+        let file = OpenOptions::new().read(true).write(true).open(rt, path)?;
+        file.try_lock()?;
+        FileDisk::new(file)
     }
 
-    /// A disk of so many zero bytes on a new file at this path. Refuses what the system refuses, as
-    /// where something has this name, and then may leave the file.
+    /// The same to read alone: each write fails. It needs no right to change the file, and shares the lock
+    /// with others that only read.
+    pub fn open_to_read<R: Files<File = File>>(rt: &R, path: &str) -> io::Result<FileDisk<File>>
+        ensures unfailed { IfOk result (λ disk. file_failures disk ≡ 0) }
+        ensures kept { IfOk result (λ disk. file_lost disk ≡ false) }
+    {
+        let file = File::open(rt, path)?;
+        file.try_lock_shared()?;
+        FileDisk::new(file)
+    }
+
+    /// A disk of so many zero bytes on a new file at this path, under its lock. Each byte is written, and
+    /// the file and its name in its folder are synced: a stop leaves it as it is.
+    ///
+    /// Refuses what the system refuses, as where something has this name or the file system has no room,
+    /// and then may leave the file.
     pub fn create<R: Files<File = File>>(
         rt: &R,
         path: &str,
@@ -94,7 +135,10 @@ impl FileDisk<File> {
         ensures kept { IfOk result (λ disk. file_lost disk ≡ false) }
     {
         let file = File::create_new(rt, path)?;
-        file.set_len(size as u64)?;
+        file.try_lock()?;
+        write_zeros(&file, size)?;
+        file.sync_all()?;
+        File::open(rt, folder_of(path))?.sync_all()?;
         Ok(FileDisk::start(file, size))
     }
 }
@@ -146,7 +190,7 @@ impl<F: FileExt + OpenFile + Drop> Disk for FileDisk<F> {
         if self.lost {
             return counted(Err(DiskFault), &mut self.failures);
         }
-        let outcome = self.file.sync_all();
+        let outcome = self.file.sync_data();
         self.lost = outcome.is_err();
         counted(outcome, &mut self.failures)
     }

@@ -96,11 +96,11 @@ impl OpenFile for NotedFile {
     }
 
     fn sync_all(&self) -> io::Result<()> {
-        self.note(Sync)
+        Err(io::Error::from(io::ErrorKind::Unsupported))
     }
 
     fn sync_data(&self) -> io::Result<()> {
-        Err(io::Error::from(io::ErrorKind::Unsupported))
+        self.note(Sync)
     }
 }
 
