@@ -1,4 +1,5 @@
 pub mod Device
+pub mod Faults
 pub mod Readings
 pub mod States
 pub mod Known

@@ -5,8 +5,8 @@ ghost use Rattle.rep_types.specs.Order.{conflict_with};
 ghost use Rattle.rep_cert.specs.Writers.{above};
 ghost use Rattle.rep_cert.specs.Holdings.{IsAskable, Admits, made_at, window_of, verdict_of};
 
+use crate::entries::is_of_window;
 use crate::ring::{KEPT_ENTRIES, entries_between, forget, keep};
-use crate::scan::is_of_window;
 use crate::writers::LastWriters;
 use circular_buffer::HeapCircularBuffer;
 use rep_types::{Entry, MAX_SEQNO, Params, Refusal, Verdict, WriteSet};

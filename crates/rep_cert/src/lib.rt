@@ -2,9 +2,9 @@
 #![tactic(auto)]
 
 mod certifier;
+mod entries;
 mod laws;
 mod ring;
-mod scan;
 mod writers;
 
 pub use certifier::Certifier;

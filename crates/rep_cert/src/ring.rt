@@ -7,7 +7,7 @@ ghost use Rattle.rep_types.specs.Order.{is_commit, recent};
 ghost use Rattle.rep_cert.specs.Holdings.{upto};
 ghost use Rattle.rep_cert.specs.Kept.{Ascends, own_entry};
 
-use crate::scan::push_window;
+use crate::entries::push_window;
 use circular_buffer::HeapCircularBuffer;
 use rep_types::{Entry, MAX_AHEAD, MAX_WINDOW, Refusal, Verdict, WriteSet};
 use std::alloc::Global;

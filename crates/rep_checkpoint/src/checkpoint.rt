@@ -12,7 +12,7 @@ ghost use Rattle.rep_checkpoint.specs.Calls.{Begins};
 use crate::stage::{NextBase, Part, Stage, Step, is_in};
 use arrayvec::ArrayVec;
 use rep_layout::{PageState, Side, Slot, SuperBody, WindowBody, row_places_are_told};
-use rep_types::{Entry, MAX_PAGES, MAX_SEQNO, Params, Refusal};
+use rep_types::{Entry, MAX_PAGES, MAX_SEQNO, Refusal};
 use rep_versions::Versions;
 use std::alloc::Global;
 use std::marker::Model;
@@ -57,16 +57,6 @@ pub(crate) fn spare_side(superblock: &SuperBody) -> Side
     other(Side::of(superblock.number))
 }
 
-/// The same parameters once more.
-fn copy_of(params: &Params) -> Params
-    ensures { result ≡ params.now }
-{
-    match Params::new(params.window(), params.cells(), params.schema().rows()) {
-        Ok(copy) => copy,
-        Err(_) => unreachable!(),
-    }
-}
-
 /// Where the next superblock has a page that is here: in the other slot where it is to be flushed.
 fn turn(state: PageState, left: bool) -> PageState
     ensures { result ≡ turn state left }
@@ -98,7 +88,7 @@ fn next_super(base: &SuperBody, position: u64, start: u64, left: &[u32]) -> Supe
     SuperBody {
         number: base.number + 1,
         uuid: base.uuid,
-        params: copy_of(&base.params),
+        params: base.params.copied(),
         position,
         start,
         pages: turn_pages(base.pages.as_slice(), left),

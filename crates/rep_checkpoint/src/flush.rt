@@ -16,9 +16,9 @@ ghost use Rattle.rep_checkpoint.specs.Calls.{IsRefused, Flushes};
 ghost use Rattle.rep_checkpoint.specs.Pages.{ReadsPage, PutsPage, MovesPage};
 
 use crate::checkpoint::Checkpoint;
-use crate::going::{is_here, refusal_of};
+use crate::going::is_here;
 use crate::stage::{Part, Stage, is_in};
-use rep_cells::{Cells, images_read_as_allowed};
+use rep_cells::{Cells, images_read_as_allowed, refusal_of};
 use rep_disk::Disk;
 use rep_layout::{Layout, PAGE_BODY, PageState, Place, SuperBody, row_places_are_told};
 use rep_pages::{Page, slot_of, spare_of};

@@ -17,24 +17,13 @@ ghost use Rattle.rep_checkpoint.specs.Calls.{IsRefused, GoesOn, next_place, next
 use crate::checkpoint::{Checkpoint, spare_side};
 use crate::stage::{NextBase, Part, Stage};
 use arrayvec::ArrayVec;
-use rep_cells::Cells;
+use rep_cells::{Cells, refusal_of};
 use rep_disk::{Disk, DiskFault};
 use rep_layout::{
     Layout, Place, SUPER_BODY, Side, SuperBody, WINDOW_BODY, WindowBody, turns_are_taken,
 };
 use rep_types::Refusal;
 use std::mem::replace;
-
-/// What the device answered, as a refusal.
-pub(crate) fn refusal_of(answer: Result<(), DiskFault>) -> Result<(), Refusal>
-    ensures fault { fault_of result ≡ answer }
-    ensures only { IfErr result (λ e. e ≡ Refusal.DiskFault) }
-{
-    match answer {
-        Ok(()) => Ok(()),
-        Err(DiskFault) => Err(Refusal::DiskFault),
-    }
-}
 
 /// Whether the places are those of the superblock's parameters.
 pub(crate) fn is_here(layout: Layout, superblock: &SuperBody) -> bool

@@ -1,16 +1,16 @@
 -- What the log's calls do: what is refused, how the log stands after each, and what they make of the states of its cells.
-use Rattle.std.specs.Prelude.{◌≡◌, ◌≢◌, ℕ, ◌+◌, ◌-◌, ◌==◌, ◌&&◌, true, false, if◌then◌else◌, min, max, List, [], ◌∷◌, ◌++◌, take, drop, Option, None, Some, Result, Ok, Err, IfErr, slice_set}
+use Rattle.std.specs.Prelude.{◌≡◌, ◌≢◌, ℕ, ◌+◌, ◌-◌, ◌==◌, ◌&&◌, true, false, if◌then◌else◌, min, max, List, [], ◌∷◌, ◌++◌, take, drop, Option, None, Some, Result, Err, IfErr, slice_set}
 use Rattle.rep_types.specs.declared.judged.Judged.{Judged}
 use Rattle.rep_types.specs.declared.refusal.Refusal.{Refusal}
 use Rattle.rep_types.specs.declared.refusal.Refusal.TheVariants.{NotDue, LogFull, DiskFault}
 use Rattle.rep_record.specs.Blocks.{first_seqno}
 use Rattle.rep_disk.specs.History.{History}
-use Rattle.rep_disk.specs.declared.disk.DiskFault.{DiskFault as Fault}
 use Rattle.rep_layout.specs.declared.place.Layout.{Layout}
 use Rattle.rep_layout.specs.declared.place.Place.{Place}
 use Rattle.rep_layout.specs.declared.place.Place.TheVariants.{Log}
 use Rattle.rep_cells.specs.States.{States, Syncs}
 use Rattle.rep_cells.specs.Known.{Assigns}
+pub use Rattle.rep_cells.specs.Faults.{fault_of}
 use Rattle.rep_cells.specs.Calls.{Reaches, WritesOnly}
 use Rattle.rep_log.specs.declared.phase.Phase.{Phase}
 use Rattle.rep_log.specs.declared.phase.Phase.TheVariants.{Resting, Closing, Filling, Filled, Opening}
@@ -53,12 +53,6 @@ seal_refusal l log records = if (l.cells == log.cells) && (first_seqno records =
 
 abbrev pub gate_refusal : Layout → Standing → Option Refusal
 gate_refusal l log = if l.cells == log.cells then unless_gate (due_of log) else Some NotDue
-
--- a refusal as what the device answered
-abbrev pub fault_of : {T : Type 0} → Result T Refusal → Result (Unit {0}) Fault
-fault_of (Ok x) = Ok tt
-fault_of (Err DiskFault) = Err (record {})
-fault_of (Err _) = Ok tt
 
 -- A call that was refused: log and device are as before.
 pub record IsRefused {D T : Type 0} (e : Refusal) (before after : Standing) (old new : D) (result : Result T Refusal) : Type 0 where

@@ -1,6 +1,6 @@
 //! Where the log stands, and the steps of its next block.
 
-ghost use Rattle.std.specs.Prelude.{◌≡◌, ◌+◌, ◌-◌, ◌<◌, ◌≤◌, ◌%◌, ◌⊎◌, [], None, Some, Err, length, IfOk, IfErr, IfSome};
+ghost use Rattle.std.specs.Prelude.{◌≡◌, ◌==◌, ◌+◌, ◌-◌, ◌<◌, ◌≤◌, ◌%◌, ◌⊎◌, [], None, Some, Err, length, IfOk, IfErr, IfSome, if◌then◌else◌};
 ghost use Rattle.rep_types.specs.declared.judged.Judged.{Judged};
 ghost use Rattle.rep_disk.specs.History.{seen, failed};
 ghost use Rattle.rep_disk.specs.Calls.{IsCall};
@@ -16,8 +16,8 @@ ghost use Rattle.rep_log.specs.Scanning.{HasCells, Finds, IsScanned, RefusesLog,
 
 use crate::phase::{Phase, Step};
 use crate::scan::{CORRUPT, Scan};
-use rep_cells::Cells;
-use rep_disk::{Disk, DiskFault};
+use rep_cells::{Cells, refusal_of};
+use rep_disk::Disk;
 use rep_layout::{LOG_BODY, Layout, turns_are_taken};
 use rep_record::{BlockBuilder, blocks_are_told};
 use rep_types::{Judged, MAX_CELLS, MAX_SEQNO, Refusal};
@@ -49,17 +49,6 @@ impl Model for Log {
     ghost view = { λ log. record { start = log.start; next = log.next; seqno = log.seqno; cells = log.cells; phase = log.phase; stands = log.stands } };
 
     ghost invariant = { λ log. IsInLimits log.start log.next log.seqno log.cells log.phase × (length log.stands ≡ MAX_CELLS) };
-}
-
-/// What the device answered, as a refusal.
-fn refusal_of(answer: Result<(), DiskFault>) -> Result<(), Refusal>
-    ensures fault { fault_of result ≡ answer }
-    ensures only { IfErr result (λ e. e ≡ Refusal.DiskFault) }
-{
-    match answer {
-        Ok(()) => Ok(()),
-        Err(DiskFault) => Err(Refusal::DiskFault),
-    }
 }
 
 impl Log {
@@ -183,16 +172,24 @@ impl Log {
         }
     }
 
+    /// The step that is due on a device with these places, none where they are not the log's.
+    fn step_on(&self, layout: Layout) -> Option<Step>
+        ensures { result ≡ (if layout.cells == self.now.cells then Some (due_of self.now) else None) }
+    {
+        if layout.cells == self.cells {
+            Some(self.step_due())
+        } else {
+            None
+        }
+    }
+
     /// What `recycle` refuses on a device with these places.
     fn recycle_refusal(&self, layout: Layout) -> Option<Refusal>
         ensures { result ≡ recycle_refusal layout self.now }
     {
-        if layout.cells != self.cells {
-            return Some(Refusal::NotDue);
-        }
-        match self.step_due() {
-            Step::Recycle => None,
-            Step::Seal | Step::Gate | Step::Sync | Step::Full => Some(Refusal::NotDue),
+        match self.step_on(layout) {
+            Some(Step::Recycle) => None,
+            _ => Some(Refusal::NotDue),
         }
     }
 
@@ -200,13 +197,10 @@ impl Log {
     fn seal_refusal(&self, layout: Layout, block: &BlockBuilder) -> Option<Refusal>
         ensures { result ≡ seal_refusal layout self.now block.now }
     {
-        if layout.cells != self.cells || block.first() != self.seqno {
-            return Some(Refusal::NotDue);
-        }
-        match self.step_due() {
-            Step::Seal => None,
-            Step::Full => Some(Refusal::LogFull),
-            Step::Recycle | Step::Gate | Step::Sync => Some(Refusal::NotDue),
+        match self.step_on(layout) {
+            Some(Step::Seal) if block.first() == self.seqno => None,
+            Some(Step::Full) if block.first() == self.seqno => Some(Refusal::LogFull),
+            _ => Some(Refusal::NotDue),
         }
     }
 
@@ -214,12 +208,9 @@ impl Log {
     fn gate_refusal(&self, layout: Layout) -> Option<Refusal>
         ensures { result ≡ gate_refusal layout self.now }
     {
-        if layout.cells != self.cells {
-            return Some(Refusal::NotDue);
-        }
-        match self.step_due() {
-            Step::Gate => None,
-            Step::Recycle | Step::Seal | Step::Sync | Step::Full => Some(Refusal::NotDue),
+        match self.step_on(layout) {
+            Some(Step::Gate) => None,
+            _ => Some(Refusal::NotDue),
         }
     }
 

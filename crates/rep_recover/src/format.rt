@@ -14,7 +14,7 @@ ghost use Rattle.rep_recover.specs.Going.{Goes, StaysFrom, pages_at};
 ghost use Rattle.rep_recover.specs.Formatting.{uuid_of, first_super, ImagesStandFor, WillClose, AreClosed, HasFirst};
 
 use arrayvec::ArrayVec;
-use rep_cells::{Cells, images_read_as_allowed};
+use rep_cells::{Cells, images_read_as_allowed, refusal_of};
 use rep_disk::{Disk, DiskFault};
 use rep_forms::put_bytes;
 use rep_image::images_mean_what_stands;
@@ -24,27 +24,6 @@ use uuid::Uuid;
 
 /// The greatest number of pages, as the length of a list.
 const PAGES: usize = MAX_PAGES as usize;
-
-/// What the device answered, as a refusal.
-fn refusal_of(answer: Result<(), DiskFault>) -> Result<(), Refusal>
-    ensures fault { fault_of result ≡ answer }
-    ensures only { IfErr result (λ e. e ≡ Refusal.DiskFault) }
-{
-    match answer {
-        Ok(()) => Ok(()),
-        Err(DiskFault) => Err(Refusal::DiskFault),
-    }
-}
-
-/// The same parameters once more.
-pub(crate) fn copy_of(params: &Params) -> Params
-    ensures { result ≡ params.now }
-{
-    match Params::new(params.window(), params.cells(), params.schema().rows()) {
-        Ok(copy) => copy,
-        Err(_) => unreachable!(),
-    }
-}
 
 /// So many pages, none of them in a slot.
 fn no_pages(count: usize) -> ArrayVec<PageState, PAGES>
@@ -66,7 +45,7 @@ fn first_super(params: &Params, uuid: Option<Uuid>) -> SuperBody
     SuperBody {
         number: 0,
         uuid,
-        params: copy_of(params),
+        params: params.copied(),
         position: 0,
         start: 0,
         pages: no_pages(params.schema().pages() as usize),

@@ -13,7 +13,6 @@ ghost use Rattle.rep_image.specs.Bases.{IsSuperAt};
 ghost use Rattle.rep_recover.specs.Looking.{Looks, fault_in, Counts, HasNoSuper, HasBadSuper, RefusesSupers};
 ghost use Rattle.rep_recover.specs.Opening.{without_log, FailsBehind, IsBehind, StandsBehind, RefusesBehind, IsOpened, Recovers, RefusesToOpen, IsUnwritten};
 
-use crate::format::copy_of;
 use crate::judge::judge_again;
 use crate::logs::find_log;
 use crate::pages::read_pages;
@@ -57,7 +56,7 @@ fn read_behind<D: Disk>(
     let position = superblock.position;
     let entries = read_window(alloc, cells, superblock)?;
     let (log, items) = find_log(alloc, cells, superblock)?;
-    let params = copy_of(&superblock.params);
+    let params = superblock.params.copied();
     let (certifier, versions) = judge_again(alloc, params, position, entries, &items)?;
     read_pages(cells, superblock)?;
     Ok(Behind {

@@ -90,6 +90,16 @@ impl Schema {
         self.rows.as_slice()
     }
 
+    /// The same schema once more.
+    pub fn copied(&self) -> Schema
+        ensures { result ≡ self.now }
+    {
+        match Schema::new(self.rows()) {
+            Ok(copy) => copy,
+            Err(_) => unreachable!(),
+        }
+    }
+
     /// How many pages the tables take.
     pub fn pages(&self) -> u64
         ensures { result ≡ pages_of self.now }
@@ -180,5 +190,16 @@ impl Params {
         ensures { result.now ≡ self.now.rows }
     {
         &self.schema
+    }
+
+    /// The same parameters once more.
+    pub fn copied(&self) -> Params
+        ensures { result ≡ self.now }
+    {
+        Params {
+            window: self.window,
+            cells: self.cells,
+            schema: self.schema.copied(),
+        }
     }
 }

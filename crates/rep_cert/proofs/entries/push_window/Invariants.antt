@@ -1,7 +1,7 @@
 use Rattle.std.proofs.Common.{◌≡◌, ◌++◌, take}
 use Rattle.rep_types.specs.Order.{recent}
 use Rattle.rep_cert.specs.Holdings.{upto}
-use Rattle.rep_cert.proofs.scan.push_window.Given as goal
+use Rattle.rep_cert.proofs.entries.push_window.Given as goal
 
 -- what was there, and the entries so far that are of the window
 abbrev pub invariant-loop-entry : goal.invariant-loop-entry

@@ -24,7 +24,7 @@ pub judge_again-requires-clause-window : goal.judge_again-requires-clause-window
 judge_again-requires-clause-window g c =
     let b : SuperBody = c.args.superblock.now in
     let form = c.in_ok-entries.ensures.form in
-    subst (λ (p : Setting). IsWindowAt p b.position c.in_ok-entries.entries.items) (sym c.copy_of-params.ensures) (record { few = form.few; ascend = form.ascend; entries = form.entries })
+    subst (λ (p : Setting). IsWindowAt p b.position c.in_ok-entries.entries.items) (sym c.copied-params.ensures) (record { few = form.few; ascend = form.ascend; entries = form.entries })
 
 pub returns-in_err-log-clause-refused : goal.returns-in_err-log-clause-refused
 returns-in_err-log-clause-refused g c =
@@ -66,7 +66,7 @@ returns-in_err-certifier-clause-refused g c =
     let finds = subst (λ (x : Layout). Finds x (seen later) b.start (b.position + 1) c.in_ok-log.log items) (w.layout ∙ c.requires.layout) (f.found (w.looks.call.stays_honest honest) (ap failed same ∙ none)) in
     let found = subst (λ (x : History). Finds l (seen x) b.start (b.position + 1) c.in_ok-log.log items) same finds in
     fails_judging c.the_log_is_told.ensures (seen h) b c.requires.form c.in_ok-log.log items found entries window
-    (λ judged. why (subst (λ (js : List Judged). AreJudgedFrom c.copy_of-params.result (bare b.position entries) js) (sym c.deref.ensures.value) (subst (λ (p : Setting). AreJudgedFrom p (bare b.position entries) items) (sym c.copy_of-params.ensures) judged))))
+    (λ judged. why (subst (λ (js : List Judged). AreJudgedFrom c.copied-params.result (bare b.position entries) js) (sym c.deref.ensures.value) (subst (λ (p : Setting). AreJudgedFrom p (bare b.position entries) items) (sym c.copied-params.ensures) judged))))
     c.in_err-certifier.ensures.refused)
 
 pub returns-in_err-read_pages-clause-refused : goal.returns-in_err-read_pages-clause-refused
@@ -85,8 +85,8 @@ returns-in_err-read_pages-clause-refused g c =
     let later : History = g.D.Disk.history (disk_of c.read_window.new.cells) in
     let m : Layout = layout_of c.find_log.new.cells in
     let last : History = g.D.Disk.history (disk_of c.find_log.new.cells) in
-    let judged = subst (λ (p : Setting). HasJudged p (bare b.position entries) items c.in_ok-certifier.certifier.current c.in_ok-certifier.versions) c.copy_of-params.ensures
-    (subst (λ (js : List Judged). HasJudged c.copy_of-params.result (bare b.position entries) js c.in_ok-certifier.certifier.current c.in_ok-certifier.versions) c.deref.ensures.value j.judged) in
+    let judged = subst (λ (p : Setting). HasJudged p (bare b.position entries) items c.in_ok-certifier.certifier.current c.in_ok-certifier.versions) c.copied-params.ensures
+    (subst (λ (js : List Judged). HasJudged c.copied-params.result (bare b.position entries) js c.in_ok-certifier.certifier.current c.in_ok-certifier.versions) c.deref.ensures.value j.judged) in
     passed_on (RefusesBehind Reason) c.from_residual-in_err-read_pages.result c.in_err-read_pages.field-0.0 c.from_residual-in_err-read_pages.ensures.1
     (refuses_part Pages _ Reason c.in_err-read_pages.field-0.0 (λ why honest none.
     let still = w.looks.call.stays_honest honest in
@@ -122,7 +122,7 @@ returns-clause-found g c = λ honest none.
       window = subst (λ (x : Reading). HasWindow x b entries) (same_reading (layout_of c.args.cells.now) l h h c.requires.layout (λ i. h)) (w.found honest none);
       finds = subst (λ (x : History). Finds l (seen x) b.start (b.position + 1) c.in_ok-log.log items) same finds;
       undefined = f.undefined;
-      judged = subst (λ (p : Setting). HasJudged p (bare b.position entries) items c.in_ok-certifier.certifier.current c.in_ok-certifier.versions) c.copy_of-params.ensures
-          (subst (λ (js : List Judged). HasJudged c.copy_of-params.result (bare b.position entries) js c.in_ok-certifier.certifier.current c.in_ok-certifier.versions) c.deref.ensures.value j.judged);
+      judged = subst (λ (p : Setting). HasJudged p (bare b.position entries) items c.in_ok-certifier.certifier.current c.in_ok-certifier.versions) c.copied-params.ensures
+          (subst (λ (js : List Judged). HasJudged c.copied-params.result (bare b.position entries) js c.in_ok-certifier.certifier.current c.in_ok-certifier.versions) c.deref.ensures.value j.judged);
       pages = subst (λ (x : Reading). HasPages x b) (same_reading m l last h (f.layout ∙ (w.layout ∙ c.requires.layout)) same_last) (c.in_ok-read_pages.ensures.found (f.looks.call.stays_honest still) (ap failed same_last ∙ none));
     }
