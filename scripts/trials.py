@@ -86,7 +86,9 @@ class Life:
         self.agrees(keys)
 
     def shows(self):
+        """What the node says of itself, its state among it."""
         self.trial.say("node", *self.node.shown())
+        self.do("state")
 
     def agrees(self, keys=KEYS):
         """What the node says of itself, its window, and these rows at each position."""

@@ -1,9 +1,12 @@
 """A device that fails at each call in turn, once or from then on: what is refused, and what opens behind it with each loss."""
 from node_model import CLUSTER, LOSSES
 from trials import BEFORE, SMALL, SMALL_SIZE, Life, Trial, answers, beside_an_item, full_log, of_one_page, one_item, params_line
+from trials_opening import new_bytes, sum_of
 
 FAULT = "refused 2 disk-fault"
 STOPPED = "refused 3 stopped"
+# What shows a new disk.
+NEW = sum_of(new_bytes())
 # More calls than any of these lives makes.
 MANY = 400
 
@@ -62,6 +65,7 @@ def behind_a_fault(script, kind, call, failed, loss):
     if failed is None:
         trial.say("open", FAULT)
         trial.say(script.batch(), "off")
+        trial.say("sum", NEW)
     else:
         trial.say("open", "open %s:0" % CLUSTER)
         refused = [[FAULT]] + [[STOPPED]] * len(script.events)
@@ -98,16 +102,25 @@ def goes_on(make, kind):
 
 
 def one_item_goes_on(kind):
-    """The one item on a device that fails: it is there behind the reply, and where its gate is written and kept."""
+    """The one item on a device that fails: it is there behind the reply, and where its gate is written and kept. Each event but the
+    delivery asks the device, so that it meets the fault in its turn."""
 
     def trials(program):
-        script = one_item()
+        script, met = one_item(), []
         for failed, loss, trial, life in each_call(script, kind, program):
+            met.append(failed)
             position = 1 if failed == 5 or (failed == 4 and loss == "keep") else 0
             trial.say("node", "node %d %d 0 quiet running" % (position, position))
             life.agrees()
+            life.deliver_the_rest(script.order())
+            for _ in range(2):
+                life.do("log")
+                life.do("sync")
+            trial.say("node", "node 1 1 0 quiet running")
+            life.agrees()
             life.goes_on(script.order())
             yield trial
+        assert list(dict.fromkeys(met)) == [None, 1, 2, 3, 4, 5], met
 
     return trials
 
@@ -169,12 +182,16 @@ def settling(program):
             yield settled_trial(script, loss, call, life)
             if life[0] == FAULT:
                 continue
+            answered = grouped(life[1 : -len(behind) - 5])
+            at = next((at for at, group in enumerate(answered) if group == [FAULT]), BEFORE)
+            assert answered == (script.answers[:at] + [[FAULT]] + [[STOPPED]] * BEFORE)[:BEFORE], life
             first, second, shown, failed = life[-len(behind) - 5 : -len(behind) - 1]
             if first == "settled":
-                assert (second, failed) == ("settled", "failures 0"), life
+                assert (at, second, shown, failed) == (BEFORE, "settled", "node 5 5 4 quiet running", "failures 0"), life
                 # Two pages, four other writes of a checkpoint and three of the log, each of the seven with a sync behind it.
                 assert met == 16, met
                 break
+            assert first == (STOPPED if at < BEFORE else FAULT), life
             assert (second, shown.split()[-1], failed) == (STOPPED, "stopped", "failures 1"), life
             met += first == FAULT
         else:
@@ -182,10 +199,13 @@ def settling(program):
 
 
 def all_is_refused(_):
-    """Every event is refused behind a fault, but not what shows the node. The opening of a new disk makes ten calls."""
+    """Every event is refused behind a fault, but not what shows the node. The opening of a new disk makes nine calls: a sync, a gate and
+    a body, the other gate, the window, and four gates."""
     trial = Trial("behind a fault")
     trial.new_disk()
-    trial.say("fail once 10", "armed")
+    trial.say("fail once 8", "armed")
+    trial.say("open", FAULT)
+    trial.say("fail once 9", "armed")
     trial.say("open", "open %s:0" % CLUSTER)
     trial.say("deliver 1 0 w 0/1=61", "1 commit")
     trial.say("log", FAULT)

@@ -32,6 +32,26 @@ def superblock(q, position, first_page=0):
     return head + number(position) + number(0) + number(2, 2) + "00" * 38 + number(first_page, 1)
 
 
+# All that an opening of a disk with one item reads.
+PENDING = ((FIRST[0], superblock(0, 0)), (FIRST[1], OPEN), (FIRST[2], b"REPWIND1".hex() + "00" * 18), (CELLS, BLOCK), (FIRST_CELL_GATE, OPEN))
+
+
+def sum_of(data):
+    """The line that shows these bytes of a disk: how many, and the sum over them (FNV-1a, 64 bits)."""
+    total = 0xCBF29CE484222325
+    for byte in data:
+        total = (total ^ byte) * 0x100000001B3 % 2**64
+    return "sum %d %d" % (len(data), total)
+
+
+def new_bytes():
+    """The bytes of a new disk."""
+    data = bytearray(SMALL_SIZE)
+    for at, text in ((FIRST[0], superblock(0, 0)), (FIRST[1], OPEN), (FIRST[2], b"REPWIND1".hex())):
+        data[at : at + len(text) // 2] = bytes.fromhex(text)
+    return data
+
+
 def with_base(trial, at, q, position, first_page=0):
     """Writes a superblock at these places, with an open gate, and an empty window of its position."""
     body, gate, window = at
@@ -188,7 +208,16 @@ def not_looked_at(_):
 def greater_counts(program):
     """Of two superblocks the greater counts. The lesser one has to be of the form too, though its window is not looked at."""
     make = lambda title: with_base(new(title), SECOND, 1, 3)
-    yield opens(make("two superblocks"), 3, 3, "busy")
+    trial = opens(make("two superblocks"), 3, 3, "busy")
+    trial.say("state", "state %s:3 base 3 window" % CLUSTER)
+    for line, *wanted in (
+        ["read 0/1 3", "absent"], ["read 0/125 3", "absent"], ["read 0/126 3", "refused 10 bad-key"],
+        ["deliver 4 3 w 0/1=61", "4 commit"], ["log", "wrote"], ["sync", "synced 0"], ["log", "wrote"], ["sync", "synced 1", "reply 4 commit 0:0"],
+    ):
+        trial.say(line, *wanted)
+    # It starts at the first cell, as the greater one says: the cell's number, its first seqno, and a record of 53 bytes.
+    trial.say("bytes %d 26" % CELLS, number(0) + number(4) + number(1, 2) + number(53, 2) + number(4)[:12])
+    yield trial
     yield comes_back(program, with_puts(make("a lesser one of no form"), [(0, "00")]), "13 corrupt superblock")
     yield opens(with_puts(make("a lesser window of no form"), [(8_192, "00")]), 3, 3, "busy")
     yield comes_back(program, with_puts(make("a greater window of no form"), [(31_232, "00")]), "13 corrupt window")
@@ -205,6 +234,7 @@ def pages_in_a_slot(program):
 
 def opens_at_the_last(_):
     trial = opens(with_base(new("the last position"), FIRST, 2, LAST), LAST, LAST)
+    trial.say("window", "window 0")
     trial.say(ROW % (LAST - 1), "refused 8 too-old %d" % LAST)
     trial.say(ROW % LAST, "absent")
     trial.say("deliver %d 0 w 0/1-" % (LAST + 1), "refused 23 exhausted")
@@ -215,8 +245,8 @@ def makes_stable_what_it_finds(_):
     """What is durable after an opening has to be stable: the bytes that were pending before it are."""
     for loss in ("drop", "junk"):
         trial = new("pending bytes, " + loss)
-        trial.say("write %d %s" % (CELLS, BLOCK), "written")
-        trial.say("write %d %s" % (FIRST_CELL_GATE, OPEN), "written")
+        for at, text in PENDING:
+            trial.say("write %d %s" % (at, text), "written")
         opens(trial, 1)
         trial.say("stop " + loss, "open %s:1" % CLUSTER)
         yield behind_the_item(trial)
@@ -263,6 +293,7 @@ def base_at_the_last(_):
         if is_opened:
             opens(trial, LAST, LAST)
         trial.say("node", "node %d %d %d quiet running" % (LAST, LAST, LAST))
+        trial.say("state", "state %s:%d base %d window %d" % (CLUSTER, LAST, LAST, LAST))
         trial.say("check", "refused 7 not-due")
         trial.say(ROW % LAST, "value 61")
         trial.say(ROW % (LAST - 1), "refused 8 too-old %d" % LAST)
@@ -281,6 +312,7 @@ def rows_until_they_are_written(_):
     for line, *wanted in (["log", "wrote"], ["sync", "synced 0"], ["log", "wrote"], ["sync", "synced 1", "reply 2 commit 7:9"]):
         trial.say(line, *wanted)
     trial.say("node", "node 2 2 1 quiet running")
+    trial.say("state", "state %s:2 base 1 window 2" % CLUSTER)
     for s, wanted in ((2, "value 61"), (1, "value 62"), (0, "refused 8 too-old 1")):
         trial.say(ROW % s, wanted)
     yield trial

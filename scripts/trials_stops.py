@@ -120,6 +120,7 @@ def reads_alike(_):
         ("read 0/126 4", "refused 10 bad-key"), ("read 0/126 0", "refused 10 bad-key"),
     ]
     life = script.play(trial, 7)
+    trial.say("node", "node 3 3 0 quiet running")
     for line, wanted in alike + [("read 0/1 1", "value 01"), ("read 0/1 2", "absent")]:
         trial.say(line, wanted)
     for event in script.events[7:]:
@@ -288,6 +289,7 @@ def put_together_as_stopped(_):
     trial, script = Trial("put together as stopped"), two_items()
     life = script.play(trial)
     trial.say("apart stopped", "node 2 2 0 quiet stopped")
+    trial.say("state", "state %s:2 base 0 window 1" % CLUSTER)
     for line in (put(0, 9, b"c").delivery(3), "log", "sync", "check", "flush 0", "read 0/1 1", "settle"):
         trial.say(line, "refused 3 stopped")
     trial.say("apart", "node 2 2 0 quiet stopped")
@@ -297,11 +299,28 @@ def put_together_as_stopped(_):
     yield trial
 
 
+def long_log(_):
+    """300 blocks of one item each in a log of 1,024 cells: the window has the last 256."""
+    trial = Trial("300 blocks")
+    life = Life(trial, (256, 1024, (126,)), 8_459_264)
+    for seqno in range(1, 301):
+        assert life.do((seqno, putting(seqno, 1))) == ["%d commit" % seqno]
+        for event, wanted in (("log", ["wrote"]), ("sync", ["synced 0"]), ("log", ["wrote"])):
+            assert life.do(event) == wanted
+        assert life.do("sync") == ["synced 1"] + replies_to(seqno, seqno)
+    for is_stopped in (False, True):
+        if is_stopped:
+            life.stop("drop", [(0, 1)])
+        trial.say("state", "state %s:300 base 0 window %s" % (CLUSTER, " ".join(map(str, range(45, 301)))))
+    yield trial
+
+
 def script_trials(title, make, first=0, last=None):
     return title, lambda _: stopped_within(title, make(), first, last)
 
 
 TRIALS = [
+    ("three hundred blocks go into a log of 1,024 cells", long_log),
     ("a stop behind each event leaves the item once its gate is written", of_one),
     ("a stop behind each event leaves a block whole or not at all", of_two),
     script_trials("a stop behind each event of a checkpoint leaves the old base or the new", beside_an_item),

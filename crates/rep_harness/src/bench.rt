@@ -1,6 +1,6 @@
 //! A disk or a node on it, and what is done to it.
 
-use crate::device::{Device, armed, blank, changed, crashed, cut, failures, written};
+use crate::device::{Device, armed, blank, changed, crashed, cut, damaged, failures, written};
 use crate::order::{Change, DiskOrder, NodeOrder, Order, Sight, read_order};
 use crate::shown::{write_bytes, write_node, write_sum, write_window};
 use arrayvec::ArrayVec;
@@ -127,6 +127,10 @@ fn on_disk<W: Write>(
             write_line(writer, "armed")?;
             Ok(armed(device, failing))
         }
+        DiskOrder::Damage(damage) => {
+            write_line(writer, "damaged")?;
+            Ok(damaged(device, damage))
+        }
         DiskOrder::Show(sight) => {
             show(&device, sight, writer)?;
             Ok(device)
@@ -215,6 +219,10 @@ fn write_answers<W: Write>(
     answers: &[Answer],
     writer: &mut W,
 ) -> Result<(), Refusal> {
+    if answers.len() != events.len() {
+        let (count, wanted) = (answers.len(), events.len());
+        write_line(writer, format_args!("{count} answers to {wanted} events"))?;
+    }
     for (event, answer) in events.iter().zip(answers) {
         match (event, answer) {
             (Event::Deliver(seqno, _), Answer::Gave(verdict)) => {

@@ -1,11 +1,12 @@
-//! The device below a replica: a disk in memory that fails at one call, or from one call on.
+//! The device below a replica: a disk in memory that fails at one call, or from one call on, or shows other bytes than were written.
 
+use crate::damaged::{Damage, Damaged, Failing as Fuses};
 use rep_disk::{Disk, FaultOnce, FuseDisk, Loss, MemDisk};
 use rep_types::Refusal;
 use std::alloc::Global;
 
-/// A disk in memory behind both kinds of failures, of which at most one is armed.
-pub(crate) type Device = FaultOnce<FuseDisk<MemDisk>>;
+/// A disk in memory behind both kinds of failures, of which at most one is armed, and behind what it shows.
+pub(crate) type Device = Damaged;
 
 /// A number of calls that nobody makes.
 const NEVER: u64 = u64::MAX;
@@ -19,9 +20,17 @@ pub(crate) enum Failing {
     FromThenOn(u64),
 }
 
+/// The device over these, which shows what was written.
+fn undamaged(inner: Fuses) -> Device {
+    Damaged {
+        inner,
+        damage: None,
+    }
+}
+
 /// The disk, which serves every call.
 pub(crate) fn serving(disk: MemDisk) -> Device {
-    FaultOnce::new(FuseDisk::new(disk, NEVER), NEVER)
+    undamaged(FaultOnce::new(FuseDisk::new(disk, NEVER), NEVER))
 }
 
 /// A new disk of so many bytes, each of which is this one.
@@ -32,20 +41,28 @@ pub(crate) fn blank(alloc: Global, size: usize, byte: u8) -> Result<Device, Refu
 
 /// The disk in memory inside.
 fn memory(device: Device) -> MemDisk {
-    device.into_inner().into_inner()
+    device.inner.into_inner().into_inner()
 }
 
 /// The bytes of the disk in memory, as the last writes left them.
 pub(crate) fn bytes(device: &Device) -> &[u8] {
-    device.inner().inner().bytes()
+    device.inner.inner().inner().bytes()
 }
 
 /// The same disk, which fails so from now on.
 pub(crate) fn armed(device: Device, failing: Failing) -> Device {
     let disk = memory(device);
-    match failing {
+    undamaged(match failing {
         Failing::Once(call) => FaultOnce::new(FuseDisk::new(disk, NEVER), call),
         Failing::FromThenOn(call) => FaultOnce::new(FuseDisk::new(disk, call), NEVER),
+    })
+}
+
+/// The same disk, which is so damaged.
+pub(crate) fn damaged(device: Device, damage: Damage) -> Device {
+    Damaged {
+        inner: device.inner,
+        damage: Some(damage),
     }
 }
 

@@ -2,6 +2,7 @@
 
 ghost use Rattle.std.specs.Prelude.{◌<◌, IfSome};
 
+use crate::damaged::Damage;
 use crate::device::Failing;
 use arrayvec::ArrayVec;
 use rep_disk::Loss;
@@ -13,7 +14,7 @@ use rep_types::{Params, Refusal, read_number};
 const MAX_PUT: usize = 1024;
 
 /// The bytes that a line puts into the disk.
-type Part = ArrayVec<u8, MAX_PUT>;
+pub(crate) type Part = ArrayVec<u8, MAX_PUT>;
 
 /// What changes the bytes of the disk.
 #[derive(Drop)]
@@ -50,6 +51,8 @@ pub(crate) enum DiskOrder {
     Crash(Loss),
     /// From now on it fails so.
     Arm(Failing),
+    /// From now on it is so damaged.
+    Damage(Damage),
     /// It is shown.
     Show(Sight),
 }
@@ -140,6 +143,14 @@ fn read_failing(words: &mut Words) -> Option<Failing> {
     }
 }
 
+/// Behind how many calls which bytes are read at which place: `n`, the place, the bytes.
+fn read_damage(words: &mut Words) -> Option<Damage> {
+    let calls = next_number(words)?;
+    let at = next_number(words)?;
+    let part = bytes_in(words.next_word()?)?;
+    Some(Damage { calls, at, part })
+}
+
 /// What changes the bytes of the disk.
 fn read_change(words: &mut Words) -> Option<Change> {
     if words.skip(b"disk") {
@@ -180,6 +191,9 @@ fn read_disk(words: &mut Words) -> Option<DiskOrder> {
     }
     if words.skip(b"fail") {
         return Some(DiskOrder::Arm(read_failing(words)?));
+    }
+    if words.skip(b"damage") {
+        return Some(DiskOrder::Damage(read_damage(words)?));
     }
     match read_change(words) {
         Some(change) => Some(DiskOrder::Change(change)),

@@ -1,7 +1,9 @@
 -- Batches of items, one item longer, and what a history has in which nothing else joined.
-use Rattle.std.proofs.Common.{◌≡◌, ℕ, zero, suc, ◌+◌, ◌-◌, ◌^◌, ◌<◌, ◌≤◌, ◌⊎◌, List, [], ◌∷◌, ◌++◌, map, length, get_or, take, ⊎_elim, sym, refl, ap, ◌∙◌, subst, arith, length-append, append_assoc}
+use Rattle.std.proofs.Common.{◌≡◌, ℕ, zero, suc, ◌+◌, ◌-◌, ◌^◌, ◌<◌, ◌≤◌, ◌⊎◌, List, [], ◌∷◌, ◌++◌, map, length, get_or, take, Result, Ok, Err, OnOk, IfErr, ⊎_elim, sym, refl, ap, ◌∙◌, subst, arith, length-append, append_assoc}
 use mathlib.Core.Logic.{dite}
 use native.Mathlib.Decide.{ℕ_discrete}
+use Rattle.rep_types.specs.declared.refusal.Refusal.{Refusal}
+use Rattle.rep_types.specs.declared.refusal.Refusal.TheVariants.{Stopped}
 use Rattle.rep_ordered.specs.declared.view.Joined.{Joined}
 use Rattle.rep_ordered.specs.declared.view.View.{View}
 use Rattle.rep_ordered.specs.Counts.{one, times, once_below, total}
@@ -70,14 +72,21 @@ pub batch_none : (v : View Home Done) → Batch [] v v
 batch_none v = record { entries = []; unchanged = refl; rise = tt; joined = refl; stand = tt }
 
 pub kept_none : (v : View Home Done) → AllKept [] v v
+unfolding batch_none
 kept_none v = record { batch = batch_none v; durable = tt }
 
 -- one more item is kept
 pub kept_next : (v w u : View Home Done) (items : List ℕ) (item : ℕ) (d : Done) → AllKept items v w → Goes v w → w.durable ≤ u.durable → w.start + length w.seen ≤ d.seqno → d.item ≡ item → u.joined ≡ own_entry d ∷ w.joined → Every (OwnEntry u.start u.seen u.own) u.joined → d.seqno ≤ u.durable → AllKept (items ++ item ∷ []) v u
+unfolding batch_next
 kept_next v w u items item d k goes rises up same joined entries durable = record {
   batch = batch_next v w u items item d k.batch goes up same joined entries;
   durable = every_snoc (λ (e : Done). e.seqno ≤ u.durable) k.batch.entries d (every_to (λ (e : Done). e.seqno ≤ w.durable) (λ (e : Done). e.seqno ≤ u.durable) k.batch.entries (λ (e : Done) l. omega arith) k.durable) durable;
 }
+
+-- where the seat saw no halt, the items were not refused
+pub kept_running : (result : Result (Unit {0}) Refusal) (halted : ℕ) (kept : Type 0) → OnOk result kept → IfErr result (λ (refusal : Refusal). (refusal ≡ Stopped) × (halted ≡ 1)) → halted ≡ 0 → kept
+kept_running (Ok done) halted kept all stopped running = all
+kept_running (Err refusal) halted kept all stopped running = let one : halted ≡ 1 = stopped.1 in absurd (omega arith)
 
 take_begins : (xs : List ℕ) (i : ℕ) → StartsWith xs (take i xs)
 take_begins [] zero = ([], refl)

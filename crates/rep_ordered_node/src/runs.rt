@@ -87,7 +87,7 @@ pub fn run_by_two<R: Threads + Wait + Sync>(
         },
         move || -> Seat<Home, Done>
             requires { IsSync R.row × (submitter.lock ≡ shared.now) × (stations_of shared.now ≡ 2) × IsSeat submitter.view × (submitter.view.held ≡ []) × (length items.now ≤ submitter.view.allowance) × PassedOrStopped submitter.view }
-            ensures { (result.lock ≡ submitter.lock) × Went submitter.view result.view × PassedOrStopped result.view × SomeJoined items.now submitter.view result.view × (result.view.halted ≡ 0 → AllKept items.now submitter.view result.view) }
+            ensures { (result.lock ≡ submitter.lock) × Went submitter.view result.view × PassedOrStopped result.view × SomeJoined items.entry.now submitter.view result.view × (result.view.halted ≡ 0 → AllKept items.entry.now submitter.view result.view) }
         {
             let _submitted = submit_all(rt, shared, &mut submitter, items);
             submitter

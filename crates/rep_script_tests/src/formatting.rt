@@ -1,8 +1,8 @@
-//! Formatting a disk that is too small, and one that nobody can be told of.
+//! Formatting a disk that is too small, and one that nobody can be told of; and a disk that fails while it is opened.
 
 use crate::streams::{ShortWriter, with_room, wrote};
-use rep_disk::MemDisk;
-use rep_script::{format_text, run_on_disk};
+use rep_disk::{Disk, FaultOnce, MemDisk};
+use rep_script::{format_text, opened, run_on_disk};
 use rep_types::{Params, Refusal};
 use std::alloc::Global;
 use std::test::Fail;
@@ -23,7 +23,7 @@ fn formatted(
 }
 
 /// The line of the state of the replica on the disk, and how it ends.
-fn state_on(alloc: Global, disk: MemDisk) -> (Vec<u8>, Result<(), Refusal>) {
+fn state_on<D: Disk + Drop>(alloc: Global, disk: D) -> (Vec<u8>, Result<(), Refusal>) {
     let mut script: &[u8] = b"state";
     let mut written = Vec::new(alloc);
     let (_, end) = run_on_disk(alloc, disk, &mut script, &mut written);
@@ -58,5 +58,26 @@ fn a_disk_is_formatted_before_that_is_said(rt: HostRuntime) -> Result<(), Fail> 
             Ok(()),
         ),
     );
+    Ok(())
+}
+
+/// A formatted disk whose next call fails.
+fn failing(alloc: Global) -> Result<FaultOnce<MemDisk>, Refusal> {
+    let (disk, _, end) = formatted(alloc, 103_424, 100)?;
+    end?;
+    Ok(FaultOnce::new(disk, 0))
+}
+
+#[test]
+fn a_disk_that_fails_has_no_state(rt: HostRuntime) -> Result<(), Fail> {
+    let refusal = opened(rt.alloc(), failing(rt.alloc())?).err();
+    assert_eq!(rt; refusal, Some(Refusal::DiskFault));
+    Ok(())
+}
+
+#[test]
+fn a_script_on_a_disk_that_fails_is_not_read(rt: HostRuntime) -> Result<(), Fail> {
+    let (written, end) = state_on(rt.alloc(), failing(rt.alloc())?);
+    wrote(&rt, (&written, end), (b"", Err(Refusal::DiskFault)));
     Ok(())
 }

@@ -101,7 +101,7 @@ fn faults_are_named_by_their_line_or_the_end(rt: HostRuntime) {
 }
 
 /// The text that is written.
-fn written(alloc: Global, saved: SavedState) -> Result<Vec<u8>, Refusal> {
+fn written(alloc: Global, saved: &SavedState) -> Result<Vec<u8>, Refusal> {
     let mut text: Vec<u8> = Vec::new(alloc);
     saved.write_to(&mut text)?;
     Ok(text)
@@ -124,24 +124,20 @@ const WRITTEN: [(State, &[u8], usize); 2] = [
 /// Compares the text that is written, its length, and what is read of it.
 fn writes(
     rt: &(impl Abort + AllocGlobal),
-    saved: SavedState,
+    saved: &SavedState,
     bytes: &[u8],
     length: usize,
 ) -> Result<(), Refusal> {
     let text = written(rt.alloc(), saved)?;
-    let found = (
-        text.len(),
-        text.as_slice() == bytes,
-        SavedState::parse(&text),
-    );
-    assert_eq!(rt; found, (length, true, Ok(saved)));
+    assert_eq!(rt; (text.len(), text.as_slice()), (length, bytes));
+    assert_eq!(rt; SavedState::parse(&text)?, *saved);
     Ok(())
 }
 
 #[test]
 fn what_is_written_reads_back(rt: HostRuntime) -> Result<(), Fail> {
     for (wanted, bytes, length) in WRITTEN {
-        writes(&rt, state(wanted)?, bytes, length)?;
+        writes(&rt, &state(wanted)?, bytes, length)?;
     }
     Ok(())
 }
