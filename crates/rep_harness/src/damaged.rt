@@ -1,5 +1,7 @@
 //! A device that may show other bytes than were written, as no honest one does.
 
+ghost use Rattle.std.specs.Prelude.{◌≡◌, []};
+
 use crate::order::Part;
 use rep_disk::{Disk, DiskFault, FaultOnce, FuseDisk, MemDisk};
 
@@ -34,7 +36,9 @@ fn show(part: &[u8], from: usize, at: usize, out: &mut [u8]) {
 
 impl Damaged {
     /// Counts a call.
-    fn count(&mut self) {
+    fn count(&mut self)
+        ensures { self.new.inner ≡ self.old.inner }
+    {
         if let Some(damage) = &mut self.damage {
             damage.calls = damage.calls.saturating_sub(1);
         }
