@@ -1,6 +1,7 @@
 -- Published lists, and what a row is at a snapshot of one.
 use Rattle.std.specs.Prelude.{◌≡◌, ℕ, ◌<◌, ◌≤◌, nat_lt, nat_le, ◌==◌, max, if◌then◌else◌, List, [], ◌∷◌, ◌++◌, fold, Option, None, Some, Result, MatchResult}
 use Rattle.rep_types.specs.declared.key.Key.{Key}
+use Rattle.rep_types.specs.declared.value.Write.{Write}
 use Rattle.rep_types.specs.declared.refusal.Refusal.{Refusal}
 use Rattle.rep_types.specs.declared.refusal.Refusal.TheVariants.{NotYet, TooOld}
 use Rattle.rep_types.specs.Order.{latest}
@@ -11,6 +12,10 @@ use Rattle.rep_snap.specs.declared.change.Change.{Change}
 use Rattle.rep_snap.specs.declared.change.Change.TheVariants.{Publish, Prune}
 use Rattle.rep_snap.specs.declared.peek.Peek.{Peek}
 use Rattle.rep_snap.specs.declared.peek.Peek.TheVariants.{Value, Absent, Cold}
+
+-- what was written at a seqno
+abbrev pub pair_of : ℕ → List Write → Pair
+pair_of seqno writes = record { seqno = seqno; writes = record { items = writes } }
 
 -- The published list: the pairs of what a publisher did, in order (after the write sets that a replica applies in the order of their seqnos).
 abbrev pub published : List Change → List Pair

@@ -18,11 +18,11 @@ module _ {A : Type 0} (allows : A → ℕ → List Pair → Type 0) where
     pub ascends : Ascends w.start (published w.seen)
     pub allowed : allows w.basis w.start (published w.seen)
 
-  -- The answer is what the row is at the snapshot of the history that the look saw; or the publisher is closed, and the reader as it was.
-  abbrev pub IsPeek : Watching A → Key → ℕ → Watching A → Result Peek Refusal → Type 0
-  IsPeek v key snapshot w answer = ((answer ≡ Err Closed) × (w ≡ v))
+  -- The answer is what the row is at the snapshot of the history that the look saw; or the door was found shut, and the reader is as it was.
+  abbrev pub IsPeek : (Watching A → Type 0) → Watching A → Key → ℕ → Watching A → Result Peek Refusal → Type 0
+  IsPeek shut v key snapshot w answer = ((answer ≡ Err Closed) × (w ≡ v) × shut v)
       ⊎ (Looked v w × Answers (front_of w.start (published w.seen)) (oldest_of w.start w.seen) (left (oldest_of w.start w.seen) (published w.seen) key) snapshot answer)
 
-  -- The front is that of the history that the reader saw last.
-  abbrev pub IsFront : Watching A → Watching A → ℕ → Type 0
-  IsFront v w front = (front ≡ front_of w.start (published w.seen)) × ((w ≡ v) ⊎ Looked v w)
+  -- The front is that of the history that the look saw; or the door was found shut, and it is that of the history that the reader saw last.
+  abbrev pub IsFront : (Watching A → Type 0) → Watching A → Watching A → ℕ → Type 0
+  IsFront shut v w front = (front ≡ front_of w.start (published w.seen)) × (((w ≡ v) × shut v) ⊎ Looked v w)

@@ -3,6 +3,8 @@
 #![tactic(auto)]
 
 mod change;
+mod copies;
+mod door;
 mod history;
 mod laws;
 mod peek;
@@ -13,11 +15,13 @@ mod several;
 mod shelf;
 
 pub use change::{Change, Pair};
+pub use copies::{Glance, TwoCopies};
+pub use door::Door;
 pub use history::{Law, Told};
 pub use laws::{histories_grow, peeks_follow_the_fold, peeks_have_one_answer};
 pub use peek::Peek;
 pub use publisher::Publisher;
 pub use reader::Reader;
-pub use rule::{Admits, Published};
+pub use rule::{Admits, Again, Published};
 pub use several::start;
 pub use shelf::{Shelf, Sight, Step};

@@ -2,25 +2,25 @@
 
 ghost use Rattle.std.specs.Prelude.{◌≡◌};
 ghost use mathlib.Core.List.{IsPrefix};
-ghost use Rattle.rep_snap.specs.Views.{longer};
+ghost use Rattle.rep_snap.specs.Lists.{published, front_of};
+ghost use Rattle.rep_snap.specs.Views.{longer, watched};
+ghost use Rattle.rep_snap.specs.Doors.{FoundShut};
 ghost use Rattle.rep_snap.specs.Looks.{IsPeek, IsFront};
 
+use crate::copies::TwoCopies;
+use crate::door::Door;
 use crate::history::Told;
 use crate::peek::Peek;
-use crate::rule::{Admits, Published, Sees};
-use crate::shelf::{Shelf, Sight};
-use crossbeam_utils::rule::Protocol;
+use crate::rule::Admits;
+use crate::shelf::Sight;
 use rep_types::{Key, Refusal};
 use std::marker::Model;
 
-/// Looks up rows in what a publisher published. It waits for nobody, and nobody but the publisher waits
-/// for it.
+/// Looks up rows in what a publisher published, through a door. It waits for nobody, and nobody but the
+/// publisher waits for it.
 #[derive(Drop)]
-pub struct Reader<A: Admits + Copy + Drop>
-where
-    Published<A>: Protocol<Shelf<A>, Option<Sight<A>>>,
-{
-    pub(crate) place: left_right::reader::Reader<Shelf<A>, Option<Sight<A>>, Published<A>>,
+pub struct Reader<A: Admits + Drop, D: Door<A> + Drop = TwoCopies<A>> {
+    pub(crate) door: D,
     /// What it saw last.
     pub(crate) sight: Sight<A>,
     pub(crate) front: u64,
@@ -28,44 +28,41 @@ where
     pub(crate) told: Told,
 }
 
-impl<A: Admits + Copy + Drop> Model for Reader<A>
-where
-    Published<A>: Protocol<Shelf<A>, Option<Sight<A>>>,
-{
+impl<A: Admits + Drop, D: Door<A> + Drop> Model for Reader<A, D> {
     ghost use Rattle.std.specs.Prelude.{◌≡◌};
     ghost use Rattle.rep_snap.specs.Lists.{published, front_of};
     ghost use Rattle.rep_snap.specs.Views.{Watching, watched};
-    ghost use Rattle.rep_snap.specs.Rule.{Knows};
+    ghost use Rattle.rep_snap.specs.Doors.{IsAt};
 
     ghost Value = { Watching A };
 
     ghost view = { λ r. watched r.sight r.told };
 
-    ghost invariant = { λ r. Knows A.allows r.place.place.me.0.client r.sight × (r.front ≡ front_of r.sight.start (published r.sight.seen.log)) × (r.told.book ≡ r.sight.seen.book) };
+    ghost invariant = { λ r. IsAt (D.knows r.door) r.sight r.told × (r.front ≡ front_of r.sight.start (published r.sight.seen.log)) × (r.told.book ≡ r.sight.seen.book) };
 }
 
-impl<A: Admits + Copy + Drop> Reader<A> {
+impl<A: Admits + Drop, D: Door<A> + Drop> Reader<A, D> {
     /// What the row is at the snapshot of this seqno, in the list that it finds as it looks. The list
     /// begins with all that the reader saw and was told. It takes no memory and waits for nobody.
     ///
-    /// Refuses, in this order: with `Closed` where the publisher is closed; with `NotYet` and the front
-    /// of the list where the snapshot is above it; with `TooOld` and the oldest snapshot where it is
-    /// below that.
-    pub fn peek(self, key: Key, snapshot: u64) -> (Reader<A>, Result<Peek, Refusal>)
+    /// Refuses, in this order: with `Closed` where its door is shut, as it is once the publisher is closed;
+    /// with `NotYet` and the front of the list where the snapshot is above it; with `TooOld` and the
+    /// oldest snapshot where it is below that.
+    pub fn peek(self, key: Key, snapshot: u64) -> (Reader<A, D>, Result<Peek, Refusal>)
         ensures same { (result.0.book ≡ self.book) × (result.0.basis ≡ self.basis) × (result.0.start ≡ self.start) }
-        ensures answer { IsPeek A.allows self key snapshot result.0 result.1 }
+        ensures answer { IsPeek A.allows (FoundShut D.knows D.shut) self key snapshot result.0 result.1 }
     {
         let Reader {
-            place,
+            door,
             sight,
             front,
             told,
         } = self;
-        let reading = match place.enter_as::<Sees<A>>() {
-            Ok(reading) => reading,
-            Err(place) => {
+        let inside = match door.enter(&told) {
+            Ok(inside) => inside,
+            Err(door) => {
                 let reader = Reader {
-                    place,
+                    door,
                     sight,
                     front,
                     told,
@@ -73,20 +70,11 @@ impl<A: Admits + Copy + Drop> Reader<A> {
                 return (reader, Err(Refusal::Closed));
             }
         };
-        let shelf = reading.get();
-        if !shelf.begins_with(&told) {
-            let reader = Reader {
-                place: reading.leave(),
-                sight,
-                front,
-                told,
-            };
-            return (reader, Err(Refusal::Closed));
-        }
+        let shelf = D::look(&inside);
         let answer = shelf.look_up(key, snapshot);
-        let (sight, front) = (shelf.sight.again(), shelf.front);
+        let (sight, front) = (sight.up_to(&shelf.sight), shelf.front);
         let reader = Reader {
-            place: reading.leave(),
+            door: D::leave(inside),
             sight,
             front,
             told,
@@ -94,16 +82,30 @@ impl<A: Admits + Copy + Drop> Reader<A> {
         (reader, answer)
     }
 
-    /// The front of the list that it finds as it looks: the last seqno, or the start position. Where the
-    /// publisher is closed it is that of the list that the reader saw last. It takes no memory and waits
-    /// for nobody.
-    pub fn front(self) -> (Reader<A>, u64)
+    /// The front of the list that it finds as it looks: the last seqno, or the start position. Where its
+    /// door is shut it is that of the list that the reader saw last. It takes no memory and waits for
+    /// nobody.
+    pub fn front(self) -> (Reader<A, D>, u64)
         ensures same { (result.0.book ≡ self.book) × (result.0.basis ≡ self.basis) × (result.0.start ≡ self.start) }
-        ensures front { IsFront A.allows self result.0 result.1 }
+        ensures front { IsFront A.allows (FoundShut D.knows D.shut) self result.0 result.1 }
     {
         let (reader, _row) = self.peek(Key::default(), 0);
         let front = reader.front;
         (reader, front)
+    }
+
+    /// The same, once it has seen and was told this.
+    pub(crate) fn briefed(mut self, sight: Sight<A>, front: u64, told: Told) -> Reader<A, D>
+        requires own { (sight.seen.book ≡ self.book) × (sight.basis ≡ self.basis) × (sight.start ≡ self.start) }
+        requires seen { IsPrefix self.seen sight.seen.log }
+        requires front { front ≡ front_of sight.start (published sight.seen.log) }
+        requires told { (told.book ≡ self.book) × (told.list ≡ sight.seen.log) }
+        ensures { result ≡ watched sight told }
+    {
+        self.sight = sight;
+        self.front = front;
+        self.told = told;
+        self
     }
 
     /// Takes in what its publisher told: each list that it finds from now on begins with that. It takes

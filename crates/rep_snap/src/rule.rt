@@ -1,6 +1,6 @@
 //! Which published lists are allowed, and the rule that the two copies keep.
 
-ghost use Rattle.std.specs.Prelude.{ℕ, List, [], None};
+ghost use Rattle.std.specs.Prelude.{◌≡◌, ℕ, List, [], None};
 ghost use Rattle.rep_snap.specs.declared.change.Pair.{Pair};
 
 use crate::shelf::{Shelf, Sight};
@@ -16,6 +16,13 @@ pub trait Admits {
 
     // The empty list is allowed.
     ghost empty: { (basis : Self) (start : ℕ) → allows basis start [] };
+}
+
+/// What can be had again at any time, with no memory.
+pub trait Again: Sized {
+    /// It once more.
+    fn again(&self) -> Self
+        ensures { result ≡ self.now };
 }
 
 /// The rule of the two copies: what a reader finds is what some allowed list makes, and the list begins

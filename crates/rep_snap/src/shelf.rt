@@ -1,6 +1,6 @@
 //! The value of which there are two copies: the versions that a published list has, and its numbers.
 
-ghost use Rattle.std.specs.Prelude.{◌≡◌, nat_lt, if◌then◌else◌, length, IsTrue, MatchResult};
+ghost use Rattle.std.specs.Prelude.{◌≡◌, ◌<◌, nat_lt, if◌then◌else◌, length, MatchBool, MatchResult};
 ghost use mathlib.Core.List.{IsPrefix};
 ghost use Rattle.rep_versions.specs.Versions.{version_at};
 ghost use Rattle.rep_snap.specs.Lists.{Answers};
@@ -9,6 +9,7 @@ ghost use Rattle.rep_snap.specs.Shelves.{added, taken, changed};
 use crate::change::{Change, Pair};
 use crate::history::{Law, Told};
 use crate::peek::Peek;
+use crate::rule::Again;
 use left_right::Absorb;
 use logbook::Seen;
 use rep_types::{Key, Refusal};
@@ -23,13 +24,20 @@ pub struct Sight<A> {
     pub seen: Seen<Change, u64, Law>,
 }
 
-impl<A: Copy> Sight<A> {
-    /// A copy.
-    pub(crate) fn again(&self) -> Sight<A>
-        ensures { result ≡ self.now }
+impl<A> Sight<A> {
+    /// The same, but for the history, which is that of another.
+    pub(crate) fn up_to(mut self, other: &Sight<A>) -> Sight<A>
+        ensures { result ≡ record self { seen = other.now.seen } }
     {
+        self.seen = other.seen.again();
+        self
+    }
+}
+
+impl<A: Again> Again for Sight<A> {
+    fn again(&self) -> Sight<A> {
         Sight {
-            basis: self.basis,
+            basis: self.basis.again(),
             start: self.start,
             seen: self.seen.again(),
         }
@@ -85,11 +93,12 @@ impl<A> Shelf<A> {
         Ok(())
     }
 
-    /// Whether its history is as long as the one that was told, which is then a beginning of it.
+    /// Whether its history begins with the one that was told. Of two histories of one publisher the
+    /// shorter begins the longer.
     pub(crate) fn begins_with(&self, told: &Told) -> bool
         requires book { told.now.book ≡ self.now.sight.seen.book }
         requires count { self.now.count ≡ length self.now.sight.seen.log }
-        ensures { IsTrue result → IsPrefix told.now.list self.now.sight.seen.log }
+        ensures { MatchBool result (IsPrefix told.now.list self.now.sight.seen.log) (length self.now.sight.seen.log < length told.now.list) }
     {
         let mut both = self.sight.seen.again();
         both.learn(&told.seen);

@@ -1,19 +1,19 @@
 -- A list of numbers has at each seqno what it put.
-use Rattle.std.proofs.Common.{◌≡◌, ◌∙◌, refl, sym, ap, subst, ℕ, zero, suc, ◌+◌, ◌<◌, ◌≤◌, Bool, true, false, ◌==◌, nat_le, nat_lt, if◌then◌else◌, List, [], ◌∷◌, ◌++◌, length, length-append, Option, None, Some, Result, Ok, Err, inl, inr, ⊎_elim, MatchResult, arith}
+use Rattle.std.proofs.Common.{◌≡◌, ◌∙◌, refl, sym, ap, subst, ℕ, zero, suc, ◌+◌, ◌<◌, ◌≤◌, Bool, true, false, ◌==◌, nat_le, nat_lt, if◌then◌else◌, List, [], ◌∷◌, ◌++◌, length, length-append, Option, None, Some, Result, Ok, Err, inl, inr, ⊎_elim, arith}
 use mathlib.Core.Logic.{dite}
 use mathlib.Core.List.{IsPrefix}
 use native.Mathlib.Decide.{ℕ_discrete}
 use Rattle.std.proofs.lemmas.Bool.Decides.{nat_tests}
+use Rattle.rep_types.specs.declared.value.Write.{Write}
 use Rattle.rep_types.specs.declared.refusal.Refusal.{Refusal}
 use Rattle.rep_types.specs.declared.refusal.Refusal.TheVariants.{Closed, NotYet, TooOld}
 use Rattle.rep_versions.specs.Versions.{Version}
 use Rattle.rep_snap.specs.declared.change.Pair.{Pair}
 use Rattle.rep_snap.specs.declared.change.Change.{Change}
-use Rattle.rep_snap.specs.declared.change.Change.TheVariants.{Publish}
 use Rattle.rep_snap.specs.declared.peek.Peek.{Peek}
 use Rattle.rep_snap.specs.declared.peek.Peek.TheVariants.{Value}
-use Rattle.rep_snap.specs.Lists.{published, front_of, oldest_of, written, left, IsFound, refused, Answers}
-use Rattle.rep_snap.specs.Views.{Watching, Listing, with_change}
+use Rattle.rep_snap.specs.Lists.{published, front_of, oldest_of, pair_of, written, left, IsFound, refused, Answers}
+use Rattle.rep_snap.specs.Views.{Watching, Listing, IsPublish}
 use Rattle.rep_snap.specs.Looks.{Looked, IsPeek}
 use Rattle.rep_snap.specs.Laws.{HistoriesGrow, PeeksHaveOneAnswer}
 use Rattle.rep_snap_uses.specs.Counting.{the_row, number_at, pair_at, counted, FindsTheNumber}
@@ -60,9 +60,9 @@ not_above front oldest s e le h =
     let within : nat_lt front s ≡ false = grind (arith, nat_tests, le) in
     below_oldest s oldest e _ refl (sym (ap (λ b. if b then Some (NotYet front) else (if nat_lt s oldest then Some (TooOld oldest) else None)) within) ∙ h)
 
-module _ (laws : HistoriesGrow) (answers : PeeksHaveOneAnswer) {A : Type 0} (w : Watching A) (s n : ℕ) (some : 0 < s) (le : s ≤ n) (start : w.start ≡ 0) (list : published w.seen ≡ counted n) where
+module _ (laws : HistoriesGrow) (answers : PeeksHaveOneAnswer) {A : Type 0} (shut : Watching A → Type 0) (w : Watching A) (s n : ℕ) (some : 0 < s) (le : s ≤ n) (start : w.start ≡ 0) (list : published w.seen ≡ counted n) where
   finds : (answer : Result Peek Refusal) → Answers (front_of w.start (published w.seen)) (oldest_of w.start w.seen) (left (oldest_of w.start w.seen) (published w.seen) the_row) s answer
-      → FindsTheNumber w s answer
+      → FindsTheNumber shut w s answer
   finds (Ok peek) h = λ lt. found_here answers _ s (number_at s) (left_at (oldest_of w.start w.seen) s (published w.seen) _ lt (ap (λ l. written l the_row s) list ∙ counted_at laws n s some le)) peek h.1
   finds (Err e) h = let front : front_of w.start (published w.seen) ≡ n = ap (λ k. front_of k (published w.seen)) start ∙ ap (front_of 0) list ∙ front_counted laws n in
       inr (not_above (front_of w.start (published w.seen)) (oldest_of w.start w.seen) s e (omega (arith, front, le)) h)
@@ -71,12 +71,13 @@ abbrev Allows : {A : Type 0} → A → ℕ → List Pair → Type 0
 Allows basis start pairs = pairs ≡ counted (length pairs)
 
 -- a reader that was told of the snapshot peeks it
-pub peeked : HistoriesGrow → PeeksHaveOneAnswer → {A : Type 0} (v w : Watching A) (s : ℕ) (answer : Result Peek Refusal) → 0 < s → s ≤ length (published v.told) → v.start ≡ 0 → IsPeek Allows v the_row s w answer → FindsTheNumber w s answer
-peeked laws answers v w s answer some le start h = ⊎_elim
-    (λ (closed : (answer ≡ Err Closed) × (w ≡ v)). subst (FindsTheNumber w s) (sym closed.0) (inl refl))
+pub peeked : HistoriesGrow → PeeksHaveOneAnswer → {A : Type 0} (shut : Watching A → Type 0) (v w : Watching A) (s : ℕ) (answer : Result Peek Refusal) → 0 < s → s ≤ length (published v.told) → v.start ≡ 0
+    → IsPeek Allows shut v the_row s w answer → FindsTheNumber shut w s answer
+peeked laws answers shut v w s answer some le start h = ⊎_elim
+    (λ (closed : (answer ≡ Err Closed) × (w ≡ v) × shut v). subst (FindsTheNumber shut w s) (sym closed.0) (inl (refl, subst shut (sym closed.1) closed.2)))
     (λ (seen : Looked Allows v w × Answers (front_of w.start (published w.seen)) (oldest_of w.start w.seen) (left (oldest_of w.start w.seen) (published w.seen) the_row) s answer).
     let more = shorter laws v.told w.seen seen.0.told in
-    finds laws answers w s (length (published w.seen)) some (omega (arith, le, more)) (ap (λ (t : Watching _). t.start) seen.0.same ∙ start) seen.0.allowed answer seen.1) h
+    finds laws answers shut w s (length (published w.seen)) some (omega (arith, le, more)) (ap (λ (t : Watching _). t.start) seen.0.same ∙ start) seen.0.allowed answer seen.1) h
 
 -- one more number
 length_counted : (n : ℕ) → length (counted n) ≡ n
@@ -94,8 +95,8 @@ still_allowed n pairs pair list is = let more = one_more n pairs pair list is in
 pub above : HistoriesGrow → (n start : ℕ) (pairs : List Pair) → start ≡ 0 → pairs ≡ counted n → front_of start pairs < n + 1
 above laws n start pairs none list = let front : front_of start pairs ≡ n = ap (λ k. front_of k pairs) none ∙ ap (front_of 0) list ∙ front_counted laws n in omega (arith, front)
 
-pub published_next : HistoriesGrow → {A : Type 0} (n : ℕ) (p q : Listing A) (r : Result (Unit {0}) Refusal) (u : Unit {0}) (E : Refusal → Type 0) → r ≡ Ok u → (pair : Pair) → published p.list ≡ counted n → pair ≡ pair_at (n + 1)
-    → MatchResult r (λ _. q ≡ with_change (Publish pair) p) E → published q.list ≡ counted (n + 1)
-published_next laws n p q r u E ok pair list is h =
-    let after = subst (λ t. MatchResult t (λ _. q ≡ with_change (Publish pair) p) E) ok h in
-    ap (λ (t : Listing _). published t.list) after ∙ laws.publish p.list pair ∙ one_more n (published p.list) pair list is
+pub published_next : HistoriesGrow → {A : Type 0} (n : ℕ) (p q : Listing A) (r : Result (Unit {0}) Refusal) (u : Unit {0}) → r ≡ Ok u → (writes : List Write) → published p.list ≡ counted n
+    → pair_of (n + 1) writes ≡ pair_at (n + 1) → IsPublish (n + 1) writes p q r → published q.list ≡ counted (n + 1)
+published_next laws n p q r u ok writes list is h =
+    let after = (subst (IsPublish (n + 1) writes p q) ok h).2 in
+    ap (λ (t : Listing _). published t.list) after ∙ laws.publish p.list (pair_of (n + 1) writes) ∙ one_more n (published p.list) (pair_of (n + 1) writes) list is

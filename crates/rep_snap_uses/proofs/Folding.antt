@@ -31,32 +31,55 @@ begins laws told more seen p q =
     let next = laws.beginning more seen q in
     (first.0 ++ next.0, sym (append_assoc (published told) first.0 next.0) ∙ (ap (λ l. l ++ next.0) first.1 ∙ next.1))
 
-module _ (laws : HistoriesGrow) (folds : PeeksFollowTheFold) {A : Type 0} (w : Watching A) (told : List Change) (key : Key) (s : ℕ)
-    (begun : IsPrefix (published told) (published w.seen)) (ascends : Ascends w.start (published w.seen)) (le : s ≤ front_of w.start (published told)) where
-  both : Ascends w.start (published told ++ begun.0)
-  both = subst (Ascends w.start) (sym begun.1) ascends
-
-  same : (content : Key → Option (List ℕ)) (n : ℕ) → n ≤ s → rows_at content (published w.seen) n ≡ rows_at content (published told) n
-  same content n low = ap (λ l. rows_at content l n) (sym begun.1) ∙ folds.front content w.start n (published told) begun.0 both (omega (arith, le, low))
-
-  higher : s ≤ front_of w.start (published w.seen)
-  higher = let up = subst (λ l. front_of w.start (published told) ≤ front_of w.start l) begun.1 (laws.higher w.start (published told) begun.0 both) in omega (arith, up, le)
-
+-- rows of the list that is found are those of these pairs, up to the snapshot
+module _ (folds : PeeksFollowTheFold) {A : Type 0} (shut : Watching A → Type 0) (w : Watching A) (pairs : List Pair) (key : Key) (s : ℕ)
+    (same : (content : Key → Option (List ℕ)) (n : ℕ) → n ≤ s → rows_at content (published w.seen) n ≡ rows_at content pairs n)
+    (ascends : Ascends w.start (published w.seen)) (le : s ≤ front_of w.start (published w.seen)) where
   finds : (answer : Result Peek Refusal) → Answers (front_of w.start (published w.seen)) (oldest_of w.start w.seen) (left (oldest_of w.start w.seen) (published w.seen) key) s answer
-      → FindsTheRow told key s w answer
+      → FindsTheRow shut pairs key s w answer
   finds (Ok peek) h = λ content.
       let oldest = oldest_of w.start w.seen in
       let low : oldest ≤ s = within (front_of w.start (published w.seen)) oldest s _ refl h.0 in
       sym (ap (λ rows. rows key) (same content s (omega arith)))
       ∙ folds.row content w.start oldest s (published w.seen) key peek ascends low h.1
       ∙ ap (λ rows. row_over (rows key) peek) (same content oldest low)
-  finds (Err e) h = inr (not_above (front_of w.start (published w.seen)) (oldest_of w.start w.seen) s e higher h)
+  finds (Err e) h = inr (not_above (front_of w.start (published w.seen)) (oldest_of w.start w.seen) s e le h)
 
-pub peeked_row : HistoriesGrow → PeeksFollowTheFold → {A : Type 0} (allows : A → ℕ → List Pair → Type 0) (v w : Watching A) (told : List Change) (key : Key) (s : ℕ) (answer : Result Peek Refusal)
-    → IsPrefix told v.told → s ≤ front_of v.start (published told) → IsPeek allows v key s w answer → FindsTheRow told key s w answer
-peeked_row laws folds {A = A} allows v w told key s answer prefix le h = ⊎_elim
-    (λ (closed : (answer ≡ Err Closed) × (w ≡ v)). subst (FindsTheRow told key s w) (sym closed.0) (inl refl))
-    (λ (seen : Looked allows v w × Answers (front_of w.start (published w.seen)) (oldest_of w.start w.seen) (left (oldest_of w.start w.seen) (published w.seen) key) s answer).
-    let start : w.start ≡ v.start = ap (λ (t : Watching A). t.start) seen.0.same in
-    finds laws folds w told key s (begins laws told v.told w.seen prefix seen.0.told) seen.0.ascends
-    (subst (λ n. s ≤ front_of n (published told)) (sym start) le) answer seen.1) h
+module _ (laws : HistoriesGrow) (folds : PeeksFollowTheFold) (start s : ℕ) (pairs more : List Pair) (begun : IsPrefix pairs more) (ascends : Ascends start more) (le : s ≤ front_of start pairs) where
+  both : Ascends start (pairs ++ begun.0)
+  both = subst (Ascends start) (sym begun.1) ascends
+
+  -- a longer list has the same rows, up to the front of the shorter, and no lower front
+  longer_same : (content : Key → Option (List ℕ)) (n : ℕ) → n ≤ s → rows_at content more n ≡ rows_at content pairs n
+  longer_same content n low = ap (λ l. rows_at content l n) (sym begun.1) ∙ folds.front content start n pairs begun.0 both (omega (arith, le, low))
+
+  higher : s ≤ front_of start more
+  higher = let up = subst (λ l. front_of start pairs ≤ front_of start l) begun.1 (laws.higher start pairs begun.0 both) in omega (arith, up, le)
+
+module _ (laws : HistoriesGrow) (folds : PeeksFollowTheFold) {A : Type 0} (allows : A → ℕ → List Pair → Type 0) (shut : Watching A → Type 0) (v w : Watching A) (told : List Change) (key : Key) (s : ℕ)
+    (prefix : IsPrefix told v.told) (le : s ≤ front_of v.start (published told)) where
+  begun : Looked allows v w → IsPrefix (published told) (published w.seen)
+  begun seen = begins laws told v.told w.seen prefix seen.told
+
+  low : Looked allows v w → s ≤ front_of w.start (published told)
+  low seen = subst (λ n. s ≤ front_of n (published told)) (sym (ap (λ (t : Watching A). t.start) seen.same)) le
+
+  over_pairs : (pairs : List Pair) (answer : Result Peek Refusal)
+      → (Looked allows v w → (content : Key → Option (List ℕ)) (n : ℕ) → n ≤ s → rows_at content (published w.seen) n ≡ rows_at content pairs n)
+      → IsPeek allows shut v key s w answer → FindsTheRow shut pairs key s w answer
+  over_pairs pairs answer same h = ⊎_elim
+      (λ (closed : (answer ≡ Err Closed) × (w ≡ v) × shut v). subst (FindsTheRow shut pairs key s w) (sym closed.0) (inl (refl, subst shut (sym closed.1) closed.2)))
+      (λ (seen : Looked allows v w × Answers (front_of w.start (published w.seen)) (oldest_of w.start w.seen) (left (oldest_of w.start w.seen) (published w.seen) key) s answer).
+      finds folds shut w pairs key s (same seen.0) seen.0.ascends
+      (higher laws folds w.start s (published told) (published w.seen) (begun seen.0) seen.0.ascends (low seen.0)) answer seen.1) h
+
+  -- of the list that was told
+  pub peeked_row : (answer : Result Peek Refusal) → IsPeek allows shut v key s w answer → FindsTheRow shut (published told) key s w answer
+  peeked_row answer h = over_pairs (published told) answer (λ seen. longer_same laws folds w.start s (published told) (published w.seen) (begun seen) seen.ascends (low seen)) h
+
+  -- of a list that is allowed to go on so
+  pub planned_row : (plan : List Pair) (answer : Result Peek Refusal) → (Looked allows v w → IsPrefix (published w.seen) plan) → Ascends v.start plan
+      → IsPeek allows shut v key s w answer → FindsTheRow shut plan key s w answer
+  planned_row plan answer rest ascends h = over_pairs plan answer (λ seen content n small. sym (longer_same laws folds w.start s (published w.seen) plan (rest seen)
+      (subst (λ k. Ascends k plan) (sym (ap (λ (t : Watching A). t.start) seen.same)) ascends)
+      (higher laws folds w.start s (published told) (published w.seen) (begun seen) seen.ascends (low seen)) content n small)) h

@@ -23,7 +23,7 @@ abbrev pub counted : ℕ → List Pair
 counted zero = []
 counted (suc n) = counted n ++ pair_at (suc n) ∷ []
 
--- Above the oldest snapshot a peek of the row finds what its own seqno put. It is refused where the publisher is closed, and below the oldest snapshot.
-abbrev pub FindsTheNumber : {A : Type 0} → Watching A → ℕ → Result Peek Refusal → Type 0
-FindsTheNumber w snapshot (Ok peek) = oldest_of w.start w.seen < snapshot → peek ≡ Value (number_at snapshot)
-FindsTheNumber w snapshot (Err refusal) = (refusal ≡ Closed) ⊎ (snapshot < oldest_of w.start w.seen)
+-- Above the oldest snapshot a peek of the row finds what its own seqno put. It is refused where the door was found shut, and below the oldest snapshot.
+abbrev pub FindsTheNumber : {A : Type 0} → (Watching A → Type 0) → Watching A → ℕ → Result Peek Refusal → Type 0
+FindsTheNumber shut w snapshot (Ok peek) = oldest_of w.start w.seen < snapshot → peek ≡ Value (number_at snapshot)
+FindsTheNumber shut w snapshot (Err refusal) = ((refusal ≡ Closed) × shut w) ⊎ (snapshot < oldest_of w.start w.seen)

@@ -2,10 +2,12 @@
 
 ghost use Rattle.std.specs.Prelude.{◌≡◌, ◌+◌, ◌^◌, ◌<◌, ◌≤◌, length, OnOk};
 ghost use Rattle.rep_snap.specs.Lists.{published};
+ghost use Rattle.rep_snap.specs.Doors.{FoundShut};
 ghost use Rattle.rep_snap_uses.specs.Counting.{counted, FindsTheNumber};
 
-use arrayvec::ArrayVec;
-use rep_snap::{Admits, Peek, Publisher, Reader, Told, histories_grow, peeks_have_one_answer};
+use rep_snap::{
+    Admits, Again, Door, Peek, Publisher, Reader, Told, histories_grow, peeks_have_one_answer,
+};
 use rep_types::{Key, Refusal, Value, Write};
 use std::sync::Wait;
 
@@ -22,19 +24,26 @@ impl Admits for Numbers {
     ghost empty = { λ basis start. refl };
 }
 
+impl Again for Numbers {
+    fn again(&self) -> Numbers {
+        *self
+    }
+}
+
 /// The row.
 const ROW: Key = Key { table: 0, row: 1 };
 
-/// Peeks the row at a snapshot that was told of: it finds what that seqno put, unless it was pruned.
-pub fn number_at(
-    mut reader: Reader<Numbers>,
+/// Peeks the row at a snapshot that was told of: it finds what that seqno put, unless it was pruned, or
+/// the door was found shut.
+pub fn number_at<D: Door<Numbers> + Drop>(
+    mut reader: Reader<Numbers, D>,
     told: &Told,
     snapshot: u64,
-) -> (Reader<Numbers>, Result<Peek, Refusal>)
+) -> (Reader<Numbers, D>, Result<Peek, Refusal>)
     requires own { told.now.book ≡ reader.book }
     requires start { reader.start ≡ 0 }
     requires told { (0 < snapshot) × (snapshot ≤ length (published told.now.list)) }
-    ensures { FindsTheNumber result.0 snapshot result.1 }
+    ensures { FindsTheNumber (FoundShut D.knows D.shut) result.0 snapshot result.1 }
 {
     histories_grow();
     peeks_have_one_answer();
@@ -58,12 +67,11 @@ pub fn publish_next<R: Wait>(
     let Ok(value) = Value::new(&[((count + 1) % 256) as u8]) else {
         unreachable!()
     };
-    let mut writes = ArrayVec::new();
-    writes.push(Write {
+    let writes = [Write {
         key: ROW,
         value: Some(value),
-    });
-    let (publisher, done) = publisher.publish(rt, count + 1, writes);
+    }];
+    let (publisher, done) = publisher.publish(rt, count + 1, &writes);
     match done {
         Ok(()) => (publisher, Ok(())),
         Err(refusal) => (publisher, Err(refusal)),

@@ -2,22 +2,23 @@
 
 ghost use Rattle.std.specs.Prelude.{◌≡◌, ◌≤◌};
 ghost use Rattle.rep_snap.specs.Lists.{published, front_of};
+ghost use Rattle.rep_snap.specs.Doors.{FoundShut};
 ghost use Rattle.rep_snap_uses.specs.Folding.{FindsTheRow};
 
-use rep_snap::{Admits, Peek, Reader, Told, histories_grow, peeks_follow_the_fold};
+use rep_snap::{Admits, Door, Peek, Reader, Told, histories_grow, peeks_follow_the_fold};
 use rep_types::{Key, Refusal};
 
 /// Peeks a row at a snapshot that was told of: it finds the row that a plain fold over the told list has
-/// there.
-pub fn row_at<A: Admits + Copy + Drop>(
-    mut reader: Reader<A>,
+/// there, unless the door was found shut.
+pub fn row_at<A: Admits + Drop, D: Door<A> + Drop>(
+    mut reader: Reader<A, D>,
     told: &Told,
     key: Key,
     snapshot: u64,
-) -> (Reader<A>, Result<Peek, Refusal>)
+) -> (Reader<A, D>, Result<Peek, Refusal>)
     requires own { told.now.book ≡ reader.book }
     requires told { snapshot ≤ front_of reader.start (published told.now.list) }
-    ensures { FindsTheRow told.now.list key snapshot result.0 result.1 }
+    ensures { FindsTheRow (FoundShut D.knows D.shut) (published told.now.list) key snapshot result.0 result.1 }
 {
     histories_grow();
     peeks_follow_the_fold();

@@ -4,6 +4,7 @@
 mod beside;
 mod counted;
 mod folded;
+mod planned;
 mod steady;
 #[cfg(test)]
 mod tests;
@@ -11,4 +12,5 @@ mod tests;
 pub use beside::{Count, watched_beside};
 pub use counted::{Numbers, number_at, publish_next};
 pub use folded::row_at;
+pub use planned::{Fixed, Plan, planned_row_at};
 pub use steady::{Free, Steady};

@@ -1,14 +1,13 @@
 //! A publisher of any lists, which looks at the front itself before it publishes.
 
-ghost use Rattle.std.specs.Prelude.{◌≡◌, ◌<◌, ◌^◌, [], MatchResult, IfOk, IfErr};
-ghost use Rattle.rep_types.specs.declared.refusal.Refusal.TheVariants.{OutOfMemory};
-ghost use Rattle.rep_snap.specs.declared.change.Change.TheVariants.{Publish, Prune};
+ghost use Rattle.std.specs.Prelude.{◌≡◌, ◌⊎◌, ◌<◌, ◌^◌, false, [], Err, IfOk, IfErr};
+ghost use Rattle.rep_types.specs.declared.refusal.Refusal.TheVariants.{NotDue, OutOfMemory};
+ghost use Rattle.rep_snap.specs.declared.change.Change.TheVariants.{Prune};
 ghost use Rattle.rep_snap.specs.Lists.{published, front_of};
-ghost use Rattle.rep_snap.specs.Views.{with_change, telling, watching};
+ghost use Rattle.rep_snap.specs.Views.{IsChange, IsPublish, one_less, telling, watching};
 
-use arrayvec::ArrayVec;
-use rep_snap::{Admits, Publisher, Reader, Told, histories_grow};
-use rep_types::{Key, MAX_WRITES, Refusal, Value, Write};
+use rep_snap::{Admits, Again, Publisher, Reader, Told, histories_grow};
+use rep_types::{Key, Refusal, Value, Write};
 use std::alloc::Global;
 use std::sync::Wait;
 
@@ -20,6 +19,12 @@ impl Admits for Free {
     ghost allows = { λ basis start pairs. Unit {0} };
 
     ghost empty = { λ basis start. tt };
+}
+
+impl Again for Free {
+    fn again(&self) -> Free {
+        *self
+    }
 }
 
 /// A publisher with its front.
@@ -38,7 +43,7 @@ impl Steady {
         readers: usize,
     ) -> Result<Steady, Refusal>
         requires { (0 < readers) × (readers < 2 ^ 32) }
-        ensures started { IfOk result (λ s. (s.publisher.start ≡ position) × (s.publisher.list ≡ [])) }
+        ensures started { IfOk result (λ s. (s.publisher.start ≡ position) × (s.publisher.list ≡ []) × (s.publisher.ready ≡ readers) × (s.publisher.failed ≡ false)) }
         ensures refused { IfErr result (λ e. e ≡ OutOfMemory) }
     {
         let publisher = Publisher::start(alloc, rt, Free, position, readers)?;
@@ -53,10 +58,10 @@ impl Steady {
         self,
         rt: &R,
         seqno: u64,
-        writes: ArrayVec<Write, MAX_WRITES>,
+        writes: &[Write],
     ) -> (Steady, Result<(), Refusal>)
         ensures same { result.0.publisher.book ≡ self.publisher.book }
-        ensures change { MatchResult result.1 (λ _. result.0.publisher ≡ with_change (Publish (record { seqno = seqno; writes = writes })) self.publisher) (λ _. result.0.publisher ≡ self.publisher) }
+        ensures change { ((result.1 ≡ Err NotDue) × (result.0.publisher ≡ self.publisher)) ⊎ IsPublish seqno writes.now self.publisher result.0.publisher result.1 }
     {
         histories_grow();
         let Steady { publisher, front } = self;
@@ -86,15 +91,14 @@ impl Steady {
     ) -> (Steady, Result<(), Refusal>)
         ensures same { result.0.publisher.book ≡ self.publisher.book }
     {
-        let mut writes = ArrayVec::new();
-        writes.push(Write { key, value });
-        self.publish(rt, seqno, writes)
+        let writes = [Write { key, value }];
+        self.publish(rt, seqno, &writes)
     }
 
     /// Prunes.
     pub fn prune<R: Wait>(self, rt: &R, position: u64) -> (Steady, Result<(), Refusal>)
         ensures same { result.0.publisher.book ≡ self.publisher.book }
-        ensures change { MatchResult result.1 (λ _. result.0.publisher ≡ with_change (Prune position) self.publisher) (λ _. result.0.publisher ≡ self.publisher) }
+        ensures change { IsChange (Prune position) self.publisher result.0.publisher result.1 }
     {
         histories_grow();
         let Steady { publisher, front } = self;
@@ -114,9 +118,9 @@ impl Steady {
 
     /// A reader.
     pub fn reader(&mut self) -> Result<Reader<Free>, Refusal>
-        ensures same { self.new.publisher ≡ self.old.publisher }
+        ensures same { self.new.publisher ≡ one_less self.old.publisher }
         ensures reader { IfOk result (λ r. r ≡ watching self.old.publisher) }
-        ensures refused { IfErr result (λ e. e ≡ OutOfMemory) }
+        ensures refused { IfErr result (λ e. (e ≡ OutOfMemory) × (self.old.publisher.ready ≡ 0)) }
     {
         self.publisher.reader()
     }

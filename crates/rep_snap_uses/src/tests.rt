@@ -1,9 +1,9 @@
 ghost use Rattle.std.specs.Prelude.{◌≡◌};
 
 use crate::beside::watched_beside;
+use crate::planned::{Plan, planned_row_at};
 use crate::steady::{Free, Steady};
-use arrayvec::ArrayVec;
-use rep_snap::{Peek, Reader, start};
+use rep_snap::{Pair, Peek, Publisher, Reader, start};
 use rep_types::{Key, Refusal, Value};
 use std::test::Fail;
 
@@ -69,7 +69,7 @@ fn peeks_of_a_row_that_is_put_and_deleted(rt: HostRuntime) -> Result<(), Fail> {
             Err(Refusal::NotYet { durable: 3 })
         ]
     );
-    let (steady, fourth) = steady.publish(&rt, 4, ArrayVec::new());
+    let (steady, fourth) = steady.publish(&rt, 4, &[]);
     assert!(rt; fourth.is_ok());
     let mut reader = reader;
     reader.learn(&steady.tell());
@@ -91,5 +91,17 @@ fn a_publisher_starts_with_its_readers(rt: HostRuntime) -> Result<(), Fail> {
     publisher.close(&rt);
     let front = last.map(|reader| reader.front().1);
     assert_eq!(rt; (count, front), (3, Some(5)));
+    Ok(())
+}
+
+#[test]
+fn a_reader_of_a_plan_finds_its_rows(rt: HostRuntime) -> Result<(), Fail> {
+    let pairs: Vec<Pair> = Vec::new(rt.alloc());
+    let mut publisher = Publisher::start(rt.alloc(), &rt, Plan::of(&pairs), 5, 1)?;
+    let reader = publisher.reader().expect(&rt, "a reader");
+    let row = Key { table: 0, row: 1 };
+    let (_reader, found) = planned_row_at(reader, &publisher.tell(), row, 5);
+    publisher.close(&rt);
+    assert_eq!(rt; found, Ok(Peek::Cold));
     Ok(())
 }

@@ -16,7 +16,7 @@ publish_as-writer-requires g c next is =
     let step : Step = record { change = c.args.change; seen = c.extend.new.seen } in
     let added = c.if-not-extend.ensures in
     let again = c.again-seen.ensures ∙ ap (λ (s : Shelf g.row.A.Denot). s.sight.seen) (c.published.ensures ∙ here) in
-    let pending = c.in_default.ensures.pending ∙ ap (λ steps. steps ++ step ∷ []) (c.self.invariant.3 c.if-failed.false) in
+    let pending = c.in_default.ensures.pending ∙ ap (λ steps. steps ++ step ∷ []) (c.self.invariant.3 c.if-self.false) in
     let follows = subst (λ (p : Listing g.row.A.Denot). Follows allows p.basis p.start p.list c.args.change) (sym c.self.view_is) c.requires in
     shows allows _ _ x next step (added.book.0 ∙ ap (λ s. s.book) again) (added.added ∙ ap (λ s. s.log ++ c.args.change ∷ []) again)
     (subst (λ (s : Shelf g.row.A.Denot). Follows allows s.sight.basis s.sight.start s.sight.seen.log c.args.change) here follows)
