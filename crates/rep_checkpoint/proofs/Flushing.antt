@@ -25,7 +25,7 @@ use Rattle.rep_checkpoint.specs.Next.{Next, is_in}
 use Rattle.rep_checkpoint.specs.Standing.{Standing, stage_in, IsNext, IsGoing}
 use Rattle.rep_checkpoint.specs.Moves.{flush_refusal, position_in, without, flushed_in, flushed}
 use Rattle.rep_checkpoint.specs.States.{CheckpointIs, IsBase, IsFlushing, IsToward, IsWritten}
-use Rattle.rep_checkpoint.specs.Calls.{Flushes}
+use Rattle.rep_checkpoint.specs.Calls.{FlushesAsSpelled, Flushes}
 use Rattle.rep_checkpoint.specs.Pages.{IsPageAt, PutsIn, MovesPage}
 use Rattle.rep_checkpoint.proofs.Pages.{not_left, was_left}
 use Rattle.rep_checkpoint.proofs.Frames.{page_number, slot_in, spare_apart, base_as, written_as}
@@ -146,10 +146,6 @@ after_ok : (result : Result (Unit {0}) Refusal) (P Q : Type 0) → (P → Q) →
 after_ok (Ok x) P Q f h = f h
 after_ok (Err e) P Q f h = tt
 
-pub and_kept : (c : Standing) (result : Result (Unit {0}) Refusal) → IfErr result (λ e. (e ≡ DiskFault) ⊎ (e ≡ Corrupt Pages)) → IfErr result (λ e. ((e ≡ DiskFault) ⊎ (e ≡ Corrupt Pages)) × (c ≡ c))
-and_kept c (Ok x) h = tt
-and_kept c (Err e) h = (h, refl)
-
 pub flushes :
     {D : Type 0} (honest : D → Type 0) (history : D → History) (l : Layout) (kept : Kept) (page : ℕ) (c after : Standing) (position : ℕ) (old new : D) (result : Result (Unit {0}) Refusal)
     → flush_refusal l c page ≡ None → position ≡ position_in c.stage → OnOk result (after ≡ flushed page c) → IfErr result (λ e. ((e ≡ DiskFault) ⊎ (e ≡ Corrupt Pages)) × (after ≡ c)) → MovesPage honest history l c.base kept position page old new result
@@ -180,5 +176,5 @@ flushes {D} honest history l kept page c after position old new result due posit
             reaches = put.reaches;
           };
       whole = λ h size s x y assigns is. moves.whole h s x.content assigns is.base.content;
-      corrupt = moves.corrupt;
+      spelled = λ h readable. subst (λ p. FlushesAsSpelled l c.base kept p page (history old) (history new) result) position_is (moves.spelled h readable);
     }

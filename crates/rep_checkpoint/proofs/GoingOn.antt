@@ -1,5 +1,5 @@
 -- The write that comes next.
-use Rattle.std.proofs.Common.{◌≡◌, ◌≢◌, refl, sym, ap, subst, ◌∙◌, ℕ, inl, Bool, true, false, List, [], ◌∷◌, Option, None, Some, Result, Ok, Err, OnOk, OnErr, IfErr, IsOk, IsErr}
+use Rattle.std.proofs.Common.{◌≡◌, ◌≢◌, refl, sym, ap, subst, ◌∙◌, ℕ, inl, Bool, true, false, List, [], ◌∷◌, Option, None, Some, Result, Ok, Err, OnOk, OnErr, IfErr}
 use Rattle.rep_types.specs.declared.refusal.Refusal.{Refusal}
 use Rattle.rep_types.specs.declared.refusal.Refusal.TheVariants.{NotDue, DiskFault}
 use Rattle.rep_types.specs.Order.{State}
@@ -129,18 +129,6 @@ here l c refusal e = by (is_layout l _) e
     by : (b : Bool) → Rattle.std.specs.Prelude.cond b refusal (Some NotDue) ≡ None → refusal ≡ None
     by true f = f
     by false f = absurd cc
-
-pub no_err : (P : Refusal → Type 0) (result : Result (Unit {0}) Refusal) → IsOk result → IfErr result P
-no_err P (Ok x) ok = tt
-no_err P (Err e) ok = absurd cc
-
-pub no_ok : (P : Type 0) (result : Result (Unit {0}) Refusal) → IsErr result → OnOk result P
-no_ok P (Ok x) err = absurd cc
-no_ok P (Err e) err = tt
-
-pub and_same : (c : Standing) (result : Result (Unit {0}) Refusal) → IfErr result (λ e. e ≡ DiskFault) → IfErr result (λ e. (e ≡ DiskFault) × (c ≡ c))
-and_same c (Ok x) h = tt
-and_same c (Err e) h = (h, refl)
 
 pub goes_on :
     {D : Type 0} (honest : D → Type 0) (history : D → History) (l : Layout) (c after : Standing) (old new : D) (answer : Result (Unit {0}) Fault) (result : Result (Unit {0}) Refusal)

@@ -4,6 +4,7 @@ pub mod Frames
 pub mod GoingOn
 pub mod Synced
 pub mod Images
+pub mod Spelled
 pub mod Reading
 pub mod Flushing
 pub mod Apart

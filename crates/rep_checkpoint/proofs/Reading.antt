@@ -6,7 +6,7 @@ use Rattle.rep_types.specs.declared.key.Key.{Key}
 use Rattle.rep_types.specs.declared.refusal.Refusal.{Refusal}
 use Rattle.rep_types.specs.declared.refusal.Refusal.TheVariants.{DiskFault, Corrupt}
 use Rattle.rep_types.specs.declared.refusal.Part.TheVariants.{Pages}
-use Rattle.rep_disk.specs.History.{History, IsImage as IsImageOf}
+use Rattle.rep_disk.specs.History.{History, Wrote, seen, IsImage as IsImageOf}
 use Rattle.rep_disk.specs.Moments.{LeavesOnly}
 use Rattle.rep_layout.specs.declared.super_body.SuperBody.{SuperBody}
 use Rattle.rep_layout.specs.declared.page_state.PageState.{PageState}
@@ -16,6 +16,7 @@ use Rattle.rep_layout.specs.declared.place.Slot.{Slot}
 use Rattle.rep_layout.specs.declared.place.Place.TheVariants.{Page}
 use Rattle.rep_layout.specs.Places.{offset_of}
 use Rattle.rep_layout.specs.Rows.{row_place}
+use Rattle.rep_cells.specs.Readings.{reading_of}
 use Rattle.rep_cells.specs.States.{State, States, Shows, IsSure, writing}
 use Rattle.rep_cells.specs.Known.{Assigns}
 use Rattle.rep_cells.specs.Calls.{Writes, WritesOnly, StepsAt, Stepped, ReadsPlace, ShowsPlace}
@@ -29,9 +30,10 @@ use Rattle.rep_pages.specs.Pages.{IsPageBody, IsFirstRow, IsPage}
 use Rattle.rep_pages.specs.Rows.{Rows, row_at}
 use Rattle.rep_pages.specs.Images.{row_of, IsImage}
 use Rattle.rep_image.specs.Bases.{IsPageOf}
-use Rattle.rep_checkpoint.specs.Calls.{AreAt}
+use Rattle.rep_checkpoint.specs.Calls.{AreAt, IsAbsentPage, WritesImage}
 use Rattle.rep_checkpoint.specs.Pages.{IsStable, AreRows, ReadsPage, PutsPage, IsPageAt, MovesPage}
 use Rattle.rep_checkpoint.proofs.GoingOn.{ok_as, err_as}
+use Rattle.rep_checkpoint.proofs.Spelled.{spelled_in, not_bad}
 
 -- ---- a page of the base
 
@@ -49,6 +51,13 @@ no_row index = elim (cases_lt index 63) [
 pub absent_rows : (b : SuperBody) (s : States) (content : Key → Option (List ℕ)) (number : ℕ) (page : PageBody) → page.rows ≡ replicate 63 None → ((slot : Slot) → state_of_page b number ≡ In slot → ⊥) → IsStable b content s → AreRows b.params.rows number content page
 absent_rows b s content number page rows none have key row there =
     have.absent key row (ap (state_of_page b) there ∙ nowhere (state_of_page b number) none) ∙ sym (ap (λ (rs : Rows). row_of b.params.rows rs key) rows ∙ no_row (row_place b.params.rows key).index)
+
+pub absent_page : (b : SuperBody) (number : ℕ) (page : PageBody) → page.number ≡ number → page.rows ≡ replicate 63 None → ((slot : Slot) → state_of_page b number ≡ In slot → ⊥) → IsAbsentPage b number page
+absent_page b number page is rows none = record {
+  nowhere = nowhere (state_of_page b number) none;
+  is_it = is;
+  rows = λ index. ap (λ (rs : Rows). row_at rs index) rows ∙ no_row index;
+}
 
 -- what is read of a page's place is that page
 pub page_read : (b : SuperBody) (s : States) (content : Key → Option (List ℕ)) (number : ℕ) (slot : Slot) (bytes : List ℕ) → IsStable b content s → state_of_page b number ≡ In slot
@@ -90,11 +99,12 @@ reads honest history l b number slot bytes old answer result there ok read shown
       let t = taken b number content bytes result takes (page_read b s content number slot bytes have there (λ sure. if_came answer _ ok (shown h s assigns sure))) in
       let no = sym e ∙ t.1 in
       absurd cc;
+  spelled = λ h readable. spelled_in (reading_of l (seen (history old))) b number slot bytes result there (sym (if_came answer _ ok (read h (readable slot there)))) takes.found;
   corrupt = λ h readable e. record {
     slot = slot;
     there = there;
     body = bytes;
-    shown = sym (if_came answer _ ok (read h (readable slot)));
+    shown = sym (if_came answer _ ok (read h (readable slot there)));
     none = λ page is_page is_it earlier. let no = sym e ∙ takes.only page is_page is_it earlier in absurd cc;
   };
 }
@@ -121,7 +131,11 @@ not_read allowed honest history l b kept position number old new result e same r
     };
   };
   whole = λ h s content assigns have f. read.whole h s content assigns have (is ∙ ap Err (same_error f));
-  corrupt = λ h readable f. read.corrupt h readable (is ∙ ap Err (same_error f));
+  spelled = λ h readable. record {
+    done = tt;
+    bad = λ bad. refl;
+    corrupt = λ f. (read.corrupt h readable (is ∙ ap Err (same_error f)), same h);
+  };
 }
   where
     same_error : {f : Refusal} → ◌≡◌ {A = Result (Unit {0}) Refusal} (Err e) (Err f) → e ≡ f
@@ -160,14 +174,11 @@ moved {D} honest history l b kept position number old mid new read was page resu
     let number_is : page.number ≡ number = image.number ∙ reads_was.number_is in
     let written = subst (λ n. WritesOnly honest history (offset_of l (Page n (spare_slot (state_of_page b n)))) puts.bytes mid new (fault_of result)) number_is puts.written in
     let states = subst (λ n. StepsAt honest history l (Page n (spare_slot (state_of_page b n))) (writing puts.bytes) mid new (fault_of result)) number_is puts.states in
+    let wrote : honest old → Writes (offset_of l (Page number (spare_slot (state_of_page b number)))) puts.bytes (history old) (history new) result = λ h.
+    let w = subst (λ (k : History). Writes (offset_of l (Page number (spare_slot (state_of_page b number)))) puts.bytes k (history new) (fault_of result)) (same h) (written (stays h)) in
+    record { done = ok_as result _ w.done; failed = err_as result _ only w.failed } in
     record {
-      written = λ h. record {
-        bytes = puts.bytes;
-        size = puts.size;
-        writes =
-            let w = subst (λ (k : History). Writes (offset_of l (Page number (spare_slot (state_of_page b number)))) puts.bytes k (history new) (fault_of result)) (same h) (written (stays h)) in
-            record { done = ok_as result _ w.done; failed = err_as result _ only w.failed };
-      };
+      written = λ h. record { bytes = puts.bytes; size = puts.size; writes = wrote h };
       puts = λ h s x y assigns have at.
           let step = subst (λ (k : History). Stepped l k (history new) s (Page number (spare_slot (state_of_page b number))) (writing puts.bytes) (fault_of result)) (same h) (states (stays h) s (subst (λ (k : History). Assigns l k s) (sym (same h)) assigns)) in
           record {
@@ -177,9 +188,18 @@ moved {D} honest history l b kept position number old mid new read was page resu
             reaches = record { ok = ok_as result _ step.reaches.ok; images = step.reaches.images; moments = step.reaches.moments };
           };
       whole = λ h s content assigns have. never_corrupt result only;
-      corrupt = λ h readable e. absurd (never_corrupt result only e);
+      spelled = λ h readable. record {
+        done = then_ok result (history new ≡ Wrote (offset_of l (Page number (spare_slot (state_of_page b number)))) puts.bytes (history old)) (WritesImage l b kept position number (history old) (history new))
+            (λ is_written. record { was = was; has = reads_was.spelled h readable; page = page; image = image; bytes = puts.bytes; spelled = puts.is_page; written = is_written }) (wrote h).done;
+        bad = λ bad. absurd (not_bad (reading_of l (seen (history old))) b number was (reads_was.spelled h readable) bad);
+        corrupt = λ e. absurd (never_corrupt result only e);
+      };
     }
   where
     all_ok : {P : Type 0} (r : Result (Unit {0}) Refusal) → P → OnOk r P
     all_ok (Ok x) h = h
     all_ok (Err e) h = tt
+
+    then_ok : (r : Result (Unit {0}) Refusal) (P Q : Type 0) → (P → Q) → OnOk r P → OnOk r Q
+    then_ok (Ok x) P Q f h = f h
+    then_ok (Err e) P Q f h = tt

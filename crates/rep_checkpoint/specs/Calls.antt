@@ -1,19 +1,19 @@
 -- What the checkpoint's calls do on an honest device, and what the caller owes them.
-use Rattle.std.specs.Prelude.{◌≡◌, ◌≢◌, ◌⊎◌, ℕ, ◌≤◌, if◌then◌else◌, List, length, Option, None, Some, Result, Err, OnOk, IfErr}
+use Rattle.std.specs.Prelude.{◌≡◌, ◌≢◌, ◌⊎◌, ℕ, ◌≤◌, if◌then◌else◌, List, length, Option, None, Some, Result, Err, IsErr, OnOk, IfErr}
 use Rattle.rep_types.specs.declared.key.Key.{Key}
 use Rattle.rep_types.specs.declared.refusal.Refusal.{Refusal}
 use Rattle.rep_types.specs.declared.refusal.Refusal.TheVariants.{DiskFault, Corrupt}
 use Rattle.rep_types.specs.declared.refusal.Part.TheVariants.{Pages}
 use Rattle.rep_types.specs.Settings.{IsRow}
 use Rattle.rep_types.specs.Order.{State}
-use Rattle.rep_disk.specs.History.{History, seen}
+use Rattle.rep_disk.specs.History.{History, Wrote, seen}
 use Rattle.rep_layout.specs.declared.super_body.SuperBody.{SuperBody}
 use Rattle.rep_layout.specs.declared.place.Layout.{Layout}
 use Rattle.rep_layout.specs.declared.place.Place.{Place}
 use Rattle.rep_layout.specs.declared.place.Place.TheVariants.{Super, Window, Log, Page}
 use Rattle.rep_layout.specs.declared.place.TheConstants.{PAGE_BODY}
 use Rattle.rep_layout.specs.declared.place.Slot.{Slot}
-use Rattle.rep_layout.specs.declared.page_state.PageState.TheVariants.{In}
+use Rattle.rep_layout.specs.declared.page_state.PageState.TheVariants.{Nowhere, In}
 use Rattle.rep_layout.specs.Places.{offset_of, gate_of}
 use Rattle.rep_layout.specs.Supers.{super_bytes}
 use Rattle.rep_layout.specs.Windows.{window_bytes}
@@ -24,6 +24,8 @@ use Rattle.rep_cells.specs.Calls.{gate, Writes, WritesOnly, Reaches}
 use Rattle.rep_pages.specs.declared.page.Page.{Page as PageBody}
 use Rattle.rep_pages.specs.Slots.{state_of_page, spare_slot}
 use Rattle.rep_pages.specs.Pages.{IsPageBody}
+use Rattle.rep_pages.specs.Rows.{row_at}
+use Rattle.rep_pages.specs.Images.{IsImage}
 use Rattle.rep_versions.specs.Versions.{Kept, version_at, IsRowAt}
 use Rattle.rep_checkpoint.specs.declared.stage.Part.TheVariants.{Flushing, Ready, SuperFilled}
 use Rattle.rep_checkpoint.specs.declared.stage.Stage.{Stage}
@@ -109,6 +111,10 @@ pub record WritesPage {T E : Type 0} (at : ℕ) (old new : History) (result : Re
   pub size : length bytes ≡ PAGE_BODY
   pub writes : Writes at bytes old new result
 
+-- No write that failed lies in the slot in which the superblock has the page.
+abbrev pub IsPageReadable : Layout → History → SuperBody → ℕ → Type 0
+IsPageReadable l h b number = (slot : Slot) → state_of_page b number ≡ In slot → IsReadable l h (Page number slot)
+
 -- In the slot in which the superblock has the page a reading has no such page.
 pub record IsBadPage (r : Reading) (b : SuperBody) (number : ℕ) : Type 0 where
   pub slot : Slot
@@ -117,10 +123,47 @@ pub record IsBadPage (r : Reading) (b : SuperBody) (number : ℕ) : Type 0 where
   pub shown : r (Page number slot) ≡ Some body
   pub none : (page : PageBody) → IsPageBody b.params.rows page body → page.number ≡ number → page.position ≤ b.position → ⊥
 
+-- There it has this one: the bytes spell it, and it is of that number and of a position not above the superblock's.
+pub record IsSpelledPage (r : Reading) (b : SuperBody) (number : ℕ) (page : PageBody) : Type 0 where
+  pub slot : Slot
+  pub there : state_of_page b number ≡ In slot
+  pub body : List ℕ
+  pub shown : r (Page number slot) ≡ Some body
+  pub is_page : IsPageBody b.params.rows page body
+  pub is_it : page.number ≡ number
+  pub earlier : page.position ≤ b.position
+
+-- The superblock has it in no slot, and it has no row.
+pub record IsAbsentPage (b : SuperBody) (number : ℕ) (page : PageBody) : Type 0 where
+  pub nowhere : state_of_page b number ≡ Nowhere
+  pub is_it : page.number ≡ number
+  pub rows : (index : ℕ) → row_at page.rows index ≡ None
+
+-- the superblock's page, as a reading has it
+abbrev pub HasPage : Reading → SuperBody → ℕ → PageBody → Type 0
+HasPage r b number page = IsSpelledPage r b number page ⊎ IsAbsentPage b number page
+
+-- The page that the bytes have was written as the versions make it at the position, into the slot in which the superblock hasn't it.
+pub record WritesImage (l : Layout) (b : SuperBody) (kept : Kept) (position number : ℕ) (old new : History) : Type 0 where
+  pub was : PageBody
+  pub has : HasPage (reading_of l (seen old)) b number was
+  pub page : PageBody
+  pub image : IsImage b.params.rows kept position was page
+  pub bytes : List ℕ
+  pub spelled : IsPageBody b.params.rows page bytes
+  pub written : new ≡ Wrote (offset_of l (Page number (spare_slot (state_of_page b number)))) bytes old
+
+-- The bytes decide: where they have the page, that page was written; where they have none it is refused, and nothing was; and it is
+-- refused as corrupt only there.
+pub record FlushesAsSpelled {T : Type 0} (l : Layout) (b : SuperBody) (kept : Kept) (position number : ℕ) (old new : History) (result : Result T Refusal) : Type 0 where
+  pub done : OnOk result (WritesImage l b kept position number old new)
+  pub bad : IsBadPage (reading_of l (seen old)) b number → IsErr result
+  pub corrupt : result ≡ Err (Corrupt Pages) → IsBadPage (reading_of l (seen old)) b number × (new ≡ old)
+
 -- The page was flushed: its rows at the next base's position were written into the slot in which the base hasn't it. The checkpoint
--- stands behind that where it succeeds, and otherwise as it did: the device failed, or the base's page isn't of the form, which is
--- so in the bytes that are read. On an honest device it stands as it did during the call and in all that a stop or the failure
--- leaves, and its base's page is of the form.
+-- stands behind that where it succeeds, and otherwise as it did: the device failed, or the base's page isn't of the form. On an
+-- honest device it stands as it did during the call and in all that a stop or the failure leaves, and its base's page is of the form.
+-- Whatever stands there, the bytes decide where no write failed in the base's slot.
 pub record Flushes {D T : Type 0} (honest : D → Type 0) (history : D → History) (l : Layout) (kept : Kept) (page : ℕ) (before after : Standing) (old new : D) (result : Result T Refusal) : Type 0 where
   pub done : OnOk result (after ≡ flushed page before)
   pub fault : IfErr result (λ e. ((e ≡ DiskFault) ⊎ (e ≡ Corrupt Pages)) × (after ≡ before))
@@ -128,7 +171,7 @@ pub record Flushes {D T : Type 0} (honest : D → Type 0) (history : D → Histo
   pub steps : honest old → (size : ℕ) (s : States) (x y : State) → Assigns l (history old) s → CheckpointIs size before x y s
       → AreAt before.base.params.rows kept (position_in before.stage) x.content y.content → Steps size l (history old) (history new) s before (flushed page before) x y result
   pub whole : honest old → (size : ℕ) (s : States) (x y : State) → Assigns l (history old) s → CheckpointIs size before x y s → result ≢ Err (Corrupt Pages)
-  pub corrupt : honest old → ((slot : Slot) → IsReadable l (history old) (Page page slot)) → result ≡ Err (Corrupt Pages) → IsBadPage (reading_of l (seen (history old))) before.base page
+  pub spelled : honest old → IsPageReadable l (history old) before.base page → FlushesAsSpelled l before.base kept (position_in before.stage) page (history old) (history new) result
 
 -- ---- syncs
 

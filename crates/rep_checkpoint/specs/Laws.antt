@@ -11,6 +11,8 @@ use Rattle.rep_layout.specs.Places.{layout_of}
 use Rattle.rep_cells.specs.Readings.{Reading, reading_of}
 use Rattle.rep_cells.specs.States.{States, Allowed}
 use Rattle.rep_cells.specs.Known.{found}
+use Rattle.rep_pages.specs.declared.page.Page.{Page as PageBody}
+use Rattle.rep_pages.specs.Rows.{row_at}
 use Rattle.rep_log.specs.Standing.{Standing as LogStanding, LogIs}
 use Rattle.rep_steps.specs.Standings.{Standing as Facts, Toward as is_toward, Flushing as to_flushing, check_refusal}
 use Rattle.rep_steps.specs.Moves.{checked, flushed as flushed_at, synced_stage, base_after, start_after}
@@ -22,6 +24,7 @@ use Rattle.rep_checkpoint.specs.Next.{Next}
 use Rattle.rep_checkpoint.specs.Standing.{Standing, spare_side, stage_of}
 use Rattle.rep_checkpoint.specs.Moves.{begun, flushed, gone_on, after_sync, is_opening, found_at, next_refusal_at}
 use Rattle.rep_checkpoint.specs.States.{CheckpointIs}
+use Rattle.rep_checkpoint.specs.Calls.{IsBadPage, HasPage}
 
 -- ---- what an image has as its base
 
@@ -75,3 +78,10 @@ pub record TheStageIsTheFacts : Type 0 where
   pub synced : (c : Standing) → stage_of (after_sync c) ≡ synced_stage (stage_of c)
   pub base : (c : Standing) → (after_sync c).base.position ≡ base_after c.base.position (stage_of c)
   pub start : (c : Standing) → (after_sync c).base.start ≡ start_after c.base.start (stage_of c)
+
+-- ---- what the bytes say of a page
+
+-- It is one thing: a reading that has the page has no bad one there, and none of other rows.
+pub record BytesTellThePage : Type 0 where
+  pub none : (r : Reading) (b : SuperBody) (number : ℕ) (page : PageBody) → HasPage r b number page → IsBadPage r b number → ⊥
+  pub rows : (r : Reading) (b : SuperBody) (number : ℕ) (page other : PageBody) → HasPage r b number page → HasPage r b number other → (index : ℕ) → row_at page.rows index ≡ row_at other.rows index

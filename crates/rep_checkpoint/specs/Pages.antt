@@ -16,7 +16,7 @@ use Rattle.rep_layout.specs.Places.{offset_of}
 use Rattle.rep_layout.specs.Rows.{row_place}
 use Rattle.rep_cells.specs.Readings.{reading_of}
 use Rattle.rep_cells.specs.States.{States, Pending, Stable, writing}
-use Rattle.rep_cells.specs.Known.{Assigns, IsReadable}
+use Rattle.rep_cells.specs.Known.{Assigns}
 use Rattle.rep_cells.specs.Calls.{WritesOnly, StepsAt, Reaches}
 use Rattle.rep_versions.specs.Versions.{Kept}
 use Rattle.rep_pages.specs.declared.page.Page.{Page as PageBody}
@@ -24,7 +24,7 @@ use Rattle.rep_pages.specs.Slots.{state_of_page, spare_slot}
 use Rattle.rep_pages.specs.Pages.{IsPageBody}
 use Rattle.rep_pages.specs.Images.{row_of}
 use Rattle.rep_image.specs.Bases.{HaveContent}
-use Rattle.rep_checkpoint.specs.Calls.{AreAt, WritesPage, IsBadPage}
+use Rattle.rep_checkpoint.specs.Calls.{AreAt, WritesPage, IsPageReadable, IsBadPage, HasPage, FlushesAsSpelled}
 
 -- The pages of this superblock are stable, and of this content.
 abbrev pub IsStable : SuperBody → (Key → Option (List ℕ)) → States → Type 0
@@ -34,12 +34,14 @@ IsStable b content s = HaveContent b (λ number slot body. s (Page number slot) 
 abbrev pub AreRows : List ℕ → ℕ → (Key → Option (List ℕ)) → PageBody → Type 0
 AreRows rows number content page = (key : Key) → IsRow rows key → (row_place rows key).page ≡ number → content key ≡ row_of rows page.rows key
 
--- A page of the base is read: on an honest device that page, and where it isn't of the form, none is there.
+-- A page of the base is read: on an honest device that page; and whatever stands there, what the bytes have where no write failed in
+-- its slot, and none only where they have none.
 pub record ReadsPage {D : Type 0} (honest : D → Type 0) (history : D → History) (l : Layout) (b : SuperBody) (number : ℕ) (old : D) (result : Result PageBody Refusal) : Type 0 where
   pub number_is : IfOk result (λ page. page.number ≡ number)
   pub read : honest old → (s : States) (content : Key → Option (List ℕ)) → Assigns l (history old) s → IsStable b content s → IfOk result (AreRows b.params.rows number content)
   pub whole : honest old → (s : States) (content : Key → Option (List ℕ)) → Assigns l (history old) s → IsStable b content s → result ≢ Err (Corrupt Pages)
-  pub corrupt : honest old → ((slot : Slot) → IsReadable l (history old) (Page number slot)) → result ≡ Err (Corrupt Pages) → IsBadPage (reading_of l (seen (history old))) b number
+  pub spelled : honest old → IsPageReadable l (history old) b number → IfOk result (HasPage (reading_of l (seen (history old))) b number)
+  pub corrupt : honest old → IsPageReadable l (history old) b number → result ≡ Err (Corrupt Pages) → IsBadPage (reading_of l (seen (history old))) b number
 
 -- These bytes, the spelling of the page, are written into its slot.
 pub record PutsPage {D T E : Type 0} (honest : D → Type 0) (history : D → History) (l : Layout) (b : SuperBody) (page : PageBody) (slot : Slot) (old new : D) (result : Result T E) : Type 0 where
@@ -70,4 +72,4 @@ pub record MovesPage {D T : Type 0} (honest : D → Type 0) (history : D → His
   pub puts : honest old → (s : States) (x y : Key → Option (List ℕ)) → Assigns l (history old) s → IsStable b x s → AreAt b.params.rows kept position x y
       → PutsIn l (history old) (history new) s (Page number (spare_slot (state_of_page b number))) (IsPageAt b.params.rows number position y) result
   pub whole : honest old → (s : States) (content : Key → Option (List ℕ)) → Assigns l (history old) s → IsStable b content s → result ≢ Err (Corrupt Pages)
-  pub corrupt : honest old → ((slot : Slot) → IsReadable l (history old) (Page number slot)) → result ≡ Err (Corrupt Pages) → IsBadPage (reading_of l (seen (history old))) b number
+  pub spelled : honest old → IsPageReadable l (history old) b number → FlushesAsSpelled l b kept position number (history old) (history new) result

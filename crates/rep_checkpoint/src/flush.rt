@@ -1,6 +1,6 @@
 //! How the pages of a checkpoint are flushed.
 
-ghost use Rattle.std.specs.Prelude.{◌≡◌, ◌⊎◌, None, IfErr, IfSome};
+ghost use Rattle.std.specs.Prelude.{◌≡◌, ◌⊎◌, None, IfErr, IfSome, OnErr};
 ghost use Rattle.rep_types.specs.declared.key.Key.{Key};
 ghost use Rattle.rep_types.specs.declared.refusal.Refusal.TheVariants.{DiskFault, Corrupt};
 ghost use Rattle.rep_types.specs.declared.refusal.Part.TheVariants.{Pages};
@@ -135,9 +135,10 @@ impl Checkpoint {
     /// where the base has the page in a slot, one write, and no memory.
     ///
     /// Refuses with `NotDue` where the page is not left, and on the places of other parameters; with `Corrupt`
-    /// of the pages where the base's page is not of the form, which an honest device never shows; and with
-    /// `DiskFault` where the device failed. The checkpoint then stands as it did, and on a device that failed
-    /// nothing more is known of what it wrote: whoever calls stops.
+    /// of the pages exactly where the base's page is not of the form, of its number, and of a position not above
+    /// the base's: an honest device shows no such page of a base that stands; and with `DiskFault` where the
+    /// device failed. The checkpoint then stands as it did, and on a device that failed nothing more is known of
+    /// what it wrote: whoever calls stops.
     pub fn flush<D: Disk>(
         &mut self,
         cells: &mut Cells<D>,
@@ -147,16 +148,20 @@ impl Checkpoint {
         ensures call { IsCall D.size D.failures D.honest (disk_of cells.old) (disk_of cells.new) (fault_of result) }
         ensures layout { layout_of cells.new ≡ layout_of cells.old }
         ensures refused { IfSome (flush_refusal (layout_of cells.old) self.old page) (λ e. IsRefused e self.old self.new (disk_of cells.old) (disk_of cells.new) result) }
+        // A refusal, also the device's fault, leaves the checkpoint as it was.
+        ensures unchanged { OnErr result (self.new ≡ self.old) }
         ensures flushes { flush_refusal (layout_of cells.old) self.old page ≡ None → Flushes D.honest D.history (layout_of cells.old) versions.now page self.old self.new (disk_of cells.old) (disk_of cells.new) result }
     {
         if let Some(refusal) = self.flush_refusal(cells.layout(), page) {
             return Err(refusal);
         }
         let position = self.next_position();
-        let answer = move_page(cells, &self.base, versions, position, page);
-        if answer.is_ok() {
-            self.flushed(page);
+        match move_page(cells, &self.base, versions, position, page) {
+            Ok(()) => {
+                self.flushed(page);
+                Ok(())
+            }
+            Err(refusal) => Err(refusal),
         }
-        answer
     }
 }

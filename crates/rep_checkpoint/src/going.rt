@@ -1,6 +1,6 @@
 //! How a checkpoint goes on: the writes behind the pages, and syncs.
 
-ghost use Rattle.std.specs.Prelude.{◌≡◌, None, IfErr, IfSome, length};
+ghost use Rattle.std.specs.Prelude.{◌≡◌, None, IfErr, IfSome, OnErr, length};
 ghost use Rattle.rep_disk.specs.Calls.{IsCall};
 ghost use Rattle.rep_layout.specs.Places.{offset_of, layout_of as places_of};
 ghost use Rattle.rep_layout.specs.Supers.{IsSuper, super_bytes};
@@ -158,16 +158,20 @@ impl Checkpoint {
         ensures call { IsCall D.size D.failures D.honest (disk_of cells.old) (disk_of cells.new) (fault_of result) }
         ensures layout { layout_of cells.new ≡ layout_of cells.old }
         ensures refused { IfSome (next_refusal (layout_of cells.old) self.old) (λ e. IsRefused e self.old self.new (disk_of cells.old) (disk_of cells.new) result) }
+        // A refusal, also the device's fault, leaves the checkpoint as it was.
+        ensures unchanged { OnErr result (self.new ≡ self.old) }
         ensures goes { next_refusal (layout_of cells.old) self.old ≡ None → GoesOn D.honest D.history (layout_of cells.old) self.old self.new (disk_of cells.old) (disk_of cells.new) result }
     {
         if let Some(refusal) = self.next_refusal(cells.layout()) {
             return Err(refusal);
         }
-        let answer = refusal_of(self.write_next(cells));
-        if answer.is_ok() {
-            self.go_on();
+        match refusal_of(self.write_next(cells)) {
+            Ok(()) => {
+                self.go_on();
+                Ok(())
+            }
+            Err(refusal) => Err(refusal),
         }
-        answer
     }
 
     /// Moves on by a sync that succeeded. It stands apart from `synced`, whose law is of all that this does

@@ -1,11 +1,12 @@
 //! Laws of the checkpoint, each as the contract of a function that does nothing.
 
 ghost use Rattle.rep_checkpoint.specs.Nodes.{NodesLeaveTheirEnds, NodesLeaveTheirFronts, NodesSettle, VersionsLeadToTheState};
-ghost use Rattle.rep_checkpoint.specs.Laws.{TheBaseInEveryImage, TheBaseStandsStill, TheBaseIsFound, TheLogIsApart, TheCheckpointIsApart, TheStageIsTheFacts};
+ghost use Rattle.rep_checkpoint.specs.Laws.{TheBaseInEveryImage, TheBaseStandsStill, TheBaseIsFound, TheLogIsApart, TheCheckpointIsApart, TheStageIsTheFacts, BytesTellThePage};
 ghost use Rattle.rep_checkpoint.specs.Windows.{WindowsGoOn};
 
 use rep_layout::{row_places_are_told, turns_are_taken};
 use rep_log::the_log_in_every_image;
+use rep_pages::pages_are_told;
 use rep_versions::versions_follow_the_items;
 
 /// In every image, so after a stop, the base is the one that stands, or the next one while its superblock's gate
@@ -83,3 +84,11 @@ pub fn versions_lead_to_the_state()
 pub fn windows_go_on()
     ensures { WindowsGoOn }
 {}
+
+/// What the bytes say of a page is one thing: where they have the page, none is bad there, and they have no other
+/// rows. So a flush and a read, which answer by the bytes, have one answer on an honest device that does not fail.
+pub fn the_bytes_tell_the_page()
+    ensures { BytesTellThePage }
+{
+    pages_are_told();
+}

@@ -11,7 +11,7 @@ mod stage;
 pub use checkpoint::Checkpoint;
 pub use laws::{
     nodes_leave_their_ends, nodes_leave_their_fronts, nodes_settle, the_base_in_every_image,
-    the_base_is_found, the_base_stands_still, the_checkpoint_is_apart, the_log_is_apart,
-    the_stage_is_the_facts, versions_lead_to_the_state, windows_go_on,
+    the_base_is_found, the_base_stands_still, the_bytes_tell_the_page, the_checkpoint_is_apart,
+    the_log_is_apart, the_stage_is_the_facts, versions_lead_to_the_state, windows_go_on,
 };
 pub use stage::{NextBase, Part, Stage, Step};

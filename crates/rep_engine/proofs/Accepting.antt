@@ -47,7 +47,7 @@ fitting_front b (j ∷ js) = by (has_room b j) refl (fitting_front (b ++ j ∷ [
         ap (λ k. fitting b (take k (j ∷ js))) one ∙ all ∙ ap (λ k. k + 1) further ∙ sym (one ∙ omega arith)
     by false room further = let none : fitting b (j ∷ js) ≡ 0 = rw room refl in ap (λ k. fitting b (take k (j ∷ js))) none ∙ sym none
 
-fitting_within : (b js : List Judged) → fitting b js ≤ length js
+pub fitting_within : (b js : List Judged) → fitting b js ≤ length js
 fitting_within b [] = omega arith
 fitting_within b (j ∷ js) = by (has_room b j) refl (fitting_within (b ++ j ∷ []) js)
   where
@@ -55,7 +55,7 @@ fitting_within b (j ∷ js) = by (has_room b j) refl (fitting_within (b ++ j ∷
     by true room further = let one : fitting b (j ∷ js) ≡ fitting (b ++ j ∷ []) js + 1 = rw room refl in omega (arith, one, further)
     by false room further = let none : fitting b (j ∷ js) ≡ 0 = rw room refl in omega (arith, none)
 
-fits_more : (block js : List Judged) → fitting [] block ≡ length block → fitting [] (block ++ take (fitting block js) js) ≡ length block + fitting block js
+pub fits_more : (block js : List Judged) → fitting [] block ≡ length block → fitting [] (block ++ take (fitting block js) js) ≡ length block + fitting block js
 fits_more block js fits = fitting_append [] block (take (fitting block js) js) fits ∙ ap (λ k. length block + k) (fitting_front block js)
 
 -- the next block then takes all that was gathered and what came

@@ -1,10 +1,11 @@
 -- Pages that are flushed, of an engine that stands for a node.
-use Rattle.std.proofs.Common.{◌≡◌, ◌⊎◌, inl, inr, ℕ, ◌+◌, ◌≤◌, Bool, true, false, List, [], length, Option, None, Some, Result, Ok, Err, refl, sym, ap, subst, ◌∙◌, arith, IfSome}
+use Rattle.std.proofs.Common.{◌≡◌, ◌⊎◌, inl, inr, ℕ, ◌+◌, ◌≤◌, Bool, true, false, List, [], length, Option, None, Some, Result, Ok, Err, refl, sym, ap, subst, ◌∙◌, arith, IfSome, IfErr, OnErr}
 use Rattle.std.specs.Prelude.{is_some, if◌then◌else◌, ◌==◌, IsTrue}
 use Rattle.std.specs.List.{list_any}
 use Rattle.rep_types.specs.declared.judged.Judged.{Judged}
 use Rattle.rep_types.specs.declared.refusal.Refusal.{Refusal}
-use Rattle.rep_types.specs.declared.refusal.Refusal.TheVariants.{DiskFault, NotDue}
+use Rattle.rep_types.specs.declared.refusal.Refusal.TheVariants.{DiskFault, NotDue, Corrupt}
+use Rattle.rep_types.specs.declared.refusal.Part.TheVariants.{Pages}
 use Rattle.rep_types.specs.declared.verdict.Verdict.TheVariants.{Commit}
 use Rattle.std.proofs.lemmas.Bool.Decides.{nat_tests}
 use Rattle.rep_types.specs.declared.limits.TheConstants.{MAX_PAGES}
@@ -19,6 +20,7 @@ use Rattle.rep_layout.specs.declared.super_body.SuperBody.{SuperBody}
 use Rattle.rep_layout.specs.Rows.{RowPlacesAreTold}
 use Rattle.rep_layout.specs.Places.{layout_of}
 use Rattle.rep_cells.specs.Known.{Assigns}
+use Rattle.rep_versions.specs.Versions.{Kept}
 use Rattle.rep_log.specs.declared.phase.Phase.{Phase}
 use Rattle.rep_log.specs.Standing.{Standing as Log}
 use Rattle.rep_log.specs.Moves.{fault_of}
@@ -36,7 +38,7 @@ use Rattle.rep_checkpoint.specs.declared.stage.Stage.TheVariants.{Off, Toward, R
 use Rattle.rep_checkpoint.specs.Next.{Next, is_in}
 use Rattle.rep_checkpoint.specs.Standing.{Standing as Checkpoint, stage_in, stage_of, IsNext, IsCheckpoint}
 use Rattle.rep_checkpoint.specs.Moves.{flushed, flushed_in, flush_refusal, position_in}
-use Rattle.rep_checkpoint.specs.Calls.{IsRefused, Flushes, AreAt, Steps as CheckpointSteps}
+use Rattle.rep_checkpoint.specs.Calls.{IsRefused, Flushes, IsPageReadable, FlushesAsSpelled, AreAt, Steps as CheckpointSteps}
 use Rattle.rep_checkpoint.specs.Laws.{TheStageIsTheFacts, TheCheckpointIsApart}
 use Rattle.rep_checkpoint.specs.States.{CheckpointIs}
 use Rattle.rep_checkpoint.specs.Nodes.{IsLedTo, StandsAs, VersionsLeadToTheState, NodesLeaveTheirFronts}
@@ -44,6 +46,7 @@ use Rattle.rep_engine.specs.Engines.{Engine, IsEngine, HasItemsBehind, facts_of,
 use Rattle.rep_engine.specs.Holding.{Stands, Holds, wrote}
 use Rattle.rep_engine.specs.Reading.{halted_by}
 use Rattle.rep_engine.proofs.Steps.{refused_moves, done_moves, fault_moves, corrupt_moves, refused_steps, done_steps, fault_steps, halted_node, leaves_weaker}
+use Rattle.rep_engine.proofs.Refusing.{refused_after, checkpoint_stays, stays_stopped}
 use Rattle.rep_engine.proofs.Standing.{same_front, fronts_of}
 use Rattle.rep_engine.proofs.Checking.{here, next_in}
 
@@ -121,6 +124,13 @@ flushed_toward page Off to part e = absurd cc
 flushed_toward page (Toward old before) to part e = (old, ap (λ (k : Stage). Toward old (part_in before k)) e, ap (λ (k : Stage). (next_in old k).super) (sym e))
 flushed_toward page (Retiring written) to part e = absurd cc
 
+-- a flush that isn't due speaks of no page
+pub refused_spelled : (l : Layout) (b : SuperBody) (kept : Kept) (position page : ℕ) (old new : History) (e : Refusal) → (e ≡ Corrupt Pages → ⊥) → FlushesAsSpelled {T = Unit {0}} l b kept position page old new (Err e)
+refused_spelled l b kept position page old new e other = record { done = tt; bad = λ bad. refl; corrupt = λ f. absurd (other (same_error f)) }
+  where
+    same_error : {f : Refusal} → ◌≡◌ {A = Result (Unit {0}) Refusal} (Err e) (Err f) → e ≡ f
+    same_error p = cc
+
 -- What a flush did, on any device.
 pub record IsFlushed {D : Type 0} (honest : D → Type 0) (history : D → History) (size failures : D → ℕ) (old : Engine D) (dk : D) (d : Checkpoint) (hl : Option Phase) (page : ℕ) (result : Result (Unit {0}) Refusal) : Type 0 where
   pub engine : IsEngine old.layout old.checkpoint old.log old.kept old.block
@@ -129,6 +139,7 @@ pub record IsFlushed {D : Type 0} (honest : D → Type 0) (history : D → Histo
   pub halted : hl ≡ halted_by old.log.phase result
   pub refused : IfSome (flush_refusal old.layout old.checkpoint page) (λ e. IsRefused e old.checkpoint d old.disk dk result)
   pub flushes : flush_refusal old.layout old.checkpoint page ≡ None → Flushes honest history old.layout old.kept page old.checkpoint d old.disk dk result
+  pub unchanged : OnErr result (d ≡ old.checkpoint)
 
 module _ {D : Type 0} (honest : D → Type 0) (history : D → History) (size failures : D → ℕ) (sized : (disk : D) → honest disk → length (stable (history disk)) ≡ size disk) (laws : TheStageIsTheFacts)
     (old : Engine D) (dk : D) (d : Checkpoint) (hl : Option Phase) (page : ℕ) where
@@ -179,6 +190,43 @@ module _ {D : Type 0} (honest : D → Type 0) (history : D → History) (size fa
       let same : facts_of failures to ≡ was = facts_same h.runs refused.checkpoint (ap failures refused.disk) still in
       subst (λ (a : _). Moves was (Flush page) a (facts_of failures to)) (ap wrote (sym refused.refused))
       (subst (Moves was (Flush page) (Refused r)) (sym same) (refused_moves was (Flush page) r (ap is_some h.runs) some))
+
+  -- ---- what a refusal leaves
+
+  went_back : (result : Result (Unit {0}) Refusal) (r : Refusal) → r ≡ NotDue → old.halted ≡ None → hl ≡ halted_by old.log.phase result → IsRefused r c d old.disk dk result → to ≡ old
+  went_back result r not_due runs halted refused =
+      let still : hl ≡ None = halted ∙ ap (halted_by old.log.phase) (refused.refused ∙ ap Err not_due) in
+      ap (λ (o : Option Phase). record old { disk = dk; checkpoint = d; halted = o }) (still ∙ sym runs)
+      ∙ ap (λ (k : Checkpoint). record old { disk = dk; checkpoint = k }) refused.checkpoint ∙ ap (λ (x : D). record old { disk = x }) refused.disk
+
+  abbrev Left : Refusal → Type 0
+  Left e = (e ≡ DiskFault) ⊎ (((e ≡ Corrupt Pages) × (to ≡ record old { disk = dk })) ⊎ (to ≡ old))
+
+  left_due : (result : Result (Unit {0}) Refusal) → IsFlushed honest history size failures old dk d hl page result → flush_refusal_at (stage_of c) page ≡ None → IfErr result Left
+  left_due (Ok x) h none = tt
+  left_due (Err e) h none =
+      let goes = h.flushes (here old.layout c (flush_refusal_at (stage_of c) page) h.engine.layout ∙ none) in
+      refused_after {T = Unit {0}} old to (Err e) h.runs (checkpoint_stays {T = Unit {0}} old to (Err e) refl h.halted h.unchanged) goes.fault.0
+
+  left_other : (result : Result (Unit {0}) Refusal) → IsFlushed honest history size failures old dk d hl page result → (r : Refusal) → r ≡ NotDue → flush_refusal_at (stage_of c) page ≡ Some r → IfErr result Left
+  left_other result h r not_due some =
+      let at = here old.layout c (flush_refusal_at (stage_of c) page) h.engine.layout ∙ some in
+      let refused : IsRefused r c d old.disk dk result = subst (λ (o : Option Refusal). IfSome o (λ e. IsRefused e c d old.disk dk result)) at h.refused in
+      subst (λ (a : Result (Unit {0}) Refusal). IfErr a Left) (sym refused.refused) (inr (inr (went_back result r not_due h.runs h.halted refused)))
+
+  -- ---- what the bytes say
+
+  abbrev Spelled : Result (Unit {0}) Refusal → Type 0
+  Spelled result = honest old.disk → IsPageReadable old.layout (history old.disk) c.base page → FlushesAsSpelled old.layout c.base old.kept (position_in c.stage) page (history old.disk) (history dk) result
+
+  spelled_due : (result : Result (Unit {0}) Refusal) → IsFlushed honest history size failures old dk d hl page result → flush_refusal_at (stage_of c) page ≡ None → Spelled result
+  spelled_due result h none = (h.flushes (here old.layout c (flush_refusal_at (stage_of c) page) h.engine.layout ∙ none)).spelled
+
+  spelled_other : (result : Result (Unit {0}) Refusal) → IsFlushed honest history size failures old dk d hl page result → (r : Refusal) → r ≡ NotDue → flush_refusal_at (stage_of c) page ≡ Some r → Spelled result
+  spelled_other result h r not_due some =
+      let at = here old.layout c (flush_refusal_at (stage_of c) page) h.engine.layout ∙ some in
+      let refused : IsRefused r c d old.disk dk result = subst (λ (o : Option Refusal). IfSome o (λ e. IsRefused e c d old.disk dk result)) at h.refused in
+      subst Spelled (sym refused.refused) (λ is_honest readable. refused_spelled old.layout c.base old.kept (position_in c.stage) page (history old.disk) (history dk) r (λ corrupt. let never = sym not_due ∙ corrupt in absurd cc))
 
   -- ---- at a node
 
@@ -347,6 +395,24 @@ module _ {D : Type 0} (honest : D → Type 0) (history : D → History) (size fa
   moves_by : (o : Option Refusal) → flush_refusal_at (stage_of old.checkpoint) page ≡ o → Moves (facts_of failures old) (Flush page) (wrote result) (facts_of failures into)
   moves_by None none = left_moves honest history size failures sized laws old dk d hl page result h none
   moves_by (Some r) some = other_moves honest history size failures sized laws old dk d hl page result h r (only_not_due page old.checkpoint.stage r some) some
+
+  left_by : (o : Option Refusal) → flush_refusal_at (stage_of old.checkpoint) page ≡ o → IfErr result (λ e. (e ≡ DiskFault) ⊎ (((e ≡ Corrupt Pages) × (into ≡ record old { disk = dk })) ⊎ (into ≡ old)))
+  left_by None none = left_due honest history size failures sized laws old dk d hl page result h none
+  left_by (Some r) some = left_other honest history size failures sized laws old dk d hl page result h r (only_not_due page old.checkpoint.stage r some) some
+
+  pub flush_left : IfErr result (λ e. (e ≡ DiskFault) ⊎ (((e ≡ Corrupt Pages) × (into ≡ record old { disk = dk })) ⊎ (into ≡ old)))
+  flush_left = left_by (flush_refusal_at (stage_of old.checkpoint) page) refl
+
+  pub flush_stops : IfErr result (λ e. e ≡ DiskFault → into ≡ record old { disk = dk; halted = Some old.log.phase })
+  flush_stops = stays_stopped old into result refl h.halted h.unchanged
+
+  spelled_by : (o : Option Refusal) → flush_refusal_at (stage_of old.checkpoint) page ≡ o
+      → honest old.disk → IsPageReadable old.layout (history old.disk) old.checkpoint.base page → FlushesAsSpelled old.layout old.checkpoint.base old.kept (position_in old.checkpoint.stage) page (history old.disk) (history dk) result
+  spelled_by None none = spelled_due honest history size failures sized laws old dk d hl page result h none
+  spelled_by (Some r) some = spelled_other honest history size failures sized laws old dk d hl page result h r (only_not_due page old.checkpoint.stage r some) some
+
+  pub flush_spelled : honest old.disk → IsPageReadable old.layout (history old.disk) old.checkpoint.base page → FlushesAsSpelled old.layout old.checkpoint.base old.kept (position_in old.checkpoint.stage) page (history old.disk) (history dk) result
+  flush_spelled = spelled_by (flush_refusal_at (stage_of old.checkpoint) page) refl
 
   pub flush_moves : Moves (facts_of failures old) (Flush page) (wrote result) (facts_of failures into)
   flush_moves = moves_by (flush_refusal_at (stage_of old.checkpoint) page) refl

@@ -7,9 +7,12 @@ pub mod Logs
 pub mod Answering
 pub mod Syncing
 pub mod Syncs
+pub mod Refusing
+pub mod Spelled
 pub mod Reading
 pub mod Replying
 pub mod Accepting
+pub mod Fronts
 pub mod Accepts
 pub mod Ending
 pub mod Checking

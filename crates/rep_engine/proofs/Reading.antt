@@ -1,5 +1,5 @@
 -- Reads of rows.
-use Rattle.std.proofs.Common.{◌≡◌, ◌⊎◌, inl, inr, ℕ, ◌-◌, ◌≤◌, Bool, true, false, List, [], length, take, map, Option, None, Some, Result, Ok, Err, refl, sym, ap, subst, ◌∙◌, arith, IfOk, IfErr, IsOk}
+use Rattle.std.proofs.Common.{◌≡◌, ◌⊎◌, inl, inr, ℕ, ◌+◌, ◌-◌, ◌≤◌, Bool, true, false, List, [], length, map, Option, None, Some, Result, Ok, Err, refl, sym, ap, subst, ◌∙◌, arith, IfOk, IfErr, IsOk}
 use Rattle.std.proofs.lemmas.Bool.Decides.{nat_tests}
 use Rattle.std.specs.Prelude.{is_some, if◌then◌else◌, not, nat_lt}
 use Rattle.rep_types.specs.declared.key.Key.{Key}
@@ -7,7 +7,7 @@ use Rattle.rep_types.specs.declared.refusal.Refusal.{Refusal}
 use Rattle.rep_types.specs.declared.refusal.Refusal.TheVariants.{DiskFault, Corrupt, BadKey, NotYet, TooOld}
 use Rattle.rep_types.specs.declared.refusal.Part.TheVariants.{Pages}
 use Rattle.rep_types.specs.declared.verdict.Verdict.TheVariants.{Commit}
-use Rattle.rep_types.specs.Settings.{has_row, IsRow}
+use Rattle.rep_types.specs.Settings.{Setting, has_row, IsRow}
 use Rattle.rep_disk.specs.Calls.{IsCall, Rises}
 use Rattle.rep_disk.specs.History.{History, stable, IsImage}
 use Rattle.rep_layout.specs.declared.rows.RowPlace.{RowPlace}
@@ -20,23 +20,24 @@ use Rattle.rep_cells.specs.States.{States, State, Stable, Shows, IsSure}
 use Rattle.rep_cells.specs.Known.{Assigns}
 use Rattle.rep_pages.specs.Slots.{state_of_page}
 use Rattle.rep_versions.specs.declared.versions.At.{At}
-use Rattle.rep_versions.specs.Versions.{Kept, IsAnswer, told}
-use Rattle.rep_versions.specs.Following.{AreVersionsOf, VersionsFollowTheItems, effect_of, rows_after}
+use Rattle.rep_versions.specs.Versions.{Kept, IsAnswer, IsRowAt, told}
+use Rattle.rep_versions.specs.Following.{AreVersionsOf, VersionsFollowTheItems, effect_of}
 use Rattle.rep_log.specs.Moves.{fault_of}
 use Rattle.rep_steps.specs.declared.event.Event.TheVariants.{Read}
 use Rattle.rep_steps.specs.declared.answer.Answer.TheVariants.{Row, Refused}
 use Rattle.rep_steps.specs.Standings.{Standing, read_refusal}
 use Rattle.rep_steps.specs.Moves.{Moves}
 use Rattle.rep_steps.specs.Nodes.{Node, Steps, NodesStayNodes, state_at}
+use Rattle.rep_steps.specs.Images.{AreJudgedFrom}
 use Rattle.rep_image.specs.Bases.{HaveContent, IsPageOf}
-use Rattle.rep_checkpoint.specs.Nodes.{StandsAs}
-use Rattle.rep_checkpoint.proofs.Rows.{content_reached, take_effects}
+use Rattle.rep_checkpoint.specs.Nodes.{StandsAs, VersionsLeadToTheState}
 use Rattle.rep_engine.specs.Engines.{Engine, facts_of}
 use Rattle.rep_engine.specs.Holding.{Stands, Holds, row}
 use Rattle.rep_engine.specs.Reading.{ReadsRow, halted_by}
 use Rattle.rep_engine.proofs.Steps.{done_moves, fault_moves, corrupt_moves, done_steps, fault_steps, halted_at, halted_node}
 use Rattle.rep_engine.proofs.Logs.{rises_by}
 use Rattle.rep_engine.proofs.Standing.{same_front}
+use Rattle.rep_engine.proofs.Spelled.{row_inside}
 
 -- ---- a page of the base
 
@@ -67,12 +68,13 @@ if_ok (Err e) P ok h = absurd cc
 -- ---- what the items made of a row
 
 -- the row at a position from the base on
-pub row_is : VersionsFollowTheItems → (n : Node) (kept : Kept) (key : Key) (at : ℕ) (answer : At) → n.base.position ≤ at → AreVersionsOf n.base.position (map effect_of n.items) kept → IsAnswer kept key at answer
+pub row_is : VersionsFollowTheItems → VersionsLeadToTheState → (n : Node) (kept : Kept) (key : Key) (at : ℕ) (answer : At) → n.base.position ≤ at → AreJudgedFrom n.facts.setting n.base n.items
+    → ((other : Key) → (IsRow n.facts.setting.rows other → ⊥) → n.base.content other ≡ None) → IsRow n.facts.setting.rows key → AreVersionsOf n.base.position (map effect_of n.items) kept → IsAnswer kept key at answer
     → told answer (n.base.content key) ≡ (state_at n at).content key
-row_is law n kept key at answer le versions is =
-    law.row n.base.position at (map effect_of n.items) kept n.base.content key (told answer (n.base.content key)) le versions (law.answers kept key at answer (n.base.content key) is)
-    ∙ ap (λ changes. rows_after n.base.content changes key) (sym (take_effects (at - n.base.position) n.items))
-    ∙ ap (λ (c : Key → Option (List ℕ)). c key) (sym (content_reached n.facts.setting n.base (take (at - n.base.position) n.items)))
+row_is law lead n kept key at answer le judged outside inside versions is =
+    let row : Option (List ℕ) = told answer (n.base.content key) in
+    let here : IsRowAt kept key (n.base.position + (at - n.base.position)) (n.base.content key) row = subst (λ i. IsRowAt kept key i (n.base.content key) row) (omega (arith, le)) (law.answers kept key at answer (n.base.content key) is) in
+    (lead n kept (at - n.base.position) judged outside versions).rows.row key row inside here
 
 -- ---- a read that isn't refused
 
@@ -116,7 +118,7 @@ module _ {D : Type 0} (honest : D → Type 0) (history : D → History) (size fa
   reads_moves result new h = subst (λ e. Moves (facts_of failures old) (Read key at) (row result) (facts_of failures e)) (sym h.after) (base_moves result new.disk h.call h.refused)
 
   -- of a node
-  module _ (law : VersionsFollowTheItems) (n : Node) (holds : Holds honest history failures n old) where
+  module _ (law : VersionsFollowTheItems) (lead : VersionsLeadToTheState) (n : Node) (holds : Holds honest history failures n old) where
     there : Stands history n old
     there = holds.runs runs
 
@@ -129,10 +131,15 @@ module _ {D : Type 0} (honest : D → Type 0) (history : D → History) (size fa
     behind : n.base.position ≤ at
     behind = omega (arith, not_early n.facts key at none_here, holds.node.position)
 
+    -- what is no row of the schema is absent at the base
+    outside : (other : Key) → (IsRow n.facts.setting.rows other → ⊥) → n.base.content other ≡ None
+    outside other out = there.stands.checkpoint.base.content.outside other (λ inside. out (subst (λ (p : Setting). IsRow p.rows other) (sym there.stands.setting) inside))
+
     -- the row is the node's
     pub row_steps : (answer : At) (value : Option (List ℕ)) → IsAnswer old.kept key at answer → value ≡ told answer (n.base.content key) → Steps n (Read key at) (Row value) n
     row_steps answer value is value_is =
-        subst (λ v. Steps n (Read key at) (Row v) n) (sym (value_is ∙ row_is law n old.kept key at answer behind there.versions is)) (done_steps n (Read key at) runs_on none_here)
+        subst (λ v. Steps n (Read key at) (Row v) n) (sym (value_is ∙ row_is law lead n old.kept key at answer behind there.stands.judged outside (row_inside n.facts key at none_here) there.versions is))
+        (done_steps n (Read key at) runs_on none_here)
 
     -- the engine after a read of the device
     held_after : (disk : D) → honest disk → failures disk ≡ failures old.disk → history disk ≡ history old.disk → Holds honest history failures n (record old { disk = disk; halted = None })

@@ -1,5 +1,5 @@
 -- How items come from the backlog into an engine.
-use Rattle.std.specs.Prelude.{◌≡◌, ℕ, ◌+◌, ◌≤◌, Bool, true, false, List, [], ◌∷◌, length, IsTrue}
+use Rattle.std.specs.Prelude.{◌≡◌, ℕ, ◌+◌, ◌≤◌, Bool, true, false, List, [], ◌∷◌, ◌++◌, take, length, IsTrue}
 use Rattle.uuid.specs.Parts.{is_nil_bytes}
 use Rattle.rep_types.specs.declared.judged.Judged.{Judged}
 use Rattle.rep_types.specs.declared.limits.TheConstants.{MAX_SEQNO}
@@ -42,3 +42,11 @@ accepted_in Closing block backlog = fitting block backlog
 accepted_in (Filling n) block backlog = 0
 accepted_in (Filled n) block backlog = 0
 accepted_in (Opening n) block backlog = 0
+
+-- What comes next is a front of what waits: no more than there is; with what was gathered it still fits one block; and at rest that
+-- block then takes no more of what waits, so that it is what it would be of all of it.
+pub record AcceptedItemsAreAFront : Type 0 where
+  pub within : (phase : Phase) (block js : List Judged) → accepted_in phase block js ≤ length js
+  pub fits : (phase : Phase) (block js : List Judged) → fitting [] block ≡ length block → fitting [] (block ++ take (accepted_in phase block js) js) ≡ length (block ++ take (accepted_in phase block js) js)
+  pub all : (block js : List Judged) → fitting [] (block ++ take (accepted_in Resting block js) js) ≡ length (block ++ take (accepted_in Resting block js) js)
+      → fitting [] (block ++ take (accepted_in Resting block js) js) ≡ fitting [] (block ++ js)

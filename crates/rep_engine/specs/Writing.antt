@@ -1,14 +1,17 @@
 -- What the log's next write makes of the log, and what is read of the base.
-use Rattle.std.specs.Prelude.{◌≡◌, ◌≢◌, ℕ, Bool, true, false, List, [], length, Option, Result, Err, IfOk, IfErr}
+use Rattle.std.specs.Prelude.{◌≡◌, ◌≢◌, ℕ, Bool, true, false, List, [], length, Option, None, Result, Err, IfOk, IfErr}
 use Rattle.rep_types.specs.declared.key.Key.{Key}
 use Rattle.rep_types.specs.declared.judged.Judged.{Judged}
 use Rattle.rep_types.specs.declared.refusal.Refusal.{Refusal}
 use Rattle.rep_types.specs.declared.refusal.Refusal.TheVariants.{DiskFault, Corrupt}
 use Rattle.rep_types.specs.declared.refusal.Part.TheVariants.{Pages}
-use Rattle.rep_disk.specs.History.{History}
+use Rattle.rep_types.specs.Settings.{IsRow}
+use Rattle.rep_disk.specs.History.{History, seen}
 use Rattle.rep_layout.specs.declared.place.Layout.{Layout}
 use Rattle.rep_layout.specs.declared.place.Place.TheVariants.{Page}
 use Rattle.rep_layout.specs.declared.super_body.SuperBody.{SuperBody}
+use Rattle.rep_layout.specs.Rows.{row_place}
+use Rattle.rep_cells.specs.Readings.{Reading, reading_of}
 use Rattle.rep_cells.specs.States.{States, Stable}
 use Rattle.rep_cells.specs.Known.{Assigns}
 use Rattle.rep_versions.specs.Versions.{Kept, IsPruned}
@@ -18,7 +21,10 @@ use Rattle.rep_log.specs.declared.phase.Step.{Step}
 use Rattle.rep_log.specs.declared.phase.Step.TheVariants.{Recycle, Seal, Gate, Sync, Full}
 use Rattle.rep_log.specs.Standing.{Standing, LogIs}
 use Rattle.rep_log.specs.Moves.{recycled, sealed_as, gated, Steps}
+use Rattle.rep_pages.specs.declared.page.Page.{Page as PageBody}
+use Rattle.rep_pages.specs.Images.{row_of}
 use Rattle.rep_image.specs.Bases.{HaveContent}
+use Rattle.rep_checkpoint.specs.Calls.{IsPageReadable, IsBadPage, HasPage}
 
 -- There is something to write.
 abbrev pub IsWrite : Step → Type 0
@@ -71,3 +77,18 @@ abbrev pub ReadsBase : {D : Type 0} → (D → Type 0) → (D → History) → L
 ReadsBase honest history l b key old result = honest old → (s : States) (content : Key → Option (List ℕ)) → Assigns l (history old) s
     → HaveContent b (λ number slot body. s (Page number slot) ≡ Stable body) content
     → IfOk result (λ value. value ≡ content key) × (result ≢ Err (Corrupt Pages))
+
+-- The row under the key, as a reading has it: what the superblock's page has at its place. What is no row of the schema is absent.
+pub record IsRowIn (r : Reading) (b : SuperBody) (key : Key) (row : Option (List ℕ)) : Type 0 where
+  pub inside : IsRow b.params.rows key → (page : PageBody) × HasPage r b (row_place b.params.rows key).page page × (row ≡ row_of b.params.rows page.rows key)
+  pub outside : (IsRow b.params.rows key → ⊥) → row ≡ None
+
+-- The bytes decide: what is read is the row as they have it, and it is corrupt only where they have no page.
+pub record IsRowAsSpelled (r : Reading) (b : SuperBody) (key : Key) (result : Result (Option (List ℕ)) Refusal) : Type 0 where
+  pub row : IfOk result (IsRowIn r b key)
+  pub corrupt : result ≡ Err (Corrupt Pages) → IsRow b.params.rows key × IsBadPage r b (row_place b.params.rows key).page
+
+-- So it is of an honest device, whatever stands there, where no write failed in the slot of the row's page.
+abbrev pub ReadsAsSpelled : {D : Type 0} → (D → Type 0) → (D → History) → Layout → SuperBody → Key → D → Result (Option (List ℕ)) Refusal → Type 0
+ReadsAsSpelled honest history l b key old result =
+    honest old → IsPageReadable l (history old) b (row_place b.params.rows key).page → IsRowAsSpelled (reading_of l (seen (history old))) b key result

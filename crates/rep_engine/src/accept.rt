@@ -97,8 +97,9 @@ fn move_items(block: &mut BlockBuilder, backlog: &mut Backlog)
 }
 
 impl<D: Disk> Engine<D> {
-    /// How many items of the backlog come next.
-    fn next_items(&self, backlog: &Backlog) -> u16
+    /// How many items of the backlog `accept` takes next: the longest front that fits what was gathered, and none
+    /// while the block is on its way to the disk. Where memory is refused, `accept` takes none of them.
+    pub fn next_items(&self, backlog: &Backlog) -> u16
         ensures count { result ≡ accepted_in self.now.log.phase self.now.block backlog.now }
         ensures within { result ≤ length backlog.now }
     {

@@ -1,6 +1,6 @@
 //! The steps of a checkpoint: its beginning, its pages, and the writes behind them.
 
-ghost use Rattle.std.specs.Prelude.{◌≡◌, ◌⊎◌, nat_le, true, false, None, IfOk, IfErr, IfSome};
+ghost use Rattle.std.specs.Prelude.{◌≡◌, ◌⊎◌, nat_le, true, false, None, Some, IfOk, IfErr, IfSome, OnErr};
 ghost use Rattle.rep_types.specs.declared.refusal.Refusal.TheVariants.{NotDue, DiskFault, OutOfMemory};
 ghost use Rattle.rep_cert.specs.Holdings.{window_of};
 ghost use Rattle.rep_disk.specs.Calls.{IsCall};
@@ -65,6 +65,7 @@ impl<D: Disk> Engine<D> {
         ensures halted { self.new.halted ≡ halted_by self.old.log.phase result }
         ensures refused { IfSome (next_refusal self.old.layout self.old.checkpoint) (λ e. IsRefused e self.old.checkpoint self.new.checkpoint self.old.disk self.new.disk result) }
         ensures goes { next_refusal self.old.layout self.old.checkpoint ≡ None → GoesOn D.honest D.history self.old.layout self.old.checkpoint self.new.checkpoint self.old.disk self.new.disk result }
+        ensures unchanged { OnErr result (self.new.checkpoint ≡ self.old.checkpoint) }
     {
         let outcome = self.checkpoint.next(&mut self.cells);
         // For its clause: what holds of every checkpoint.
@@ -83,13 +84,16 @@ impl<D: Disk> Engine<D> {
     /// Refuses with `Stopped` where the device has failed before; with `NotDue` where the base stands at what
     /// is durable, pages are left to be flushed, or a write awaits its sync; with `OutOfMemory` where one would
     /// begin; and with `DiskFault` where the device failed: the engine is then stopped, and otherwise as it was.
+    ///
+    /// The certifier is asked for its window only where a checkpoint may begin: any other step takes any certifier.
     pub fn check(&mut self, certifier: &Certifier) -> Result<Option<u64>, Refusal>
-        requires window { HoldsWindow self.old.checkpoint.base.params (durable_of self.old.log) certifier.now.current }
+        requires window { self.old.checkpoint.stage ≡ Off → HoldsWindow self.old.checkpoint.base.params (durable_of self.old.log) certifier.now.current }
         ensures call { IsCall D.size D.failures D.honest self.old.disk self.new.disk (fault_of result) }
         // Nothing else changes, and where it is refused by anything but the device, nothing does.
         ensures rest { self.new ≡ record (self.old) { disk = self.new.disk; checkpoint = self.new.checkpoint; halted = self.new.halted } }
         ensures params { self.new.checkpoint.base.params ≡ self.old.checkpoint.base.params }
         ensures unchanged { IfErr result (λ e. (e ≡ DiskFault) ⊎ (self.new ≡ self.old)) }
+        ensures fault { IfErr result (λ e. e ≡ DiskFault → self.new ≡ record (self.old) { disk = self.new.disk; halted = Some self.old.log.phase }) }
         ensures moves { Moves (facts_of D.failures self.old) to_check (checked result) (facts_of D.failures self.new) }
         ensures steps { (n : Node) → Holds D.honest D.history D.failures n self.old → window_of certifier.now.current (durable_of self.old.log) ≡ window_at n n.facts.durable → (m : Node) × Steps n to_check (checked result) m × Holds D.honest D.history D.failures m self.new }
         ensures leaves { (n : Node) → Holds D.honest D.history D.failures n self.old → LeavesOnly (D.history self.old.disk) (D.history self.new.disk) (IsFrontAt Means n) }

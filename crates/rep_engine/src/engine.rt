@@ -3,6 +3,7 @@
 ghost use Rattle.std.specs.Prelude.{◌≡◌, ◌≢◌, ◌⊎◌, ◌+◌, ◌-◌, ◌<◌, ◌==◌, [], nat_le, if◌then◌else◌, true, false, length, map, is_some, Some, None, Err, IsErr, IfSome, IfErr, OnOk, OnErr, MatchOption};
 ghost use Rattle.rep_types.specs.declared.refusal.Refusal.TheVariants.{OutOfMemory, DiskFault, LogFull};
 ghost use Rattle.rep_types.specs.Replies.{reply_of};
+ghost use Rattle.rep_disk.specs.History.{Synced};
 ghost use Rattle.rep_disk.specs.Calls.{IsCall};
 ghost use Rattle.rep_disk.specs.Moments.{LeavesOnly};
 ghost use Rattle.rep_cells.specs.Device.{disk_of, layout_of};
@@ -154,6 +155,8 @@ impl<D: Disk> Engine<D> {
         // Nothing else changes, and where it is refused by anything but the device, nothing does.
         ensures rest { self.new ≡ record (self.old) { disk = self.new.disk; log = self.new.log; halted = self.new.halted } }
         ensures unchanged { IfErr result (λ e. (e ≡ DiskFault) ⊎ (self.new ≡ self.old)) }
+        // Where the device failed, the log stands as it does behind the write, and is stopped before it.
+        ensures fault { IfErr result (λ e. e ≡ DiskFault → self.new ≡ record (self.old) { disk = self.new.disk; log = written_in (due_of self.old.log) (length self.old.block) self.old.log; halted = Some self.old.log.phase }) }
         // It takes no memory.
         ensures memory { IfErr result (λ e. e ≢ OutOfMemory) }
         // The log has made the step that was due.
@@ -208,9 +211,9 @@ impl<D: Disk> Engine<D> {
         self.log.start_at(base.start);
     }
 
-    /// Makes stable what was written: one sync. Where a block's gate was opened, its items are durable then, and
-    /// their replies are given, in order; where a superblock's was, its base is the node's, and what lies below
-    /// it cannot be read any more. It takes no memory.
+    /// Makes stable what was written: one sync of the device, also where nothing was. Where a block's gate was
+    /// opened, its items are durable then, and their replies are given, in order; where a superblock's was, its
+    /// base is the node's, and what lies below it cannot be read any more. It takes no memory.
     ///
     /// Refuses with `Stopped` where the device has failed before, and with `DiskFault` where it failed: the
     /// engine is then stopped, and otherwise as it was.
@@ -220,6 +223,10 @@ impl<D: Disk> Engine<D> {
         ensures rest { self.new ≡ record (self.old) { disk = self.new.disk; checkpoint = self.new.checkpoint; log = self.new.log; kept = self.new.kept; block = self.new.block; halted = self.new.halted } }
         ensures params { self.new.checkpoint.base.params ≡ self.old.checkpoint.base.params }
         ensures unchanged { IfErr result (λ e. (e ≡ DiskFault) ⊎ (self.new ≡ self.old)) }
+        ensures fault { IfErr result (λ e. e ≡ DiskFault → self.new ≡ record (self.old) { disk = self.new.disk; halted = Some self.old.log.phase }) }
+        // It is one sync of the device, whether anything was written or not; one that failed makes nothing stable.
+        ensures synced { D.honest self.old.disk → OnOk result (D.history self.new.disk ≡ Synced (D.history self.old.disk)) }
+        ensures unsynced { D.honest self.old.disk → OnErr result (D.history self.new.disk ≡ D.history self.old.disk) }
         // The log is as a sync leaves it, from the base's first block on.
         ensures log { OnOk result (self.new.log ≡ started self.new.checkpoint.base.start (after_sync self.old.log)) }
         ensures moves { Moves (facts_of D.failures self.old) to_sync (synced result) (facts_of D.failures self.new) }

@@ -1,7 +1,8 @@
 //! The pages of a checkpoint.
 
-ghost use Rattle.std.specs.Prelude.{◌≡◌, ◌⊎◌, None, IfErr, IfSome};
-ghost use Rattle.rep_types.specs.declared.refusal.Refusal.TheVariants.{DiskFault, OutOfMemory};
+ghost use Rattle.std.specs.Prelude.{◌≡◌, ◌⊎◌, None, Some, IfErr, IfSome, OnErr};
+ghost use Rattle.rep_types.specs.declared.refusal.Refusal.TheVariants.{DiskFault, Corrupt};
+ghost use Rattle.rep_types.specs.declared.refusal.Part.TheVariants.{Pages};
 ghost use Rattle.rep_disk.specs.Calls.{IsCall};
 ghost use Rattle.rep_disk.specs.Moments.{LeavesOnly};
 ghost use Rattle.rep_log.specs.Moves.{fault_of};
@@ -10,8 +11,8 @@ ghost use Rattle.rep_steps.specs.Moves.{Moves};
 ghost use Rattle.rep_steps.specs.Nodes.{Node, Steps};
 ghost use Rattle.rep_steps.specs.Images.{IsFrontAt};
 ghost use Rattle.rep_image.specs.Meanings.{Means};
-ghost use Rattle.rep_checkpoint.specs.Moves.{flush_refusal};
-ghost use Rattle.rep_checkpoint.specs.Calls.{IsRefused, Flushes};
+ghost use Rattle.rep_checkpoint.specs.Moves.{flush_refusal, position_in};
+ghost use Rattle.rep_checkpoint.specs.Calls.{IsRefused, Flushes, IsPageReadable, FlushesAsSpelled};
 ghost use Rattle.rep_engine.specs.Engines.{facts_of};
 ghost use Rattle.rep_engine.specs.Holding.{Holds, wrote};
 ghost use Rattle.rep_engine.specs.Reading.{halted_by};
@@ -35,6 +36,7 @@ impl<D: Disk> Engine<D> {
         ensures halted { self.new.halted ≡ halted_by self.old.log.phase result }
         ensures refused { IfSome (flush_refusal self.old.layout self.old.checkpoint page) (λ e. IsRefused e self.old.checkpoint self.new.checkpoint self.old.disk self.new.disk result) }
         ensures flushes { flush_refusal self.old.layout self.old.checkpoint page ≡ None → Flushes D.honest D.history self.old.layout self.old.kept page self.old.checkpoint self.new.checkpoint self.old.disk self.new.disk result }
+        ensures unchanged { OnErr result (self.new.checkpoint ≡ self.old.checkpoint) }
     {
         let outcome = self.checkpoint.flush(&mut self.cells, &self.versions, page);
         // For its clause: what holds of every checkpoint.
@@ -50,15 +52,22 @@ impl<D: Disk> Engine<D> {
     /// memory.
     ///
     /// Refuses with `Stopped` where the device has failed before; with `NotDue` where the page is not left;
-    /// with `Corrupt` of the pages where the base's page is not of its form; and with `DiskFault` where the
-    /// device failed: the engine is then stopped, and otherwise as it was.
+    /// with `Corrupt` of the pages exactly where the base's page is not of its form, of its number, and of a
+    /// position not above the base's; and with `DiskFault` where the device failed: the engine is then stopped,
+    /// and otherwise as it was.
     pub fn flush(&mut self, page: u64) -> Result<(), Refusal>
         ensures call { IsCall D.size D.failures D.honest self.old.disk self.new.disk (fault_of result) }
-        // Nothing else changes, and where it is refused by anything but the device, nothing does.
+        // Nothing else changes.
         ensures rest { self.new ≡ record (self.old) { disk = self.new.disk; checkpoint = self.new.checkpoint; halted = self.new.halted } }
         ensures moves { Moves (facts_of D.failures self.old) (to_flush page) (wrote result) (facts_of D.failures self.new) }
         ensures steps { (n : Node) → Holds D.honest D.history D.failures n self.old → (m : Node) × Steps n (to_flush page) (wrote result) m × Holds D.honest D.history D.failures m self.new }
         ensures leaves { (n : Node) → Holds D.honest D.history D.failures n self.old → LeavesOnly (D.history self.old.disk) (D.history self.new.disk) (IsFrontAt Means n) }
+        // Whatever stands on an honest device: its bytes decide, where no write failed in the base's slot of the page.
+        ensures spelled { D.honest self.old.disk → IsPageReadable self.old.layout (D.history self.old.disk) self.old.checkpoint.base page → FlushesAsSpelled self.old.layout self.old.checkpoint.base self.old.kept (position_in self.old.checkpoint.stage) page (D.history self.old.disk) (D.history self.new.disk) result }
+        // Where it is refused, nothing changes, but that the device was asked for a page that is not of its form, or
+        // failed, and the engine is stopped.
+        ensures unchanged { IfErr result (λ e. (e ≡ DiskFault) ⊎ (((e ≡ Corrupt Pages) × (self.new ≡ record (self.old) { disk = self.new.disk })) ⊎ (self.new ≡ self.old))) }
+        ensures fault { IfErr result (λ e. e ≡ DiskFault → self.new ≡ record (self.old) { disk = self.new.disk; halted = Some self.old.log.phase }) }
     {
         nodes_stay_nodes();
         nodes_leave_their_fronts();

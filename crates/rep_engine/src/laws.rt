@@ -2,11 +2,13 @@
 
 ghost use Rattle.rep_engine.specs.Holding.{LeavesItsEnds};
 ghost use Rattle.rep_engine.specs.Checking.{CertifiersHoldWindows};
+ghost use Rattle.rep_engine.specs.Accepting.{AcceptedItemsAreAFront};
 
 use crate::engine::Engine;
 use rep_cells::images_read_as_allowed;
 use rep_checkpoint::{nodes_leave_their_ends, windows_go_on};
 use rep_disk::Disk;
+use rep_record::fronts_are_determined;
 
 /// Where an engine on an honest device is not stopped, every image of the device means a front of what the
 /// engine stands for that ends exactly at what is durable, or, while the gate of a block is opening, at that with
@@ -26,4 +28,12 @@ pub fn certifiers_hold_windows()
     ensures { CertifiersHoldWindows }
 {
     windows_go_on();
+}
+
+/// What `accept` takes is a front of what waits: no more than there is; with what was gathered it fits one block; and
+/// at rest that block then takes no more of what waits, so that it is what it would be of all of it.
+pub fn accepted_items_are_a_front()
+    ensures { AcceptedItemsAreAFront }
+{
+    fronts_are_determined();
 }

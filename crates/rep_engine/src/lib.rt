@@ -11,4 +11,6 @@ mod read;
 mod write;
 
 pub use engine::Engine;
-pub use laws::{certifiers_hold_windows, running_engines_leave_their_ends};
+pub use laws::{
+    accepted_items_are_a_front, certifiers_hold_windows, running_engines_leave_their_ends,
+};

@@ -1,8 +1,13 @@
 //! Reads of rows.
 
-ghost use Rattle.std.specs.Prelude.{◌≡◌, None};
+ghost use Rattle.std.specs.Prelude.{◌≡◌, ◌⊎◌, None, Some, IfErr};
+ghost use Rattle.rep_types.specs.declared.refusal.Refusal.TheVariants.{DiskFault, Corrupt};
+ghost use Rattle.rep_types.specs.declared.refusal.Part.TheVariants.{Pages};
+ghost use Rattle.rep_disk.specs.History.{seen};
 ghost use Rattle.rep_disk.specs.Calls.{IsCall};
 ghost use Rattle.rep_disk.specs.Moments.{LeavesOnly};
+ghost use Rattle.rep_layout.specs.Rows.{row_place};
+ghost use Rattle.rep_cells.specs.Readings.{reading_of};
 ghost use Rattle.rep_log.specs.Moves.{fault_of};
 ghost use Rattle.rep_steps.specs.declared.event.Event.TheVariants.{Read};
 ghost use Rattle.rep_steps.specs.Standings.{read_refusal};
@@ -10,11 +15,13 @@ ghost use Rattle.rep_steps.specs.Moves.{Moves};
 ghost use Rattle.rep_steps.specs.Nodes.{Node, Steps};
 ghost use Rattle.rep_versions.specs.Versions.{IsAnswer};
 ghost use Rattle.rep_engine.specs.Engines.{facts_of};
-ghost use Rattle.rep_engine.specs.Reading.{ReadsRow};
+ghost use Rattle.rep_checkpoint.specs.Calls.{IsPageReadable};
+ghost use Rattle.rep_engine.specs.Reading.{ReadsRow, ReadsAt};
 ghost use Rattle.rep_engine.specs.Holding.{Holds, row};
 
 use crate::engine::Engine;
 use crate::write::base_row;
+use rep_checkpoint::{the_bytes_tell_the_page, versions_lead_to_the_state};
 use rep_disk::Disk;
 use rep_steps::nodes_stay_nodes;
 use rep_types::{Key, Refusal, Value};
@@ -65,7 +72,9 @@ impl<D: Disk> Engine<D> {
     ///
     /// Refuses with `Stopped` where the device has failed before; with `BadKey` outside the schema; with `NotYet`
     /// above what is durable; with `TooOld` below the base; with `DiskFault` where the device failed, and
-    /// then the engine is stopped; and with `Corrupt` of the pages where the page is not of its form.
+    /// then the engine is stopped, and otherwise as it was; and with `Corrupt` of the pages exactly where no
+    /// version is at or below the position and the page is not of its form, of its number, and of a position
+    /// not above the base's.
     pub fn read(&mut self, key: Key, s: u64) -> Result<Option<Value>, Refusal>
         // The device is asked at most, and nothing else changes but whether it is stopped.
         ensures call { IsCall D.size D.failures D.honest self.old.disk self.new.disk (fault_of result) }
@@ -73,9 +82,17 @@ impl<D: Disk> Engine<D> {
         ensures moves { Moves (facts_of D.failures self.old) (Read key s) (row result) (facts_of D.failures self.new) }
         ensures steps { (n : Node) → Holds D.honest D.history D.failures n self.old → (m : Node) × Steps n (Read key s) (row result) m × Holds D.honest D.history D.failures m self.new }
         ensures same { D.honest self.old.disk → D.history self.new.disk ≡ D.history self.old.disk }
+        // Whatever stands on an honest device: its bytes decide, where no write failed in the slot of the row's page.
+        ensures spelled { D.honest self.old.disk → IsPageReadable self.old.layout (D.history self.old.disk) self.old.checkpoint.base (row_place self.old.checkpoint.base.params.rows key).page → ReadsAt (reading_of self.old.layout (seen (D.history self.old.disk))) self.old.checkpoint.base self.old.kept key s result }
+        // Where it is refused, nothing changes, but that the device was asked for a page that is not of its form, or
+        // failed, and the engine is stopped.
+        ensures unchanged { IfErr result (λ e. (e ≡ DiskFault) ⊎ (((e ≡ Corrupt Pages) × (self.new ≡ record (self.old) { disk = self.new.disk })) ⊎ (self.new ≡ self.old))) }
+        ensures fault { IfErr result (λ e. e ≡ DiskFault → self.new ≡ record (self.old) { disk = self.new.disk; halted = Some self.old.log.phase }) }
     {
         nodes_stay_nodes();
         versions_follow_the_items();
+        versions_lead_to_the_state();
+        the_bytes_tell_the_page();
         if self.halted.is_some() {
             return Err(Refusal::Stopped);
         }

@@ -12,7 +12,7 @@ ghost use Rattle.rep_log.specs.Standing.{due_of};
 ghost use Rattle.rep_log.specs.Moves.{fault_of};
 ghost use Rattle.rep_log.specs.declared.phase.Step.TheVariants.{Seal};
 ghost use Rattle.rep_pages.specs.Rows.{row_at};
-ghost use Rattle.rep_engine.specs.Writing.{IsWrite, WritesNext, ReadsBase};
+ghost use Rattle.rep_engine.specs.Writing.{IsWrite, WritesNext, ReadsBase, ReadsAsSpelled};
 
 use rep_cells::Cells;
 use rep_disk::Disk;
@@ -66,6 +66,7 @@ pub(crate) fn base_row<D: Disk>(
     ensures layout { layout_of cells.new ≡ layout_of cells.old }
     ensures same { D.honest (disk_of cells.old) → D.history (disk_of cells.new) ≡ D.history (disk_of cells.old) }
     ensures read { ReadsBase D.honest D.history (layout_of cells.old) superblock.now key (disk_of cells.old) result }
+    ensures spelled { ReadsAsSpelled D.honest D.history (layout_of cells.old) superblock.now key (disk_of cells.old) result }
     ensures refused { IfErr result (λ e. (e ≡ DiskFault) ⊎ (e ≡ Corrupt Pages)) }
 {
     let Some(place) = page_of(superblock.params.schema(), key) else {
@@ -80,6 +81,8 @@ pub(crate) fn base_row<D: Disk>(
         return Err(Refusal::DiskFault);
     }
     let schema = superblock.params.schema();
-    let page = Page::read_body(schema, place.page, superblock.position, &room)?;
-    Ok(row_in(&page, place.index))
+    match Page::read_body(schema, place.page, superblock.position, &room) {
+        Ok(page) => Ok(row_in(&page, place.index)),
+        Err(refusal) => Err(refusal),
+    }
 }

@@ -1,8 +1,8 @@
-use Rattle.std.proofs.Common.{◌≡◌, sym, subst, ◌∙◌, rules, IsOk, IfOk, ◌≤◌}
+use Rattle.std.proofs.Common.{◌≡◌, inr, sym, subst, ◌∙◌, rules, IsOk, IfOk, ◌≤◌}
 use Rattle.rep_pages.specs.declared.page.Page.{Page as PageBody}
 use Rattle.rep_pages.specs.Pages.{IsPageBody}
 use Rattle.rep_cells.specs.Device.{disk_of, layout_of}
-use Rattle.rep_checkpoint.proofs.Reading.{absent_rows, reads}
+use Rattle.rep_checkpoint.proofs.Reading.{absent_rows, absent_page, reads}
 use Rattle.rep_checkpoint.proofs.flush.read_page.Goals as goal
 
 pub returns-in_default-clause-reads : goal.returns-in_default-clause-reads
@@ -10,6 +10,7 @@ returns-in_default-clause-reads g c = record {
   number_is = c.absent.ensures.number;
   read = λ honest s content assigns have. absent_rows c.args.base.now s content c.args.number c.absent.result c.absent.ensures.rows (λ slot is. c.in_default.not-In slot (c.slot_of.ensures ∙ is)) have;
   whole = λ honest s content assigns have e. absurd cc;
+  spelled = λ honest readable. inr (absent_page c.args.base.now c.args.number c.absent.result c.absent.ensures.number c.absent.ensures.rows (λ slot is. c.in_default.not-In slot (c.slot_of.ensures ∙ is)));
   corrupt = λ honest readable e. absurd cc;
 }
 

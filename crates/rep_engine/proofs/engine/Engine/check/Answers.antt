@@ -15,7 +15,7 @@ use Rattle.rep_engine.specs.Reading.{halted_by}
 use Rattle.rep_engine.specs.Engines.{Engine, IsEngine, facts_of}
 use Rattle.rep_engine.specs.Holding.{Holds}
 use Rattle.rep_engine.proofs.Answering.{none_of}
-use Rattle.rep_engine.proofs.Checking.{begin_due, next_due, here, began_moves, began_holds, begin_refused, moving, gone_moves, gone_holds, gone_halts, gone_leaves, waits_steps}
+use Rattle.rep_engine.proofs.Checking.{begin_due, next_due, here, began_moves, began_holds, begin_refused, moving, gone_moves, gone_fault, gone_holds, gone_halts, gone_leaves, waits_steps}
 use Rattle.rep_engine.proofs.engine.Engine.check.Goals as goal
 
 -- ---- it begins
@@ -81,6 +81,22 @@ returns-in-Ok-go_on-clause-leaves g c = λ n holds.
     gone_leaves g.D.Disk.honest g.D.Disk.history g.D.Disk.size g.D.Disk.failures g.met.D.Disk.sized c.the_stage_is_the_facts.ensures old new.disk new.checkpoint new.halted (Ok c.in-Ok-go_on.field-0) engine runs due.0 due.1 c.in-Ok-go_on.ensures.call c.in-Ok-go_on.ensures.halted goes n holds c.nodes_stay_nodes.ensures c.nodes_leave_their_fronts.ensures c.the_checkpoint_is_apart.ensures
 
 -- ---- the device failed
+
+pub returns-in-Err-go_on-clause-moves : goal.returns-in-Err-go_on-clause-moves
+returns-in-Err-go_on-clause-moves g c =
+    let old : Engine g.row.D.Denot = c.args.self.now in
+    let new : Engine g.row.D.Denot = c.go_on.new.self in
+    let view = c.self.view_is in
+    let runs : old.halted ≡ None = sym (ap (λ (e : Engine g.row.D.Denot). e.halted) view) ∙ none_of c.self.inside.halted c.if-is_some.ensures in
+    let engine : IsEngine old.layout old.checkpoint old.log old.kept old.block = subst (λ (e : Engine g.row.D.Denot). IsEngine e.layout e.checkpoint e.log e.kept e.block) view c.self.invariant.0 in
+    let due = next_due old.checkpoint.stage (subst (λ (e : Engine g.row.D.Denot). GoOn ≡ due_in e.checkpoint.stage) view c.in-Next.ensures) in
+    let goes = c.in-Err-go_on.ensures.goes (here old.layout old.checkpoint (next_refusal_at (stage_of old.checkpoint)) engine.layout ∙ due.1) in
+    let fault : c.in-Err-go_on.refusal ≡ DiskFault = goes.fault.0 in
+    let call = subst (λ (r : Refusal). IsCall g.D.Disk.size g.D.Disk.failures g.D.Disk.honest old.disk new.disk (fault_of {T = Unit {0}} (Err r))) fault c.in-Err-go_on.ensures.call in
+    let still = subst (λ (r : Refusal). new.halted ≡ halted_by {T = Unit {0}} old.log.phase (Err r)) fault c.in-Err-go_on.ensures.halted in
+    subst (λ (e : Engine g.row.D.Denot). Moves (facts_of g.D.Disk.failures old) to_check (Refused c.in-Err-go_on.refusal) (facts_of g.D.Disk.failures e)) (sym c.in-Err-go_on.ensures.rest)
+    (subst (λ (r : Refusal). Moves (facts_of g.D.Disk.failures old) to_check (Refused r) (facts_of g.D.Disk.failures (record old { disk = new.disk; checkpoint = new.checkpoint; halted = new.halted }))) (sym fault)
+    (gone_fault g.D.Disk.honest g.D.Disk.history g.D.Disk.size g.D.Disk.failures g.met.D.Disk.sized c.the_stage_is_the_facts.ensures old new.disk new.checkpoint new.halted (Err c.in-Err-go_on.refusal) engine runs due.0 due.1 c.in-Err-go_on.ensures.call c.in-Err-go_on.ensures.halted goes goes.fault.1 (call.cause refl) still))
 
 pub returns-in-Err-go_on-clause-steps : goal.returns-in-Err-go_on-clause-steps
 returns-in-Err-go_on-clause-steps g c = λ n holds window.

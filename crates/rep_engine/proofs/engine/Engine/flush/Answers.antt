@@ -1,13 +1,17 @@
-use Rattle.std.proofs.Common.{ℕ, refl, sym, ap, subst, ◌∙◌, arith}
+use Rattle.std.proofs.Common.{◌≡◌, ◌⊎◌, ℕ, Some, IfErr, refl, sym, ap, subst, ◌∙◌, arith}
+use Rattle.rep_types.specs.declared.refusal.Refusal.TheVariants.{DiskFault, Corrupt, NotDue, Stopped}
+use Rattle.rep_types.specs.declared.refusal.Part.TheVariants.{Pages}
 use Rattle.rep_steps.specs.declared.event.Event.TheVariants.{Flush as to_flush}
 use Rattle.rep_steps.specs.Moves.{Moves}
 use Rattle.rep_steps.specs.Nodes.{Steps}
 use Rattle.rep_steps.specs.Standings.{flush_refusal}
 use Rattle.rep_checkpoint.specs.Standing.{stage_of, IsCheckpoint}
+use Rattle.rep_checkpoint.specs.Moves.{position_in}
+use Rattle.rep_checkpoint.specs.Calls.{IsPageReadable, FlushesAsSpelled}
 use Rattle.rep_engine.specs.Engines.{Engine, IsEngine, facts_of}
 use Rattle.rep_engine.specs.Holding.{Holds, wrote}
 use Rattle.rep_engine.proofs.Answering.{none_of}
-use Rattle.rep_engine.proofs.Flushing.{IsFlushed, flush_moves, flush_holds, flush_leaves, far_steps}
+use Rattle.rep_engine.proofs.Flushing.{IsFlushed, flush_moves, flush_holds, flush_leaves, flush_left, flush_stops, flush_spelled, refused_spelled, far_steps}
 use Rattle.rep_engine.proofs.engine.Engine.flush.Goals as goal
 use Rattle.rep_engine.proofs.engine.Engine.flush.Goals.{After-flush_page}
 
@@ -19,6 +23,7 @@ flushed_out g c = record {
   halted = c.flush_page.ensures.halted;
   refused = c.flush_page.ensures.refused;
   flushes = c.flush_page.ensures.flushes;
+  unchanged = c.flush_page.ensures.unchanged;
 }
 
 pub returns-in-Ok-clause-moves : goal.returns-in-Ok-clause-moves
@@ -41,3 +46,28 @@ returns-in-Err-clause-steps g c = λ n holds.
     let runs = sym (ap (λ (e : Engine g.row.D.Denot). e.halted) c.self.view_is) ∙ none_of c.self.inside.halted c.if-is_some.ensures in
     let checkpoint = subst (λ (e : Engine g.row.D.Denot). IsCheckpoint e.checkpoint) c.self.view_is c.self.invariant.0.checkpoint in
     (n, far_steps g.D.Disk.honest g.D.Disk.history g.D.Disk.failures c.row_places_are_told.ensures old c.args.page n holds runs checkpoint (omega (arith, c.in-Err.ensures)), holds)
+
+-- ---- what a refusal leaves, and what the bytes say
+
+pub returns-in-Ok-clause-unchanged : goal.returns-in-Ok-clause-unchanged
+returns-in-Ok-clause-unchanged g c =
+    subst (λ (x : Engine g.row.D.Denot). IfErr c.flush_page.result (λ e. (e ≡ DiskFault) ⊎ (((e ≡ Corrupt Pages) × (x ≡ record c.args.self.now { disk = c.flush_page.new.self.disk })) ⊎ (x ≡ c.args.self.now)))) (sym c.flush_page.ensures.rest)
+    (flush_left g.D.Disk.honest g.D.Disk.history g.D.Disk.size g.D.Disk.failures g.met.D.Disk.sized c.the_stage_is_the_facts.ensures c.args.self.now c.flush_page.new.self.disk c.flush_page.new.self.checkpoint c.flush_page.new.self.halted c.in-Ok.page c.flush_page.result (flushed_out g c))
+
+pub returns-in-Ok-clause-fault : goal.returns-in-Ok-clause-fault
+returns-in-Ok-clause-fault g c =
+    subst (λ (x : Engine g.row.D.Denot). IfErr c.flush_page.result (λ e. e ≡ DiskFault → x ≡ record c.args.self.now { disk = c.flush_page.new.self.disk; halted = Some c.args.self.now.log.phase })) (sym c.flush_page.ensures.rest)
+    (flush_stops g.D.Disk.honest g.D.Disk.history g.D.Disk.size g.D.Disk.failures g.met.D.Disk.sized c.the_stage_is_the_facts.ensures c.args.self.now c.flush_page.new.self.disk c.flush_page.new.self.checkpoint c.flush_page.new.self.halted c.in-Ok.page c.flush_page.result (flushed_out g c))
+
+pub returns-in-Ok-clause-spelled : goal.returns-in-Ok-clause-spelled
+returns-in-Ok-clause-spelled g c =
+    let old : Engine g.row.D.Denot = c.args.self.now in
+    subst (λ (page : ℕ). g.D.Disk.honest old.disk → IsPageReadable old.layout (g.D.Disk.history old.disk) old.checkpoint.base page
+    → FlushesAsSpelled old.layout old.checkpoint.base old.kept (position_in old.checkpoint.stage) page (g.D.Disk.history old.disk) (g.D.Disk.history c.flush_page.new.self.disk) c.flush_page.result) c.in-Ok.ensures.1
+    (flush_spelled g.D.Disk.honest g.D.Disk.history g.D.Disk.size g.D.Disk.failures g.met.D.Disk.sized c.the_stage_is_the_facts.ensures c.args.self.now c.flush_page.new.self.disk c.flush_page.new.self.checkpoint c.flush_page.new.self.halted c.in-Ok.page c.flush_page.result (flushed_out g c))
+
+pub returns-in-Err-clause-spelled : goal.returns-in-Err-clause-spelled
+returns-in-Err-clause-spelled g c = λ honest readable. refused_spelled _ _ _ _ _ _ _ NotDue (λ e. absurd cc)
+
+pub returns-then-is_some-clause-spelled : goal.returns-then-is_some-clause-spelled
+returns-then-is_some-clause-spelled g c = λ honest readable. refused_spelled _ _ _ _ _ _ _ Stopped (λ e. absurd cc)

@@ -15,10 +15,9 @@ use Rattle.rep_steps.specs.Images.{IsFrontAt}
 use Rattle.rep_image.specs.Meanings.{Means}
 use Rattle.rep_engine.specs.Engines.{Engine, facts_of}
 use Rattle.rep_engine.specs.Writing.{written_in}
-use Rattle.rep_checkpoint.proofs.GoingOn.{if_ok}
 use Rattle.rep_engine.specs.Holding.{Holds, wrote}
 use Rattle.rep_engine.proofs.Steps.{refused_log}
-use Rattle.rep_engine.proofs.Answering.{none_of, halted_err, halted_ok}
+use Rattle.rep_engine.proofs.Answering.{none_of, on_ok, halted_err, halted_ok}
 use Rattle.rep_engine.proofs.Logs.{IsLogged, logged_moves, logged_steps, logged_leaves}
 use Rattle.rep_engine.proofs.engine.Engine.log.Goals as goal
 
@@ -100,4 +99,4 @@ returns-else-is_err-clause-leaves g c = λ n holds.
 pub returns-else-is_err-clause-log : goal.returns-else-is_err-clause-log
 returns-else-is_err-clause-log g c =
     subst (λ (e : Engine g.row.D.Denot). OnOk c.write_next-written.result (c.write_next-written.new.log ≡ written_in (due_of e.log) (length e.block) e.log)) c.self.view_is
-    (if_ok c.write_next-written.result (c.write_next-written.new.log ≡ written_in (due_of c.self.inside.log) (length c.self.inside.block) c.self.inside.log) c.write_next-written.ensures.written.stands)
+    (on_ok c.write_next-written.result (c.write_next-written.new.log ≡ written_in (due_of c.self.inside.log) (length c.self.inside.block) c.self.inside.log) c.write_next-written.ensures.written.stands)

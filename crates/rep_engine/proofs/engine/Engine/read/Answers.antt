@@ -1,8 +1,11 @@
-use Rattle.std.proofs.Common.{◌∙◌, None, Some, refl, sym, ap}
+use Rattle.std.proofs.Common.{◌∙◌, None, Some, refl, sym, ap, subst}
+use Rattle.rep_types.specs.declared.refusal.Refusal.TheVariants.{Stopped}
 use Rattle.rep_versions.specs.declared.versions.At.{At}
-use Rattle.rep_versions.specs.Versions.{told}
-use Rattle.rep_engine.specs.Engines.{Engine}
+use Rattle.rep_versions.specs.Versions.{IsAnswer, told}
+use Rattle.rep_engine.specs.Engines.{Engine, facts_of}
 use Rattle.rep_engine.proofs.Answering.{none_of}
+use Rattle.rep_engine.proofs.Refusing.{fault_stops, refused_after}
+use Rattle.rep_engine.proofs.Spelled.{read_newest, read_below, read_refused, found_above, refused_elsewise, row_inside}
 use Rattle.rep_engine.proofs.Reading.{row_moves, row_steps, reads_moves, reads_steps}
 use Rattle.rep_engine.proofs.engine.Engine.read.Goals as goal
 
@@ -14,7 +17,7 @@ returns-in-Found-clause-moves g c =
 pub returns-in-Found-clause-steps : goal.returns-in-Found-clause-steps
 returns-in-Found-clause-steps g c = λ n holds.
     let runs = sym (ap (λ (e : Engine g.row.D.Denot). e.halted) c.self.view_is) ∙ none_of c.self.inside.halted c.if-is_some.ensures in
-    let steps = row_steps g.D.Disk.honest g.D.Disk.history g.D.Disk.size g.D.Disk.failures g.met.D.Disk.sized c.args.self.now c.args.key c.args.s runs (sym c.read_refusal.ensures ∙ c.in_default.is) c.versions_follow_the_items.ensures n holds
+    let steps = row_steps g.D.Disk.honest g.D.Disk.history g.D.Disk.size g.D.Disk.failures g.met.D.Disk.sized c.args.self.now c.args.key c.args.s runs (sym c.read_refusal.ensures ∙ c.in_default.is) c.versions_follow_the_items.ensures c.versions_lead_to_the_state.ensures n holds
     c.version_of.result (Some c.copied.result) c.version_of.ensures (ap Some c.copied.ensures.same ∙ sym (ap (λ (a : At). told a (n.base.content c.args.key)) c.in-Found.is)) in
     (n, steps, holds)
 
@@ -26,7 +29,7 @@ returns-in-Deleted-clause-moves g c =
 pub returns-in-Deleted-clause-steps : goal.returns-in-Deleted-clause-steps
 returns-in-Deleted-clause-steps g c = λ n holds.
     let runs = sym (ap (λ (e : Engine g.row.D.Denot). e.halted) c.self.view_is) ∙ none_of c.self.inside.halted c.if-is_some.ensures in
-    let steps = row_steps g.D.Disk.honest g.D.Disk.history g.D.Disk.size g.D.Disk.failures g.met.D.Disk.sized c.args.self.now c.args.key c.args.s runs (sym c.read_refusal.ensures ∙ c.in_default.is) c.versions_follow_the_items.ensures n holds
+    let steps = row_steps g.D.Disk.honest g.D.Disk.history g.D.Disk.size g.D.Disk.failures g.met.D.Disk.sized c.args.self.now c.args.key c.args.s runs (sym c.read_refusal.ensures ∙ c.in_default.is) c.versions_follow_the_items.ensures c.versions_lead_to_the_state.ensures n holds
     c.version_of.result None c.version_of.ensures (sym (ap (λ (a : At). told a (n.base.content c.args.key)) c.in-Deleted.is)) in
     (n, steps, holds)
 
@@ -40,5 +43,47 @@ pub returns-in-Below-clause-steps : goal.returns-in-Below-clause-steps
 returns-in-Below-clause-steps g c = λ n holds.
     let runs = sym (ap (λ (e : Engine g.row.D.Denot). e.halted) c.self.view_is) ∙ none_of c.self.inside.halted c.if-is_some.ensures in
     let read = c.read_base.ensures.read in
-    reads_steps g.D.Disk.honest g.D.Disk.history g.D.Disk.size g.D.Disk.failures g.met.D.Disk.sized c.args.self.now c.args.key c.args.s runs (sym c.read_refusal.ensures ∙ c.in_default.is) c.versions_follow_the_items.ensures n holds
+    reads_steps g.D.Disk.honest g.D.Disk.history g.D.Disk.size g.D.Disk.failures g.met.D.Disk.sized c.args.self.now c.args.key c.args.s runs (sym c.read_refusal.ensures ∙ c.in_default.is) c.versions_follow_the_items.ensures c.versions_lead_to_the_state.ensures n holds
     c.nodes_stay_nodes.ensures c.version_of.result c.version_of.ensures (ap (λ (a : At). told a (n.base.content c.args.key)) c.in-Below.is) c.read_base.result c.read_base.new.self read
+
+-- ---- what the bytes say
+
+pub returns-in-Some-clause-spelled : goal.returns-in-Some-clause-spelled
+returns-in-Some-clause-spelled g c = λ honest readable.
+    read_refused _ c.args.self.now.checkpoint.base c.args.self.now.kept c.args.key c.args.s c.in-Some.refusal
+    (refused_elsewise (facts_of g.D.Disk.failures c.args.self.now) c.args.key c.args.s c.in-Some.refusal (sym c.read_refusal.ensures ∙ c.in-Some.is))
+
+pub returns-then-is_some-clause-spelled : goal.returns-then-is_some-clause-spelled
+returns-then-is_some-clause-spelled g c = λ honest readable. read_refused _ c.args.self.now.checkpoint.base c.args.self.now.kept c.args.key c.args.s Stopped (λ e. absurd cc)
+
+pub returns-in-Found-clause-spelled : goal.returns-in-Found-clause-spelled
+returns-in-Found-clause-spelled g c = λ honest readable.
+    let is : IsAnswer c.args.self.now.kept c.args.key c.args.s c.version_of.result = c.version_of.ensures in
+    let found = subst (IsAnswer c.args.self.now.kept c.args.key c.args.s) c.in-Found.is is in
+    read_newest c.versions_follow_the_items.ensures _ c.args.self.now.checkpoint.base c.args.self.now.kept c.args.key c.args.s c.version_of.result (Some c.copied.result) is
+    (λ below. ap (λ (a : At). told a below) c.in-Found.is ∙ sym (ap Some c.copied.ensures.same))
+    (found_above c.args.self.now.kept c.args.key c.args.s found.0 _ found.1)
+
+pub returns-in-Deleted-clause-spelled : goal.returns-in-Deleted-clause-spelled
+returns-in-Deleted-clause-spelled g c = λ honest readable.
+    let is : IsAnswer c.args.self.now.kept c.args.key c.args.s c.version_of.result = c.version_of.ensures in
+    let found = subst (IsAnswer c.args.self.now.kept c.args.key c.args.s) c.in-Deleted.is is in
+    read_newest c.versions_follow_the_items.ensures _ c.args.self.now.checkpoint.base c.args.self.now.kept c.args.key c.args.s c.version_of.result None is
+    (λ below. ap (λ (a : At). told a below) c.in-Deleted.is)
+    (found_above c.args.self.now.kept c.args.key c.args.s found.0 None found.1)
+
+pub returns-in-Below-clause-spelled : goal.returns-in-Below-clause-spelled
+returns-in-Below-clause-spelled g c = λ honest readable.
+    let none = subst (IsAnswer c.args.self.now.kept c.args.key c.args.s) c.in-Below.is c.version_of.ensures in
+    let inside = row_inside (facts_of g.D.Disk.failures c.args.self.now) c.args.key c.args.s (sym c.read_refusal.ensures ∙ c.in_default.is) in
+    read_below c.the_bytes_tell_the_page.ensures _ c.args.self.now.checkpoint.base c.args.self.now.kept c.args.key c.args.s c.read_base.result inside none (c.read_base.ensures.read.spelled honest readable)
+
+-- ---- what a refusal leaves
+
+pub returns-in-Below-clause-unchanged : goal.returns-in-Below-clause-unchanged
+returns-in-Below-clause-unchanged g c =
+    let runs = sym (ap (λ (e : Engine g.row.D.Denot). e.halted) c.self.view_is) ∙ none_of c.self.inside.halted c.if-is_some.ensures in
+    refused_after c.args.self.now c.read_base.new.self c.read_base.result runs c.read_base.ensures.read.after c.read_base.ensures.read.refused
+
+pub returns-in-Below-clause-fault : goal.returns-in-Below-clause-fault
+returns-in-Below-clause-fault g c = fault_stops c.args.self.now c.read_base.new.self c.read_base.result c.read_base.ensures.read.after
