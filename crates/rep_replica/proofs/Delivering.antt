@@ -23,14 +23,14 @@ use Rattle.rep_steps.specs.Moves.{Found, Moves, next_item, entry_in}
 use Rattle.rep_steps.specs.Nodes.{Node, Steps, NodesStayNodes, reached, window_at, moved, verdict_on}
 use Rattle.rep_steps.specs.Parts.{with_ahead, part_of}
 use Rattle.rep_steps.specs.Images.{AreJudgedFrom}
+use Rattle.rep_steps.specs.Judging.{JudgingGoesOn, VerdictsHaveAPlace}
 use Rattle.rep_engine.specs.Engines.{Engine, facts_of as engine_facts}
 use Rattle.rep_engine.specs.Holding.{Holds as EngineHolds}
 use Rattle.rep_engine.specs.Checking.{CertifiersHoldWindows}
 use Rattle.rep_record.specs.Records.{is_placed}
-use Rattle.rep_replica.proofs.Placing.{placed_more, judged_placed}
+use Rattle.rep_replica.proofs.Placing.{placed_more}
 use Rattle.rep_replica.specs.Replicas.{Replica, facts_of, IsReplica}
 use Rattle.rep_replica.specs.Holding.{Holds, IsStep}
-use Rattle.rep_replica.proofs.Lists.{seqnos_more, judged_more, reached_position, reached_more}
 use Rattle.rep_replica.proofs.Widening.{leaves_none}
 
 -- ---- where nothing refuses it
@@ -64,7 +64,7 @@ module _ {D : Type 0} (honest : D → Type 0) (history : D → History) (failure
     (is : IsReplica (engine_facts failures old.engine) old.backlog old.certifier.current old.stopped)
     (j_is : j ≡ record { seqno = old.certifier.current.delivered + 1; item = w; verdict = verdict_of old.certifier.current w })
     (admits : Admits old.certifier.current w new.certifier.current)
-    (engine : new.engine ≡ old.engine) (backlog : new.backlog ≡ old.backlog ++ j ∷ []) (stopped : new.stopped ≡ old.stopped) where
+    (engine : new.engine ≡ old.engine) (backlog : new.backlog ≡ old.backlog ++ j ∷ []) (stopped : new.stopped ≡ old.stopped) (goes : JudgingGoesOn) where
   abbrev h : Holding
   h = old.certifier.current
 
@@ -113,8 +113,8 @@ module _ {D : Type 0} (honest : D → Type 0) (history : D → History) (failure
       let last = passed.1 in
       grind (arith, nat_tests, last, below)
 
-  pub replica_delivers : CertifiersHoldWindows → IsWithinLimits w → IsReplica (engine_facts failures new.engine) new.backlog new.certifier.current new.stopped
-  replica_delivers law limits =
+  pub replica_delivers : VerdictsHaveAPlace → CertifiersHoldWindows → IsWithinLimits w → IsReplica (engine_facts failures new.engine) new.backlog new.certifier.current new.stopped
+  replica_delivers places law limits =
       subst (λ (e : Engine D). IsReplica (engine_facts failures e) new.backlog new.certifier.current new.stopped) (sym engine)
       (subst (λ (js : List Judged). IsReplica (engine_facts failures old.engine) js new.certifier.current new.stopped) (sym backlog) (record {
         setting = admits.setting ∙ is.setting;
@@ -129,11 +129,11 @@ module _ {D : Type 0} (honest : D → Type 0) (history : D → History) (failure
             let place : j.seqno ≡ old.certifier.current.delivered + 1 = ap (λ (x : Judged). x.seqno) j_is in
             record {
               come = record {
-                follow = seqnos_more (delivered (engine_facts failures old.engine) + 1) old.backlog j go.come.follow (omega (arith, place, go.count));
+                follow = goes.seqnos_more (delivered (engine_facts failures old.engine) + 1) old.backlog j go.come.follow (omega (arith, place, go.count));
                 limit = omega (arith, length-append old.backlog (j ∷ []), go.count, count, limited);
                 undefined = λ nil. absurd (let never : false ≡ true = sym passed.0 ∙ nil in cc);
               };
-              placed = placed_more old.backlog j go.placed (subst (λ (x : Judged). is_placed x ≡ true) (sym j_is) (judged_placed h w (omega (arith, limited, count))));
+              placed = placed_more old.backlog j go.placed (subst (λ (x : Judged). is_placed x ≡ true) (sym j_is) (places.upto h.setting h.delivered (floor h.setting h.delivered) h.entries w (omega (arith, limited, count))));
               count = omega (arith, admits.delivered, go.count, length-append old.backlog (j ∷ []));
             };
       }))
@@ -190,7 +190,7 @@ module _ {D : Type 0} (honest : D → Type 0) (history : D → History) (failure
         ap (λ (x : Judged). record n.facts { ahead = n.facts.ahead ++ x ∷ [] }) (sym item_is) ∙ ap (λ (t : Standing). record t { ahead = t.ahead ++ j ∷ [] }) holds.facts ∙ sym facts_are
 
     place : (reached p n.base n.items).position ≡ h.delivered
-    place = reached_position p n.base n.items ∙ sym (here ∙ all)
+    place = goes.reached_position p n.base n.items ∙ sym (here ∙ all)
 
     seqno_is : j.seqno ≡ (reached p n.base n.items).position + 1
     seqno_is = ap (λ (x : Judged). x.seqno) j_is ∙ ap (λ k. k + 1) (sym place)
@@ -211,7 +211,7 @@ module _ {D : Type 0} (honest : D → Type 0) (history : D → History) (failure
         admits.next ∙ ap (λ (r : Setting). window_after r h.delivered (window_of h h.delivered) w) setting_is ∙ ap (λ (es : List Entry). window_after p h.delivered es w) present
         ∙ ap (λ k. window_after p k (reached p n.base n.items).kept w) (sym place) ∙ ap (window_after p (reached p n.base n.items).position (reached p n.base n.items).kept) (sym same_item)
         ∙ window_is p (reached p n.base n.items).position (reached p n.base n.items).kept j seqno_is verdict_here
-        ∙ sym (ap (λ (T : State). T.kept) (reached_more p n.base n.items j))
+        ∙ sym (ap (λ (T : State). T.kept) (goes.reached_more p n.base n.items j))
 
     windows_more : (k : ℕ) → n.base.position ≤ k → IsAskable new.certifier.current k → window_of new.certifier.current k ≡ (reached p n.base (take (k - n.base.position) (n.items ++ j ∷ []))).kept
     windows_more k above ask = by (cases_lt h.delivered k)
@@ -238,7 +238,7 @@ module _ {D : Type 0} (honest : D → Type 0) (history : D → History) (failure
             running = stopped ∙ running;
             facts = facts_then;
             node = stay n m (Deliver seqno w) (Gave (verdict_of h w)) holds.node step;
-            judged = subst (AreJudgedFrom p n.base) (sym items_are) (judged_more p n.base n.items j holds.judged (seqno_is, verdict_here, tt));
+            judged = subst (AreJudgedFrom p n.base) (sym items_are) (goes.judged_more p n.base n.items j holds.judged (seqno_is, verdict_here, tt));
             taken = q;
             within = omega (arith, holds.within, ap length items_are, length-append n.items (j ∷ []));
             engine = subst (λ (e : Engine D). EngineHolds honest history failures (part_of e.block q m) e) (sym engine) there;

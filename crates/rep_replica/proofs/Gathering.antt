@@ -13,13 +13,14 @@ use Rattle.rep_steps.specs.Standings.{Standing}
 use Rattle.rep_steps.specs.Nodes.{Node, reached, window_at}
 use Rattle.rep_steps.specs.Parts.{with_ahead, part_of}
 use Rattle.rep_steps.specs.Images.{AreJudgedFrom}
+use Rattle.rep_steps.specs.Judging.{JudgingGoesOn}
 use Rattle.rep_engine.specs.Engines.{Engine, facts_of as engine_facts}
 use Rattle.rep_engine.specs.Accepting.{accepted_in}
 use Rattle.rep_engine.specs.Holding.{Holds as EngineHolds, with_items}
 use Rattle.rep_replica.specs.Replicas.{Replica, facts_of}
 use Rattle.rep_engine.proofs.Accepting.{fitting_append}
 use Rattle.rep_replica.specs.Holding.{Holds}
-use Rattle.rep_replica.proofs.Lists.{take_plus, judged_front, judged_behind}
+use Rattle.rep_replica.proofs.Lists.{take_plus}
 
 -- ---- a block that takes no more
 
@@ -104,15 +105,15 @@ module _ {D : Type 0} (honest : D → Type 0) (history : D → History) (failure
       ∙ ap (λ (s : Standing). record s { ahead = old.engine.block ++ old.backlog; stopped = old.stopped || s.stopped }) accepts.facts
 
   -- and the replica stands for the same node
-  pub holds_still : (n : Node) → Holds honest history failures n old → Holds honest history failures n new
-  holds_still n holds =
+  pub holds_still : JudgingGoesOn → (n : Node) → Holds honest history failures n old → Holds honest history failures n new
+  holds_still goes n holds =
       let q = holds.taken in
       let js = old.backlog in
       let p = n.facts.setting in
       let left : length js ≡ length n.items - q = ap length holds.waiting ∙ length-drop q n.items in
       let come : take count js ≡ take count (drop q n.items) = ap (take count) holds.waiting in
       let judged : AreJudgedFrom p (reached p n.base (take q n.items)) (take count js) =
-      subst (AreJudgedFrom p (reached p n.base (take q n.items))) (sym come) (judged_front p (reached p n.base (take q n.items)) count (drop q n.items) (judged_behind p n.base q n.items holds.judged)) in
+      subst (AreJudgedFrom p (reached p n.base (take q n.items))) (sym come) (goes.judged_front p (reached p n.base (take q n.items)) count (drop q n.items) (goes.judged_behind p n.base q n.items holds.judged)) in
       let engine : EngineHolds honest history failures (with_items (take count js) (part_of old.engine.block q n)) new.engine = accepts.holds (part_of old.engine.block q n) holds.engine judged in
       let items : take q n.items ++ take count js ≡ take (q + count) n.items = ap (λ (xs : List Judged). take q n.items ++ xs) come ∙ take_plus q count n.items in
       let part : with_items (take count js) (part_of old.engine.block q n) ≡ part_of new.engine.block (q + count) n =

@@ -17,7 +17,7 @@ use Rattle.rep_steps.specs.Moves.{Found, Moves, Fails, MeetsCorruption, answer, 
 use Rattle.rep_engine.specs.Accepting.{ComeNext}
 use Rattle.rep_replica.proofs.Placing.{placed_drop}
 use Rattle.rep_replica.specs.Replicas.{IsReplica}
-use Rattle.rep_replica.proofs.Lists.{seqnos_drop}
+use Rattle.rep_steps.specs.Judging.{JudgingGoesOn}
 
 -- ---- what the facts come to
 
@@ -87,8 +87,8 @@ replica_keeps s t js h stopped running k r =
     }
 
 -- the first so many of the items that wait are taken
-pub replica_takes : (s t : Standing) (js : List Judged) (h : Holding) (stopped : Bool) (k : ℕ) → k ≤ length js → t ≡ record s { ahead = s.ahead ++ take k js } → IsReplica s js h stopped → IsReplica t (drop k js) h stopped
-replica_takes s t js h stopped k le is r =
+pub replica_takes : JudgingGoesOn → (s t : Standing) (js : List Judged) (h : Holding) (stopped : Bool) (k : ℕ) → k ≤ length js → t ≡ record s { ahead = s.ahead ++ take k js } → IsReplica s js h stopped → IsReplica t (drop k js) h stopped
+replica_takes goes s t js h stopped k le is r =
     subst (λ (u : Standing). IsReplica u (drop k js) h stopped) (sym is) (record {
       setting = r.setting;
       askable = r.askable;
@@ -100,7 +100,7 @@ replica_takes s t js h stopped k le is r =
           let left : length (drop k js) ≡ length js - k = length-drop k js in
           record {
             come = record {
-              follow = subst (λ n. SeqnosFrom n (drop k js)) (omega (arith, size, all)) (seqnos_drop (delivered s + 1) k js le go.come.follow);
+              follow = subst (λ n. SeqnosFrom n (drop k js)) (omega (arith, size, all)) (goes.seqnos_drop (delivered s + 1) k js le go.come.follow);
               limit = omega (arith, size, all, left, le, go.come.limit);
               undefined = λ nil. ap (drop k) (go.come.undefined nil) ∙ drop_none k;
             };

@@ -2,10 +2,13 @@ pub mod Lists
 pub mod Widening
 pub mod Placing
 pub mod Keeping
+pub mod Joining
 pub mod Settling
 pub mod LoggingOn
 pub mod Gathering
 pub mod Delivering
 pub mod Stepping
 pub mod Opening
+pub mod Forgetting
+pub mod Stopping
 pub mod Lives

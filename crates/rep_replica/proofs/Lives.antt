@@ -1,13 +1,19 @@
 -- Lives of a replica follow the order.
-use Rattle.std.proofs.Common.{◌≡◌, ◌⊎◌, inl, inr, ℕ, ◌+◌, ◌-◌, ◌≤◌, Bool, true, false, List, [], ◌∷◌, ◌++◌, append_assoc, length, length-append, length-drop, take, Option, None, Some, refl, sym, ap, subst, ◌∙◌, arith}
+use Rattle.std.proofs.Common.{◌≡◌, ◌⊎◌, inl, inr, ℕ, zero, suc, ◌+◌, ◌-◌, ◌≤◌, Bool, true, false, List, [], ◌∷◌, ◌++◌, append_assoc, append-nil, length, length-append, map, take, drop, Contains, Option, None, Some, refl, sym, ap, subst, ◌∙◌, arith}
 use Rattle.std.specs.Prelude.{if◌then◌else◌, not, nat_lt, MatchOption}
 use Rattle.std.proofs.lemmas.Bool.Decides.{nat_tests}
-use Rattle.std.proofs.lemmas.List.{take-append-le, length-take-le}
+use Rattle.std.proofs.Math.Seq.{take-add}
+use Rattle.std.proofs.lemmas.List.{take-append-drop, take-append-le, take-take, take_at, length-take-le, map-append, take-map, drop-map}
+use Rattle.std.proofs.lemmas.List.Elements.{Contains-append_left, Contains-append_right, Contains-append_cases}
+use Rattle.rep_types.specs.declared.judged.Judged.{Judged}
 use Rattle.rep_types.specs.declared.key.Key.{Key}
+use Rattle.rep_types.specs.declared.reply.Reply.{Reply}
+use Rattle.rep_types.specs.declared.verdict.Verdict.{Verdict}
 use Rattle.rep_types.specs.declared.refusal.Refusal.{Refusal}
 use Rattle.rep_types.specs.declared.refusal.Refusal.TheVariants.{Stopped, BadKey, NotYet, TooOld}
 use Rattle.rep_types.specs.Settings.{Setting, has_row}
-use Rattle.rep_types.specs.Order.{Order, read, rows}
+use Rattle.rep_types.specs.Replies.{reply_of}
+use Rattle.rep_types.specs.Order.{Order, history as history_of, read, rows, state}
 use Rattle.rep_disk.specs.History.{History, IsImage}
 use Rattle.rep_disk.specs.Moments.{moment, ImageSince}
 use Rattle.rep_disk.specs.Laws.{MomentsOfCalls}
@@ -15,17 +21,17 @@ use Rattle.rep_steps.specs.declared.event.Event.{Event}
 use Rattle.rep_steps.specs.declared.event.Event.TheVariants.{Deliver, Log, Sync, Check, Flush, Read}
 use Rattle.rep_steps.specs.declared.answer.Answer.{Answer}
 use Rattle.rep_steps.specs.declared.answer.Answer.TheVariants.{Gave, Wrote, Began, Synced, Row, Refused}
-use Rattle.rep_steps.specs.Standings.{Standing, refusal, read_refusal}
+use Rattle.rep_steps.specs.Standings.{Standing, delivered, refusal, read_refusal}
 use Rattle.rep_steps.specs.Moves.{answer, Fails}
 use Rattle.rep_steps.specs.Nodes.{Node, IsNode, Steps, found, moved}
 use Rattle.rep_steps.specs.Orders.{IsOf, accepted, answer_of, NodesHoldTheOrder, StepsFollowTheOrder}
-use Rattle.rep_steps.specs.Runs.{Runs, accepted_by, RunsComeTo}
-use Rattle.rep_steps.specs.Images.{StandsFor, opened, IsFrontAt, IsFrontOf, FrontsStandForTheOrder}
+use Rattle.rep_steps.specs.Runs.{Runs, accepted_by, verdicts, acknowledged, verdict_of, ComesTo, AnswersOf, RunsComeTo, RunsAnswerTheOrder}
+use Rattle.rep_steps.specs.Images.{StandsFor, opened, IsFrontOf}
 use Rattle.rep_image.specs.Meanings.{Means, ImagesMeanOneThing}
-use Rattle.rep_replica.specs.Replicas.{Replica, facts_of}
+use Rattle.rep_replica.specs.Replicas.{facts_of}
 use Rattle.rep_replica.specs.Holding.{Holds}
-use Rattle.rep_replica.specs.Lives.{Life, IsLife, IsRowOf, AreRowsOf, LifeFollows, LivesFollowTheOrder}
-use Rattle.rep_replica.proofs.Widening.{whole_front}
+use Rattle.rep_replica.specs.Stopping.{StoppedReplicasHold}
+use Rattle.rep_replica.specs.Lives.{Life, IsLife, Lives, IsFed, AreFed, IsRowOf, AreRowsOf, AreRepliesOf, NeverStopped, AnswersAs, Follows, gtid_at, OpensOn, LifeFollows, LivesFollow, LivesFollowTheOrder}
 
 -- ---- rows
 
@@ -103,102 +109,211 @@ front_longer uuid p L M d image f = record {
   stands = rw (take-append-le f.end L M f.most) f.stands;
 }
 
+-- ---- fronts of lists
+
+-- a front is no longer than asked for, and no longer than the whole
+front_short : {X : Type 0} (h : ℕ) (xs : List X) → (length (take h xs) ≤ h) × (length (take h xs) ≤ length xs)
+front_short zero xs = (omega arith, omega arith)
+front_short (suc h) [] = (omega arith, omega arith)
+front_short (suc h) (x ∷ xs) = let rest = front_short h xs in (omega (arith, rest.0), omega (arith, rest.1))
+
+-- what is among the replies of a front is among those of a longer one
+replies_longer : (d e : ℕ) (items : List Judged) (given : List Reply) → d ≤ e → AreRepliesOf (take d items) given → AreRepliesOf (take e items) given
+replies_longer d e items given le are r has =
+    let both : map reply_of (take d items) ++ map reply_of (drop d (take e items)) ≡ map reply_of (take e items) =
+    ap (λ (js : List Judged). map reply_of js ++ map reply_of (drop d (take e items))) (sym (take-take d e items le)) ∙ sym (map-append reply_of (take d (take e items)) (drop d (take e items)))
+    ∙ ap (map reply_of) (take-append-drop d (take e items)) in
+    subst (λ (rs : List Reply). Contains rs r) both (Contains-append_left (map reply_of (take d items)) (map reply_of (drop d (take e items))) r (are r has))
+
+-- and so are those that were given for the items behind it
+replies_more : (d k : ℕ) (items : List Judged) (given told : List Reply) → AreRepliesOf (take d items) given → told ≡ map reply_of (take k (drop d items)) → AreRepliesOf (take (d + k) items) (given ++ told)
+replies_more d k items given told are is r has =
+    subst (λ (rs : List Reply). Contains rs r) both (by (Contains-append_cases given told r has))
+  where
+    both : map reply_of (take d items) ++ map reply_of (take k (drop d items)) ≡ map reply_of (take (d + k) items)
+    both = sym (map-append reply_of (take d items) (take k (drop d items))) ∙ ap (map reply_of) (sym (take-add d k items))
+
+    by : Contains given r ⊎ Contains told r → Contains (map reply_of (take d items) ++ map reply_of (take k (drop d items))) r
+    by (inl old) = Contains-append_left (map reply_of (take d items)) (map reply_of (take k (drop d items))) r (are r old)
+    by (inr new) = Contains-append_right (map reply_of (take d items)) (map reply_of (take k (drop d items))) r (subst (λ (rs : List Reply). Contains rs r) is new)
+
+-- a part of a front is that part of the whole
+part_of_front : {X : Type 0} (y x z : ℕ) (xs : List X) → y + x ≤ z → take x (drop y (take z xs)) ≡ take x (drop y xs)
+part_of_front zero x z xs le = take-take x z xs (omega (arith, le))
+part_of_front (suc y) x zero xs le = absurd (omega (arith, le))
+part_of_front (suc y) x (suc z) [] le = refl
+part_of_front (suc y) x (suc z) (a ∷ xs) le = part_of_front y x z xs (omega (arith, le))
+
+-- and so of what is said of each
+part_of_map : {X Y : Type 0} (f : X → Y) (y x z : ℕ) (xs : List X) → y + x ≤ z → take x (drop y (map f (take z xs))) ≡ map f (take x (drop y xs))
+part_of_map f y x z xs le = ap (take x) (drop-map f y (take z xs)) ∙ take-map f x (drop y (take z xs)) ∙ ap (map f) (part_of_front y x z xs le)
+
 -- ---- a life
 
 module _ {D : Type 0} (honest : D → Type 0) (history : D → History) (failures : D → ℕ)
-    (one_thing : ImagesMeanOneThing) (hold : NodesHoldTheOrder) (follow : StepsFollowTheOrder) (come : RunsComeTo) (fronts : FrontsStandForTheOrder) (moments : MomentsOfCalls) where
-  -- what a replica's images mean stands for a front of its order
-  front_here : (L : Order) (n : Node) (r : Replica D) (image : List ℕ) → Holds honest history failures n r → IsOf L n → IsImage (history r.engine.disk) image → IsFrontOf Means n.facts.uuid n.facts.setting L n.facts.durable image
-  front_here L n r image h o is =
-      let f : IsFrontAt Means n image = whole_front n r.engine.block h.taken image (h.engine.images image is) in
-      let count = (hold L n h.node o).count in
-      let whole : n.base.position + length n.items ≡ length L =
-      let rest = ap length h.node.ahead ∙ length-drop (n.facts.durable - n.facts.base) n.items in
-      omega (arith, count, rest, h.node.enough, h.node.position, h.node.facts.based) in
-      record {
-        meaning = f.meaning;
-        reads = f.reads;
-        end = f.end;
-        least = f.least;
-        most = omega (arith, f.front.within, whole);
-        stands = fronts L n f.end f.meaning h.node o f.front;
-      }
+    (one_thing : ImagesMeanOneThing) (hold : NodesHoldTheOrder) (follow : StepsFollowTheOrder) (come : RunsComeTo) (answer : RunsAnswerTheOrder) (stopped : StoppedReplicasHold honest history failures) (moments : MomentsOfCalls) where
+  -- ---- an opening
 
-  one_life : (uuid : List ℕ) (p : Setting) (O : Order) (d : ℕ) (image : List ℕ) (life : Life D) → IsFrontOf Means uuid p O d image → IsLife honest history failures O image life → LifeFollows honest history failures uuid p O d life
-  one_life uuid p O d image life f is =
+  -- what is opened on an image that stands for a front of the order
+  opened_on : (uuid : List ℕ) (p : Setting) (O : Order) (d h : ℕ) (given : List Reply) (image : List ℕ) (life : Life D) (f : IsFrontOf Means uuid p (take h O) d image) → AreRepliesOf (take d (history_of p O)) given
+      → IsLife honest history failures image life → (n : Node) × OpensOn honest history failures uuid p O d h given life.start f.end n
+  opened_on uuid p O d h given image life f kept is =
       let e = f.end in
       let L : Order = take e O in
+      let short = front_short h O in
+      let most : e ≤ h = omega (arith, f.most, short.0) in
+      let within : e ≤ length O = omega (arith, f.most, short.1) in
       let opens = is.opens in
       let reads : Means image opens.meaning = subst (λ (bytes : List ℕ). Means bytes opens.meaning) is.on opens.means in
       let same : f.meaning ≡ opens.meaning = one_thing image f.meaning opens.meaning f.reads reads in
-      let stands : StandsFor uuid p L opens.meaning = subst (StandsFor uuid p L) same f.stands in
+      let stands : StandsFor uuid p L opens.meaning = subst (StandsFor uuid p L) same (subst (λ (M : Order). StandsFor uuid p M f.meaning) (take-take e h O most) f.stands) in
       let own : StandsFor opens.meaning.uuid opens.meaning.setting L opens.meaning =
       subst (λ (u : List ℕ). StandsFor u opens.meaning.setting L opens.meaning) (sym stands.uuid_is) (subst (λ (q : Setting). StandsFor uuid q L opens.meaning) (sym stands.setting_is) stands) in
       let n : Node = opened (facts_of failures life.start) opens.gates opens.meaning in
       let holds : Holds honest history failures n life.start = opens.holds in
       let of : IsOf L n = opens.opens.order L own in
-      let size : length L ≡ e = length-take-le e O f.most in
-      let count = (hold L n holds.node of).count in
-      let durable : n.facts.durable ≡ (facts_of failures life.start).durable = ap (λ (s : Standing). s.durable) holds.facts in
-      let at : (facts_of failures life.start).durable ≡ e = sym durable ∙ omega (arith, count, size) in
-      let first = is.ran n holds in
+      let size : length L ≡ e = length-take-le e O within in
+      let held = hold L n holds.node of in
+      let durable : (facts_of failures life.start).durable ≡ e = sym (ap (λ (s : Standing). s.durable) holds.facts) ∙ omega (arith, held.count, size) in
+      let uuid_is : n.facts.uuid ≡ uuid = stands.uuid_is in
+      let setting_is : n.facts.setting ≡ p = stands.setting_is in
+      let own_uuid : (facts_of failures life.start).uuid ≡ uuid = sym (ap (λ (s : Standing). s.uuid) holds.facts) ∙ uuid_is in (
+        n,
+        record {
+          least = f.least;
+          most = most;
+          within = within;
+          kept = replies_longer d e (history_of p O) given f.least kept;
+          durable = durable;
+          delivered_is = sym (ap delivered holds.facts) ∙ held.count ∙ size;
+          gtid = ap (λ (u : List ℕ). gtid_at u (facts_of failures life.start).durable) own_uuid ∙ ap (gtid_at uuid) durable;
+          state_is =
+              held.state e (omega (arith, of.within, size)) (omega (arith, size)) ∙ ap (λ (q : Setting). state q (take e L)) setting_is ∙ ap (state p) (take-take e e O (omega arith));
+          holds = holds;
+          uuid_is = uuid_is;
+          setting_is = setting_is;
+          of = of;
+        },
+      )
+
+  -- ---- what it runs
+
+  -- what was delivered is delivered
+  rises : (L : Order) (n : Node) (events : List Event) (answers : List Answer) (m : Node) → IsNode n → IsOf L n → ComesTo L n events answers m → delivered n.facts ≤ delivered m.facts
+  rises L n events answers m node of c = omega (arith, (hold L n node of).count, (hold (L ++ accepted_by events answers) m c.node c.order).count, length-append L (accepted_by events answers))
+
+  -- as a node that never stopped
+  as_unbroken : (O : Order) (n m : Node) (answers : List Answer) (last : Node) (told : List Answer) → AnswersOf O n answers m → (all : List Event) → NeverStopped n.facts.setting O all told last
+      → delivered n.facts ≤ delivered m.facts → delivered m.facts ≤ length O → n.facts.durable ≤ m.facts.durable → AnswersAs n m answers last told
+  as_unbroken O n m answers last told own all never more within durable =
+      let first : Node = never.first in
+      let p = n.facts.setting in
+      let c = come [] first last all told never.node never.empty never.runs in
+      let whole : accepted_by all told ++ [] ≡ O = append-nil (accepted_by all told) ∙ never.fed in
+      let its : AnswersOf O first told last = subst (λ (M : Order). AnswersOf M first told last) whole (answer [] [] first last all told never.node never.empty never.runs) in
+      let none : delivered first.facts ≡ 0 = (hold [] first never.node never.empty).count in
+      let every : delivered last.facts ≡ length O = (hold (accepted_by all told) last c.node c.order).count ∙ ap length never.fed in
+      let none_durable : first.facts.durable ≡ 0 = omega (arith, none) in
+      let H = history_of p O in
+      let verdicts_are : verdicts told ≡ map verdict_of (take (delivered last.facts) H) =
+      its.judged ∙ ap (λ (q : Setting). map verdict_of (take (delivered last.facts - delivered first.facts) (drop (delivered first.facts) (history_of q O)))) never.setting
+      ∙ ap (λ i. map verdict_of (take (delivered last.facts - i) (drop i H))) none ∙ ap (λ i. map verdict_of (take i H)) (omega arith) in
+      let replies_are : acknowledged told ≡ map reply_of (take last.facts.durable H) =
+      its.replied ∙ ap (λ (q : Setting). map reply_of (take (last.facts.durable - first.facts.durable) (drop first.facts.durable (history_of q O)))) never.setting
+      ∙ ap (λ i. map reply_of (take (last.facts.durable - i) (drop i H))) none_durable ∙ ap (λ i. map reply_of (take i H)) (omega arith) in
+      let x = delivered m.facts - delivered n.facts in
+      let y = m.facts.durable - n.facts.durable in
+      record {
+        judged =
+            own.judged ∙ sym (part_of_map verdict_of (delivered n.facts) x (delivered last.facts) H (omega (arith, more, within, every)))
+            ∙ ap (λ (vs : List Verdict). take x (drop (delivered n.facts) vs)) (sym verdicts_are);
+        replied = λ far.
+            own.replied ∙ sym (part_of_map reply_of n.facts.durable y last.facts.durable H (omega (arith, durable, far)))
+            ∙ ap (λ (rs : List Reply). take y (drop n.facts.durable rs)) (sym replies_are);
+      }
+
+  ran_on : (O L rest : Order) (n : Node) (events : List Event) (answers : List Answer) (m : Node) → IsNode n → IsOf L n → Runs Steps n events answers m → (L ++ accepted_by events answers) ++ rest ≡ O → Follows O L n events answers m
+  ran_on O L rest n events answers m node of runs fed = record {
+    answers_are = subst (λ (M : Order). AnswersOf M n answers m) fed (answer L rest n m events answers node of runs);
+    as_unbroken = λ all told last never.
+        let c = come L n m events answers node of runs in
+        as_unbroken O n m answers last told (subst (λ (M : Order). AnswersOf M n answers m) fed (answer L rest n m events answers node of runs)) all never (rises L n events answers m node of c)
+        (omega (arith, (hold (L ++ accepted_by events answers) m c.node c.order).count, ap length fed, length-append (L ++ accepted_by events answers) rest)) c.rises;
+    rows = subst (λ (M : Order). AreRowsOf n.facts.setting M events answers) fed (rows_follow hold follow come L rest n m events answers node of runs);
+    comes = come L n m events answers node of runs;
+  }
+
+  one_life : (uuid : List ℕ) (p : Setting) (O : Order) (d h : ℕ) (given : List Reply) (image : List ℕ) (life : Life D) → IsFrontOf Means uuid p (take h O) d image → AreRepliesOf (take d (history_of p O)) given
+      → IsLife honest history failures image life → IsFed failures O life → LifeFollows honest history failures uuid p O d h given life
+  one_life uuid p O d h given image life f kept is is_fed =
+      let e = f.end in
+      let L : Order = take e O in
+      let opening = opened_on uuid p O d h given image life f kept is in
+      let n : Node = opening.0 in
+      let opens = opening.1 in
+      let first = is.ran n opens.holds in
       let k : Node = first.0 in
       let A1 = accepted_by life.events life.answers in
-      let A2 = accepted_by life.more life.told in
-      let c1 = come L n k life.events life.answers holds.node of first.1.runs in
+      let A2 = accepted_by life.begun life.untold in
+      let rest = is_fed.rest in
+      let fed : ((L ++ A1) ++ A2) ++ rest ≡ O = ap (λ j. ((take j O ++ A1) ++ A2) ++ rest) (sym opens.durable) ∙ is_fed.whole in
+      let fed_first : (L ++ A1) ++ (A2 ++ rest) ≡ O = sym (append_assoc (L ++ A1) A2 rest) ∙ fed in
+      let follows = ran_on O L (A2 ++ rest) n life.events life.answers k opens.holds.node opens.of first.1.runs fed_first in
       let second = is.ran_on k first.2 in
       let m : Node = second.0 in
-      let c2 = come (L ++ A1) k m life.more life.told first.2.node c1.order second.1.runs in
-      let fed : ((L ++ A1) ++ A2) ++ is.rest ≡ O = ap (λ j. ((take j O ++ A1) ++ A2) ++ is.rest) (sym at) ∙ is.fed in
-      let fed_first : (L ++ A1) ++ (A2 ++ is.rest) ≡ O = sym (append_assoc (L ++ A1) A2 is.rest) ∙ fed in
-      let uuid_n : n.facts.uuid ≡ uuid = stands.uuid_is in
-      let setting_n : n.facts.setting ≡ p = stands.setting_is in
-      let uuid_k : k.facts.uuid ≡ uuid = c1.uuid ∙ uuid_n in
-      let setting_k : k.facts.setting ≡ p = c1.setting ∙ setting_n in
+      let follows_on = ran_on O (L ++ A1) rest k life.begun life.untold m first.2.node follows.comes.order second.1.runs fed in
+      let uuid_k : k.facts.uuid ≡ uuid = follows.comes.uuid ∙ opens.uuid_is in
+      let setting_k : k.facts.setting ≡ p = follows.comes.setting ∙ opens.setting_is in
       let durable_k : k.facts.durable ≡ (facts_of failures life.mid).durable = ap (λ (s : Standing). s.durable) first.2.facts in
-      let as_said : (M : Order) → IsFrontOf Means k.facts.uuid k.facts.setting M k.facts.durable life.left → IsFrontOf Means uuid p M (facts_of failures life.mid).durable life.left =
+      let c = (facts_of failures life.mid).durable in
+      let count : length ((L ++ A1) ++ A2) ≡ delivered (facts_of failures life.last) = sym (hold ((L ++ A1) ++ A2) m follows_on.comes.node follows_on.comes.order).count ∙ ap delivered second.2.facts in
+      let whole : (L ++ A1) ++ A2 ≡ take (delivered (facts_of failures life.last)) O = sym (take_at ((L ++ A1) ++ A2) rest (delivered (facts_of failures life.last)) count) ∙ ap (take (delivered (facts_of failures life.last))) fed in
+      let as_said : (M : Order) → IsFrontOf Means k.facts.uuid k.facts.setting M k.facts.durable life.left → IsFrontOf Means uuid p M c life.left =
       λ M g. subst (λ j. IsFrontOf Means uuid p M j life.left) durable_k (subst (λ (q : Setting). IsFrontOf Means uuid q M k.facts.durable life.left) setting_k (subst (λ (u : List ℕ). IsFrontOf Means u k.facts.setting M k.facts.durable life.left) uuid_k g)) in
-      let here : IsImage (history life.mid.engine.disk) life.left → IsFrontOf Means uuid p O (facts_of failures life.mid).durable life.left =
-      λ i. subst (λ (M : Order). IsFrontOf Means uuid p M (facts_of failures life.mid).durable life.left) fed_first
-      (front_longer uuid p (L ++ A1) (A2 ++ is.rest) (facts_of failures life.mid).durable life.left (as_said (L ++ A1) (front_here (L ++ A1) k life.mid life.left first.2 c1.order i))) in
-      let there : IsFrontOf Means k.facts.uuid k.facts.setting ((L ++ A1) ++ A2) k.facts.durable life.left → IsFrontOf Means uuid p O (facts_of failures life.mid).durable life.left =
-      λ g. subst (λ (M : Order). IsFrontOf Means uuid p M (facts_of failures life.mid).durable life.left) fed
-      (front_longer uuid p ((L ++ A1) ++ A2) is.rest (facts_of failures life.mid).durable life.left (as_said ((L ++ A1) ++ A2) g)) in
+      let here : IsImage (history life.mid.engine.disk) life.left → IsFrontOf Means uuid p (take (delivered (facts_of failures life.last)) O) c life.left =
+      λ i. subst (λ (M : Order). IsFrontOf Means uuid p M c life.left) whole
+      (front_longer uuid p (L ++ A1) A2 c life.left (as_said (L ++ A1) (stopped.leaves (L ++ A1) k life.mid (stopped.of_node k life.mid first.2) follows.comes.order life.left i))) in
+      let there : IsFrontOf Means k.facts.uuid k.facts.setting ((L ++ A1) ++ A2) k.facts.durable life.left → IsFrontOf Means uuid p (take (delivered (facts_of failures life.last)) O) c life.left =
+      λ g. subst (λ (M : Order). IsFrontOf Means uuid p M c life.left) whole (as_said ((L ++ A1) ++ A2) g) in
       record {
         position = e;
-        least = f.least;
-        most = f.most;
-        durable = at;
         start = n;
-        starts = holds;
-        uuid_is = uuid_n;
-        setting_is = setting_n;
-        of = of;
+        opens = opens;
         mid = k;
         came = first.2;
-        follows = record {
-          comes = c1;
-          rows = subst (λ (M : Order). AreRowsOf n.facts.setting M life.events life.answers) fed_first
-              (rows_follow hold follow come L (A2 ++ is.rest) n k life.events life.answers holds.node of first.1.runs);
-        };
+        follows = follows;
         last = m;
         went_on = second.2;
-        follows_on = record {
-          comes = c2;
-          rows = subst (λ (M : Order). AreRowsOf k.facts.setting M life.more life.told) fed
-              (rows_follow hold follow come (L ++ A1) is.rest k m life.more life.told first.2.node c1.order second.1.runs);
-        };
-        front = by here there ((second.1.leaves (L ++ A1) c1.order).since (moment (history life.mid.engine.disk)) life.left (omega arith) is.stop);
+        follows_on = follows_on;
+        front = by here there ((second.1.leaves (L ++ A1) follows.comes.order).since (moment (history life.mid.engine.disk)) life.left (omega arith) is.stop);
       }
     where
-      by : (IsImage (history life.mid.engine.disk) life.left → IsFrontOf Means uuid p O (facts_of failures life.mid).durable life.left)
-          → {G : Type 0} → (G → IsFrontOf Means uuid p O (facts_of failures life.mid).durable life.left)
-          → ImageSince (history life.mid.engine.disk) (moment (history life.mid.engine.disk)) life.left ⊎ G → IsFrontOf Means uuid p O (facts_of failures life.mid).durable life.left
+      by : {F G : Type 0} → (IsImage (history life.mid.engine.disk) life.left → F) → (G → F) → ImageSince (history life.mid.engine.disk) (moment (history life.mid.engine.disk)) life.left ⊎ G → F
       by here there (inl since) = here ((moments.of_none (history life.mid.engine.disk) life.left).0 since)
       by here there (inr g) = there g
 
+  -- the replies that were given by its end are of items that were durable then
+  given_then : (uuid : List ℕ) (p : Setting) (O : Order) (d h : ℕ) (given : List Reply) (life : Life D) → LifeFollows honest history failures uuid p O d h given life
+      → AreRepliesOf (take (facts_of failures life.mid).durable (history_of p O)) (given ++ acknowledged life.answers)
+  given_then uuid p O d h given life one =
+      let opens = one.opens in
+      let b = one.start.facts.durable in
+      let e = one.mid.facts.durable in
+      let first : b ≡ one.position = ap (λ (s : Standing). s.durable) opens.holds.facts ∙ opens.durable in
+      let last : e ≡ (facts_of failures life.mid).durable = ap (λ (s : Standing). s.durable) one.came.facts in
+      let told : acknowledged life.answers ≡ map reply_of (take (e - b) (drop one.position (history_of p O))) =
+      one.follows.answers_are.replied ∙ ap (λ (q : Setting). map reply_of (take (e - b) (drop b (history_of q O)))) opens.setting_is ∙ ap (λ i. map reply_of (take (e - b) (drop i (history_of p O)))) first in
+      let all : one.position + (e - b) ≡ (facts_of failures life.mid).durable = omega (arith, one.follows.comes.rises, first, last) in
+      subst (λ i. AreRepliesOf (take i (history_of p O)) (given ++ acknowledged life.answers)) all (replies_more one.position (e - b) (history_of p O) given (acknowledged life.answers) opens.kept told)
+
+  follow_on : (uuid : List ℕ) (p : Setting) (O : Order) (d h : ℕ) (given : List Reply) (image : List ℕ) (lives : List (Life D)) → IsFrontOf Means uuid p (take h O) d image → AreRepliesOf (take d (history_of p O)) given
+      → Lives honest history failures image lives → AreFed failures O lives → LivesFollow honest history failures uuid p O d h given lives
+  follow_on uuid p O d h given image [] f kept is fed = tt
+  follow_on uuid p O d h given image (life ∷ lives) f kept is fed =
+      let one = one_life uuid p O d h given image life f kept is.0 fed.0 in (
+        one,
+        follow_on uuid p O (facts_of failures life.mid).durable (delivered (facts_of failures life.last)) (given ++ acknowledged life.answers) life.left lives one.front (given_then uuid p O d h given life one) is.1 fed.1,
+      )
+
   pub lives_follow : LivesFollowTheOrder honest history failures
-  lives_follow uuid p O d image [] f is = tt
-  lives_follow uuid p O d image (life ∷ lives) f is =
-      let one = one_life uuid p O d image life f is.0 in
-      (one, lives_follow uuid p O (facts_of failures life.mid).durable life.left lives one.front is.1)
+  lives_follow uuid p O d h image lives f is fed = follow_on uuid p O d h [] image lives f (λ r has. absurd (omega (arith, has.1))) is fed

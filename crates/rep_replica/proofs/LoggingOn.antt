@@ -15,13 +15,14 @@ use Rattle.rep_log.specs.declared.phase.Phase.TheVariants.{Resting, Closing, Fil
 use Rattle.rep_log.specs.declared.phase.Step.TheVariants.{Recycle, Seal, Gate, Sync as to_sync, Full}
 use Rattle.rep_log.specs.Standing.{Standing as Log, busy, stands_at, index_of, due_in, due_of}
 use Rattle.rep_log.specs.Moves.{after_sync, synced_in, gated_in, started}
-use Rattle.rep_steps.specs.declared.event.Event.TheVariants.{Log as log_event, Sync, Check}
+use Rattle.rep_steps.specs.declared.event.Event.{Event}
+use Rattle.rep_steps.specs.declared.event.Event.TheVariants.{Log as to_log, Sync, Check}
 use Rattle.rep_steps.specs.Standings.{Standing, refusal_here, log_refusal, check_refusal, gathered, Flushing, Off, Toward}
 use Rattle.rep_steps.specs.Moves.{Found, after, checked, start_after, opening}
 use Rattle.rep_engine.specs.Engines.{IsEngine, IsWhole, HasAll, phase_at, durable_of}
 use Rattle.rep_engine.specs.Writing.{IsWrite, written_in}
 use Rattle.rep_replica.specs.Replicas.{Replica, ArePlaced, facts_of}
-use Rattle.rep_replica.specs.Settling.{IsRunning, start_of, Rests, left_at_rest, left_in, work_of}
+use Rattle.rep_replica.specs.Settling.{IsRunning, log_event, due_at, due, start_of, Rests, left_at_rest, left_in, work_of}
 
 -- ---- what is due of the log
 
@@ -87,9 +88,56 @@ module _ {D : Type 0} (failures : D → ℕ) (r : Replica D) (running : IsRunnin
   log_by (Filled n) is write some = refl
   log_by (Opening n) is write some = absurd write
 
-  pub can_log : FrontsAreDetermined → IsWrite (due_of r.engine.log) → ArePlaced r.backlog → IfSome (slice_get r.backlog 0) (λ j. IsWithinLimits j.item) → 0 < length (facts_of failures r).ahead → refusal_here (facts_of failures r) log_event ≡ None
+  pub can_log : FrontsAreDetermined → IsWrite (due_of r.engine.log) → ArePlaced r.backlog → IfSome (slice_get r.backlog 0) (λ j. IsWithinLimits j.item) → 0 < length (facts_of failures r).ahead → refusal_here (facts_of failures r) to_log ≡ None
   can_log fronts write placed limits some =
       ap (log_refusal (facts_of failures r)) phase_is ∙ log_by r.engine.log.phase refl write (some_fit fronts r.engine.block r.backlog h.fits placed limits some)
+
+  -- ---- what is due
+
+  -- the log's step, where no checkpoint is under way
+  due_off : (e : Event) → (facts_of failures r).stage ≡ Off → 0 < length (facts_of failures r).ahead → log_event (facts_of failures r) r.engine.log.phase ≡ e → due (facts_of failures r) ≡ Some e
+  due_off e off some is =
+      let s = facts_of failures r in
+      let has : (length s.ahead == 0) ≡ false = grind (arith, nat_tests, some) in
+      ap (due_at s) off ∙ ap (λ b. if b then None else Some (log_event s s.phase)) has ∙ ap Some (ap (log_event s) phase_is ∙ is)
+
+  -- whether its next cell is live, as the facts have it
+  live_is : (live : Bool) → nat_le (r.engine.log.start + r.engine.log.cells) r.engine.log.next ≡ live → nat_le ((facts_of failures r).start + (facts_of failures r).setting.cells) (facts_of failures r).next ≡ live
+  live_is live is = ap (λ c. nat_le (r.engine.log.start + c) r.engine.log.next) (sym h.cells) ∙ is
+
+  write_by : (phase : Phase) → IsWrite (due_in r.engine.log phase) → log_event (facts_of failures r) phase ≡ to_log
+  write_by Resting write = by (nat_le (r.engine.log.start + r.engine.log.cells) r.engine.log.next) (stands_at r.engine.log (index_of r.engine.log)) refl write
+    where
+      by : (live stale : Bool) → nat_le (r.engine.log.start + r.engine.log.cells) r.engine.log.next ≡ live → IsWrite (if live then Full else if stale then Recycle else Seal) → log_event (facts_of failures r) Resting ≡ to_log
+      by true stale is write = absurd write
+      by false stale is write = ap (λ b. if b then Check else to_log) (live_is false is)
+  write_by Closing write = absurd write
+  write_by (Filling n) write = absurd write
+  write_by (Filled n) write = refl
+  write_by (Opening n) write = absurd write
+
+  sync_by : (phase : Phase) → due_in r.engine.log phase ≡ to_sync → log_event (facts_of failures r) phase ≡ Sync
+  sync_by Resting is = absurd (by (nat_le (r.engine.log.start + r.engine.log.cells) r.engine.log.next) (stands_at r.engine.log (index_of r.engine.log)) is)
+    where
+      by : (live stale : Bool) → (if live then Full else if stale then Recycle else Seal) ≡ to_sync → ⊥
+      by true stale e = let never : Full ≡ to_sync = e in cc
+      by false true e = let never : Recycle ≡ to_sync = e in cc
+      by false false e = let never : Seal ≡ to_sync = e in cc
+  sync_by Closing is = refl
+  sync_by (Filling n) is = refl
+  sync_by (Filled n) is = absurd (let never : Gate ≡ to_sync = is in cc)
+  sync_by (Opening n) is = refl
+
+  pub log_due : (facts_of failures r).stage ≡ Off → 0 < length (facts_of failures r).ahead → IsWrite (due_of r.engine.log) → due (facts_of failures r) ≡ Some to_log
+  log_due off some write = due_off to_log off some (write_by r.engine.log.phase write)
+
+  pub sync_due : (facts_of failures r).stage ≡ Off → 0 < length (facts_of failures r).ahead → due_of r.engine.log ≡ to_sync → due (facts_of failures r) ≡ Some Sync
+  sync_due off some is = due_off Sync off some (sync_by r.engine.log.phase is)
+
+  pub check_due : (facts_of failures r).stage ≡ Off → 0 < length (facts_of failures r).ahead → due_of r.engine.log ≡ Full → due (facts_of failures r) ≡ Some Check
+  check_due off some is =
+      let full = full_due r.engine.log is in
+      due_off Check off some (ap (log_event (facts_of failures r)) full.0 ∙ ap (λ b. if b then Check else to_log) (live_is true full.1))
 
 -- ---- how much is left
 
@@ -164,7 +212,7 @@ module _ {D : Type 0} (failures : D → ℕ) (old new : Replica D) (running : Is
       omega (arith, work_is failures old (Filled k) (old_phase (Filled k) is), work_is failures new (Opening k) now, ap length ahead)
   written_by n (Opening k) is write ahead after = absurd write
 
-  pub written_less : (n : ℕ) (f : Found) → IsWrite (due_of log) → t ≡ after s log_event f → new.engine.log ≡ written_in (due_of log) n log → work_of failures new < work_of failures old
+  pub written_less : (n : ℕ) (f : Found) → IsWrite (due_of log) → t ≡ after s to_log f → new.engine.log ≡ written_in (due_of log) n log → work_of failures new < work_of failures old
   written_less n f write is after = written_by n log.phase refl write (ap (λ (x : Standing). x.ahead) is) after
 
   -- ---- a sync

@@ -8,8 +8,6 @@ use Rattle.rep_types.specs.declared.reply.Reply.{Reply}
 use Rattle.rep_types.specs.declared.refusal.Refusal.{Refusal}
 use Rattle.rep_types.specs.declared.refusal.Refusal.TheVariants.{Stopped, NotDue, OutOfMemory, DiskFault, Corrupt}
 use Rattle.rep_types.specs.declared.refusal.Part.TheVariants.{Pages}
-use Rattle.rep_types.specs.Verdicts.{StateIsEnough}
-use Rattle.rep_record.specs.Fronts.{FrontsAreDetermined}
 use Rattle.rep_disk.specs.History.{History}
 use Rattle.rep_log.specs.declared.phase.Phase.{Phase}
 use Rattle.rep_log.specs.declared.phase.Phase.TheVariants.{Resting}
@@ -19,12 +17,12 @@ use Rattle.rep_steps.specs.declared.answer.Answer.{Answer}
 use Rattle.rep_steps.specs.declared.answer.Answer.TheVariants.{Gave, Wrote, Began, Synced, Row, Refused}
 use Rattle.rep_steps.specs.Standings.{Standing, refusal, refusal_here, check_refusal, flush_refusal, Goal, Part, Flushing, Saving, Ready, SuperFilling, SuperFilled, SuperOpening, Stage, Off, Toward, Retiring}
 use Rattle.rep_steps.specs.Moves.{Found, Moves, answer, check_answer, after, Fails, MeetsCorruption, checked, flushed, synced_stage, synced_phase, start_after, opening, taken}
-use Rattle.rep_steps.proofs.Driving.{moves_then, run_none, run_one, run_then}
-use Rattle.rep_image.specs.Meanings.{Means}
+use Rattle.rep_steps.specs.Runs.{Runs}
 use Rattle.rep_engine.specs.Holding.{wrote, synced}
 use Rattle.rep_replica.specs.Replicas.{Replica, facts_of}
 use Rattle.rep_replica.specs.Holding.{IsStep}
-use Rattle.rep_replica.specs.Settling.{IsRunning, IsOwn, AreOwn, outcome_of, AreDone, EndsIn, Works, EndsEarly, left_of, step_of_part, step_of, start_of, Rests}
+use Rattle.rep_replica.specs.Running.{RunsAreJoined}
+use Rattle.rep_replica.specs.Settling.{IsRunning, step_of_part, step_of, due_at, due, IsDue, IsOwn, AreOwn, outcome_of, AreDone, EndsIn, Works, EndsEarly, left_of, start_of, Rests}
 
 -- ---- what came of a step
 
@@ -127,7 +125,14 @@ ends_by (Synced replies) = (refl, tt)
 ends_by (Row row) = (refl, tt)
 ends_by (Refused r) = ([], tt, refl)
 
-module _ {D : Type 0} (honest : D → Type 0) (history : D → History) (failures : D → ℕ) where
+-- steps that were due, one after another
+due_then : (s t u : Standing) (events : List Event) (answers : List Answer) (more : List Event) (told : List Answer) → Runs IsDue s events answers t → Runs IsDue t more told u → Runs IsDue s (events ++ more) (answers ++ told) u
+due_then s t u [] [] more told r q = subst (λ x. Runs IsDue x more told u) (sym r) q
+due_then s t u [] (b ∷ answers) more told r q = absurd r
+due_then s t u (e ∷ events) [] more told r q = absurd r
+due_then s t u (e ∷ events) (b ∷ answers) more told r q = (r.0, r.1, due_then r.0 t u events answers more told r.2 q)
+
+module _ {D : Type 0} (honest : D → Type 0) (history : D → History) (failures : D → ℕ) (joined : RunsAreJoined honest history failures) where
   pub works_none : (r : Replica D) → Works honest history failures r r (Ok tt)
   works_none r = record {
     events = [];
@@ -135,33 +140,27 @@ module _ {D : Type 0} (honest : D → Type 0) (history : D → History) (failure
     own = tt;
     ends = tt;
     moves = refl;
-    ran = λ n holds. (n, run_none Means (history r.engine.disk) n, holds);
+    ran = joined.no_run r;
   }
 
-  pub works_one : StateIsEnough → (old new : Replica D) (e : Event) (a : Answer) → IsOwn e → IsStep honest history failures old e a new → Works honest history failures old new (outcome_of a)
-  works_one enough old new e a own step = record {
+  pub works_one : (old new : Replica D) (e : Event) (a : Answer) → IsOwn e → due (facts_of failures old) ≡ Some e → IsStep honest history failures old e a new → Works honest history failures old new (outcome_of a)
+  works_one old new e a own is_due step = record {
     events = e ∷ [];
     answers = a ∷ [];
     own = (own, tt);
     ends = ends_by a;
-    moves = (facts_of failures new, step.moves, refl);
-    ran = λ n holds.
-        let at = step.steps n holds in
-        (at.0, run_one enough Means (history old.engine.disk) (history new.engine.disk) n at.0 e a holds.node at.1 (step.leaves n holds), at.2);
+    moves = (facts_of failures new, (is_due, step.moves), refl);
+    ran = joined.one_run old new e a step;
   }
 
-  pub works_then : StateIsEnough → FrontsAreDetermined → (old mid new : Replica D) (result : Result (Unit {0}) Refusal) → Works honest history failures old mid (Ok tt) → Works honest history failures mid new result
-      → Works honest history failures old new result
-  works_then enough fronts old mid new result w v = record {
+  pub works_then : (old mid new : Replica D) (result : Result (Unit {0}) Refusal) → Works honest history failures old mid (Ok tt) → Works honest history failures mid new result → Works honest history failures old new result
+  works_then old mid new result w v = record {
     events = w.events ++ v.events;
     answers = w.answers ++ v.answers;
     own = own_then w.events v.events w.own v.own;
     ends = ends_then result w.answers v.answers w.ends v.ends;
-    moves = moves_then Moves (facts_of failures old) (facts_of failures mid) (facts_of failures new) w.events w.answers v.events v.answers w.moves v.moves;
-    ran = λ n holds.
-        let at = w.ran n holds in
-        let on = v.ran at.0 at.2 in
-        (on.0, run_then enough fronts Means (history old.engine.disk) (history mid.engine.disk) (history new.engine.disk) n at.0 on.0 w.events w.answers v.events v.answers holds.node at.1 on.1, on.2);
+    moves = due_then (facts_of failures old) (facts_of failures mid) (facts_of failures new) w.events w.answers v.events v.answers w.moves v.moves;
+    ran = joined.both_runs old mid new w.events w.answers v.events v.answers w.ran v.ran;
   }
 
 -- ---- the checkpoint goes on
@@ -196,6 +195,12 @@ own_part Ready = tt
 own_part SuperFilling = tt
 own_part SuperFilled = tt
 own_part SuperOpening = tt
+
+-- and what it waits for is due
+under_way : (s : Standing) (stage : Stage) (e : Event) → step_of stage ≡ Some e → due_at s stage ≡ Some e
+under_way s Off e waits = absurd (let never : None ≡ Some e = waits in cc)
+under_way s (Toward goal part) e waits = waits
+under_way s (Retiring written) e waits = waits
 
 pub own_step : (stage : Stage) (e : Event) → step_of stage ≡ Some e → IsOwn e
 own_step Off e due = absurd (let never : None ≡ Some e = due in cc)
@@ -300,10 +305,11 @@ ok_of (Err e) is = absurd (let never : false ≡ true = is in cc)
 
 module _ {D : Type 0} (honest : D → Type 0) (history : D → History) (failures : D → ℕ) (old new : Replica D) (a : Answer) (result : Result (Unit {0}) Refusal) (is : result ≡ outcome_of a) where
   -- some steps, and one more
-  pub works_on : StateIsEnough → FrontsAreDetermined → (first : Replica D) (e : Event) → IsOwn e → IsStep honest history failures old e a new → Works honest history failures first old (Ok tt) → Works honest history failures first new result
-  works_on enough fronts first e own step w =
-      works_then honest history failures enough fronts first old new result w
-      (subst (λ (r : Result (Unit {0}) Refusal). Works honest history failures old new r) (sym is) (works_one honest history failures enough old new e a own step))
+  pub works_on : RunsAreJoined honest history failures → (first : Replica D) (e : Event) → step_of (facts_of failures old).stage ≡ Some e → IsStep honest history failures old e a new → Works honest history failures first old (Ok tt) → Works honest history failures first new result
+  works_on joined first e waits step w =
+      works_then honest history failures joined first old new result w
+      (subst (λ (r : Result (Unit {0}) Refusal). Works honest history failures old new r) (sym is)
+      (works_one honest history failures joined old new e a (own_step (facts_of failures old).stage e waits) (under_way (facts_of failures old) (facts_of failures old).stage e waits) step))
 
   -- a step that the checkpoint waits for
   pub goes_on : IsRunning old → (due : (e : Event) × (step_of (facts_of failures old).stage ≡ Some e)) → IsStep honest history failures old due.0 a new → false ≡ is_err result → Goes (facts_of failures old) (facts_of failures new)
@@ -315,8 +321,8 @@ module _ {D : Type 0} (honest : D → Type 0) (history : D → History) (failure
 -- a step of the log, or a sync, where nothing refuses it
 module _ {D : Type 0} (honest : D → Type 0) (history : D → History) (failures : D → ℕ) (old new : Replica D) (e : Event) (a : Answer) (result : Result (Unit {0}) Refusal) (is : result ≡ outcome_of a)
     (own : IsOwn e) (running : IsRunning old) (none : refusal_here (facts_of failures old) e ≡ None) (step : IsStep honest history failures old e a new) where
-  pub one_works : StateIsEnough → Works honest history failures old new result
-  one_works enough = subst (λ (r : Result (Unit {0}) Refusal). Works honest history failures old new r) (sym is) (works_one honest history failures enough old new e a own step)
+  pub one_works : RunsAreJoined honest history failures → due (facts_of failures old) ≡ Some e → Works honest history failures old new result
+  one_works joined is_due = subst (λ (r : Result (Unit {0}) Refusal). Works honest history failures old new r) (sym is) (works_one honest history failures joined old new e a own is_due step)
 
   pub one_early : IfErr result EndsEarly
   one_early = subst (λ (r : Result (Unit {0}) Refusal). IfErr r EndsEarly) (sym is) (early_by (facts_of failures old) (facts_of failures new) e a (not_refused (facts_of failures old) e (runs_on failures old running) none) step.moves)

@@ -21,6 +21,7 @@ use Rattle.rep_steps.specs.Moves.{Moves, opening, takes_memory, base_after}
 use Rattle.rep_steps.specs.Nodes.{Node, Steps, NodesStayNodes, passed, reached, window_at}
 use Rattle.rep_steps.specs.Parts.{with_ahead, part_of, Widens, PartsStepAsTheWhole}
 use Rattle.rep_steps.specs.Images.{IsFrontAt}
+use Rattle.rep_steps.specs.Judging.{JudgingGoesOn}
 use Rattle.rep_image.specs.Meanings.{Means}
 use Rattle.rep_engine.specs.Engines.{Engine, IsWhole, facts_of as engine_facts, phase_at, durable_of}
 use Rattle.rep_engine.specs.Holding.{Holds as EngineHolds}
@@ -100,7 +101,7 @@ module _ {D : Type 0} (honest : D → Type 0) (history : D → History) (failure
     pub steps : (n : Node) → EngineHolds honest history failures n old → (m : Node) × Steps n e a m × EngineHolds honest history failures m new
     pub leaves : (n : Node) → EngineHolds honest history failures n old → LeavesOnly (history old.disk) (history new.disk) (IsFrontAt Means n)
 
-  module _ (stay : NodesStayNodes) (old new : Replica D) (e : Event) (a : Answer) (params : new.engine.checkpoint.base.params ≡ old.engine.checkpoint.base.params) (backlog : new.backlog ≡ old.backlog) (certifier : new.certifier ≡ old.certifier) (stopped : new.stopped ≡ old.stopped) where
+  module _ (stay : NodesStayNodes) (goes : JudgingGoesOn) (old new : Replica D) (e : Event) (a : Answer) (params : new.engine.checkpoint.base.params ≡ old.engine.checkpoint.base.params) (backlog : new.backlog ≡ old.backlog) (certifier : new.certifier ≡ old.certifier) (stopped : new.stopped ≡ old.stopped) where
     pub widened_step : Moves (facts_of failures old) e a (facts_of failures new)
         → ((n : Node) (holds : Holds honest history failures n old) → (m : Node) × Steps (part_of old.engine.block holds.taken n) e a m × EngineHolds honest history failures m new.engine)
         → ((n : Node) → EngineHolds honest history failures n old.engine → LeavesOnly (history old.engine.disk) (history new.engine.disk) (IsFrontAt Means n))
@@ -108,7 +109,7 @@ module _ {D : Type 0} (honest : D → Type 0) (history : D → History) (failure
         → IsStep honest history failures old e a new
     widened_step moves steps leaves lift = record {
       moves = moves;
-      steps = λ n holds. let to = steps n holds in widened honest history failures stay old new n holds e a to.0 (lift n to.0 holds to.1) to.2 params backlog certifier stopped;
+      steps = λ n holds. let to = steps n holds in widened honest history failures stay goes old new n holds e a to.0 (lift n to.0 holds to.1) to.2 params backlog certifier stopped;
       leaves = λ n holds. leaves_whole n old.engine.block holds.taken (history old.engine.disk) (history new.engine.disk) (leaves (part_of old.engine.block holds.taken n) holds.engine);
     }
 
@@ -130,7 +131,7 @@ module _ {D : Type 0} (honest : D → Type 0) (history : D → History) (failure
 
   -- ---- each event
 
-  module _ (stay : NodesStayNodes) (parts : PartsStepAsTheWhole) (old new : Replica D) (a : Answer) (params : new.engine.checkpoint.base.params ≡ old.engine.checkpoint.base.params) (backlog : new.backlog ≡ old.backlog) (certifier : new.certifier ≡ old.certifier) (stopped : new.stopped ≡ old.stopped)
+  module _ (stay : NodesStayNodes) (goes : JudgingGoesOn) (parts : PartsStepAsTheWhole) (old new : Replica D) (a : Answer) (params : new.engine.checkpoint.base.params ≡ old.engine.checkpoint.base.params) (backlog : new.backlog ≡ old.backlog) (certifier : new.certifier ≡ old.certifier) (stopped : new.stopped ≡ old.stopped)
       (running : old.stopped ≡ false) where
     -- what is durable was taken
     near : (n : Node) (holds : Holds honest history failures n old) → n.facts.durable - n.facts.base ≤ holds.taken
@@ -141,8 +142,8 @@ module _ {D : Type 0} (honest : D → Type 0) (history : D → History) (failure
         → (phase_at old.engine.log.phase old.engine.halted ≡ Resting → fitting [] old.engine.block ≡ fitting [] (old.engine.block ++ old.backlog))
         → IsStep honest history failures old Log a new
     log_step block engine full =
-        widened_step stay old new Log a params backlog certifier stopped
-        (kept_facts stay old new Log a params backlog certifier stopped running block (parts.log_moves (engine_facts failures old.engine) (engine_facts failures new.engine) a (old.engine.block ++ old.backlog) full engine.moves))
+        widened_step stay goes old new Log a params backlog certifier stopped
+        (kept_facts stay goes old new Log a params backlog certifier stopped running block (parts.log_moves (engine_facts failures old.engine) (engine_facts failures new.engine) a (old.engine.block ++ old.backlog) full engine.moves))
         (λ n holds. engine.steps (part_of old.engine.block holds.taken n) holds.engine) engine.leaves
         (λ n part holds steps. parts.log n part old.engine.block holds.taken a
         (λ rests. full (sym (ap (λ (s : Standing). s.phase) holds.facts) ∙ rests) ∙ sym (ap gathered holds.facts)) steps)
@@ -153,8 +154,8 @@ module _ {D : Type 0} (honest : D → Type 0) (history : D → History) (failure
     sync_step told engine =
         let moves : Moves (with_ahead (old.engine.block ++ old.backlog) (engine_facts failures old.engine)) Sync a (with_ahead (new.engine.block ++ old.backlog) (engine_facts failures new.engine)) =
         parts.sync_moves (engine_facts failures old.engine) (engine_facts failures new.engine) a old.backlog told engine.moves in
-        widened_step stay old new Sync a params backlog certifier stopped
-        (lift_facts stay old new Sync a params backlog certifier stopped running
+        widened_step stay goes old new Sync a params backlog certifier stopped
+        (lift_facts stay goes old new Sync a params backlog certifier stopped running
         (subst (λ (xs : List Judged). Moves (with_ahead (old.engine.block ++ old.backlog) (engine_facts failures old.engine)) Sync a (with_ahead (new.engine.block ++ xs) (engine_facts failures new.engine))) (sym backlog) moves))
         (λ n holds. engine.steps (part_of old.engine.block holds.taken n) holds.engine) engine.leaves
         (λ n part holds steps. parts.sync n part old.engine.block old.backlog holds.taken a (ap (λ (s : Standing). s.ahead) holds.facts) (within n holds)
@@ -172,8 +173,8 @@ module _ {D : Type 0} (honest : D → Type 0) (history : D → History) (failure
         → ((n : Node) → EngineHolds honest history failures n old.engine → LeavesOnly (history old.engine.disk) (history new.engine.disk) (IsFrontAt Means n))
         → IsAskable old.certifier.current (durable_of old.engine.log) → IsStep honest history failures old Check a new
     check_step block moves steps leaves askable =
-        widened_step stay old new Check a params backlog certifier stopped
-        (kept_facts stay old new Check a params backlog certifier stopped running block (parts.check_moves (engine_facts failures old.engine) (engine_facts failures new.engine) a (old.engine.block ++ old.backlog) moves))
+        widened_step stay goes old new Check a params backlog certifier stopped
+        (kept_facts stay goes old new Check a params backlog certifier stopped running block (parts.check_moves (engine_facts failures old.engine) (engine_facts failures new.engine) a (old.engine.block ++ old.backlog) moves))
         (λ n holds. steps (part_of old.engine.block holds.taken n) holds.engine (window_there n holds)) leaves
         (λ n part holds step. parts.check n part old.engine.block holds.taken a (near n holds) step)
       where
@@ -188,16 +189,16 @@ module _ {D : Type 0} (honest : D → Type 0) (history : D → History) (failure
     -- a page
     pub flush_step : (page : ℕ) → new.engine.block ≡ old.engine.block → EngineSteps (Flush page) a old.engine new.engine → IsStep honest history failures old (Flush page) a new
     flush_step page block engine =
-        widened_step stay old new (Flush page) a params backlog certifier stopped
-        (kept_facts stay old new (Flush page) a params backlog certifier stopped running block (parts.flush_moves (engine_facts failures old.engine) (engine_facts failures new.engine) page a (old.engine.block ++ old.backlog) engine.moves))
+        widened_step stay goes old new (Flush page) a params backlog certifier stopped
+        (kept_facts stay goes old new (Flush page) a params backlog certifier stopped running block (parts.flush_moves (engine_facts failures old.engine) (engine_facts failures new.engine) page a (old.engine.block ++ old.backlog) engine.moves))
         (λ n holds. engine.steps (part_of old.engine.block holds.taken n) holds.engine) engine.leaves
         (λ n part holds steps. parts.flush n part old.engine.block holds.taken page a steps)
 
     -- a read
     pub read_step : (key : Key) (at : ℕ) → new.engine.block ≡ old.engine.block → EngineSteps (Read key at) a old.engine new.engine → IsStep honest history failures old (Read key at) a new
     read_step key at block engine =
-        widened_step stay old new (Read key at) a params backlog certifier stopped
-        (kept_facts stay old new (Read key at) a params backlog certifier stopped running block (parts.read_moves (engine_facts failures old.engine) (engine_facts failures new.engine) key at a (old.engine.block ++ old.backlog) engine.moves))
+        widened_step stay goes old new (Read key at) a params backlog certifier stopped
+        (kept_facts stay goes old new (Read key at) a params backlog certifier stopped running block (parts.read_moves (engine_facts failures old.engine) (engine_facts failures new.engine) key at a (old.engine.block ++ old.backlog) engine.moves))
         (λ n holds. engine.steps (part_of old.engine.block holds.taken n) holds.engine) engine.leaves
         (λ n part holds steps. parts.read n part old.engine.block holds.taken key at a holds.node.position (near n holds) steps)
 

@@ -16,8 +16,7 @@ use Rattle.rep_steps.specs.Nodes.{Node, IsNode, Steps, NodesStayNodes, reached, 
 use Rattle.rep_steps.specs.Parts.{with_ahead, part_of, Widens}
 use Rattle.rep_steps.specs.Images.{Meaning, IsFront, IsFrontAt, IsEndOf, AreJudgedFrom}
 use Rattle.rep_image.specs.Meanings.{Means}
-use Rattle.rep_steps.proofs.Reaching.{reached_both, reached_position}
-use Rattle.rep_steps.proofs.Judging.{later_judged}
+use Rattle.rep_steps.specs.Judging.{JudgingGoesOn}
 use Rattle.rep_engine.specs.Engines.{facts_of as engine_facts}
 use Rattle.rep_engine.specs.Holding.{Holds as EngineHolds}
 use Rattle.rep_replica.specs.Replicas.{Replica, facts_of}
@@ -40,19 +39,19 @@ ahead_of n block q node part within =
 
 -- ---- the node
 
-module _ {D : Type 0} (honest : D → Type 0) (history : D → History) (failures : D → ℕ) (stay : NodesStayNodes) (old new : Replica D) (n : Node) (holds : Holds honest history failures n old) where
+module _ {D : Type 0} (honest : D → Type 0) (history : D → History) (failures : D → ℕ) (stay : NodesStayNodes) (goes : JudgingGoesOn) (old new : Replica D) (n : Node) (holds : Holds honest history failures n old) where
   -- the windows from the later base on are those from the one before
   same_window : (to : Node) (past : ℕ) → to.facts.setting ≡ n.facts.setting → to.base ≡ reached n.facts.setting n.base (take past n.items) → to.items ≡ drop past n.items → past ≤ length n.items
       → (k : ℕ) → to.base.position ≤ k → window_at to k ≡ window_at n k
   same_window to past setting base items few k le =
       let p = n.facts.setting in
       let front = take past n.items in
-      let at : to.base.position ≡ n.base.position + past = ap (λ (S : State). S.position) base ∙ reached_position p n.base front ∙ omega (arith, length-take-le past n.items few) in
+      let at : to.base.position ≡ n.base.position + past = ap (λ (S : State). S.position) base ∙ goes.reached_position p n.base front ∙ omega (arith, length-take-le past n.items few) in
       let more = k - (n.base.position + past) in
       let both : take past n.items ++ take more (drop past n.items) ≡ take (k - n.base.position) n.items = sym (take-add past more n.items) ∙ ap (λ i. take i n.items) (omega (arith, le, at)) in
       ap (λ (q : Setting). (reached q to.base (take (k - to.base.position) to.items)).kept) setting ∙ ap (λ (js : List Judged). (reached p to.base (take (k - to.base.position) js)).kept) items
       ∙ ap (λ i. (reached p to.base (take (k - i) (drop past n.items))).kept) at ∙ ap (λ (S : State). (reached p S (take more (drop past n.items))).kept) base
-      ∙ ap (λ (S : State). S.kept) (sym (reached_both p n.base front (take more (drop past n.items)))) ∙ ap (λ (js : List Judged). (reached p n.base js).kept) both
+      ∙ ap (λ (S : State). S.kept) (sym (goes.reached_both p n.base front (take more (drop past n.items)))) ∙ ap (λ (js : List Judged). (reached p n.base js).kept) both
 
   pub widened : (e : Event) (a : Answer) (part : Node) → Widens n part e a holds.taken → EngineHolds honest history failures part new.engine
       → new.engine.checkpoint.base.params ≡ old.engine.checkpoint.base.params → new.backlog ≡ old.backlog → new.certifier ≡ old.certifier → new.stopped ≡ old.stopped
@@ -75,7 +74,7 @@ module _ {D : Type 0} (honest : D → Type 0) (history : D → History) (failure
       ap (λ (xs : List Judged). with_ahead xs to.facts) ahead ∙ ap (with_ahead (new.engine.block ++ new.backlog)) engine_to.facts ∙ sym (running_facts failures new running) in
       let setting : to.facts.setting ≡ n.facts.setting =
       ap (λ (s : Standing). s.setting) engine_to.facts ∙ params ∙ sym (ap (λ (s : Standing). s.setting) holds.engine.facts) in
-      let behind : n.base.position ≤ to.base.position = omega (arith, ap (λ (S : State). S.position) w.base, reached_position n.facts.setting n.base (take past n.items)) in (
+      let behind : n.base.position ≤ to.base.position = omega (arith, ap (λ (S : State). S.position) w.base, goes.reached_position n.facts.setting n.base (take past n.items)) in (
         to,
         w.steps,
         record {
@@ -85,7 +84,7 @@ module _ {D : Type 0} (honest : D → Type 0) (history : D → History) (failure
           judged =
               subst (λ (p : Setting). AreJudgedFrom p to.base to.items) (sym setting)
               (subst (λ (S : State). AreJudgedFrom n.facts.setting S to.items) (sym w.base)
-              (subst (AreJudgedFrom n.facts.setting (reached n.facts.setting n.base (take past n.items))) (sym w.items) (later_judged n.facts.setting n.base past n.items holds.judged)));
+              (subst (AreJudgedFrom n.facts.setting (reached n.facts.setting n.base (take past n.items))) (sym w.items) (goes.judged_behind n.facts.setting n.base past n.items holds.judged)));
           taken = q;
           within = within;
           engine = engine_to;

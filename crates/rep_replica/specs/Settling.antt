@@ -1,5 +1,5 @@
 -- What a replica does by itself, until nothing is left to do.
-use Rattle.std.specs.Prelude.{◌≡◌, ℕ, ◌+◌, ◌*◌, ◌&&◌, ◌⊎◌, Bool, true, false, nat_le, ◌==◌, List, [], ◌∷◌, ◌++◌, length, Option, None, Some, Result, Ok, Err}
+use Rattle.std.specs.Prelude.{◌≡◌, ℕ, ◌+◌, ◌*◌, ◌&&◌, ◌⊎◌, Bool, true, false, nat_le, ◌==◌, if◌then◌else◌, List, [], ◌∷◌, ◌++◌, length, Option, None, Some, Result, Ok, Err}
 use Rattle.rep_types.specs.declared.refusal.Refusal.{Refusal}
 use Rattle.rep_types.specs.declared.refusal.Refusal.TheVariants.{OutOfMemory, DiskFault, Corrupt}
 use Rattle.rep_types.specs.declared.refusal.Part.TheVariants.{Pages}
@@ -25,6 +25,45 @@ is_quiet s = (length s.ahead == 0) && is_off s.stage
 pub record IsRunning {D : Type 0} (r : Replica D) : Type 0 where
   pub inside : r.stopped ≡ false
   pub device : r.engine.halted ≡ None
+
+-- ---- what is due
+
+-- the step that the checkpoint under way waits for
+abbrev pub step_of_part : Part → Event
+step_of_part (Flushing []) = Check
+step_of_part (Flushing (page ∷ left)) = Flush page
+step_of_part Saving = Sync
+step_of_part Ready = Check
+step_of_part SuperFilling = Sync
+step_of_part SuperFilled = Check
+step_of_part SuperOpening = Sync
+
+abbrev pub step_of : Stage → Option Event
+step_of Off = None
+step_of (Toward goal part) = Some (step_of_part part)
+step_of (Retiring false) = Some Check
+step_of (Retiring true) = Some Sync
+
+-- What the log waits for, where something isn't durable: where its next cell is live, the checkpoint that frees it.
+abbrev pub log_event : Standing → Phase → Event
+log_event s Resting = if nat_le (s.start + s.setting.cells) s.next then Check else Log
+log_event s Closing = Sync
+log_event s (Filling n) = Sync
+log_event s (Filled n) = Log
+log_event s (Opening n) = Sync
+
+-- The step of its own that is due: that of the checkpoint under way; where none is, the log's, if something isn't durable.
+abbrev pub due_at : Standing → Stage → Option Event
+due_at s Off = if length s.ahead == 0 then None else Some (log_event s s.phase)
+due_at s (Toward goal part) = Some (step_of_part part)
+due_at s (Retiring written) = step_of (Retiring written)
+
+abbrev pub due : Standing → Option Event
+due s = due_at s s.stage
+
+-- a step that is due, on any device
+abbrev pub IsDue : Standing → Event → Answer → Standing → Type 0
+IsDue s e a t = (due s ≡ Some e) × Moves s e a t
 
 -- ---- what it does
 
@@ -56,14 +95,14 @@ abbrev pub EndsIn : Result (Unit {0}) Refusal → List Answer → Type 0
 EndsIn (Ok x) answers = AreDone answers
 EndsIn (Err e) answers = (done : List Answer) × AreDone done × (answers ≡ done ++ Refused e ∷ [])
 
--- The replica took some steps of its own one after another, none of which was refused but the last one, where it ended early: a run
--- on any device, and one of the node that it stands for.
+-- The replica took some steps of its own one after another, each the one that is due, none of which was refused but the last one, where
+-- it ended early: a run on any device, and one of the node that it stands for.
 pub record Works {D : Type 0} (honest : D → Type 0) (history : D → History) (failures : D → ℕ) (old new : Replica D) (result : Result (Unit {0}) Refusal) : Type 0 where
   pub events : List Event
   pub answers : List Answer
   pub own : AreOwn events
   pub ends : EndsIn result answers
-  pub moves : Runs Moves (facts_of failures old) events answers (facts_of failures new)
+  pub moves : Runs IsDue (facts_of failures old) events answers (facts_of failures new)
   pub ran : Ran honest history failures old new events answers
 
 -- why a step of its own is refused that is due
@@ -86,22 +125,6 @@ left_of Off = 0
 left_of (Toward goal part) = left_of_part part
 left_of (Retiring false) = 2
 left_of (Retiring true) = 1
-
--- the step that it waits for
-abbrev pub step_of_part : Part → Event
-step_of_part (Flushing []) = Check
-step_of_part (Flushing (page ∷ left)) = Flush page
-step_of_part Saving = Sync
-step_of_part Ready = Check
-step_of_part SuperFilling = Sync
-step_of_part SuperFilled = Check
-step_of_part SuperOpening = Sync
-
-abbrev pub step_of : Stage → Option Event
-step_of Off = None
-step_of (Toward goal part) = Some (step_of_part part)
-step_of (Retiring false) = Some Check
-step_of (Retiring true) = Some Sync
 
 -- where the log starts once the checkpoint has ended
 abbrev pub start_of : ℕ → Stage → ℕ

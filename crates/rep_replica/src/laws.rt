@@ -1,6 +1,9 @@
 //! Laws of replicas, each as the contract of a function that does nothing.
 
 ghost use Rattle.rep_replica.specs.Holding.{LeavesItsEnds};
+ghost use Rattle.rep_replica.specs.Running.{RunsAreJoined};
+ghost use Rattle.rep_replica.specs.Reading.{ReadsForgetNothing};
+ghost use Rattle.rep_replica.specs.Stopping.{StoppedReplicasHold};
 ghost use Rattle.rep_replica.specs.Lives.{LivesFollowTheOrder};
 
 use crate::replica::Replica;
@@ -8,15 +11,18 @@ use rep_disk::{Disk, moments_of_calls};
 use rep_engine::running_engines_leave_their_ends;
 use rep_image::images_mean_one_thing;
 use rep_steps::{
-    fronts_stand_for_the_order, nodes_hold_the_order, runs_come_to, steps_follow_the_order,
+    fronts_stand_for_the_order, nodes_hold_the_order, runs_answer_the_order, runs_come_to,
+    steps_follow_the_order,
 };
 
 /// A replica is opened on a device, runs events, and is stopped at any moment, within a call or between
 /// two; then it is opened on what the stop left, any number of times, whatever the device does meanwhile; and
-/// what is delivered to it are the items of one order, each time from where it stands. Then each opening stands
-/// for a front of that order that has each item which was durable before the stop, and so each that was replied to;
-/// its verdicts, its replies, each once within a life, and the rows that it reads are those of the order; and what a
-/// stop leaves stands for such a front again.
+/// what is delivered to it are the items of one order, each time from where it stands.
+///
+/// Then opening the disk gives the rows, the GTID and the window after a front of that order: of what was
+/// delivered by then, and with each item to whose origin any of these lives replied. Fed the rest of the order, it
+/// gives the verdicts, the replies, each once within a life, and the rows of a node that never stopped. And what a
+/// stop leaves stands for such a front again. A reply counts once the call that gave it returned.
 ///
 /// The first image stands for a front of the order, as one does that was just formatted, of the empty one.
 pub fn lives_follow_the_order<D: Disk>()
@@ -26,7 +32,8 @@ pub fn lives_follow_the_order<D: Disk>()
     nodes_hold_the_order();
     steps_follow_the_order();
     runs_come_to();
-    fronts_stand_for_the_order();
+    runs_answer_the_order();
+    stopped_replicas_hold::<D>();
     moments_of_calls();
 }
 
@@ -37,4 +44,33 @@ pub fn running_replicas_leave_their_ends<D: Disk>(replica: &Replica<D>)
     ensures { LeavesItsEnds D.honest D.history D.failures replica.now }
 {
     running_engines_leave_their_ends(&replica.engine);
+}
+
+/// A replica that stands for a node keeps, also where its device failed, that each image of the device means a front
+/// of that node with what is durable. So does one around an engine that stands for a node, whoever stopped it and
+/// whatever its other parts are: what `from_parts` puts together as stopped can be opened again, once `into_disk`
+/// gave its device back.
+pub fn stopped_replicas_hold<D: Disk>()
+    ensures { StoppedReplicasHold D.honest D.history D.failures }
+{
+    nodes_hold_the_order();
+    fronts_stand_for_the_order();
+}
+
+/// Runs of a replica one after another are one run: no event is a run, a step is a run of one event, and two runs,
+/// the second from where the first led, are the run of both lists. So who drives a replica by `step`, `read` and
+/// `settle` has a run, as `run` has.
+pub fn runs_are_joined<D: Disk>()
+    ensures { RunsAreJoined D.honest D.history D.failures }
+{
+    rep_steps::runs_are_joined::<Replica<D>>();
+}
+
+/// A read forgets nothing: an order whose rows the replica has behind it is one whose rows it had before, also where
+/// the read met a fault of the device and stopped the replica. And a row that it answers is the row of each such
+/// order.
+pub fn reads_forget_nothing<D: Disk>()
+    ensures { ReadsForgetNothing D.size D.failures D.honest D.history }
+{
+    steps_follow_the_order();
 }

@@ -8,5 +8,8 @@ mod run;
 mod settle;
 mod step;
 
-pub use laws::{lives_follow_the_order, running_replicas_leave_their_ends};
+pub use laws::{
+    lives_follow_the_order, reads_forget_nothing, running_replicas_leave_their_ends,
+    runs_are_joined, stopped_replicas_hold,
+};
 pub use replica::Replica;

@@ -9,13 +9,14 @@ ghost use Rattle.rep_steps.specs.Standings.{Off};
 ghost use Rattle.rep_replica.specs.Replicas.{facts_of};
 ghost use Rattle.rep_replica.specs.Settling.{is_quiet, IsRunning, outcome_of, Works, EndsEarly, step_of, Rests, work_of};
 
+use crate::laws::runs_are_joined;
 use crate::replica::Replica;
 use rep_checkpoint::Step as CheckpointStep;
 use rep_disk::Disk;
 use rep_log::Step;
 use rep_record::fronts_are_determined;
 use rep_steps::{Answer, Event};
-use rep_types::{Refusal, state_is_enough};
+use rep_types::Refusal;
 
 /// What came of a step.
 fn outcome(answer: &Answer) -> Result<(), Refusal>
@@ -59,8 +60,7 @@ impl<D: Disk> Replica<D> {
         ensures rests { (facts_of D.failures self.old).phase ≡ Resting → OnOk result (Rests (facts_of D.failures self.old) (facts_of D.failures self.new)) }
         ensures early { IfErr result EndsEarly }
     {
-        state_is_enough();
-        fronts_are_determined();
+        runs_are_joined::<D>();
         while let Some(event) = self.checkpoint_event() {
             let answer = self.step(event);
             let ended = outcome(&answer);
@@ -75,6 +75,7 @@ impl<D: Disk> Replica<D> {
     fn make_room(&mut self) -> Result<(), Refusal>
         requires running { IsRunning self.old }
         requires off { (facts_of D.failures self.old).stage ≡ Off }
+        requires some { 0 < length (facts_of D.failures self.old).ahead }
         requires due { due_of self.old.engine.log ≡ Full }
         ensures works { Works D.honest D.history D.failures self.old self.new result }
         ensures running { OnOk result (IsRunning self.new) }
@@ -82,8 +83,7 @@ impl<D: Disk> Replica<D> {
         ensures less { OnOk result (work_of D.failures self.new < work_of D.failures self.old) }
         ensures early { IfErr result EndsEarly }
     {
-        state_is_enough();
-        fronts_are_determined();
+        runs_are_joined::<D>();
         // Tells the proof what holds of the engine.
         let _durable = self.engine.durable();
         let ended = outcome(&self.check());
@@ -113,7 +113,7 @@ impl<D: Disk> Replica<D> {
         ensures less { OnOk result (work_of D.failures self.new < work_of D.failures self.old) }
         ensures early { IfErr result EndsEarly }
     {
-        state_is_enough();
+        runs_are_joined::<D>();
         fronts_are_determined();
         self.look_at_the_first();
         // Tells the proof what holds of replica and engine.
@@ -126,22 +126,22 @@ impl<D: Disk> Replica<D> {
         }
     }
 
-    /// Takes steps until all that was delivered is durable and no checkpoint is under way: those of the log, with
-    /// a checkpoint where it is full. It hands out no reply: what is durable tells which were owed.
+    /// Takes the steps that are due until all that was delivered is durable and no checkpoint is under way: those of the
+    /// log, with a checkpoint where it is full. It hands out no reply: what is durable tells which were owed.
     ///
     /// Refuses with `Stopped`; with `OutOfMemory`, and then it stands between two steps, and a later call goes
     /// on from there; with `DiskFault` where the device failed, and then the replica is stopped; and with
     /// `Corrupt` of the pages where a page that a checkpoint reads is not of its form.
     pub fn settle(&mut self) -> Result<(), Refusal>
         ensures quiet { OnOk result (is_quiet (facts_of D.failures self.new) ≡ true) }
-        // It did some steps of its own, each of which was done but the last one, where it ended early.
+        // It did some steps of its own, each the one that was due, and each of which was done but the last one, where it ended
+        // early. So it begins no checkpoint but where the log's next cell is live, and syncs nothing but what awaits it.
         ensures works { (self.old.stopped || is_some self.old.engine.halted) ≡ false → Works D.honest D.history D.failures self.old self.new result }
         ensures refused { IfErr result (λ e. (e ≡ Refusal.Stopped) ⊎ EndsEarly e) }
         // Where it is stopped, nothing changes.
         ensures stopped { (self.old.stopped || is_some self.old.engine.halted) ≡ true → (result ≡ Err Refusal.Stopped) × (self.new ≡ self.old) }
     {
-        state_is_enough();
-        fronts_are_determined();
+        runs_are_joined::<D>();
         if self.is_stopped() {
             return Err(Refusal::Stopped);
         }

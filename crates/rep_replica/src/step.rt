@@ -23,7 +23,10 @@ use rep_disk::Disk;
 use rep_engine::certifiers_hold_windows;
 use rep_log::Phase;
 use rep_record::fronts_are_determined;
-use rep_steps::{Answer, Event, Replies, nodes_stay_nodes, parts_step_as_the_whole};
+use rep_steps::{
+    Answer, Event, Replies, judging_goes_on, nodes_stay_nodes, parts_step_as_the_whole,
+    verdicts_have_a_place,
+};
 use rep_types::{Judged, Key, MAX_AHEAD, MAX_SEQNO, Refusal, Value, WriteSet};
 
 /// What the log's step answers.
@@ -97,6 +100,8 @@ impl<D: Disk> Replica<D> {
         ensures { IsStep D.honest D.history D.failures self.old (Deliver seqno item) result self.new }
     {
         nodes_stay_nodes();
+        judging_goes_on();
+        verdicts_have_a_place();
         certifiers_hold_windows();
         // For its clause: what holds of every write set.
         item.writes();
@@ -128,6 +133,7 @@ impl<D: Disk> Replica<D> {
         ensures refused { IfErr result (λ e. (e ≡ OutOfMemory) × (is_gathering self.old.engine.log.phase ≡ true) × (self.new ≡ self.old)) }
     {
         fronts_are_determined();
+        judging_goes_on();
         self.engine.accept(&mut self.backlog)?;
         // Tells the proof what holds of the engine.
         let _durable = self.engine.durable();
@@ -143,6 +149,7 @@ impl<D: Disk> Replica<D> {
     {
         parts_step_as_the_whole();
         nodes_stay_nodes();
+        judging_goes_on();
         fronts_are_determined();
         // Tells the proof what holds of the engine.
         let _durable = self.engine.durable();
@@ -164,6 +171,7 @@ impl<D: Disk> Replica<D> {
     {
         parts_step_as_the_whole();
         nodes_stay_nodes();
+        judging_goes_on();
         // Tells the proof what holds of the engine.
         let _durable = self.engine.durable();
         synced(self.engine.sync())
@@ -176,6 +184,7 @@ impl<D: Disk> Replica<D> {
     {
         parts_step_as_the_whole();
         nodes_stay_nodes();
+        judging_goes_on();
         // Tells the proof what holds of the engine.
         let _durable = self.engine.durable();
         checked(self.engine.check(&self.certifier))
@@ -188,6 +197,7 @@ impl<D: Disk> Replica<D> {
     {
         parts_step_as_the_whole();
         nodes_stay_nodes();
+        judging_goes_on();
         wrote(self.engine.flush(page))
     }
 
@@ -207,6 +217,7 @@ impl<D: Disk> Replica<D> {
     {
         parts_step_as_the_whole();
         nodes_stay_nodes();
+        judging_goes_on();
         if self.is_stopped() {
             return Err(Refusal::Stopped);
         }

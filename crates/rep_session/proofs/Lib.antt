@@ -2,4 +2,3 @@ pub mod Keys
 pub mod Ascending
 pub mod Stepping
 pub mod Coming
-pub mod Following

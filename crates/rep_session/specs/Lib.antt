@@ -1,4 +1,3 @@
 pub mod Sessions
 pub mod Rows
 pub mod Runs
-pub mod Forgetting

@@ -1,14 +1,13 @@
 //! What a session reads.
 
-ghost use Rattle.std.specs.Prelude.{◌≡◌, ℕ, List, Option, Result, Ok};
+ghost use Rattle.std.specs.Prelude.{◌≡◌, ℕ, List, Option, Result, Ok, refl};
 ghost use Rattle.rep_types.specs.declared.key.Key.{Key};
 ghost use Rattle.rep_types.specs.declared.refusal.Refusal.{Refusal};
 ghost use Rattle.rep_types.specs.Settings.{Setting};
 ghost use Rattle.rep_types.specs.Order.{Order, read};
 
 use rep_disk::Disk;
-use rep_replica::Replica;
-use rep_steps::steps_follow_the_order;
+use rep_replica::{Replica, reads_forget_nothing};
 use rep_types::{Key, Refusal, Schema, Value};
 
 /// The rows of a database at each position of its order, as far as they are known to who has them: a
@@ -59,20 +58,20 @@ pub trait Rows {
 /// On any device a read is a step of the replica. On an honest one the rows are those of each order that begins
 /// with the durable items of a node that the replica stands for; whether it is stopped does not matter to that.
 impl<D: Disk> Rows for Replica<D> {
-    ghost use Rattle.rep_session.specs.Rows.{tables_of, IsFront, IsRead, AreOf};
-    ghost use Rattle.rep_session.specs.Forgetting.{read_forgets_nothing, read_is_of_the_order};
+    ghost use Rattle.rep_replica.specs.Reading.{HasRowsOf};
+    ghost use Rattle.rep_session.specs.Rows.{tables_of, IsFront, Reads};
 
-    ghost tables = { tables_of };
+    ghost tables = { tables_of D.failures };
 
-    ghost front_gives = { IsFront };
+    ghost front_gives = { IsFront D.failures };
 
-    ghost read_gives = { IsRead D.size D.failures D.honest D.history };
+    ghost read_gives = { Reads D.size D.failures D.honest D.history };
 
-    ghost are_of = { AreOf D.honest D.history D.failures };
+    ghost are_of = { HasRowsOf D.honest D.history D.failures };
 
-    ghost forgets_nothing = { read_forgets_nothing D.size D.failures D.honest D.history };
+    ghost forgets_nothing = { λ a b key s answer p L gives of. gives.forgets p L of };
 
-    ghost reads_the_order = { read_is_of_the_order D.size D.failures D.honest D.history };
+    ghost reads_the_order = { λ a b key s row p L gives of. gives.rows row p L refl of };
 
     fn schema(&self) -> &Schema {
         self.params().schema()
@@ -83,7 +82,7 @@ impl<D: Disk> Rows for Replica<D> {
     }
 
     fn read_at(&mut self, key: Key, s: u64) -> Result<Option<Value>, Refusal> {
-        steps_follow_the_order();
+        reads_forget_nothing::<D>();
         self.read(key, s)
     }
 }

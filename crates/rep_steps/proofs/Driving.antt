@@ -9,10 +9,13 @@ use Rattle.rep_disk.specs.History.{History}
 use Rattle.rep_disk.specs.Moments.{moment, ImageSince, LeavesOnly}
 use Rattle.rep_steps.specs.declared.event.Event.{Event}
 use Rattle.rep_steps.specs.declared.answer.Answer.{Answer}
+use Rattle.rep_steps.specs.Standings.{Standing}
+use Rattle.rep_steps.specs.Moves.{Moves}
 use Rattle.rep_steps.specs.Nodes.{Node, IsNode, Steps}
 use Rattle.rep_steps.specs.Orders.{IsOf, accepted}
 use Rattle.rep_steps.specs.Runs.{Runs, accepted_by}
 use Rattle.rep_steps.specs.Images.{Meaning, IsFrontAt, IsFrontOf, RunsOn}
+use Rattle.rep_steps.specs.Joining.{RunsAreJoined}
 use Rattle.rep_steps.proofs.Following.{count_behind}
 use Rattle.rep_steps.proofs.Running.{runs_come}
 use Rattle.rep_steps.proofs.Fronts.{fronts_stand}
@@ -125,3 +128,19 @@ pub run_more : StateIsEnough → FrontsAreDetermined → (means : List ℕ → M
     → RunsOn means old new n (events ++ e ∷ []) (answers ++ a ∷ []) m
 run_more enough fronts means old mid new n k m events answers e a h node r s l =
     run_then enough fronts means old mid new n k m events answers (e ∷ []) (a ∷ []) h r (run_one enough means mid new k m e a node s l)
+
+-- ---- the law
+
+-- one move
+one_move : (s t : Standing) (e : Event) (a : Answer) → Moves s e a t → Runs Moves s (e ∷ []) (a ∷ []) t
+one_move s t e a m = (t, m, refl)
+
+pub runs_joined : StateIsEnough → FrontsAreDetermined → (means : List ℕ → Meaning → Type 0) → RunsAreJoined means
+runs_joined enough fronts means = record {
+  no_move = λ s. refl;
+  one_move = one_move;
+  both_moves = moves_then Moves;
+  no_run = run_none means;
+  one_run = λ old new n m e a node step leaves. run_one enough means old new n m e a node step leaves;
+  both_runs = λ old mid new n k m events answers more told node first second. run_then enough fronts means old mid new n k m events answers more told node first second;
+}

@@ -47,7 +47,7 @@ module _ (enough : StateIsEnough) (L : Order) (n : Node) (h : IsNode n) (o : IsO
       ∙ reached_is enough p L n.base.position (k - n.base.position) (omega (arith, le, within)) ∙ ap (λ i. state p (take i L)) (omega (arith, le))
 
   pub holds_of : HoldsOf L n
-  holds_of = record { count = count; window = λ k le within. ap (λ (S : State). S.kept) (state_is k le within) }
+  holds_of = record { count = count; window = λ k le within. ap (λ (S : State). S.kept) (state_is k le within); state = state_is }
 
   -- the state of the whole order
   whole_is : state_at n (delivered n.facts) ≡ state p L

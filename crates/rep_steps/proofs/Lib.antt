@@ -8,3 +8,5 @@ pub mod Driving
 pub mod Judging
 pub mod Ahead
 pub mod Parts
+pub mod GoingOn
+pub mod Placing

@@ -1,7 +1,7 @@
 -- What runs of events come to.
 use Rattle.std.proofs.Common.{◌≡◌, ℕ, ◌+◌, ◌-◌, ◌≤◌, List, [], ◌∷◌, ◌++◌, append_assoc, append-nil, length, length-append, map, take, drop, refl, sym, ap, subst, ◌∙◌, arith}
 use Rattle.std.proofs.Math.Seq.{take-add, take-append_seam}
-use Rattle.std.proofs.lemmas.List.{drop_all, take-append-drop, take-append-le, drop-append-le, drop-drop, length-drop, length-take-le, map-append}
+use Rattle.std.proofs.lemmas.List.{drop_all, take_all, take-append-drop, take-append-le, drop-append-le, drop-drop, length-drop, length-take-le, map-append}
 use Rattle.rep_types.specs.declared.judged.Judged.{Judged}
 use Rattle.rep_types.specs.declared.refusal.Refusal.TheVariants.{DiskFault}
 use Rattle.rep_types.specs.Transactions.{Transaction}
@@ -15,11 +15,11 @@ use Rattle.rep_steps.specs.declared.event.Event.{Event}
 use Rattle.rep_steps.specs.declared.event.Event.TheVariants.{Deliver, Log, Sync, Check, Flush, Read}
 use Rattle.rep_steps.specs.declared.answer.Answer.{Answer}
 use Rattle.rep_steps.specs.declared.answer.Answer.TheVariants.{Wrote, Row, Refused}
-use Rattle.rep_steps.specs.Standings.{Stage, Off, Toward, Retiring, Standing}
+use Rattle.rep_steps.specs.Standings.{Stage, Off, Toward, Retiring, Standing, delivered}
 use Rattle.rep_steps.specs.Moves.{answer, check_answer, opening}
 use Rattle.rep_steps.specs.Nodes.{Node, IsNode, moved, found}
 use Rattle.rep_steps.specs.Orders.{IsOf, accepted}
-use Rattle.rep_steps.specs.Runs.{Runs, accepted_by, verdict_in, verdicts, replies_in, acknowledged, verdict_of, ComesTo, RunsComeTo, FedTheRest}
+use Rattle.rep_steps.specs.Runs.{Runs, accepted_by, verdict_in, verdicts, replies_in, acknowledged, verdict_of, ComesTo, RunsComeTo, RunsAnswerTheOrder, FedTheRest}
 use Rattle.rep_steps.proofs.Following.{Comes, Refuses, Stops, Does, comes, follows, nothing_comes, stopped_node, count, ahead_is, verdict_is}
 
 -- ---- runs, one event more at their end
@@ -198,6 +198,28 @@ runs_come enough fronts L n m (e ∷ events) (a ∷ answers) h o r =
     let known : r.0.facts.durable ≤ length (L ++ accepted e a) = omega (arith, count enough (L ++ accepted e a) r.0 after.node after.order) in
     one_more L (L ++ accepted e a) n r.0 m e a events answers refl known (steps_to enough L n h o r.0 e a step)
     (runs_come enough fronts (L ++ accepted e a) r.0 m events answers after.node after.order r.2)
+
+-- ---- what it answers within a whole order
+
+pub runs_answer : StateIsEnough → FrontsAreDetermined → RunsAnswerTheOrder
+runs_answer enough fronts L rest n m events answers h o r =
+    let p = n.facts.setting in
+    let c = runs_come enough fronts L n m events answers h o r in
+    let A = accepted_by events answers in
+    let M = L ++ A in
+    let first : delivered n.facts ≡ length L = count enough L n h o in
+    let last : delivered m.facts ≡ length M = count enough M m c.node c.order in
+    let more : length M ≡ length L + length A = length-append L A in
+    let within : m.facts.durable ≤ length M = omega (arith, last) in
+    let x = delivered m.facts - delivered n.facts in
+    let y = m.facts.durable - n.facts.durable in
+    let there : take x (drop (delivered n.facts) (history p (M ++ rest))) ≡ drop (length L) (history p M) =
+    piece_of p M rest (delivered n.facts) x (omega (arith, first, last, more)) ∙ ap (λ k. take x (drop k (history p M))) first
+    ∙ take_all x (drop (length L) (history p M)) (omega (arith, length-drop (length L) (history p M), length_history p M, first, last, more)) in
+    record {
+      judged = c.judged ∙ ap (map verdict_of) (sym there);
+      replied = c.replied ∙ ap (map reply_of) (sym (piece_of p M rest n.facts.durable y (omega (arith, within, c.rises))));
+    }
 
 -- ---- a node that is fed the rest of an order
 

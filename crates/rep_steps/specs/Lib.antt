@@ -4,4 +4,6 @@ pub mod Nodes
 pub mod Orders
 pub mod Runs
 pub mod Images
+pub mod Joining
+pub mod Judging
 pub mod Parts

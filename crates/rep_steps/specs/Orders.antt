@@ -9,7 +9,7 @@ use Rattle.rep_steps.specs.declared.answer.Answer.{Answer}
 use Rattle.rep_steps.specs.declared.answer.Answer.TheVariants.{Gave, Wrote, Synced, Row, Refused}
 use Rattle.rep_steps.specs.Standings.{Standing, delivered}
 use Rattle.rep_steps.specs.Moves.{opening, check_answer}
-use Rattle.rep_steps.specs.Nodes.{Node, IsNode, Steps, window_at}
+use Rattle.rep_steps.specs.Nodes.{Node, IsNode, Steps, state_at, window_at}
 
 -- The node is of the order: its base is the state after a front of it, and its items are the rest.
 pub record IsOf (L : Order) (n : Node) : Type 0 where
@@ -41,11 +41,12 @@ pub record FollowsTheOrder (L : Order) (n : Node) (e : Event) (a : Answer) (m : 
 abbrev pub StepsFollowTheOrder : Type 0
 StepsFollowTheOrder = (L : Order) (n m : Node) (e : Event) (a : Answer) → IsNode n → IsOf L n → Steps n e a m → FollowsTheOrder L n e a m
 
--- What a node of the order holds: as many items are delivered as the order has, and the state at a position from the base on is
+-- What a node of the order holds: as many items are delivered as the order has, and window and state at a position from the base on are
 -- the order's.
 pub record HoldsOf (L : Order) (n : Node) : Type 0 where
   pub count : delivered n.facts ≡ length L
   pub window : (k : ℕ) → n.base.position ≤ k → k ≤ length L → window_at n k ≡ window n.facts.setting (take k L)
+  pub state : (k : ℕ) → n.base.position ≤ k → k ≤ length L → state_at n k ≡ state n.facts.setting (take k L)
 
 abbrev pub NodesHoldTheOrder : Type 0
 NodesHoldTheOrder = (L : Order) (n : Node) → IsNode n → IsOf L n → HoldsOf L n

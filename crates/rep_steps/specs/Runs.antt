@@ -8,6 +8,7 @@ use Rattle.rep_types.specs.Order.{Order, history}
 use Rattle.rep_steps.specs.declared.event.Event.{Event}
 use Rattle.rep_steps.specs.declared.answer.Answer.{Answer}
 use Rattle.rep_steps.specs.declared.answer.Answer.TheVariants.{Gave, Synced}
+use Rattle.rep_steps.specs.Standings.{delivered}
 use Rattle.rep_steps.specs.Nodes.{Node, IsNode, Steps}
 use Rattle.rep_steps.specs.Orders.{IsOf, accepted}
 
@@ -59,6 +60,17 @@ pub record ComesTo (L : Order) (n : Node) (events : List Event) (answers : List 
 abbrev pub RunsComeTo : Type 0
 RunsComeTo = (L : Order) (n m : Node) (events : List Event) (answers : List Answer) → IsNode n → IsOf L n → Runs Steps n events answers m
     → ComesTo L n events answers m
+
+-- What a run answers within a whole order: the verdicts and the replies are those that the order has there, between what was delivered
+-- and durable before the run and after it.
+pub record AnswersOf (O : Order) (n : Node) (answers : List Answer) (m : Node) : Type 0 where
+  pub judged : verdicts answers ≡ map verdict_of (take (delivered m.facts - delivered n.facts) (drop (delivered n.facts) (history n.facts.setting O)))
+  pub replied : acknowledged answers ≡ map reply_of (take (m.facts.durable - n.facts.durable) (drop n.facts.durable (history n.facts.setting O)))
+
+-- So it is in each order that goes on behind what was delivered.
+abbrev pub RunsAnswerTheOrder : Type 0
+RunsAnswerTheOrder = (L rest : Order) (n m : Node) (events : List Event) (answers : List Answer) → IsNode n → IsOf L n → Runs Steps n events answers m
+    → AnswersOf ((L ++ accepted_by events answers) ++ rest) n answers m
 
 -- A node that was opened on a front of an order and is fed the rest gives the verdicts and replies of one that never stopped.
 pub record GoesOn (L : Order) (end : ℕ) (n : Node) (answers : List Answer) (m : Node) : Type 0 where

@@ -3,9 +3,12 @@
 ghost use Rattle.rep_steps.specs.Nodes.{StepsAreMoves, NodesStayNodes};
 ghost use Rattle.rep_steps.specs.Parts.{PartsStepAsTheWhole};
 ghost use Rattle.rep_steps.specs.Orders.{StepsFollowTheOrder, NodesHoldTheOrder};
-ghost use Rattle.rep_steps.specs.Runs.{RunsComeTo, FedTheRest};
+ghost use Rattle.rep_steps.specs.Runs.{RunsComeTo, RunsAnswerTheOrder, FedTheRest};
 ghost use Rattle.rep_steps.specs.Images.{JudgedItemsExtendTheOrder, FrontsStandForTheOrder, OpeningsOpenTheOrder};
+ghost use Rattle.rep_steps.specs.Joining.{RunsAreJoined};
+ghost use Rattle.rep_steps.specs.Judging.{JudgingGoesOn, VerdictsHaveAPlace};
 
+use crate::client::Core;
 use rep_record::fronts_are_determined;
 use rep_types::state_is_enough;
 
@@ -22,8 +25,8 @@ pub fn nodes_stay_nodes()
     fronts_are_determined();
 }
 
-/// A node of an order holds it: as many items are delivered as it has, and the window at each position
-/// from the base on is the order's.
+/// A node of an order holds it: as many items are delivered as it has, and the state at each position from the
+/// base on, its rows and its window, is the order's.
 pub fn nodes_hold_the_order()
     ensures { NodesHoldTheOrder }
 {
@@ -44,6 +47,15 @@ pub fn steps_follow_the_order()
 /// in their order, each once.
 pub fn runs_come_to()
     ensures { RunsComeTo }
+{
+    state_is_enough();
+    fronts_are_determined();
+}
+
+/// Within each order that goes on behind what a run delivered, its verdicts and replies are those that the order has
+/// between what was delivered and durable before the run and after it.
+pub fn runs_answer_the_order()
+    ensures { RunsAnswerTheOrder }
 {
     state_is_enough();
     fronts_are_determined();
@@ -82,4 +94,27 @@ pub fn openings_open_the_order()
 /// them: so an engine that has taken a front of them steps as the replica around it does.
 pub fn parts_step_as_the_whole()
     ensures { PartsStepAsTheWhole }
+{}
+
+/// Runs one after another are one run: no event is a run, one step is a run of one event, and two runs, the second
+/// from where the first led, are the run of both lists. So it is on any device, and at a node, with what a stop
+/// leaves at each moment. So what goes on by single steps has made a run too.
+pub fn runs_are_joined<C: Core>()
+    ensures { RunsAreJoined C.means }
+{
+    state_is_enough();
+    fronts_are_determined();
+}
+
+/// Items that were judged one after another are so with one more, in parts, and from a state with other rows; the
+/// state that they lead to is reached in two goes too, and its window does not depend on rows; and their seqnos
+/// follow one another.
+pub fn judging_goes_on()
+    ensures { JudgingGoesOn }
+{}
+
+/// The next item with the verdict on it has a place in a block: where no item of the window is above the position, a
+/// conflict is with an item before it. So each item has that a certifier judged.
+pub fn verdicts_have_a_place()
+    ensures { VerdictsHaveAPlace }
 {}

@@ -17,7 +17,7 @@ check-requires g c =
     let h = c.self.inside.certifier.current in
     let durable = durable_of c.self.inside.engine.log in
     record {
-      window = record {
+      window = λ off. record {
         askable = c.self.invariant.askable;
         window = subst (λ (p : Setting). IsWindowAt p durable (window_of h durable)) c.self.invariant.setting (c.self.invariant.windows durable c.self.invariant.askable);
       };
@@ -40,7 +40,7 @@ invariant_of-self g c =
 pub returns : goal.returns
 returns g c =
     let block = ap (λ (x : Engine g.row.D.Denot). x.block) c.check.ensures.rest in
-    let step = check_step g.D.Disk.honest g.D.Disk.history g.D.Disk.failures c.nodes_stay_nodes.ensures c.parts_step_as_the_whole.ensures (old g c) (new g c) (checked c.check.result) c.check.ensures.params refl refl refl (running g c)
+    let step = check_step g.D.Disk.honest g.D.Disk.history g.D.Disk.failures c.nodes_stay_nodes.ensures c.judging_goes_on.ensures c.parts_step_as_the_whole.ensures (old g c) (new g c) (checked c.check.result) c.check.ensures.params refl refl refl (running g c)
     block c.check.ensures.moves c.check.ensures.steps c.check.ensures.leaves c.self.invariant.askable in
     subst (λ (r : Replica g.row.D.Denot). IsStep g.D.Disk.honest g.D.Disk.history g.D.Disk.failures r Check c.checked.result (new g c)) c.self.view_is
     (subst (λ (a : Answer). IsStep g.D.Disk.honest g.D.Disk.history g.D.Disk.failures (old g c) Check a (new g c)) (sym c.checked.ensures) step)

@@ -41,11 +41,11 @@ pushed g c = on_ok c.push.result c.if-is_err.ensures.negation c.push.ensures.pus
 
 pub invariant_of-self : goal.invariant_of-self
 invariant_of-self g c =
-    replica_delivers g.D.Disk.honest g.D.Disk.history g.D.Disk.failures (old g c) (new g c) c.args.seqno c.args.item (item g c) (running g c) (runs g c) (none g c) c.self.invariant (item_is g c) c.in-Ok.ensures.admitted refl (pushed g c) refl
-    c.certifiers_hold_windows.ensures c.writes.ensures.limits
+    replica_delivers g.D.Disk.honest g.D.Disk.history g.D.Disk.failures (old g c) (new g c) c.args.seqno c.args.item (item g c) (running g c) (runs g c) (none g c) c.self.invariant (item_is g c) c.in-Ok.ensures.admitted refl (pushed g c) refl c.judging_goes_on.ensures
+    c.verdicts_have_a_place.ensures c.certifiers_hold_windows.ensures c.writes.ensures.limits
 
 pub returns : goal.returns
 returns g c =
-    let step = delivered_step g.D.Disk.honest g.D.Disk.history g.D.Disk.failures (old g c) (new g c) c.args.seqno c.args.item (item g c) (running g c) (runs g c) (none g c) c.self.invariant (item_is g c) c.in-Ok.ensures.admitted refl (pushed g c) refl c.nodes_stay_nodes.ensures in
+    let step = delivered_step g.D.Disk.honest g.D.Disk.history g.D.Disk.failures (old g c) (new g c) c.args.seqno c.args.item (item g c) (running g c) (runs g c) (none g c) c.self.invariant (item_is g c) c.in-Ok.ensures.admitted refl (pushed g c) refl c.judging_goes_on.ensures c.nodes_stay_nodes.ensures in
     subst (λ (r : Replica g.row.D.Denot). IsStep g.D.Disk.honest g.D.Disk.history g.D.Disk.failures r (Deliver c.args.seqno c.args.item) (Gave c.in-Ok.verdict) (new g c)) c.self.view_is
     (subst (λ (a : Answer). IsStep g.D.Disk.honest g.D.Disk.history g.D.Disk.failures (old g c) (Deliver c.args.seqno c.args.item) a (new g c)) (ap Gave (sym c.in-Ok.ensures.verdict)) step)

@@ -2,12 +2,12 @@ use Rattle.std.proofs.Common.{Result, sym, subst, ◌∙◌}
 use Rattle.rep_types.specs.declared.refusal.Refusal.{Refusal}
 use Rattle.rep_replica.specs.Replicas.{facts_of}
 use Rattle.rep_replica.specs.Settling.{Works}
-use Rattle.rep_replica.proofs.Settling.{works_none, works_on, goes_on, ends_on, ok_of, own_step, is_running, Goes, rests_none, rests_then}
+use Rattle.rep_replica.proofs.Settling.{works_none, works_on, goes_on, ends_on, ok_of, is_running, Goes, rests_none, rests_then}
 use Rattle.rep_replica.proofs.replica.Replica.finish_checkpoint.Goals as goal
 
 pub loop-event-init : goal.loop-event-init
 loop-event-init g c = record {
-  works = works_none g.D.Disk.honest g.D.Disk.history g.D.Disk.failures c.args.self.now;
+  works = works_none g.D.Disk.honest g.D.Disk.history g.D.Disk.failures c.runs_are_joined.ensures c.args.self.now;
   running = c.requires.running;
   rests = λ rests. rests_none (facts_of g.D.Disk.failures c.args.self.now) rests;
 }
@@ -16,8 +16,8 @@ loop-event-init g c = record {
 
 pub returns-then-is_err-clause-works : goal.returns-then-is_err-clause-works
 returns-then-is_err-clause-works g c =
-    works_on g.D.Disk.honest g.D.Disk.history g.D.Disk.failures c.loop-event.self c.step-answer.new.self c.step-answer.result c.outcome-ended.result c.outcome-ended.ensures c.state_is_enough.ensures c.fronts_are_determined.ensures c.args.self.now
-    c.in-Some.event (own_step (facts_of g.D.Disk.failures c.loop-event.self).stage c.in-Some.event (sym c.checkpoint_event.ensures ∙ c.in-Some.is)) c.step-answer.ensures.step c.loop-event.invariant.works
+    works_on g.D.Disk.honest g.D.Disk.history g.D.Disk.failures c.loop-event.self c.step-answer.new.self c.step-answer.result c.outcome-ended.result c.outcome-ended.ensures c.runs_are_joined.ensures c.args.self.now
+    c.in-Some.event (sym c.checkpoint_event.ensures ∙ c.in-Some.is) c.step-answer.ensures.step c.loop-event.invariant.works
 
 pub returns-then-is_err-clause-early : goal.returns-then-is_err-clause-early
 returns-then-is_err-clause-early g c =
@@ -36,8 +36,8 @@ pub loop-event-preserved : goal.loop-event-preserved
 loop-event-preserved g c = record {
   works =
       subst (λ (r : Result (Unit {0}) Refusal). Works g.D.Disk.honest g.D.Disk.history g.D.Disk.failures c.args.self.now c.step-answer.new.self r) (ok_of c.outcome-ended.result c.if-is_err.ensures.value)
-      (works_on g.D.Disk.honest g.D.Disk.history g.D.Disk.failures c.loop-event.self c.step-answer.new.self c.step-answer.result c.outcome-ended.result c.outcome-ended.ensures c.state_is_enough.ensures c.fronts_are_determined.ensures c.args.self.now
-      c.in-Some.event (own_step (facts_of g.D.Disk.failures c.loop-event.self).stage c.in-Some.event (sym c.checkpoint_event.ensures ∙ c.in-Some.is)) c.step-answer.ensures.step c.loop-event.invariant.works);
+      (works_on g.D.Disk.honest g.D.Disk.history g.D.Disk.failures c.loop-event.self c.step-answer.new.self c.step-answer.result c.outcome-ended.result c.outcome-ended.ensures c.runs_are_joined.ensures c.args.self.now
+      c.in-Some.event (sym c.checkpoint_event.ensures ∙ c.in-Some.is) c.step-answer.ensures.step c.loop-event.invariant.works);
   running = is_running g.D.Disk.failures c.step-answer.new.self (goes g c).running;
   rests = λ rests.
       let so_far = c.loop-event.invariant.rests rests in

@@ -28,7 +28,7 @@ invariant_of-self g c =
 pub returns : goal.returns
 returns g c =
     let block = ap (λ (x : Engine g.row.D.Denot). x.block) c.flush.ensures.rest in
-    let step = flush_step g.D.Disk.honest g.D.Disk.history g.D.Disk.failures c.nodes_stay_nodes.ensures c.parts_step_as_the_whole.ensures (old g c) (new g c) (wrote c.flush.result) (keeps g c).setting refl refl refl (running g c) c.args.page
+    let step = flush_step g.D.Disk.honest g.D.Disk.history g.D.Disk.failures c.nodes_stay_nodes.ensures c.judging_goes_on.ensures c.parts_step_as_the_whole.ensures (old g c) (new g c) (wrote c.flush.result) (keeps g c).setting refl refl refl (running g c) c.args.page
     block (record { moves = c.flush.ensures.moves; steps = c.flush.ensures.steps; leaves = c.flush.ensures.leaves }) in
     subst (λ (r : Replica g.row.D.Denot). IsStep g.D.Disk.honest g.D.Disk.history g.D.Disk.failures r (Flush c.args.page) c.wrote.result (new g c)) c.self.view_is
     (subst (λ (a : Answer). IsStep g.D.Disk.honest g.D.Disk.history g.D.Disk.failures (old g c) (Flush c.args.page) a (new g c)) (sym c.wrote.ensures) step)

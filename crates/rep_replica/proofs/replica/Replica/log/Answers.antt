@@ -103,7 +103,7 @@ pub returns-clause-step : goal.returns-clause-step
 returns-clause-step g c =
     let params = ap (λ (x : Engine g.row.D.Denot). x.checkpoint.base.params) c.log.ensures.rest in
     let block = ap (λ (x : Engine g.row.D.Denot). x.block) c.log.ensures.rest in
-    let step = log_step g.D.Disk.honest g.D.Disk.history g.D.Disk.failures c.nodes_stay_nodes.ensures c.parts_step_as_the_whole.ensures (mid g c) (new g c) (wrote c.log.result) params refl refl refl (running_on g c) block
+    let step = log_step g.D.Disk.honest g.D.Disk.history g.D.Disk.failures c.nodes_stay_nodes.ensures c.judging_goes_on.ensures c.parts_step_as_the_whole.ensures (mid g c) (new g c) (wrote c.log.result) params refl refl refl (running_on g c) block
     (record { moves = c.log.ensures.moves; steps = c.log.ensures.steps; leaves = c.log.ensures.leaves }) (full g c) in
     let from = subst (λ (x : Replica g.row.D.Denot). IsStep g.D.Disk.honest g.D.Disk.history g.D.Disk.failures x Log (wrote c.log.result) (new g c)) c.self-2.view_is step in
     let disk = ap (λ (e : Engine g.row.D.Denot). e.disk) c.in_default-gather.ensures.engine in

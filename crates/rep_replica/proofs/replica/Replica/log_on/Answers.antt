@@ -9,7 +9,7 @@ use Rattle.rep_engine.specs.Engines.{IsEngine}
 use Rattle.rep_engine.specs.Writing.{IsWrite}
 use Rattle.rep_replica.specs.Replicas.{Replica, ArePlaced, facts_of}
 use Rattle.rep_replica.proofs.Settling.{one_works, one_early, one_done, on_ok, still_running}
-use Rattle.rep_replica.proofs.LoggingOn.{can_log, written_less, synced_less}
+use Rattle.rep_replica.proofs.LoggingOn.{can_log, log_due, sync_due, written_less, synced_less}
 use Rattle.rep_replica.proofs.replica.Replica.log_on.Goals as goal
 
 abbrev Stands : {D : Type 0} → Replica D → Type 0
@@ -23,7 +23,7 @@ returns-in-Sync g c =
     let due = ap (λ (r : Replica g.row.D.Denot). due_of r.engine.log) (sym c.self.view_is) ∙ sym c.log_step.ensures ∙ c.in-Sync.is in
     let done = one_done g.D.Disk.honest g.D.Disk.history g.D.Disk.failures old new Sync c.sync.result c.outcome.result c.outcome.ensures tt c.requires.running refl c.sync.ensures.step in
     record {
-      works = one_works g.D.Disk.honest g.D.Disk.history g.D.Disk.failures old new Sync c.sync.result c.outcome.result c.outcome.ensures tt c.requires.running refl c.sync.ensures.step c.state_is_enough.ensures;
+      works = one_works g.D.Disk.honest g.D.Disk.history g.D.Disk.failures old new Sync c.sync.result c.outcome.result c.outcome.ensures tt c.requires.running refl c.sync.ensures.step c.runs_are_joined.ensures (sync_due g.D.Disk.failures old c.requires.running engine c.requires.off c.requires.some due);
       running = on_ok c.outcome.result (λ ok. still_running g.D.Disk.failures old new Sync (done ok).0 tt c.requires.running (done ok).1);
       off = on_ok c.outcome.result (λ ok. ap (λ (s : Standing). s.stage) (done ok).1 ∙ ap synced_stage c.requires.off);
       less = on_ok c.outcome.result (λ ok.
@@ -49,7 +49,7 @@ returns-in-Recycle g c =
     let none : refusal_here (facts_of g.D.Disk.failures old) Log ≡ None = can_log g.D.Disk.failures old c.requires.running engine c.fronts_are_determined.ensures write placed c.look_at_the_first.ensures c.requires.some in
     let done = one_done g.D.Disk.honest g.D.Disk.history g.D.Disk.failures old new Log c.log.result result c.outcome-in-Recycle.ensures tt c.requires.running none c.log.ensures.step in
     record {
-      works = one_works g.D.Disk.honest g.D.Disk.history g.D.Disk.failures old new Log c.log.result result c.outcome-in-Recycle.ensures tt c.requires.running none c.log.ensures.step c.state_is_enough.ensures;
+      works = one_works g.D.Disk.honest g.D.Disk.history g.D.Disk.failures old new Log c.log.result result c.outcome-in-Recycle.ensures tt c.requires.running none c.log.ensures.step c.runs_are_joined.ensures (log_due g.D.Disk.failures old c.requires.running engine c.requires.off c.requires.some write);
       running = on_ok result (λ ok. still_running g.D.Disk.failures old new Log (done ok).0 tt c.requires.running (done ok).1);
       off = on_ok result (λ ok. ap (λ (s : Standing). s.stage) (done ok).1 ∙ c.requires.off);
       less = on_ok result (λ ok.

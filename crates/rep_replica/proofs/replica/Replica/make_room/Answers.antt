@@ -14,7 +14,7 @@ use Rattle.rep_replica.specs.Replicas.{Replica, facts_of}
 use Rattle.rep_replica.specs.Holding.{IsStep}
 use Rattle.rep_replica.specs.Settling.{IsRunning, outcome_of, Works}
 use Rattle.rep_replica.proofs.Settling.{works_then, one_works, one_early, one_done, on_ok, ok_on, ok_of, still_running}
-use Rattle.rep_replica.proofs.LoggingOn.{full_due, can_begin, phase_is, room_made}
+use Rattle.rep_replica.proofs.LoggingOn.{full_due, can_begin, phase_is, check_due, room_made}
 use Rattle.rep_replica.proofs.replica.Replica.make_room.Goals as goal
 
 abbrev Stands : {D : Type 0} → Replica D → Type 0
@@ -38,7 +38,7 @@ pub returns-then-is_err-clause-works : goal.returns-then-is_err-clause-works
 returns-then-is_err-clause-works g c =
     let engine : Stands c.args.self.now = subst (λ (r : Replica g.row.D.Denot). Stands r) c.self.view_is c.durable-durable.ensures.engine in
     one_works g.D.Disk.honest g.D.Disk.history g.D.Disk.failures c.args.self.now c.check.new.self Check c.check.result c.outcome-ended.result c.outcome-ended.ensures tt c.requires.running
-    (can_begin g.D.Disk.failures c.args.self.now c.requires.running engine c.requires.off c.requires.due) c.check.ensures c.state_is_enough.ensures
+    (can_begin g.D.Disk.failures c.args.self.now c.requires.running engine c.requires.off c.requires.due) c.check.ensures c.runs_are_joined.ensures (check_due g.D.Disk.failures c.args.self.now c.requires.running engine c.requires.off c.requires.some c.requires.due)
 
 pub returns-then-is_err-clause-early : goal.returns-then-is_err-clause-early
 returns-then-is_err-clause-early g c =
@@ -58,10 +58,10 @@ finish_checkpoint-requires g c =
 pub returns-clause-works : goal.returns-clause-works
 returns-clause-works g c =
     let engine : Stands c.args.self.now = subst (λ (r : Replica g.row.D.Denot). Stands r) c.self.view_is c.durable-durable.ensures.engine in
-    works_then g.D.Disk.honest g.D.Disk.history g.D.Disk.failures c.state_is_enough.ensures c.fronts_are_determined.ensures c.args.self.now c.check.new.self c.finish_checkpoint.new.self c.finish_checkpoint.result
+    works_then g.D.Disk.honest g.D.Disk.history g.D.Disk.failures c.runs_are_joined.ensures c.args.self.now c.check.new.self c.finish_checkpoint.new.self c.finish_checkpoint.result
     (subst (λ (r : Result (Unit {0}) Refusal). Works g.D.Disk.honest g.D.Disk.history g.D.Disk.failures c.args.self.now c.check.new.self r) (ok_of c.outcome-ended.result c.if-is_err.ensures.value)
     (one_works g.D.Disk.honest g.D.Disk.history g.D.Disk.failures c.args.self.now c.check.new.self Check c.check.result c.outcome-ended.result c.outcome-ended.ensures tt c.requires.running
-    (can_begin g.D.Disk.failures c.args.self.now c.requires.running engine c.requires.off c.requires.due) c.check.ensures c.state_is_enough.ensures)) c.finish_checkpoint.ensures.works
+    (can_begin g.D.Disk.failures c.args.self.now c.requires.running engine c.requires.off c.requires.due) c.check.ensures c.runs_are_joined.ensures (check_due g.D.Disk.failures c.args.self.now c.requires.running engine c.requires.off c.requires.some c.requires.due))) c.finish_checkpoint.ensures.works
 
 pub returns-clause-less : goal.returns-clause-less
 returns-clause-less g c = on_ok c.finish_checkpoint.result (λ done.

@@ -27,7 +27,7 @@ returns-clause-step g c =
     let running : c.self.inside.stopped ≡ false = ap (λ (r : Replica g.row.D.Denot). r.stopped) c.self.view_is ∙ (both_false c.args.self.now.stopped (is_some c.args.self.now.engine.halted) goes).0 in
     let params = ap (λ (x : Engine g.row.D.Denot). x.checkpoint.base.params) c.read.ensures.rest in
     let block = ap (λ (x : Engine g.row.D.Denot). x.block) c.read.ensures.rest in
-    let step = read_step g.D.Disk.honest g.D.Disk.history g.D.Disk.failures c.nodes_stay_nodes.ensures c.parts_step_as_the_whole.ensures (old g c) (new g c) (row c.read.result) params refl refl refl running c.args.key c.args.s block
+    let step = read_step g.D.Disk.honest g.D.Disk.history g.D.Disk.failures c.nodes_stay_nodes.ensures c.judging_goes_on.ensures c.parts_step_as_the_whole.ensures (old g c) (new g c) (row c.read.result) params refl refl refl running c.args.key c.args.s block
     (record {
       moves = c.read.ensures.moves;
       steps = c.read.ensures.steps;

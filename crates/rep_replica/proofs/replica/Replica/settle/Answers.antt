@@ -19,7 +19,7 @@ loop-self-preserved g c =
     record {
       works =
           subst (λ (r : Result (Unit {0}) Refusal). Works g.D.Disk.honest g.D.Disk.history g.D.Disk.failures c.args.self.now c.log_on-ended.new.self r) ok
-          (works_then g.D.Disk.honest g.D.Disk.history g.D.Disk.failures c.state_is_enough.ensures c.fronts_are_determined.ensures c.args.self.now c.loop-self.self c.log_on-ended.new.self c.log_on-ended.result c.loop-self.invariant.works
+          (works_then g.D.Disk.honest g.D.Disk.history g.D.Disk.failures c.runs_are_joined.ensures c.args.self.now c.loop-self.self c.log_on-ended.new.self c.log_on-ended.result c.loop-self.invariant.works
           c.log_on-ended.ensures.works);
       running = ok_on c.log_on-ended.result c.log_on-ended.ensures.running ok;
       off = ok_on c.log_on-ended.result c.log_on-ended.ensures.off ok;
@@ -28,5 +28,5 @@ loop-self-preserved g c =
 -- where a step of the log ended it
 pub returns-then-is_err-2-clause-works : goal.returns-then-is_err-2-clause-works
 returns-then-is_err-2-clause-works g c = λ runs.
-    works_then g.D.Disk.honest g.D.Disk.history g.D.Disk.failures c.state_is_enough.ensures c.fronts_are_determined.ensures c.args.self.now c.loop-self.self c.log_on-ended.new.self c.log_on-ended.result c.loop-self.invariant.works
+    works_then g.D.Disk.honest g.D.Disk.history g.D.Disk.failures c.runs_are_joined.ensures c.args.self.now c.loop-self.self c.log_on-ended.new.self c.log_on-ended.result c.loop-self.invariant.works
     c.log_on-ended.ensures.works

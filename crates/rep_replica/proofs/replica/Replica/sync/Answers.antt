@@ -25,7 +25,7 @@ returns-clause-step g c =
     let runs : e.halted ≡ None = ap (λ (r : Replica g.row.D.Denot). r.engine.halted) c.self.view_is ∙ c.requires.running.1 in
     let params = c.sync.ensures.params in
     let told = subst (λ phase. opening phase ≤ length e.block) (sym (ap (phase_at e.log.phase) runs)) (opening_within e.log.phase e.block c.durable-durable.ensures.engine.whole) in
-    let step = sync_step g.D.Disk.honest g.D.Disk.history g.D.Disk.failures c.nodes_stay_nodes.ensures c.parts_step_as_the_whole.ensures (old g c) (new g c) (synced c.sync.result) params refl refl refl running told
+    let step = sync_step g.D.Disk.honest g.D.Disk.history g.D.Disk.failures c.nodes_stay_nodes.ensures c.judging_goes_on.ensures c.parts_step_as_the_whole.ensures (old g c) (new g c) (synced c.sync.result) params refl refl refl running told
     (record { moves = c.sync.ensures.moves; steps = c.sync.ensures.steps; leaves = c.sync.ensures.leaves }) in
     subst (λ (r : Replica g.row.D.Denot). IsStep g.D.Disk.honest g.D.Disk.history g.D.Disk.failures r Sync c.synced.result (new g c)) c.self.view_is
     (subst (λ (a : Answer). IsStep g.D.Disk.honest g.D.Disk.history g.D.Disk.failures (old g c) Sync a (new g c)) (sym c.synced.ensures) step)

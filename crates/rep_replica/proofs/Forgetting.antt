@@ -1,26 +1,62 @@
--- A read of a replica forgets nothing of the order, and answers its rows.
-use Rattle.std.specs.Prelude.{◌≡◌, ℕ, ◌||◌, Bool, true, false, is_some, List, length, take, Option, Some, None, Result, Ok, Err, refl}
-use Rattle.std.proofs.Common.{sym, ap, subst, ◌∙◌}
+-- A read forgets nothing of the order, and answers its rows.
+use Rattle.std.proofs.Common.{◌≡◌, ◌⊎◌, inl, inr, ℕ, ◌≤◌, Bool, true, false, List, length, take, Option, Some, None, Result, Ok, Err, refl, sym, ap, subst, ◌∙◌}
+use Rattle.std.specs.Prelude.{◌||◌, is_some, nat_lt, not, if◌then◌else◌, MatchOption}
+use Rattle.std.proofs.lemmas.Bool.{ltb-false}
 use Rattle.std.proofs.lemmas.List.{take-take}
 use Rattle.rep_types.specs.declared.key.Key.{Key}
 use Rattle.rep_types.specs.declared.refusal.Refusal.{Refusal}
-use Rattle.rep_types.specs.declared.refusal.Refusal.TheVariants.{Stopped}
-use Rattle.rep_types.specs.Settings.{Setting}
+use Rattle.rep_types.specs.declared.refusal.Refusal.TheVariants.{Stopped, BadKey, NotYet, TooOld}
+use Rattle.rep_types.specs.Settings.{Setting, has_row}
 use Rattle.rep_types.specs.Order.{Order, read, rows}
 use Rattle.rep_disk.specs.History.{History, stable, IsImage}
 use Rattle.rep_cells.specs.Known.{Assigns}
 use Rattle.rep_log.specs.declared.phase.Phase.{Phase}
+use Rattle.rep_steps.specs.declared.event.Event.TheVariants.{Read}
+use Rattle.rep_steps.specs.declared.answer.Answer.TheVariants.{Row, Refused}
 use Rattle.rep_steps.specs.Standings.{Standing, IsStanding}
-use Rattle.rep_steps.specs.Nodes.{Node, IsNode}
+use Rattle.rep_steps.specs.Nodes.{Node, IsNode, Steps}
+use Rattle.rep_steps.specs.Orders.{IsOf, StepsFollowTheOrder}
 use Rattle.rep_steps.specs.Parts.{part_of}
 use Rattle.rep_steps.specs.Images.{IsFrontAt}
 use Rattle.rep_image.specs.Meanings.{Means}
 use Rattle.rep_checkpoint.specs.Nodes.{StandsAs}
 use Rattle.rep_engine.specs.Engines.{Engine}
-use Rattle.rep_engine.specs.Holding.{Stands, Holds as EngineHolds}
+use Rattle.rep_engine.specs.Holding.{Stands, Holds as EngineHolds, row}
 use Rattle.rep_replica.specs.Replicas.{Replica}
-use Rattle.rep_replica.specs.Holding.{Holds}
-use Rattle.rep_session.specs.Rows.{running, IsRead, AreOf}
+use Rattle.rep_replica.specs.Holding.{Holds, IsStep}
+use Rattle.rep_replica.specs.Reading.{IsRead, running, HasRowsOf, ReadsForgetNothing}
+
+-- ---- a row that is answered
+
+-- a row is no refusal
+no_refusal : {A : Type 0} (x : Option (List ℕ)) (r : Refusal) → Row x ≡ Refused r → A
+no_refusal x r e = absurd cc
+
+-- where a row is answered, no refusal applies, and the position is at most the durable one
+answered_within : (A : Type 0) (B : Refusal → Type 0) (stopped known above below : Bool) (durable base s : ℕ) (x : Option (List ℕ)) → nat_lt durable s ≡ above
+    → MatchOption (if stopped then Some Stopped else if not known then Some BadKey else if above then Some (NotYet durable) else if below then Some (TooOld base) else None) A (λ r. (Row x ≡ Refused r) × B r) → s ≤ durable
+answered_within A B true known above below durable base s x is m = no_refusal x Stopped m.0
+answered_within A B false false above below durable base s x is m = no_refusal x BadKey m.0
+answered_within A B false true true below durable base s x is m = no_refusal x (NotYet durable) m.0
+answered_within A B false true false true durable base s x is m = no_refusal x (TooOld base) m.0
+answered_within A B false true false false durable base s x is m = ltb-false durable s is
+
+same_row : (x y : Option (List ℕ)) → Row x ≡ Row y → x ≡ y
+same_row x y e = cc
+
+read_follows : {D : Type 0} (honest : D → Type 0) (history : D → History) (failures : D → ℕ) → StepsFollowTheOrder → (a b : Replica D) (key : Key) (s : ℕ) (answer : Result (Option (List ℕ)) Refusal)
+    → IsStep honest history failures a (Read key s) (row answer) b → (n : Node) (M : Order) (x : Option (List ℕ)) → Holds honest history failures n a → IsOf M n → answer ≡ Ok x
+    → (s ≤ n.facts.durable) × (x ≡ read n.facts.setting M key s)
+read_follows honest history failures follow a b key s answer step n M x holds is_of is_ok =
+    let to = step.steps n holds in
+    let steps : Steps n (Read key s) (Row x) to.0 = subst (λ (r : Result (Option (List ℕ)) Refusal). Steps n (Read key s) (row r) to.0) is_ok to.1 in (
+      answered_within _ _ n.facts.stopped (has_row n.facts.setting.rows key) (nat_lt n.facts.durable s) (nat_lt s n.facts.base) n.facts.durable n.facts.base s x refl steps,
+      by (follow M n to.0 (Read key s) (Row x) holds.node is_of steps).answered,
+    )
+  where
+    by : ((r : Refusal) × (Row x ≡ Refused r)) ⊎ (Row x ≡ Row (read n.facts.setting M key s)) → x ≡ read n.facts.setting M key s
+    by (inl (r, e)) = no_refusal x r e
+    by (inr e) = same_row x (read n.facts.setting M key s) e
 
 -- ---- a device that was asked differs in its count of failures
 
@@ -106,7 +142,7 @@ module _ {D : Type 0} (honest : D → Type 0) (history : D → History) (failure
     windows = h.windows;
   }
 
-  are_still : (r : Replica D) (p : Setting) (L : Order) → AreOf honest history failures (on_disk new r) p L → AreOf honest history failures (on_disk old r) p L
+  are_still : (r : Replica D) (p : Setting) (L : Order) → HasRowsOf honest history failures (on_disk new r) p L → HasRowsOf honest history failures (on_disk old r) p L
   are_still r p L h = record {
     node = recounted (failures old) h.node;
     order = h.order;
@@ -116,24 +152,24 @@ module _ {D : Type 0} (honest : D → Type 0) (history : D → History) (failure
     durable = h.durable;
   }
 
--- ---- the laws of rows
+-- ---- the law
 
-module _ {D : Type 0} (size failures : D → ℕ) (honest : D → Type 0) (history : D → History) where
+module _ {D : Type 0} (size failures : D → ℕ) (honest : D → Type 0) (history : D → History) (follow : StepsFollowTheOrder) where
   -- of a stopped replica it is said as of the same one that runs
-  as_running : (r : Replica D) (p : Setting) (L : Order) → AreOf honest history failures r p L → AreOf honest history failures (running r) p L
+  as_running : (r : Replica D) (p : Setting) (L : Order) → HasRowsOf honest history failures r p L → HasRowsOf honest history failures (running r) p L
   as_running r p L h = record { node = h.node; order = h.order; holds = h.holds; is_of = h.is_of; setting = h.setting; durable = h.durable }
 
-  as_stopped : (r : Replica D) (p : Setting) (L : Order) → AreOf honest history failures (running r) p L → AreOf honest history failures r p L
+  as_stopped : (r : Replica D) (p : Setting) (L : Order) → HasRowsOf honest history failures (running r) p L → HasRowsOf honest history failures r p L
   as_stopped r p L h = record { node = h.node; order = h.order; holds = h.holds; is_of = h.is_of; setting = h.setting; durable = h.durable }
 
-  -- an order that the replica is of behind a read is one that it was of before
-  pub read_forgets_nothing : (a b : Replica D) (key : Key) (s : ℕ) (answer : Result (Option (List ℕ)) Refusal) (p : Setting) (L : Order) → IsRead size failures honest history a key s answer b → AreOf honest history failures b p L → AreOf honest history failures a p L
-  read_forgets_nothing a b key s answer p L h of =
+  -- an order whose rows the replica has behind a read is one whose rows it had before
+  forgets : (a b : Replica D) (key : Key) (s : ℕ) (answer : Result (Option (List ℕ)) Refusal) (p : Setting) (L : Order) → IsRead size failures honest history a key s answer b → HasRowsOf honest history failures b p L → HasRowsOf honest history failures a p L
+  forgets a b key s answer p L h of =
       let new = b.engine.disk in
       let old = a.engine.disk in
       let was_honest : honest old = h.call.was_honest of.holds.engine.is_honest in
-      let then : AreOf honest history failures (running b) p L = as_running b p L of in
-      let moved : AreOf honest history failures (on_disk new a) p L = subst (λ (r : Replica D). AreOf honest history failures (running r) p L) h.rest then in
+      let ran : HasRowsOf honest history failures (running b) p L = as_running b p L of in
+      let moved : HasRowsOf honest history failures (on_disk new a) p L = subst (λ (r : Replica D). HasRowsOf honest history failures (running r) p L) h.rest ran in
       as_stopped a p L (are_still honest history failures old new was_honest (h.same was_honest) a p L moved)
 
   -- where a row is answered, it runs
@@ -143,16 +179,20 @@ module _ {D : Type 0} (size failures : D → ℕ) (honest : D → Type 0) (histo
   runs a false None is_stopped is_halted never = ap (λ (stopped : Bool). record a { engine = record a.engine { halted = None }; stopped = stopped }) (sym is_stopped) ∙ ap (λ (halted : Option Phase). record a { engine = record a.engine { halted = halted } }) (sym is_halted)
 
   -- a row that it answers is the row of each order that begins with what is durable there
-  pub read_is_of_the_order : (a b : Replica D) (key : Key) (s : ℕ) (row : Option (List ℕ)) (p : Setting) (L : Order) → IsRead size failures honest history a key s (Ok row) b → AreOf honest history failures b p L → row ≡ read p L key s
-  read_is_of_the_order a b key s row p L h behind =
-      let of : AreOf honest history failures a p L = read_forgets_nothing a b key s (Ok row) p L h behind in
-      let same : running a ≡ a = runs a a.stopped a.engine.halted refl refl (λ stopped. never (h.stopped stopped).0) in
+  reads : (a b : Replica D) (key : Key) (s : ℕ) (answer : Result (Option (List ℕ)) Refusal) (x : Option (List ℕ)) (p : Setting) (L : Order) → IsRead size failures honest history a key s answer b → answer ≡ Ok x
+      → HasRowsOf honest history failures b p L → x ≡ read p L key s
+  reads a b key s answer x p L h is_ok behind =
+      let of : HasRowsOf honest history failures a p L = forgets a b key s answer p L h behind in
+      let same : running a ≡ a = runs a a.stopped a.engine.halted refl refl (λ stopped. never (sym is_ok ∙ (h.stopped stopped).0)) in
       let holds : Holds honest history failures of.node a = subst (Holds honest history failures of.node) same of.holds in
-      let found = h.follows of.node of.order row holds of.is_of refl in
+      let found = read_follows honest history failures follow a b key s answer h.step of.node of.order x holds of.is_of is_ok in
       let d = of.node.facts.durable in
       let front : (K : Order) → take s (take d K) ≡ take s K = λ K. take-take s d K found.0 in
       let items : take s of.order ≡ take s L = sym (front of.order) ∙ ap (take s) (sym of.durable) ∙ front L in
       found.1 ∙ ap (λ (K : Order). rows of.node.facts.setting K key) items ∙ ap (λ (q : Setting). rows q (take s L) key) of.setting
     where
-      never : (let answer : Result (Option (List ℕ)) Refusal = Ok row in answer ≡ Err Stopped) → ⊥
+      never : (let answer : Result (Option (List ℕ)) Refusal = Ok x in answer ≡ Err Stopped) → ⊥
       never e = cc
+
+  pub reads_forget : ReadsForgetNothing size failures honest history
+  reads_forget = record { forgets = forgets; rows = reads }

@@ -1,0 +1,54 @@
+-- What a replica keeps that was stopped.
+use Rattle.std.proofs.Common.{◌≡◌, ℕ, ◌+◌, ◌-◌, List, length, length-drop, ap, ◌∙◌, arith}
+use Rattle.rep_types.specs.Order.{Order}
+use Rattle.rep_disk.specs.History.{History, IsImage}
+use Rattle.rep_steps.specs.Standings.{Standing}
+use Rattle.rep_steps.specs.Nodes.{Node}
+use Rattle.rep_steps.specs.Orders.{IsOf, NodesHoldTheOrder}
+use Rattle.rep_steps.specs.Images.{IsFrontAt, IsFrontOf, FrontsStandForTheOrder}
+use Rattle.rep_image.specs.Meanings.{Means}
+use Rattle.rep_engine.specs.Holding.{Holds as EngineHolds}
+use Rattle.rep_replica.specs.Replicas.{Replica}
+use Rattle.rep_replica.specs.Holding.{Holds}
+use Rattle.rep_replica.specs.Stopping.{HoldsStopped, StoppedReplicasHold}
+use Rattle.rep_replica.proofs.Widening.{whole_front}
+
+module _ {D : Type 0} (honest : D → Type 0) (history : D → History) (failures : D → ℕ) where
+  of_node : (n : Node) (r : Replica D) → Holds honest history failures n r → HoldsStopped honest history failures n r
+  of_node n r h = record {
+    is_honest = h.engine.is_honest;
+    node = h.node;
+    uuid = ap (λ (s : Standing). s.uuid) h.facts;
+    setting = ap (λ (s : Standing). s.setting) h.facts;
+    durable = ap (λ (s : Standing). s.durable) h.facts;
+    images = λ image is. whole_front n r.engine.block h.taken image (h.engine.images image is);
+  }
+
+  of_engine : (n : Node) (r : Replica D) → EngineHolds honest history failures n r.engine → HoldsStopped honest history failures n r
+  of_engine n r h = record {
+    is_honest = h.is_honest;
+    node = h.node;
+    uuid = ap (λ (s : Standing). s.uuid) h.facts;
+    setting = ap (λ (s : Standing). s.setting) h.facts;
+    durable = ap (λ (s : Standing). s.durable) h.facts;
+    images = h.images;
+  }
+
+  module _ (hold : NodesHoldTheOrder) (fronts : FrontsStandForTheOrder) where
+    leaves : (L : Order) (n : Node) (r : Replica D) → HoldsStopped honest history failures n r → IsOf L n → (image : List ℕ) → IsImage (history r.engine.disk) image → IsFrontOf Means n.facts.uuid n.facts.setting L n.facts.durable image
+    leaves L n r h o image is =
+        let f : IsFrontAt Means n image = h.images image is in
+        let count = (hold L n h.node o).count in
+        let rest = ap length h.node.ahead ∙ length-drop (n.facts.durable - n.facts.base) n.items in
+        let whole : n.base.position + length n.items ≡ length L = omega (arith, count, rest, h.node.enough, h.node.position, h.node.facts.based) in
+        record {
+          meaning = f.meaning;
+          reads = f.reads;
+          end = f.end;
+          least = f.least;
+          most = omega (arith, f.front.within, whole);
+          stands = fronts L n f.end f.meaning h.node o f.front;
+        }
+
+    pub stopped_hold : StoppedReplicasHold honest history failures
+    stopped_hold = record { of_node = of_node; of_engine = of_engine; leaves = leaves }

@@ -1,0 +1,80 @@
+-- Lives one after another, with one more.
+use Rattle.std.proofs.Common.{◌≡◌, ℕ, List, [], ◌∷◌, ◌++◌, refl, sym, subst, ◌∙◌}
+use Rattle.std.specs.declared.vec.Vec.{Vec}
+use Rattle.rep_disk.specs.History.{History, seen}
+use Rattle.rep_disk.specs.Laws.{ImagesOfAMoment, MomentsOfCalls}
+use Rattle.rep_steps.specs.declared.event.Event.{Event}
+use Rattle.rep_steps.specs.declared.answer.Answer.{Answer}
+use Rattle.rep_replica.specs.Replicas.{Replica}
+use Rattle.rep_replica.specs.Opening.{Opens}
+use Rattle.rep_replica.specs.Running.{Ran, RunsAreJoined}
+use Rattle.rep_replica.specs.Stopping.{StoppedReplicasHold}
+use Rattle.rep_replica.specs.Lives.{Life, IsLife, Lives, LivesFollowTheOrder}
+use Rattle.rep_replica_uses.specs.Living.{Did, DidEach, LivesOnce, LivesOn}
+
+-- ---- one life
+
+-- a replica that was opened, ran, and whose disk was taken out behind the last answer
+pub lived_once : {D : Type 0} (honest : D → Type 0) (history : D → History) (failures : D → ℕ) → RunsAreJoined honest history failures → StoppedReplicasHold honest history failures → ImagesOfAMoment → MomentsOfCalls
+    → (old new : D) (start last : Replica D) (events : List Event) (answers : List Answer) → Opens honest history failures (history old) start → Ran honest history failures start last events answers → new ≡ last.engine.disk
+    → LivesOnce honest history failures old events answers new
+lived_once honest history failures joined stopped images moments old new start last events answers opens ran out =
+    let h = history last.engine.disk in
+    let at = ran _ opens.holds in
+    record {
+      life = record { old = history old; start = start; events = events; answers = answers; mid = last; begun = []; untold = []; last = last; left = seen h };
+      did = record { events_are = refl; answers_are = refl; none_begun = refl };
+      is_life = record { on = refl; opens = opens; ran = ran; ran_on = joined.no_run last; stop = (moments.of_none h (seen h)).1 (images.seen_is_one h) };
+      left = subst (λ (d : _). seen h ≡ seen (history d)) (sym out) refl;
+      is_honest = subst honest (sym out) (stopped.of_node at.0 last at.2).is_honest;
+    }
+
+-- ---- one life more
+
+-- what the last of them left, or what they began on
+abbrev pub left_by : {D : Type 0} → List ℕ → List (Life D) → List ℕ
+left_by image [] = image
+left_by image (life ∷ lives) = left_by life.left lives
+
+lives_more : {D : Type 0} (honest : D → Type 0) (history : D → History) (failures : D → ℕ) (image : List ℕ) (lives : List (Life D)) (life : Life D) → Lives honest history failures image lives → IsLife honest history failures (left_by image lives) life
+    → Lives honest history failures image (lives ++ life ∷ [])
+lives_more honest history failures image [] life all one = (one, tt)
+lives_more honest history failures image (first ∷ lives) life all one = (all.0, lives_more honest history failures first.left lives life all.1 one)
+
+left_more : {D : Type 0} (image : List ℕ) (lives : List (Life D)) (life : Life D) → left_by image (lives ++ life ∷ []) ≡ life.left
+left_more image [] life = refl
+left_more image (first ∷ lives) life = left_more first.left lives life
+
+did_more : {D Z : Type 0} (events : List (Vec Event Z)) (told : List (Vec Answer Z)) (lives : List (Life D)) (es : Vec Event Z) (bs : Vec Answer Z) (life : Life D) → DidEach events told lives → Did es.items bs.items life
+    → DidEach (events ++ es ∷ []) (told ++ bs ∷ []) (lives ++ life ∷ [])
+did_more [] [] [] es bs life all one = (one, tt)
+did_more [] [] (first ∷ lives) es bs life all one = absurd all
+did_more [] (answers ∷ told) lives es bs life all one = absurd all
+did_more (e ∷ events) [] lives es bs life all one = absurd all
+did_more (e ∷ events) (answers ∷ told) [] es bs life all one = absurd all
+did_more (e ∷ events) (answers ∷ told) (first ∷ lives) es bs life all one = (all.0, did_more events told lives es bs life all.1 one)
+
+-- The lives so far, from this disk to that.
+pub record Going {D Z : Type 0} (honest : D → Type 0) (history : D → History) (failures : D → ℕ) (old : D) (events : List (Vec Event Z)) (told : List (Vec Answer Z)) (now : D) : Type 0 where
+  pub lives : List (Life D)
+  pub did : DidEach events told lives
+  pub are : Lives honest history failures (seen (history old)) lives
+  pub left : left_by (seen (history old)) lives ≡ seen (history now)
+  pub is_honest : honest now
+
+module _ {D Z : Type 0} (honest : D → Type 0) (history : D → History) (failures : D → ℕ) (old : D) where
+  pub going_none : honest old → Going {Z = Z} honest history failures old [] [] old
+  going_none is_honest = record { lives = []; did = tt; are = tt; left = refl; is_honest = is_honest }
+
+  pub going_more : (events : List (Vec Event Z)) (told : List (Vec Answer Z)) (mid new : D) (es : Vec Event Z) (bs : Vec Answer Z) → Going honest history failures old events told mid → LivesOnce honest history failures mid es.items bs.items new
+      → Going honest history failures old (events ++ es ∷ []) (told ++ bs ∷ []) new
+  going_more events told mid new es bs g once = record {
+    lives = g.lives ++ once.life ∷ [];
+    did = did_more events told g.lives es bs once.life g.did once.did;
+    are = lives_more honest history failures (seen (history old)) g.lives once.life g.are (subst (λ (image : List ℕ). IsLife honest history failures image once.life) (sym g.left) once.is_life);
+    left = left_more (seen (history old)) g.lives once.life ∙ once.left;
+    is_honest = once.is_honest;
+  }
+
+  pub gone : LivesFollowTheOrder honest history failures → (events : List (Vec Event Z)) (told : List (Vec Answer Z)) (now : D) → Going honest history failures old events told now → LivesOn honest history failures old events told
+  gone law events told now g = record { lives = g.lives; did = g.did; follow = λ uuid p O d h front fed. law uuid p O d h (seen (history old)) g.lives front g.are fed }

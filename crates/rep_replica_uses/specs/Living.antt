@@ -1,0 +1,41 @@
+-- A disk that is opened, used and taken out again, any number of times.
+use Rattle.std.specs.Prelude.{◌≡◌, ℕ, List, [], ◌∷◌, take}
+use Rattle.std.specs.declared.vec.Vec.{Vec}
+use Rattle.rep_types.specs.Settings.{Setting}
+use Rattle.rep_types.specs.Order.{Order}
+use Rattle.rep_disk.specs.History.{History, seen}
+use Rattle.rep_steps.specs.declared.event.Event.{Event}
+use Rattle.rep_steps.specs.declared.answer.Answer.{Answer}
+use Rattle.rep_steps.specs.Images.{IsFrontOf}
+use Rattle.rep_image.specs.Meanings.{Means}
+use Rattle.rep_replica.specs.Lives.{Life, IsLife, AreFed, LivesFollow}
+
+-- The life did these events and answered them so; nothing had begun when it ended.
+pub record Did {D : Type 0} (events : List Event) (answers : List Answer) (life : Life D) : Type 0 where
+  pub events_are : life.events ≡ events
+  pub answers_are : life.answers ≡ answers
+  pub none_begun : life.begun ≡ []
+
+-- each of the lives, one after another
+abbrev pub DidEach : {D Z : Type 0} → List (Vec Event Z) → List (Vec Answer Z) → List (Life D) → Type 0
+DidEach [] [] [] = Unit {0}
+DidEach [] [] (life ∷ lives) = ⊥
+DidEach [] (answers ∷ told) lives = ⊥
+DidEach (events ∷ rest) [] lives = ⊥
+DidEach (events ∷ rest) (answers ∷ told) [] = ⊥
+DidEach (events ∷ rest) (answers ∷ told) (life ∷ lives) = Did events.items answers.items life × DidEach rest told lives
+
+-- A life on the disk, which is taken out at its end as it then reads.
+pub record LivesOnce {D : Type 0} (honest : D → Type 0) (history : D → History) (failures : D → ℕ) (old : D) (events : List Event) (answers : List Answer) (new : D) : Type 0 where
+  pub life : Life D
+  pub did : Did events answers life
+  pub is_life : IsLife honest history failures (seen (history old)) life
+  pub left : life.left ≡ seen (history new)
+  pub is_honest : honest new
+
+-- Lives on the disk that did these events and answered them so. Where the disk stood for a front of an order, and they were fed that
+-- order, they follow it.
+pub record LivesOn {D Z : Type 0} (honest : D → Type 0) (history : D → History) (failures : D → ℕ) (disk : D) (events : List (Vec Event Z)) (answers : List (Vec Answer Z)) : Type 0 where
+  pub lives : List (Life D)
+  pub did : DidEach events answers lives
+  pub follow : (uuid : List ℕ) (p : Setting) (O : Order) (d h : ℕ) → IsFrontOf Means uuid p (take h O) d (seen (history disk)) → AreFed failures O lives → LivesFollow honest history failures uuid p O d h [] lives

@@ -1,0 +1,57 @@
+//! A client of the replica, proved from its public contracts alone: a disk is opened, used and taken out
+//! again, any number of times, and what it answers all the while follows one order.
+#![tactic(auto)]
+
+ghost use Rattle.std.specs.Prelude.{IfOk};
+ghost use Rattle.rep_replica_uses.specs.Living.{LivesOnce, LivesOn};
+
+use rep_disk::{Disk, images_of_a_moment, moments_of_calls};
+use rep_replica::{Replica, lives_follow_the_order, runs_are_joined, stopped_replicas_hold};
+use rep_steps::{Answer, Event};
+use rep_types::Refusal;
+use std::alloc::Global;
+
+/// Opens the disk, does these events, and takes the disk out again.
+pub fn live_once<D: Disk>(
+    alloc: Global,
+    disk: D,
+    events: &[Event],
+) -> Result<(D, Vec<Answer>), (D, Refusal)>
+    ensures { D.honest disk → IfOk result (λ r. LivesOnce D.honest D.history D.failures disk events.now r.1.items r.0) }
+{
+    runs_are_joined::<D>();
+    stopped_replicas_hold::<D>();
+    images_of_a_moment();
+    moments_of_calls();
+    let mut replica = Replica::open(alloc, disk)?;
+    match replica.run(alloc, events) {
+        Ok(answers) => Ok((replica.into_disk(), answers)),
+        Err(refusal) => Err((replica.into_disk(), refusal)),
+    }
+}
+
+/// Does so with each of these lists of events, and gives all answers.
+///
+/// On an honest disk that stands for a front of an order, as one does that was just formatted, and with the
+/// rest of the order delivered from where each opening stands: each opening gives the rows, the GTID and the window
+/// after a front of that order with each item that was replied to, and verdicts, replies and rows are those
+/// of a node that never stopped.
+pub fn live<D: Disk>(
+    alloc: Global,
+    disk: D,
+    lives: &[Vec<Event>],
+) -> Result<(D, Vec<Vec<Answer>>), (D, Refusal)>
+    ensures { D.honest disk → IfOk result (λ r. LivesOn D.honest D.history D.failures disk lives.now r.1.items) }
+{
+    lives_follow_the_order::<D>();
+    let mut disk = disk;
+    let mut told = Vec::new(alloc);
+    for events in lives {
+        let (next, answers) = live_once(alloc, disk, events.as_slice())?;
+        disk = next;
+        if told.push(answers).is_err() {
+            return Err((disk, Refusal::OutOfMemory));
+        }
+    }
+    Ok((disk, told))
+}
