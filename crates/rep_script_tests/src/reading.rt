@@ -48,7 +48,7 @@ fn a_reader_that_fails_ends_a_script(rt: HostRuntime) {
 type Said = (Uuid, i64, bool);
 
 /// What is read as a saved state.
-fn read_from<R: Read>(alloc: Global, mut reader: R) -> Result<Said, Refusal> {
+fn read_from<R: Read + Drop>(alloc: Global, mut reader: R) -> Result<Said, Refusal> {
     let saved = read_saved(alloc, &mut reader)?;
     Ok((
         saved.gtid.uuid(),
