@@ -1,16 +1,16 @@
 -- What a disk in memory keeps, call by call.
 use Rattle.std.proofs.Common.{◌≡◌, ℕ, ◌+◌, ◌-◌, ◌<◌, ◌≤◌, ◌⊎◌, inl, inr, List, [], ◌∷◌, ◌++◌, length, get_or, replicate, refl, sym, subst, ap, ◌∙◌, arith}
-use Rattle.std.proofs.lemmas.List.{length-replicate, get_or-replicate}
+use Rattle.std.proofs.lemmas.List.{length-replicate, get_or-replicate, get_or_default, same_lists}
 use Rattle.std.proofs.lemmas.Bool.{cases_lt}
 use Rattle.rep_disk.specs.declared.memory.Call.{Call}
 use Rattle.rep_disk.specs.declared.memory.Range.{Range}
 use Rattle.rep_disk.specs.declared.memory.Loss.{Loss}
 use Rattle.rep_disk.specs.declared.memory.Loss.TheVariants.{Keep, Drop, Junk}
-use Rattle.rep_disk.specs.Bytes.{put, Untouched}
-use Rattle.rep_disk.specs.History.{History, Begins, Wrote, seen, stable, pending, IsImage}
+use Rattle.rep_disk.specs.Bytes.{put, part, Untouched}
+use Rattle.rep_disk.specs.History.{History, Begins, Wrote, Synced, seen, stable, pending, IsImage}
 use Rattle.rep_disk.specs.Memory.{IsAfterLoss}
-use Rattle.rep_disk.specs.Record.{after, replay, ranges_onto, filled, lost, AreWithin, IsKept}
-use Rattle.rep_disk.proofs.Bytes.{length-put, get_or-put_apart, get_or-put_in}
+use Rattle.rep_disk.specs.Record.{after, replay, ranges_onto, filled, laid, lost, AreWithin, IsKept}
+use Rattle.rep_disk.proofs.Bytes.{length-put, length-part, get_or-part, get_or-put_apart, get_or-put_in}
 use Rattle.rep_disk.proofs.Images.{length-seen, seen_outside}
 
 -- one call more
@@ -114,4 +114,59 @@ kept_wrote found calls more bytes last ranges wider at new written kept calls_ar
       found_length = kept.found_length ∙ sym size;
       last_length = kept.last_length ∙ sym size;
       within = rw (size, ranges_are) (within_push (length bytes) ranges (record { at = at; len = length new }) kept.within fits);
+    }
+
+-- a byte of a range that is laid over others
+put_laid : (at n : ℕ) (source bytes : List ℕ) (k : ℕ) → at + n ≤ length source → length bytes ≡ length source → at ≤ k → k < at + n → get_or (put bytes at (part at n source)) k 0 ≡ get_or source k 0
+put_laid at n source bytes k fits sized from to =
+    let split : (at + (k - at)) ≡ k = omega arith in
+    subst (λ (i : ℕ). get_or (put bytes at (part at n source)) i 0 ≡ get_or source i 0) split
+    (get_or-put_in bytes at (part at n source) (k - at) 0 (omega (arith, length-part at n source fits)) (omega arith) ∙ get_or-part at n source (k - at) 0 (omega arith))
+
+-- a byte of bytes that agree with the source outside the ranges, once these were laid over them
+laid_at : (older : List (ℕ × ℕ)) (ranges : List Range) (source bytes : List ℕ) (k : ℕ) → AreWithin (length source) ranges → length bytes ≡ length source → k < length source →
+    (Untouched (ranges_onto older ranges) k 1 → get_or bytes k 0 ≡ get_or source k 0) → Untouched older k 1 → get_or (laid ranges source bytes) k 0 ≡ get_or source k 0
+laid_at older [] source bytes k within sized inside agree apart = agree apart
+laid_at older (range ∷ ranges) source bytes k within sized inside agree apart =
+    let size : length (put bytes range.at (part range.at range.len source)) ≡ length source = length-put bytes range.at (part range.at range.len source) ∙ sized in
+    let long : length (part range.at range.len source) ≡ range.len = length-part range.at range.len source within.0 in
+    elim (place range.at range.len k) [
+      | inl away ↦
+          let stays : get_or (put bytes range.at (part range.at range.len source)) k 0 ≡ get_or bytes k 0 =
+          get_or-put_apart bytes range.at (part range.at range.len source) k 0 (elim away [ inl behind ↦ inl (omega (arith, long)) | inr before ↦ inr before ]) in
+          laid_at ((range.at, range.len) ∷ older) ranges source (put bytes range.at (part range.at range.len source)) k within.1 size inside (λ all. stays ∙ agree all) (away, apart)
+      | inr here ↦ laid_at [] ranges source (put bytes range.at (part range.at range.len source)) k within.1 size inside
+          (λ all. put_laid range.at range.len source bytes k within.0 sized here.0 here.1) tt
+    ]
+
+-- the length stays
+pub length-laid : (ranges : List Range) (source bytes : List ℕ) → length (laid ranges source bytes) ≡ length bytes
+length-laid [] source bytes = refl
+length-laid (range ∷ ranges) source bytes = length-laid ranges source (put bytes range.at (part range.at range.len source)) ∙ length-put bytes range.at (part range.at range.len source)
+
+-- once the pending ranges are laid over what is stable, it is what the disk reads as
+laid_is_seen : (h : History) (ranges : List Range) → ranges_onto [] ranges ≡ pending h → AreWithin (length (seen h)) ranges → laid ranges (seen h) (stable h) ≡ seen h
+laid_is_seen h ranges are within =
+    let size : length (laid ranges (seen h) (stable h)) ≡ length (seen h) = length-laid ranges (seen h) (stable h) ∙ sym (length-seen h) in
+    same_lists (laid ranges (seen h) (stable h)) (seen h) size
+    (λ k d inside.
+    let long : k < length (seen h) = omega (arith, size) in
+    let at_zero : get_or (laid ranges (seen h) (stable h)) k 0 ≡ get_or (seen h) k 0 =
+    laid_at [] ranges (seen h) (stable h) k within (sym (length-seen h)) long (λ apart. sym (seen_outside h k (subst (λ (all : List (ℕ × ℕ)). Untouched all k 1) are apart))) tt in
+    get_or_default (laid ranges (seen h) (stable h)) k d 0 inside ∙ (at_zero ∙ get_or_default (seen h) k 0 d long))
+
+-- what is kept after a sync
+pub kept_synced : (found : List ℕ) (calls more : List Call) (bytes last new : List ℕ) (ranges none : List Range) →
+    IsKept found calls bytes last ranges → ((h : History) → replay h more ≡ Synced (replay h calls)) → none ≡ [] → new ≡ laid ranges bytes last → IsKept found more bytes new none
+kept_synced found calls more bytes last new ranges none kept calls_are none_are is =
+    let is_seen : new ≡ bytes =
+    is ∙ (subst (λ (all : List ℕ). AreWithin (length all) ranges → laid ranges all last ≡ all) (sym kept.bytes_are)
+    (λ within. ap (λ (old : List ℕ). laid ranges (seen (replay (Begins found) calls)) old) kept.last_are ∙ laid_is_seen (replay (Begins found) calls) ranges kept.ranges_are within) kept.within) in
+    record {
+      bytes_are = kept.bytes_are ∙ sym (ap seen (calls_are (Begins found)));
+      last_are = is_seen ∙ (kept.bytes_are ∙ sym (ap stable (calls_are (Begins found))));
+      ranges_are = ap (ranges_onto []) none_are ∙ sym (ap pending (calls_are (Begins found)));
+      found_length = kept.found_length;
+      last_length = ap length is_seen;
+      within = rw none_are tt;
     }

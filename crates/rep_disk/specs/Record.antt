@@ -6,7 +6,7 @@ use Rattle.rep_disk.specs.declared.memory.Call.TheVariants.{Wrote, Synced}
 use Rattle.rep_disk.specs.declared.memory.Range.{Range}
 use Rattle.rep_disk.specs.declared.memory.Loss.{Loss}
 use Rattle.rep_disk.specs.declared.memory.Loss.TheVariants.{Keep, Drop, Junk}
-use Rattle.rep_disk.specs.Bytes.{put}
+use Rattle.rep_disk.specs.Bytes.{put, part}
 use Rattle.rep_disk.specs.History as past
 
 -- the history after a call
@@ -28,6 +28,11 @@ ranges_onto older (range ∷ ranges) = ranges_onto ((range.at, range.len) ∷ ol
 abbrev pub filled : List Range → ℕ → List ℕ → List ℕ
 filled [] byte bytes = bytes
 filled (range ∷ ranges) byte bytes = filled ranges byte (put bytes range.at (replicate range.len byte))
+
+-- the ranges of these bytes laid over others
+abbrev pub laid : List Range → List ℕ → List ℕ → List ℕ
+laid [] source bytes = bytes
+laid (range ∷ ranges) source bytes = laid ranges source (put bytes range.at (part range.at range.len source))
 
 -- what the bytes become in a crash, from the last stable ones and the pending ranges
 abbrev pub lost : Loss → List ℕ → List ℕ → List Range → List ℕ

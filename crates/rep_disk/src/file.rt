@@ -6,7 +6,7 @@ ghost use Rattle.rep_disk.specs.Calls.{IsRead, IsWrite, IsSync};
 use crate::counting::counted;
 use crate::{Disk, DiskFault};
 use std::fs::{File, Files, OpenFile, OpenOptions};
-use std::io;
+use std::io::{self, ErrorKind};
 use std::os::unix::fs::FileExt;
 
 /// A disk on a file. Nothing is claimed of it but its size, its count of failures, and that no sync
@@ -110,12 +110,15 @@ impl FileDisk<File> {
     }
 
     /// The same to read alone: each write fails. It needs no right to change the file, and shares the lock
-    /// with others that only read.
+    /// with others that only read. Refuses a folder besides, which could be opened so.
     pub fn open_to_read<R: Files<File = File>>(rt: &R, path: &str) -> io::Result<FileDisk<File>>
         ensures unfailed { IfOk result (λ disk. file_failures disk ≡ 0) }
         ensures kept { IfOk result (λ disk. file_lost disk ≡ false) }
     {
         let file = File::open(rt, path)?;
+        if file.metadata()?.is_dir() {
+            return Err(io::Error::from(ErrorKind::IsADirectory));
+        }
         file.try_lock_shared()?;
         FileDisk::new(file)
     }

@@ -3,7 +3,7 @@ ghost use Rattle.std.specs.Prelude.{◌≡◌, ◌+◌, ◌-◌, ◌≤◌, ◌<
 ghost use Rattle.rep_disk.specs.Bytes.{part, put};
 ghost use Rattle.rep_disk.specs.History.{History, Begins, Wrote, Synced, IsImage, Reads, seen, stable};
 ghost use Rattle.rep_disk.specs.Calls.{IsCall, MaySpoil};
-ghost use Rattle.rep_disk.specs.Record.{replay, filled, lost, AreWithin};
+ghost use Rattle.rep_disk.specs.Record.{replay, filled, laid, lost, AreWithin};
 
 use crate::counting::counted;
 use crate::{Disk, DiskFault};
@@ -165,6 +165,26 @@ fn overwrite(bytes: &mut [u8], at: usize, new: &[u8])
     bytes[at..at + new.len()].copy_from_slice(new);
 }
 
+/// Lays the ranges of these bytes over the others: a sync takes time by what is pending, and not by the disk's size.
+fn lay_ranges(bytes: &mut [u8], source: &[u8], ranges: &[Range])
+    requires sized { length bytes.old ≡ length source.now }
+    requires within { AreWithin (length source.now) ranges.now }
+    ensures { bytes.new ≡ laid ranges.now source.now bytes.old }
+{
+    for range in ranges {
+        lay_range(bytes, source, *range);
+    }
+}
+
+/// Lays the range of these bytes over the others.
+fn lay_range(bytes: &mut [u8], source: &[u8], range: Range)
+    requires sized { length bytes.old ≡ length source.now }
+    requires within { range.at + range.len ≤ length source.now }
+    ensures { bytes.new ≡ put bytes.old range.at (part range.at range.len source.now) }
+{
+    overwrite(bytes, range.at, &source[range.at..range.at + range.len]);
+}
+
 impl Disk for MemDisk {
     ghost size = { λ m. length (stable m.history) };
 
@@ -217,7 +237,7 @@ impl Disk for MemDisk {
     fn sync(&mut self) -> Result<(), DiskFault> {
         let noted = note_sync(&mut self.calls);
         counted(noted, &mut self.failures)?;
-        self.stable.copy_from_slice(&self.bytes);
+        lay_ranges(&mut self.stable, &self.bytes, &self.pending);
         self.pending.clear();
         Ok(())
     }

@@ -17,13 +17,11 @@ use Rattle.rep_ordered.specs.Views.{Every, held_at, except, on}
 use Rattle.rep_ordered.specs.Rule.{Kept}
 use Rattle.rep_ordered.specs.Seats.{empty_slot}
 use Rattle.rep_ordered.specs.Steps.{brought}
+use Rattle.rep_ordered.proofs.Shapes.{Moment, Mine, Homes}
 use Rattle.rep_ordered.proofs.Sums.{total_at, every_at, every_map}
 use Rattle.rep_ordered.proofs.Keeping.{held_once}
 
 module _ (V : Type 0) where
-  abbrev Homes : Type 0
-  Homes = List (maybe.Option (Option V))
-
   abbrev Slots : Type 0
   Slots = List (ℕ × Option V)
 
@@ -41,19 +39,19 @@ module _ (V : Type 0) where
   taking i j = chain gives (chain (takes i None) (takes j None))
 
   -- an act that makes the slots that a seat carries into others, and moves none but those of the stations held
-  record Carries (homes : Homes) (before after : Slots) (held : List Hold) : Type 0 where
+  record Carries (homes : Homes V) (before after : Slots) (held : List Hold) : Type 0 where
     act : Act (Option V)
     valid : Valid homes before act
     carried : carried_after before act ≡ after
     long : length (homes_after homes before act) ≡ length homes
     others : (i : ℕ) → held_at i held ≡ 0 → get_elem? (homes_after homes before act) i ≡ get_elem? homes i
 
-  taken_behind : (i j : ℕ) (homes : Homes) (more carried : Slots) → carried ≡ (j, None) ∷ more → i ≢ j → get_elem? homes i ≡ some (some None) → j < length homes
+  taken_behind : (i j : ℕ) (homes : Homes V) (more carried : Slots) → carried ≡ (j, None) ∷ more → i ≢ j → get_elem? homes i ≡ some (some None) → j < length homes
       → Valid homes carried (taking i j) × (carried_after carried (taking i j) ≡ (j, None) ∷ (i, None) ∷ more) × (length (homes_after homes carried (taking i j)) ≡ length homes)
       × ((m : ℕ) → m ≢ i → m ≢ j → get_elem? (homes_after homes carried (taking i j)) m ≡ get_elem? homes m)
   taken_behind i j homes more carried is apart there inside = subst (λ (c : Slots). Valid homes c (taking i j) × (carried_after c (taking i j) ≡ (j, None) ∷ (i, None) ∷ more) × (length (homes_after homes c (taking i j)) ≡ length homes)
       × ((m : ℕ) → m ≢ i → m ≢ j → get_elem? (homes_after homes c (taking i j)) m ≡ get_elem? homes m)) (sym is)
-      (let first : Homes = set homes j (some None) in let second : Homes = set first i none in (
+      (let first : Homes V = set homes j (some None) in let second : Homes V = set first i none in (
         (tt, (set_else homes j i (some None) apart ∙ there, set_else first i j none (λ e. apart (sym e)) ∙ set_here homes j (some None) inside)),
         refl,
         length-set second j none ∙ (length-set first i none ∙ length-set homes j (some None)),
@@ -61,9 +59,9 @@ module _ (V : Type 0) where
       ))
 
   -- with one slot more in front: it goes home, and is taken again behind the slot of j
-  carries_more : (j : ℕ) (h : Hold) (hs : List Hold) (homes : Homes) → j ≢ h.station → h.station < length homes → j < length homes → held_at h.station hs ≡ 0 → 0 < held_at j hs
+  carries_more : (j : ℕ) (h : Hold) (hs : List Hold) (homes : Homes V) → j ≢ h.station → h.station < length homes → j < length homes → held_at h.station hs ≡ 0 → 0 < held_at j hs
       → Carries (set homes h.station (some None)) (slots_of hs) ((j, None) ∷ slots_of (except j hs)) hs → Carries homes (slots_of (h ∷ hs)) ((j, None) ∷ slots_of (except j (h ∷ hs))) (h ∷ hs)
-  carries_more j h hs homes other inside j_inside alone some_hold t = let i : ℕ = h.station in let first : Homes = set homes i (some None) in let second : Homes = homes_after first (slots_of hs) t.act in
+  carries_more j h hs homes other inside j_inside alone some_hold t = let i : ℕ = h.station in let first : Homes V = set homes i (some None) in let second : Homes V = homes_after first (slots_of hs) t.act in
       let long_first : length first ≡ length homes = length-set homes i (some None) in let long = t.long in let there : get_elem? second i ≡ some (some None) = t.others i alone ∙ set_here homes i (some None) inside in
       let u = taken_behind i j second (slots_of (except j hs)) (carried_after (slots_of hs) t.act) t.carried (λ e. other (sym e)) there (omega arith) in record {
         act = chain gives (chain t.act (taking i j));
@@ -75,28 +73,22 @@ module _ (V : Type 0) where
       }
 
   -- the slot of the station j is brought to the front
-  carries_first : (j : ℕ) (held : List Hold) (homes : Homes) → 0 < held_at j held → ((i : ℕ) → held_at i held ≤ 1) → Every (λ (h : Hold). h.station < length homes) held
+  carries_first : (j : ℕ) (held : List Hold) (homes : Homes V) → 0 < held_at j held → ((i : ℕ) → held_at i held ≤ 1) → Every (λ (h : Hold). h.station < length homes) held
       → Carries homes (slots_of held) ((j, None) ∷ slots_of (except j held)) held
   carries_first j [] homes some_hold once inside = absurd (omega arith)
   carries_first j (h ∷ hs) homes some_hold once inside = dite (ℕ_discrete j h.station)
       (λ same. record { act = keeps; valid = tt; carried = front_same j h hs same; long = refl; others = λ i none_held. refl })
-      (λ other. let first : Homes = set homes h.station (some None) in let long : length first ≡ length homes = length-set homes h.station (some None) in
+      (λ other. let first : Homes V = set homes h.station (some None) in let long : length first ≡ length homes = length-set homes h.station (some None) in
       let behind : 0 < held_at j hs = omega arith in let inside_first : Every (λ (d : Hold). d.station < length first) hs = every_map _ _ hs (λ (d : Hold) l. omega arith) inside.1 in
       carries_more j h hs homes other inside.0 (every_at (λ (d : Hold). d.station < length homes) j hs behind inside.1) (let a = once h.station in omega arith) behind
       (carries_first j hs first behind (λ m. let a = once m in omega arith) inside_first))
 
 module _ {V E : Type 0} (law : List E → Type 0) (at_home : ℕ → ℕ → ℕ → List E → ℕ → V → Type 0) (durable_of common_of : V → ℕ) where
-  abbrev St : Type 0
-  St = State (Option V) (Mind V E)
-
-  abbrev M : Type 0
-  M = Me (Option V) (Mind V E)
-
-  abbrev Rule : Opening V → St → Type 0
+  abbrev Rule : Opening V → Moment V E → Type 0
   Rule = Kept law at_home durable_of common_of
 
   -- where the slots of held stations alone have moved, the rule is kept
-  rehomed : (k : Opening V) (s : St) (r : Rule k s) (homes : List (maybe.Option (Option V))) → length homes ≡ length s.homes → ((i : ℕ) → total (on i) s.views ≡ 0 → get_elem? homes i ≡ get_elem? s.homes i)
+  rehomed : (k : Opening V) (s : Moment V E) (r : Rule k s) (homes : List (maybe.Option (Option V))) → length homes ≡ length s.homes → ((i : ℕ) → total (on i) s.views ≡ 0 → get_elem? homes i ≡ get_elem? s.homes i)
       → Rule k record { words = s.words; homes = homes; views = s.views }
   rehomed k s r homes long same = record {
     figures = r.figures;
@@ -145,7 +137,7 @@ module _ {V E : Type 0} (law : List E → Type 0) (at_home : ℕ → ℕ → ℕ
     stopped = r.stopped;
   }
 
-  pub brings : (k : Opening V) (slots id : ℕ) (me : M) (j : ℕ) → me.1 ≡ map empty_slot me.0.view.held → Every (λ (h : Hold). h.station < slots) me.0.view.held → 0 < held_at j me.0.view.held
+  pub brings : (k : Opening V) (slots id : ℕ) (me : Mine V E) (j : ℕ) → me.1 ≡ map empty_slot me.0.view.held → Every (λ (h : Hold). h.station < slots) me.0.view.held → 0 < held_at j me.0.view.held
       → Allows (Rule k) slots id me (j + 2) (λ n. n) (brought (step slots (j + 2) 0 0 none) me)
   brings k slots id me j empty inside some_hold s r deep at _ = let m : Mind V E = me.0 in let held : List Hold = m.view.held in
       let t = carries_first V j held s.homes some_hold (held_once law at_home durable_of common_of k s r id m at) (every_map _ _ held (λ (h : Hold) l. omega arith) inside) in

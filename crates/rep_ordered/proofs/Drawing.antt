@@ -16,6 +16,7 @@ use Rattle.rep_ordered.specs.Counts.{one, times, total}
 use Rattle.rep_ordered.specs.Views.{StartsWith, HasAll, allowance_of, drew, with_number, knowing, untold, Lives}
 use Rattle.rep_ordered.specs.Rule.{Figures, Spelled, Knows, Kept, first_of}
 use Rattle.rep_ordered.specs.Steps.{Learns, claimed, looked, fronted, raised, stopped}
+use Rattle.rep_ordered.proofs.Shapes.{Moment, Mine}
 use Rattle.rep_ordered.proofs.Sums.{total_at, total_snoc, every_map, get_or_is, below_length}
 use Rattle.rep_ordered.proofs.Owning.{append_nil, placed_drawn}
 use Rattle.rep_ordered.proofs.Keeping.{seen_whole, knows_me, knows_still, knows_on, quiet, knows_whole, knows_halt}
@@ -32,19 +33,13 @@ pub shorter : {A : Type 0} (xs front : List A) → StartsWith xs front → lengt
 shorter xs front h = let e : length xs ≡ length (front ++ h.0) = ap length h.1 in omega (arith, length-append front h.0)
 
 module _ {V E : Type 0} (law : List E → Type 0) (at_home : ℕ → ℕ → ℕ → List E → ℕ → V → Type 0) (durable_of common_of : V → ℕ) (grows : (station number given durable later : ℕ) (history more : List E) (x : V) → at_home station number given history durable x → durable ≤ later → at_home station number given (history ++ more) later x) where
-  abbrev St : Type 0
-  St = State (Option V) (Mind V E)
-
-  abbrev M : Type 0
-  M = Me (Option V) (Mind V E)
-
-  abbrev Rule : Opening V → St → Type 0
+  abbrev Rule : Opening V → Moment V E → Type 0
   Rule = Kept law at_home durable_of common_of
 
-  once_each : (k : Opening V) (s : St) (r : Rule k s) (id : ℕ) (v : Mind V E) → get_elem? s.views id ≡ some v → (x : ℕ) → times x v.view.own ≤ 1
+  once_each : (k : Opening V) (s : Moment V E) (r : Rule k s) (id : ℕ) (v : Mind V E) → get_elem? s.views id ≡ some v → (x : ℕ) → times x v.view.own ≤ 1
   once_each k s r id v at x = let d = r.dealt in let a = total_at (drew x) s.views id v at in let e = d.drawn x in omega arith
 
-  pub claims : (k : Opening V) (slots id : ℕ) (me : M) → 0 < me.0.view.allowance → Allows (Rule k) slots id me 0 (λ n. (n + 1) % 2 ^ 64) (claimed (step slots 0 1 0 none) me)
+  pub claims : (k : Opening V) (slots id : ℕ) (me : Mine V E) → 0 < me.0.view.allowance → Allows (Rule k) slots id me 0 (λ n. (n + 1) % 2 ^ 64) (claimed (step slots 0 1 0 none) me)
   claims k slots id me room s r _ at _ = let f : Figures E = r.figures in let sp = r.spelled in let d = r.dealt in let m : Mind V E = me.0 in let v : View V E = m.view in let n : ℕ = get_or s.words 0 0 in
       let is : n ≡ f.next = get_or_is s.words 0 f.next sp.next_is in let known = r.each_seat id m at in
       let left = total_at allowance_of s.views id m at in let tickets = d.tickets in let small = sp.small in
@@ -104,7 +99,7 @@ module _ {V E : Type 0} (law : List E → Type 0) (at_home : ℕ → ℕ → ℕ
       )
 
   -- a step after which the seat knows the history and the second word as they are now
-  learning : (k : Opening V) (s : St) (r : Rule k s) (id : ℕ) (m : Mind V E) (words' : List ℕ) (durable stop : ℕ) → get_elem? s.views id ≡ some m → r.figures.durable ≤ durable → r.figures.stop ≤ stop → (0 < r.figures.stop → durable ≤ r.figures.durable)
+  learning : (k : Opening V) (s : Moment V E) (r : Rule k s) (id : ℕ) (m : Mind V E) (words' : List ℕ) (durable stop : ℕ) → get_elem? s.views id ≡ some m → r.figures.durable ≤ durable → r.figures.stop ≤ stop → (0 < r.figures.stop → durable ≤ r.figures.durable)
       → ((j : ℕ) → get_elem? words' (j + 2) ≡ get_elem? s.words (j + 2)) → Spelled k (record r.figures { next = r.figures.next; durable = durable; stop = stop }) words' (length s.homes) → Lives m.view
       → Rule k record { words = words'; homes = s.homes; views = set s.views id (untold (knowing r.figures.history durable stop m.view)) } × Learns law m.told m.view (knowing r.figures.history durable stop m.view)
   learning k s r id m words' durable stop at up halts over same spelled lives = let f : Figures E = r.figures in let v : View V E = m.view in let known = r.each_seat id m at in let w : View V E = knowing f.history durable stop v in
@@ -146,12 +141,12 @@ module _ {V E : Type 0} (law : List E → Type 0) (at_home : ℕ → ℕ → ℕ
         },
       )
 
-  loads_by : (k : Opening V) (slots id : ℕ) (me : M) (i : ℕ) → Lives me.0.view → Allows (Rule k) slots id me i (λ n. n) (looked law (step slots i 0 0 none) me)
+  loads_by : (k : Opening V) (slots id : ℕ) (me : Mine V E) (i : ℕ) → Lives me.0.view → Allows (Rule k) slots id me i (λ n. n) (looked law (step slots i 0 0 none) me)
   loads_by k slots id me i lives s r _ at _ = let f : Figures E = r.figures in let m' : Mind V E = untold (knowing f.history f.durable f.stop me.0.view) in
       let t = learning k s r id me.0 s.words f.durable f.stop at (omega arith) (omega arith) (λ _. omega arith) (λ j. refl) r.spelled lives in
       (m', keeps, tt, subst (λ (ws : List ℕ). Rule k record { words = ws; homes = s.homes; views = set s.views id m' }) (sym (set-get_or s.words i 0)) t.0, ((t.1, (refl, refl)), λ all. knows_halt law at_home durable_of common_of k s r id me.0 at all))
 
-  fronts_by : (k : Opening V) (slots id : ℕ) (me : M) → Lives me.0.view → Allows (Rule k) slots id me 1 (λ n. n) (fronted law (step slots 1 0 0 none) me)
+  fronts_by : (k : Opening V) (slots id : ℕ) (me : Mine V E) → Lives me.0.view → Allows (Rule k) slots id me 1 (λ n. n) (fronted law (step slots 1 0 0 none) me)
   fronts_by k slots id me lives s r deep at little = let f : Figures E = r.figures in let sp = r.spelled in let m' : Mind V E = untold (knowing f.history f.durable f.stop me.0.view) in
       let t = learning k s r id me.0 s.words f.durable f.stop at (omega arith) (omega arith) (λ _. omega arith) (λ j. refl) sp lives in
       let n : ℕ = get_or s.words 1 0 in let is : n ≡ f.durable + 2 ^ 63 * f.stop = get_or_is s.words 1 _ sp.durable_is in let low = sp.low in let bit = sp.stop_bit in (
@@ -163,7 +158,7 @@ module _ {V E : Type 0} (law : List E → Type 0) (at_home : ℕ → ℕ → ℕ
       )
 
   -- the second word is set
-  front_set : (k : Opening V) (s : St) (r : Rule k s) (id : ℕ) (m : Mind V E) (y durable stop : ℕ) → get_elem? s.views id ≡ some m → r.figures.durable ≤ durable → r.figures.stop ≤ stop → (0 < r.figures.stop → durable ≤ r.figures.durable)
+  front_set : (k : Opening V) (s : Moment V E) (r : Rule k s) (id : ℕ) (m : Mind V E) (y durable stop : ℕ) → get_elem? s.views id ≡ some m → r.figures.durable ≤ durable → r.figures.stop ≤ stop → (0 < r.figures.stop → durable ≤ r.figures.durable)
       → y ≡ durable + 2 ^ 63 * stop → durable ≤ 2 ^ 60 → stop ≤ 1 → durable ≤ r.figures.backed → Lives m.view
       → Rule k record { words = set s.words 1 y; homes = s.homes; views = set s.views id (untold (knowing r.figures.history durable stop m.view)) } × Learns law m.told m.view (knowing r.figures.history durable stop m.view)
   front_set k s r id m y durable stop at up halts over is low bit risen lives = let sp = r.spelled in let wide = sp.wide in
@@ -179,7 +174,7 @@ module _ {V E : Type 0} (law : List E → Type 0) (at_home : ℕ → ℕ → ℕ
         small = sp.small;
       } lives
 
-  raises_by : (k : Opening V) (slots id : ℕ) (me : M) (a : ℕ) → a ≤ 2 ^ 60 → a ≤ me.0.view.backed → Lives me.0.view → Allows (Rule k) slots id me 1 (λ n. max n a) (raised law (step slots 1 a 0 none) me)
+  raises_by : (k : Opening V) (slots id : ℕ) (me : Mine V E) (a : ℕ) → a ≤ 2 ^ 60 → a ≤ me.0.view.backed → Lives me.0.view → Allows (Rule k) slots id me 1 (λ n. max n a) (raised law (step slots 1 a 0 none) me)
   raises_by k slots id me a low saw lives s r _ at _ = let f : Figures E = r.figures in let sp = r.spelled in let v : View V E = me.0.view in let known = r.each_seat id me.0 at in let below = known.below in
       let n : ℕ = get_or s.words 1 0 in let is : n ≡ f.durable + 2 ^ 63 * f.stop = get_or_is s.words 1 _ sp.durable_is in let under = sp.low in let bit = sp.stop_bit in let backed = sp.backed_up in
       dite (ℕ_discrete f.stop 0)
@@ -188,7 +183,7 @@ module _ {V E : Type 0} (law : List E → Type 0) (at_home : ℕ → ℕ → ℕ
       (λ stop. let t = front_set k s r id me.0 (max n a) f.durable 1 at (omega arith) (omega arith) (λ _. omega arith) (omega arith) under (omega arith) backed lives in
       (untold (knowing f.history f.durable 1 v), keeps, tt, t.0, ((t.1, (refl, refl)), (λ none. absurd (omega arith)), (λ all. let h = knows_halt law at_home durable_of common_of k s r id me.0 at all in omega arith))))
 
-  halts_by : (k : Opening V) (slots id : ℕ) (me : M) (bit : ℕ) → bit ≡ 2 ^ 63 → Lives me.0.view → Allows (Rule k) slots id me 1 (λ n. bit_or n bit) (stopped law (step slots 1 bit 0 none) me)
+  halts_by : (k : Opening V) (slots id : ℕ) (me : Mine V E) (bit : ℕ) → bit ≡ 2 ^ 63 → Lives me.0.view → Allows (Rule k) slots id me 1 (λ n. bit_or n bit) (stopped law (step slots 1 bit 0 none) me)
   halts_by k slots id me top is_top lives s r _ at _ = let f : Figures E = r.figures in let sp = r.spelled in let v : View V E = me.0.view in
       let n : ℕ = get_or s.words 1 0 in let is : n ≡ f.durable + 2 ^ 63 * f.stop = get_or_is s.words 1 _ sp.durable_is in let under = sp.low in let bit = sp.stop_bit in
       let t = front_set k s r id me.0 (bit_or n top) f.durable 1 at (omega arith) bit (λ _. omega arith) ((λ i. bit_or (is i) (is_top i)) ∙ halted_word f.durable f.stop (omega arith) bit) under (omega arith) sp.backed_up lives in

@@ -17,6 +17,7 @@ use Rattle.rep_ordered.specs.Counts.{times, busy, gave}
 use Rattle.rep_ordered.specs.Views.{StartsWith, Placed, hold, held_at, word_at, reach, names, backed_after, common_after, on, knowing, untold, Lives}
 use Rattle.rep_ordered.specs.Rule.{Figures, Knows, Kept, first_of}
 use Rattle.rep_ordered.specs.Steps.{Entered, tried}
+use Rattle.rep_ordered.proofs.Shapes.{Moment, Mine}
 use Rattle.rep_ordered.proofs.Sums.{total_at, every_away, get_or_there, below_length, reached_more, backed_here, backed_else, covered_after, common_here, common_else}
 use Rattle.rep_ordered.proofs.Owning.{append_nil}
 use Rattle.rep_ordered.proofs.Keeping.{seen_whole, knows_me, knows_halt}
@@ -49,13 +50,7 @@ pub word_on_top : (j w d : ℕ) (hs : List Hold) → word_at j (hold j w d ∷ h
 word_on_top j w d hs = subst (λ b. (if b then w else word_at j hs) ≡ w) (sym (eq-eqb j j refl)) refl
 
 module _ {V E : Type 0} (law : List E → Type 0) (at_home : ℕ → ℕ → ℕ → List E → ℕ → V → Type 0) (durable_of common_of : V → ℕ) (grows : (station number given durable later : ℕ) (history more : List E) (x : V) → at_home station number given history durable x → durable ≤ later → at_home station number given (history ++ more) later x) where
-  abbrev St : Type 0
-  St = State (Option V) (Mind V E)
-
-  abbrev M : Type 0
-  M = Me (Option V) (Mind V E)
-
-  abbrev Rule : Opening V → St → Type 0
+  abbrev Rule : Opening V → Moment V E → Type 0
   Rule = Kept law at_home durable_of common_of
 
   abbrev entering : Figures E → ℕ → ℕ → ℕ → V → View V E → View V E
@@ -111,12 +106,12 @@ module _ {V E : Type 0} (law : List E → Type 0) (at_home : ℕ → ℕ → ℕ
           (λ some_name. let up : 0 < names j = omega arith in common_here j (common_of x) m.view.common up ∙ same up)
 
   -- nothing changes
-  unmoved : (k : Opening V) (s : St) (id i y : ℕ) (me : M) → Rule k s → get_elem? s.views id ≡ some me.0 → get_or s.words i 0 ≡ y → Rule k (stepped s i y id me.1 me.0 keeps)
+  unmoved : (k : Opening V) (s : Moment V E) (id i y : ℕ) (me : Mine V E) → Rule k s → get_elem? s.views id ≡ some me.0 → get_or s.words i 0 ≡ y → Rule k (stepped s i y id me.1 me.0 keeps)
   unmoved k s id i y me r at is = subst (λ (z : List ℕ × List (Mind V E)). Rule k record { words = z.0; homes = s.homes; views = z.1 })
       (λ c. ((sym (set-get_or s.words i 0) ∙ ap (set s.words i) is) c, sym (set_again s.views id me.0 at) c)) r
 
   -- what the seat is told that has just entered
-  told_entered : (k : Opening V) (s : St) (r : Rule k s) (id : ℕ) (m : Mind V E) (j n new kind : ℕ) (x : V) → get_elem? s.views id ≡ some m → get_elem? s.words (j + 2) ≡ some (4 * n) → new ≡ 4 * n + kind → (kind ≡ 1) ⊎ (kind ≡ 2) → on j m ≡ 0
+  told_entered : (k : Opening V) (s : Moment V E) (r : Rule k s) (id : ℕ) (m : Mind V E) (j n new kind : ℕ) (x : V) → get_elem? s.views id ≡ some m → get_elem? s.words (j + 2) ≡ some (4 * n) → new ≡ 4 * n + kind → (kind ≡ 1) ⊎ (kind ≡ 2) → on j m ≡ 0
       → at_home j n 0 r.figures.history r.figures.durable x → (j ≡ 1 → r.figures.backed ≤ durable_of x) → (0 < names j → common_of x ≡ r.figures.common)
       → Entered law at_home durable_of common_of j n kind m.view (entering r.figures j n new x m.view) x
   told_entered k s r id m j n new kind x at was shape kinds alone keeps_it backed_up same = let f : Figures E = r.figures in let v : View V E = m.view in let known = r.each_seat id m at in let sp = r.spelled in let here = r.each_station j (4 * n) was in let d : ℕ = durable_of x in
@@ -144,7 +139,7 @@ module _ {V E : Type 0} (law : List E → Type 0) (at_home : ℕ → ℕ → ℕ
         alone = alone;
       }
 
-  enters_at : (k : Opening V) (slots id : ℕ) (me : M) (j old new n kind : ℕ) → j < slots → old ≡ 4 * n → new ≡ old + kind → (kind ≡ 1) ⊎ (kind ≡ 2) → (kind ≡ 1 → 0 < times n me.0.view.own) → Lives me.0.view
+  enters_at : (k : Opening V) (slots id : ℕ) (me : Mine V E) (j old new n kind : ℕ) → j < slots → old ≡ 4 * n → new ≡ old + kind → (kind ≡ 1) ⊎ (kind ≡ 2) → (kind ≡ 1 → 0 < times n me.0.view.own) → Lives me.0.view
       → Allows (Rule k) slots id me (j + 2) (λ y. either (eqb y old) new y)
       (λ y m'. (y ≡ old → (x : V) × Entered law at_home durable_of common_of j n kind me.0.view m'.0.view x × (m'.0.told ≡ []) × (m'.1 ≡ (j, Some x) ∷ me.1)) × (y ≢ old → m' ≡ me))
   enters_at k slots id me j old new n kind inside spelled_old up kinds drawn lives s r deep at _ = let m : Mind V E = me.0 in let v : View V E = m.view in let y : ℕ = get_or s.words (j + 2) 0 in let f : Figures E = r.figures in let sp = r.spelled in let wide = sp.wide in dite (ℕ_discrete y old)
@@ -191,7 +186,7 @@ module _ {V E : Type 0} (law : List E → Type 0) (at_home : ℕ → ℕ → ℕ
         ((λ hit. absurd (miss hit)), (λ _. refl)),
       ))
 
-  enters_by : (k : Opening V) (slots id : ℕ) (me : M) (j old new n kind : ℕ) → j < slots → old ≡ 4 * n → new ≡ old + kind → (kind ≡ 1) ⊎ (kind ≡ 2) → (kind ≡ 1 → 0 < times n me.0.view.own) → Lives me.0.view
+  enters_by : (k : Opening V) (slots id : ℕ) (me : Mine V E) (j old new n kind : ℕ) → j < slots → old ≡ 4 * n → new ≡ old + kind → (kind ≡ 1) ⊎ (kind ≡ 2) → (kind ≡ 1 → 0 < times n me.0.view.own) → Lives me.0.view
       → Allows (Rule k) slots id me (j + 2) (λ y. either (eqb y old) new y) (tried law at_home durable_of common_of kind (step slots (j + 2) old new none) me)
   enters_by k slots id me j old new n kind inside spelled_old up kinds drawn lives s r deep at small = let t = enters_at k slots id me j old new n kind inside spelled_old up kinds drawn lives s r deep at small in
       let a : j ≡ (j + 2) - 2 = omega arith in let b : n ≡ old / 4 = omega arith in

@@ -14,6 +14,7 @@ use Rattle.rep_ordered.specs.declared.rule.Opening.{Opening}
 use Rattle.rep_ordered.specs.Counts.{total, times, once_below}
 use Rattle.rep_ordered.specs.Views.{Every, HasAll, StartsWith, held_at, word_at, allowance_of, count_of, drew, on, halted_of}
 use Rattle.rep_ordered.specs.Rule.{Figures, Spelled, Dealt, HoldIsRight, Knows, Known, Station, Kept}
+use Rattle.rep_ordered.proofs.Shapes.{Moment, Homes}
 use Rattle.rep_ordered.proofs.Sums.{total_at, total_set, total_two, total_only, every_at, every_map, below_length}
 use Rattle.rep_ordered.proofs.Owning.{append_nil}
 
@@ -98,24 +99,18 @@ module _ {V E : Type 0} where
   }
 
 module _ {V E : Type 0} (law : List E → Type 0) (at_home : ℕ → ℕ → ℕ → List E → ℕ → V → Type 0) (durable_of common_of : V → ℕ) where
-  abbrev St : Type 0
-  St = State (Option V) (Mind V E)
-
-  abbrev Homes : Type 0
-  Homes = List (maybe.Option (Option V))
-
   -- a station that a seat holds has one holder, and is held once
-  pub one_holder : (k : Opening V) (s : St) (r : Kept law at_home durable_of common_of k s) (id : ℕ) (v : Mind V E) → get_elem? s.views id ≡ some v → (i : ℕ) → 0 < held_at i v.view.held → total (on i) s.views ≤ 1
+  pub one_holder : (k : Opening V) (s : Moment V E) (r : Kept law at_home durable_of common_of k s) (id : ℕ) (v : Mind V E) → get_elem? s.views id ≡ some v → (i : ℕ) → 0 < held_at i v.view.held → total (on i) s.views ≤ 1
   one_holder k s r id v at i some_hold = let known = r.each_seat id v at in let top = every_at (HoldIsRight r.figures s.words v.view.own v.view.seen) i v.view.held some_hold known.holds in
       let here = r.each_station i (word_at i v.view.held) top.word in let counts = here.counts in omega arith
 
-  pub held_once : (k : Opening V) (s : St) (r : Kept law at_home durable_of common_of k s) (id : ℕ) (v : Mind V E) → get_elem? s.views id ≡ some v → (i : ℕ) → held_at i v.view.held ≤ 1
+  pub held_once : (k : Opening V) (s : Moment V E) (r : Kept law at_home durable_of common_of k s) (id : ℕ) (v : Mind V E) → get_elem? s.views id ≡ some v → (i : ℕ) → held_at i v.view.held ≤ 1
   held_once k s r id v at i = dite (ℕ_discrete (held_at i v.view.held) 0)
       (λ none_held. omega arith)
       (λ held. let a = one_holder k s r id v at i (omega arith) in let mine = total_at (on i) s.views id v at in omega arith)
 
   -- the others have nothing left, have drawn nothing, hold nothing, and know of no halt
-  pub others_idle : (k : Opening V) (s : St) (r : Kept law at_home durable_of common_of k s) (id : ℕ) (v : Mind V E) → get_elem? s.views id ≡ some v → v.view.allowance + length v.view.own ≡ v.view.whole
+  pub others_idle : (k : Opening V) (s : Moment V E) (r : Kept law at_home durable_of common_of k s) (id : ℕ) (v : Mind V E) → get_elem? s.views id ≡ some v → v.view.allowance + length v.view.own ≡ v.view.whole
       → (i : ℕ) (d : Mind V E) → i ≢ id → get_elem? s.views i ≡ some d → (0 < k.whole) × (d.view.allowance + length d.view.own ≡ 0) × (d.view.held ≡ []) × (d.view.halted ≡ 0)
   others_idle k s r id v at all i d apart there = let known = r.each_seat i d there in let mine = r.each_seat id v at in let wholes = mine.wholes in let dealt = r.dealt in let tickets = dealt.tickets in let many = dealt.many in
       let a = total_two allowance_of s.views id i v d (λ e. apart (sym e)) at there in let b = total_two count_of s.views id i v d (λ e. apart (sym e)) at there in
@@ -124,7 +119,7 @@ module _ {V E : Type 0} (law : List E → Type 0) (at_home : ℕ → ℕ → ℕ
       (λ nz. let some_number : 0 < k.whole = omega arith in (some_number, idle, no_numbers d.view.held (dite (ℕ_discrete (length d.view.held) 0) (λ e. e) (λ ne. let l = known.lives (omega arith) some_number in absurd (omega arith))), known.idle some_number idle))
 
   -- a seat that has every number has seen the whole history
-  pub knows_whole : (k : Opening V) (s : St) (r : Kept law at_home durable_of common_of k s) (id : ℕ) (m : Mind V E) → get_elem? s.views id ≡ some m → m.view.allowance + length m.view.own ≡ m.view.whole → m.told ≡ [] → r.figures.history ≡ m.view.seen
+  pub knows_whole : (k : Opening V) (s : Moment V E) (r : Kept law at_home durable_of common_of k s) (id : ℕ) (m : Mind V E) → get_elem? s.views id ≡ some m → m.view.allowance + length m.view.own ≡ m.view.whole → m.told ≡ [] → r.figures.history ≡ m.view.seen
   knows_whole k s r id m at all told_none = let mine = r.each_seat id m at in let idle = others_idle k s r id m at all in let o = r.known in let knows = o.knows in let none_told : length m.told ≡ 0 = ap length told_none in dite (ℕ_discrete o.seat id)
       (λ same. let is : o.mind ≡ m = maybe.some-injective o.mind m (sym o.there ∙ (ap (get_elem? s.views) same ∙ at)) in
       let p : length o.mind.view.seen ≡ length m.view.seen = ap (λ (u : Mind V E). length u.view.seen) is in let q : length o.mind.told ≡ length m.told = ap (λ (u : Mind V E). length u.told) is in
@@ -132,12 +127,12 @@ module _ {V E : Type 0} (law : List E → Type 0) (at_home : ℕ → ℕ → ℕ
       (λ other. let t = idle o.seat o.mind other o.there in let l = o.lives t.0 in let e = t.1 in absurd (omega arith))
 
   -- and knows of every halt
-  pub knows_halt : (k : Opening V) (s : St) (r : Kept law at_home durable_of common_of k s) (id : ℕ) (m : Mind V E) → get_elem? s.views id ≡ some m → HasAll m.view → r.figures.stop ≡ m.view.halted
+  pub knows_halt : (k : Opening V) (s : Moment V E) (r : Kept law at_home durable_of common_of k s) (id : ℕ) (m : Mind V E) → get_elem? s.views id ≡ some m → HasAll m.view → r.figures.stop ≡ m.view.halted
   knows_halt k s r id m at all = let idle = others_idle k s r id m at all in let known = r.each_seat id m at in let stops = known.stops in let stopped = r.stopped in
       let halts : total halted_of s.views ≡ m.view.halted = total_only halted_of s.views id m at (λ i d apart there. (idle i d apart there).3) in omega arith
 
   -- a step of the seat id, whose view v becomes w
-  pub rebuilt : (k : Opening V) (s : St) (r : Kept law at_home durable_of common_of k s) (id : ℕ) (v w : Mind V E) (words' : List ℕ) (homes' : Homes) (f' : Figures E) → get_elem? s.views id ≡ some v
+  pub rebuilt : (k : Opening V) (s : Moment V E) (r : Kept law at_home durable_of common_of k s) (id : ℕ) (v w : Mind V E) (words' : List ℕ) (homes' : Homes V) (f' : Figures E) → get_elem? s.views id ≡ some v
       → Spelled k f' words' (length homes')
       → f'.next + w.view.allowance ≡ r.figures.next + v.view.allowance → f'.next + length v.view.own ≡ r.figures.next + length w.view.own
       → ((x : ℕ) → times x w.view.own + once_below x r.figures.next ≡ times x v.view.own + once_below x f'.next)
@@ -165,7 +160,7 @@ module _ {V E : Type 0} (law : List E → Type 0) (at_home : ℕ → ℕ → ℕ
     later_home n j g durable later history x h up = subst (λ l. at_home j n g l later x) (append_nil history) (grows j n g durable later history [] x h up)
 
     -- a step that changes no station: the figures rise
-    pub quiet : (k : Opening V) (s : St) (r : Kept law at_home durable_of common_of k s) (id : ℕ) (v w : Mind V E) (words' : List ℕ) (next durable stop : ℕ) → get_elem? s.views id ≡ some v
+    pub quiet : (k : Opening V) (s : Moment V E) (r : Kept law at_home durable_of common_of k s) (id : ℕ) (v w : Mind V E) (words' : List ℕ) (next durable stop : ℕ) → get_elem? s.views id ≡ some v
         → r.figures.next ≤ next → r.figures.durable ≤ durable → r.figures.stop ≤ stop → (0 < r.figures.stop → durable ≤ r.figures.durable)
         → ((j : ℕ) → get_elem? words' (j + 2) ≡ get_elem? s.words (j + 2))
         → Spelled k (record r.figures { next = next; durable = durable; stop = stop }) words' (length s.homes)

@@ -18,6 +18,7 @@ use Rattle.rep_ordered.specs.Counts.{total, times, busy, gave}
 use Rattle.rep_ordered.specs.Views.{abandoned_with, gone_at, Every, StartsWith, Names, held_at, reach, word_at, floor_at, except, grown, joining, names, backed_after, common_after, on, without, Lives, Holds}
 use Rattle.rep_ordered.specs.Rule.{Covers, Figures, Gone, HoldIsRight, Knows, Kept, first_of}
 use Rattle.rep_ordered.specs.Steps.{abandons, left}
+use Rattle.rep_ordered.proofs.Shapes.{Moment, Mine}
 use Rattle.rep_ordered.proofs.Sums.{every_append, every_map, total_at, every_away, every_at, every_except, held_here, held_else, get_or_is, below_length, reached_more, backed_here, backed_else, covered_after, common_here, common_else}
 use Rattle.rep_ordered.proofs.Owning.{append_nil, entries_of, joined_with, joining_is, longer, placed_mine}
 use Rattle.rep_ordered.proofs.Keeping.{knows_me, knows_still, held_once}
@@ -94,13 +95,7 @@ module _ {V E : Type 0} (law : List E → Type 0) (at_home : ℕ → ℕ → ℕ
     pub lives : Lives v
 
 module _ {V E : Type 0} (law : List E → Type 0) (at_home : ℕ → ℕ → ℕ → List E → ℕ → V → Type 0) (durable_of common_of : V → ℕ) (grows : (station number given durable later : ℕ) (history more : List E) (x : V) → at_home station number given history durable x → durable ≤ later → at_home station number given (history ++ more) later x) where
-  abbrev St : Type 0
-  St = State (Option V) (Mind V E)
-
-  abbrev M : Type 0
-  M = Me (Option V) (Mind V E)
-
-  abbrev Rule : Opening V → St → Type 0
+  abbrev Rule : Opening V → Moment V E → Type 0
   Rule = Kept law at_home durable_of common_of
 
   -- the view of a seat that has left the station j, with its turn at n
@@ -145,7 +140,7 @@ module _ {V E : Type 0} (law : List E → Type 0) (at_home : ℕ → ℕ → ℕ
       exact_before : names j ≡ 0 → 0 < held_at 1 (except j m.view.held) + held_at 2 (except j m.view.held) → 0 < held_at 1 m.view.held + held_at 2 m.view.held
       exact_before unnamed holds = let a = held_else 1 j m.view.held (λ e. omega arith) in let b = held_else 2 j m.view.held (λ e. omega arith) in omega arith
 
-  departs_at : (k : Opening V) (slots id : ℕ) (me : M) (j n g : ℕ) (up : ℕ → ℕ) (entry : Option E) (x : V) (lost : List (GivenUp V)) → Every (λ (u : GivenUp V). (u.station ≡ j) × (u.value ≡ x) × (g ≡ 1)) lost → j < slots → me.1 ≡ (j, Some x) ∷ rest me.1 → Departing law at_home durable_of common_of j n g up entry x me.0.view
+  departs_at : (k : Opening V) (slots id : ℕ) (me : Mine V E) (j n g : ℕ) (up : ℕ → ℕ) (entry : Option E) (x : V) (lost : List (GivenUp V)) → Every (λ (u : GivenUp V). (u.station ≡ j) × (u.value ≡ x) × (g ≡ 1)) lost → j < slots → me.1 ≡ (j, Some x) ∷ rest me.1 → Departing law at_home durable_of common_of j n g up entry x me.0.view
       → Allows (Rule k) slots id me (j + 2) up (λ y m'. (m'.0.view ≡ leaving j n (durable_of x) (common_of x) (entries_of entry) lost me.0.view) × (m'.0.told ≡ me.0.told) × (m'.1 ≡ rest me.1))
   departs_at k slots id me j n g up entry x lost lost_here inside carried p s r deep at _ =
       let m : Mind V E = me.0 in let v : View V E = m.view in let more : List E = entries_of entry in let f : Figures E = r.figures in let sp = r.spelled in let h : ℕ = word_at j v.held in let tail : List Hold = except j v.held in let known = r.each_seat id m at in
@@ -216,14 +211,14 @@ module _ {V E : Type 0} (law : List E → Type 0) (at_home : ℕ → ℕ → ℕ
           (λ e. let h : held_at j held ≡ held_at 1 held = ap (λ (z : ℕ). held_at z held) e in omega arith)
           (λ ne. let two : j ≡ 2 = omega arith in let h : held_at j held ≡ held_at 2 held = ap (λ (z : ℕ). held_at z held) two in omega arith)
 
-  departs : (k : Opening V) (slots id : ℕ) (me : M) (j n g a : ℕ) (up : ℕ → ℕ) (entry : Option E) (x : V) → j < slots → me.1 ≡ (j, Some x) ∷ rest me.1 → Departing law at_home durable_of common_of j n g up entry x me.0.view
+  departs : (k : Opening V) (slots id : ℕ) (me : Mine V E) (j n g a : ℕ) (up : ℕ → ℕ) (entry : Option E) (x : V) → j < slots → me.1 ≡ (j, Some x) ∷ rest me.1 → Departing law at_home durable_of common_of j n g up entry x me.0.view
       → Allows (Rule k) slots id me (j + 2) up (left entry (durable_of x) (common_of x) n (step slots (j + 2) a 0 none) me)
   departs k slots id me j n g a up entry x inside carried p s r deep at small =
       let v : View V E = me.0.view in let same = grown_is v.seen entry in let joins = joining_is entry (word_at j v.held / 4) v.joined in
       let t = departs_at k slots id me j n g up entry x [] tt inside carried p s r deep at small in let b : j ≡ (j + 2) - 2 = omega arith in
       (t.0, t.1, t.2, t.3, (subst (λ (z : ℕ). t.0.view ≡ without entry z n (durable_of x) (common_of x) v) b (t.4.0 ∙ (λ i. record v { seen = sym same i; joined = sym joins i; backed = backed_after j (durable_of x) v.backed; common = common_after j (common_of x) v.common; reached = reach j n ∷ v.reached; held = except j v.held })), t.4.1, t.4.2))
 
-  abandons_by : (k : Opening V) (slots id : ℕ) (me : M) (j n a : ℕ) (up : ℕ → ℕ) (x : V) → j < slots → me.1 ≡ (j, Some x) ∷ rest me.1 → Departing law at_home durable_of common_of j n 1 up None x me.0.view
+  abandons_by : (k : Opening V) (slots id : ℕ) (me : Mine V E) (j n a : ℕ) (up : ℕ → ℕ) (x : V) → j < slots → me.1 ≡ (j, Some x) ∷ rest me.1 → Departing law at_home durable_of common_of j n 1 up None x me.0.view
       → Allows (Rule k) slots id me (j + 2) up (abandons (x ∷ []) (durable_of x) (common_of x) n (step slots (j + 2) a 0 none) me)
   abandons_by k slots id me j n a up x inside carried p s r deep at small =
       let v : View V E = me.0.view in let same : v.seen ≡ v.seen ++ [] = sym (append_nil v.seen) in

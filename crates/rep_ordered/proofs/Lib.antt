@@ -1,3 +1,4 @@
+pub mod Shapes
 pub mod Sums
 pub mod Owning
 pub mod Keeping

@@ -14,6 +14,7 @@ use Rattle.rep_ordered.specs.declared.rule.Opening.{Opening}
 use Rattle.rep_ordered.specs.Counts.{total, times, once_below, busy, gave}
 use Rattle.rep_ordered.specs.Views.{Every, held_at, names, on}
 use Rattle.rep_ordered.specs.Rule.{Figures, Gone, Knows, Known, Home, Station, Kept}
+use Rattle.rep_ordered.proofs.Shapes.{Moment, Homes}
 use Rattle.rep_ordered.proofs.Sums.{total_at, total_two, every_away, every_map}
 use Rattle.rep_ordered.proofs.Owning.{append_nil, longer, placed_else}
 use Rattle.rep_ordered.proofs.Keeping.{one_holder, rebuilt}
@@ -69,14 +70,8 @@ module _ {V E : Type 0} where
   }
 
 module _ {V E : Type 0} (law : List E → Type 0) (at_home : ℕ → ℕ → ℕ → List E → ℕ → V → Type 0) (durable_of common_of : V → ℕ) where
-  abbrev St : Type 0
-  St = State (Option V) (Mind V E)
-
-  abbrev Homes : Type 0
-  Homes = List (maybe.Option (Option V))
-
   -- the number that stations 1 and 2 name is another only if the seat holds both: so it stays the same for another seat that holds one
-  alike_for : (k : Opening V) (s : St) (r : Kept law at_home durable_of common_of k s) (id : ℕ) (v : Mind V E) (i : ℕ) (d : Mind V E) (common : ℕ) → get_elem? s.views id ≡ some v → i ≢ id → get_elem? s.views i ≡ some d
+  alike_for : (k : Opening V) (s : Moment V E) (r : Kept law at_home durable_of common_of k s) (id : ℕ) (v : Mind V E) (i : ℕ) (d : Mind V E) (common : ℕ) → get_elem? s.views id ≡ some v → i ≢ id → get_elem? s.views i ≡ some d
       → (common ≡ r.figures.common) ⊎ ((0 < on 1 v) × (0 < on 2 v)) → 0 < held_at 1 d.view.held + held_at 2 d.view.held → common ≡ r.figures.common
   alike_for k s r id v i d common at apart there named holds = ⊎_elim
       (λ (e : common ≡ r.figures.common). e)
@@ -85,7 +80,7 @@ module _ {V E : Type 0} (law : List E → Type 0) (at_home : ℕ → ℕ → ℕ
       named
 
   -- the same for the value at home in station 1 or 2
-  alike_home : (k : Opening V) (s : St) (id : ℕ) (v : Mind V E) (i : ℕ) (f : Figures E) (common : ℕ) → get_elem? s.views id ≡ some v → total (on i) s.views ≡ 0
+  alike_home : (k : Opening V) (s : Moment V E) (id : ℕ) (v : Mind V E) (i : ℕ) (f : Figures E) (common : ℕ) → get_elem? s.views id ≡ some v → total (on i) s.views ≡ 0
       → (common ≡ f.common) ⊎ ((0 < on 1 v) × (0 < on 2 v)) → 0 < names i → common ≡ f.common
   alike_home k s id v i f common at none_inside named some_name = ⊎_elim
       (λ (e : common ≡ f.common). e)
@@ -96,7 +91,7 @@ module _ {V E : Type 0} (law : List E → Type 0) (at_home : ℕ → ℕ → ℕ
 
   module _ (grows : (station number given durable later : ℕ) (history more : List E) (x : V) → at_home station number given history durable x → durable ≤ later → at_home station number given (history ++ more) later x) where
     -- the word of the station j goes from x to y, and its slot may be taken or given back
-    pub moved : (k : Opening V) (s : St) (r : Kept law at_home durable_of common_of k s) (id : ℕ) (v w : Mind V E) (j x y : ℕ) (more : List E) (backed common : ℕ) (homes' : Homes) → get_elem? s.views id ≡ some v
+    pub moved : (k : Opening V) (s : Moment V E) (r : Kept law at_home durable_of common_of k s) (id : ℕ) (v w : Mind V E) (j x y : ℕ) (more : List E) (backed common : ℕ) (homes' : Homes V) → get_elem? s.views id ≡ some v
         → get_elem? s.words (j + 2) ≡ some x → gave x ≡ 0 → x / 4 ≤ y / 4 → y / 4 ≤ r.figures.next
         → (j ≡ 0 → length more + x / 4 ≡ y / 4) → (j ≢ 0 → more ≡ []) → (0 < length more → (length more ≡ 1) × (0 < times (x / 4) v.view.own))
         → law (r.figures.history ++ more)

@@ -105,22 +105,26 @@ module _ {V E : Type 0} where
           go zero e = let s = total_append (one x) a b in q x (omega arith)
           go (suc t) e = p x (omega arith)
 
+  -- a seat that no longer holds a station stays in its place
+  has_parted : (a b : ℕ) (me m1 m2 : Me (Option V) (Mind V E)) (j : ℕ) (x : Option V) (w : View V E) → b ≡ a → IsSeated a me → m1 ≡ (me.0, (j, x) ∷ map empty_slot (except j me.0.view.held))
+      → m2.0.view ≡ w → w.held ≡ except j me.0.view.held → Lives w → Small w.own → m2.0.told ≡ m1.0.told → m2.1 ≡ rest m1.1 → IsSeated b m2
+  has_parted a b me m1 m2 j x w size seated put now holds lives small told gave =
+      let held : m2.0.view.held ≡ except j me.0.view.held = ap (λ (z : View V E). z.held) now ∙ holds in
+      record {
+        told = told ∙ (ap (λ z. z.0.told) put ∙ seated.told);
+        lives = subst Lives (sym now) lives;
+        slots = gave ∙ (ap (λ z. rest z.1) put ∙ ap (map empty_slot) (sym held));
+        inside = inside_of a b (except j me.0.view.held) m2.0.view.held size held (every_except (λ (h : Hold). h.station < a) j me.0.view.held seated.inside);
+        small = subst (λ (z : View V E). Small z.own) (sym now) small;
+      }
+
   -- the station was left
   pub departed : (a b : ℕ) (me m1 m2 : Me (Option V) (Mind V E)) (i j n n' d d' c c' : ℕ) (entry entry' : Option E) (x : Option V) (v : View V E) → b ≡ a → i ≡ j → entry' ≡ entry → d' ≡ d → c' ≡ c → n' ≡ n → me.0.view ≡ v → IsSeated a me
       → m1 ≡ (me.0, (j, x) ∷ map empty_slot (except j me.0.view.held)) → m2.0.view ≡ without entry' i n' d' c' m1.0.view → m2.0.told ≡ m1.0.told → m2.1 ≡ rest m1.1 → IsSeated b m2 × (m2.0.view ≡ without entry j n d c v)
   departed a b me m1 m2 i j n n' d d' c c' entry entry' x v size place joins durable common number is seated put left told gave =
       let before : m1.0.view ≡ v = ap (λ z. z.0.view) put ∙ is in
       let now : m2.0.view ≡ without entry j n d c v = left ∙ (λ k. without (joins k) (place k) (number k) (durable k) (common k) (before k)) in
-      let held : m2.0.view.held ≡ except j me.0.view.held = ap (λ (z : View V E). z.held) now ∙ ap (λ (z : View V E). except j z.held) (sym is) in (
-        record {
-          told = told ∙ (ap (λ z. z.0.told) put ∙ seated.told);
-          lives = subst Lives (sym now) (subst Lives is seated.lives);
-          slots = gave ∙ (ap (λ z. rest z.1) put ∙ ap (map empty_slot) (sym held));
-          inside = inside_of a b (except j me.0.view.held) m2.0.view.held size held (every_except (λ (h : Hold). h.station < a) j me.0.view.held seated.inside);
-          small = subst (λ (z : View V E). Small z.own) (sym now) (subst (λ (z : View V E). Small z.own) is seated.small);
-        },
-        now,
-      )
+      (has_parted a b me m1 m2 j x (without entry j n d c v) size seated put now (ap (λ (z : View V E). except j z.held) (sym is)) (subst Lives is seated.lives) (subst (λ (z : View V E). Small z.own) is seated.small) told gave, now)
 
   -- the same where it was given up
   pub given_away : (a b : ℕ) (me m1 m2 : Me (Option V) (Mind V E)) (i j n n' d d' c c' : ℕ) (xs xs' : List V) (x : Option V) (v : View V E) → b ≡ a → i ≡ j → xs' ≡ xs → d' ≡ d → c' ≡ c → n' ≡ n → me.0.view ≡ v → IsSeated a me
@@ -128,16 +132,7 @@ module _ {V E : Type 0} where
   given_away a b me m1 m2 i j n n' d d' c c' xs xs' x v size place joins durable common number is seated put left told gave =
       let before : m1.0.view ≡ v = ap (λ z. z.0.view) put ∙ is in
       let now : m2.0.view ≡ abandoned_with j xs (without None j n d c v) = left ∙ (λ k. abandoned_with (place k) (joins k) (without None (place k) (number k) (durable k) (common k) (before k))) in
-      let held : m2.0.view.held ≡ except j me.0.view.held = ap (λ (z : View V E). z.held) now ∙ ap (λ (z : View V E). except j z.held) (sym is) in (
-        record {
-          told = told ∙ (ap (λ z. z.0.told) put ∙ seated.told);
-          lives = subst Lives (sym now) (subst Lives is seated.lives);
-          slots = gave ∙ (ap (λ z. rest z.1) put ∙ ap (map empty_slot) (sym held));
-          inside = inside_of a b (except j me.0.view.held) m2.0.view.held size held (every_except (λ (h : Hold). h.station < a) j me.0.view.held seated.inside);
-          small = subst (λ (z : View V E). Small z.own) (sym now) (subst (λ (z : View V E). Small z.own) is seated.small);
-        },
-        now,
-      )
+      (has_parted a b me m1 m2 j x (abandoned_with j xs (without None j n d c v)) size seated put now (ap (λ (z : View V E). except j z.held) (sym is)) (subst Lives is seated.lives) (subst (λ (z : View V E). Small z.own) is seated.small) told gave, now)
 
 module _ {V E : Type 0} (law : List E → Type 0) (at_home : ℕ → ℕ → ℕ → List E → ℕ → V → Type 0) (durable_of common_of : V → ℕ) where
   -- the station was entered, and its slot read

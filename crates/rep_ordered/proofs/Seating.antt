@@ -13,7 +13,7 @@ use Rattle.rep_ordered.specs.declared.view.View.{View}
 use Rattle.rep_ordered.specs.declared.rule.Opening.{Opening}
 use Rattle.rep_ordered.specs.Counts.{one}
 use Rattle.rep_ordered.specs.Views.{held_at, allowance_of, count_of, drew, on, halted_of, spent, giving, given, both, untold}
-use Rattle.rep_ordered.specs.Rule.{Figures, Knows, Kept}
+use Rattle.rep_ordered.specs.Rule.{Figures, Knows, Station, Kept}
 use Rattle.rep_ordered.proofs.Sums.{total_append, total_snoc, total_at, total_set, total_two, every_append, every_map, below_length, reached_both}
 use Rattle.rep_ordered.proofs.Owning.{placed_none, placed_both}
 
@@ -25,6 +25,10 @@ module _ {V E : Type 0} (law : List E → Type 0) (at_home : ℕ → ℕ → ℕ
   abbrev Rule : Opening V → State (Option V) (Mind V E) → Type 0
   Rule = Kept law at_home durable_of common_of
 
+  -- a station stays as it is where as many hold it
+  recounted : {k : Opening V} {f : Figures E} {homes : List (maybe.Option (Option V))} {j w before after : ℕ} → Station law at_home durable_of common_of k f homes before j w → before ≡ after → Station law at_home durable_of common_of k f homes after j w
+  recounted {k} {f} {homes} {j} {w} o same = subst (λ (count : ℕ). Station law at_home durable_of common_of k f homes count j w) same o
+
   pub splits : (k : Opening V) (id : ℕ) (m : Mind V E) (give : ℕ) → 0 < give → give < m.view.allowance → Splits (Rule k) id m (record m { view = giving give m.view }) (untold (given give m.view))
   splits k id m give some_given less s r at = let f : Figures E = r.figures in let v : View V E = m.view in let d = r.dealt in let left : Mind V E = record m { view = giving give v } in let right : Mind V E = untold (given give v) in let vs : List (Mind V E) = set s.views id left in let known = r.each_seat id m at in
       let tickets = d.tickets in let many = d.many in let enough = total_at allowance_of s.views id m at in record {
@@ -35,14 +39,7 @@ module _ {V E : Type 0} (law : List E → Type 0) (at_home : ℕ → ℕ → ℕ
           many = let a = total_set count_of s.views id m left at in let b = total_snoc count_of vs right in omega arith;
           drawn = λ x. let a = total_set (drew x) s.views id m left at in let b = total_snoc (drew x) vs right in let c = d.drawn x in omega arith;
         };
-        each_station = λ j w e. let o = r.each_station j w e in let a = total_set (on j) s.views id m left at in let b = total_snoc (on j) vs right in let c = o.counts in record {
-          begun = o.begun;
-          within = o.within;
-          counts = omega arith;
-          counted = o.counted;
-          gone = o.gone;
-          home = o.home;
-        };
+        each_station = λ j w e. let o = r.each_station j w e in let a = total_set (on j) s.views id m left at in let b = total_snoc (on j) vs right in recounted o (omega arith);
         each_seat = λ i u e. ⊎_elim
             (λ (here : get_elem? vs i ≡ some u). ⊎_elim
             (λ (t : (i ≡ id) × (left ≡ u)). subst (Knows k f s.words s.homes) t.1 record {
@@ -119,14 +116,7 @@ module _ {V E : Type 0} (law : List E → Type 0) (at_home : ℕ → ℕ → ℕ
           many = let t = d.many in let x = total_set count_of s.views id m b at in let y = total_set count_of vs other n z there' in let l : length (v.own ++ w.own) ≡ length v.own + length w.own = length-append v.own w.own in omega arith;
           drawn = λ i. let t = d.drawn i in let x = total_set (drew i) s.views id m b at in let y = total_set (drew i) vs other n z there' in let l = total_append (one i) v.own w.own in omega arith;
         };
-        each_station = λ j y e. let o = r.each_station j y e in let p = total_set (on j) s.views id m b at in let q = total_set (on j) vs other n z there' in let c = o.counts in let free : on j n ≡ 0 = ap (held_at j) nothing in record {
-          begun = o.begun;
-          within = o.within;
-          counts = omega arith;
-          counted = o.counted;
-          gone = o.gone;
-          home = o.home;
-        };
+        each_station = λ j y e. let o = r.each_station j y e in let p = total_set (on j) s.views id m b at in let q = total_set (on j) vs other n z there' in let free : on j n ≡ 0 = ap (held_at j) nothing in recounted o (omega arith);
         each_seat = λ i u e. ⊎_elim
             (λ (t : (i ≡ other) × (z ≡ u)). subst (Knows k f s.words s.homes) t.1 record {
               starts = omega arith;
