@@ -28,7 +28,7 @@ use Rattle.rep_steps.specs.Standings.{Standing, Stage as StageOf, Off as is_off,
 use Rattle.rep_steps.specs.Moves.{Found, Moves, after, check_answer, checked as checked_at, is_off as is_none_under_way, touched}
 use Rattle.rep_steps.specs.Nodes.{Node, Steps, NodesStayNodes, found, moved, reached, window_at}
 use Rattle.rep_steps.specs.Images.{IsFrontAt}
-use Rattle.rep_steps.proofs.Reaching.{reached_position}
+use Rattle.rep_steps.specs.Judging.{JudgingGoesOn}
 use Rattle.rep_image.specs.Meanings.{Means}
 use Rattle.rep_versions.specs.Versions.{ArePages}
 use Rattle.rep_checkpoint.specs.declared.stage.Part.{Part}
@@ -124,7 +124,7 @@ module _ {D : Type 0} (failures : D → ℕ) (old : Engine D) (entries : List En
       subst (λ (a : Answer). Moves s Check a (facts_of failures new)) (ap (check_answer s) at_rest) (done_moves s Check f (facts_of failures new) (ap is_some runs) not_refused (facts_begun f refl))
 
   -- at a node
-  module _ (honest : D → Type 0) (history : D → History) (nodes : NodesStayNodes) (lead : VersionsLeadToTheState) (n : Node) (holds : Holds honest history failures n old) (window : entries ≡ window_at n n.facts.durable)
+  module _ (honest : D → Type 0) (history : D → History) (nodes : NodesStayNodes) (lead : VersionsLeadToTheState) (goes : JudgingGoesOn) (n : Node) (holds : Holds honest history failures n old) (window : entries ≡ window_at n n.facts.durable)
       (pages : ArePages old.kept old.checkpoint.base.params.rows old.checkpoint.base.position (durable_of old.log) left) (begins : Begins old.kept old.checkpoint d next) where
     there : Stands history n old
     there = holds.runs runs
@@ -176,7 +176,7 @@ module _ {D : Type 0} (failures : D → ℕ) (old : Engine D) (entries : List En
     }
 
     goal_at : goal.position ≡ next.super.position
-    goal_at = reached_position n.facts.setting n.base (take past n.items) ∙ omega (arith, at, length-take-le past n.items (omega (arith, holds.node.enough)))
+    goal_at = goes.reached_position n.facts.setting n.base (take past n.items) ∙ omega (arith, at, length-take-le past n.items (omega (arith, holds.node.enough)))
 
     goal_kept : goal.kept ≡ entries
     goal_kept = ap (λ i. (reached n.facts.setting n.base (take (n.facts.durable - i) n.items)).kept) (sym holds.node.position) ∙ sym window
@@ -485,14 +485,14 @@ module _ {D : Type 0} (failures : D → ℕ) (old after_it : Engine D) (h : Hold
       subst (λ (e : Engine D). Moves (facts_of failures old) Check (Began position) (facts_of failures e)) (sym becomes)
       (subst (λ i. Moves (facts_of failures old) Check (Began i) (facts_of failures (record old { checkpoint = begun old.checkpoint at_durable old.log.next window_there b.left }))) (sym b.position_is) (begun_moves failures old window_there b.left runs off above))
 
-  pub began_holds : (honest : D → Type 0) (history : D → History) → NodesStayNodes → VersionsLeadToTheState → (n : Node) → Holds honest history failures n old → window_there ≡ window_at n n.facts.durable
+  pub began_holds : (honest : D → Type 0) (history : D → History) → NodesStayNodes → VersionsLeadToTheState → JudgingGoesOn → (n : Node) → Holds honest history failures n old → window_there ≡ window_at n n.facts.durable
       → (m : Node) × Steps n Check (Began position) m × Holds honest history failures m after_it
-  began_holds honest history nodes lead n holds window =
+  began_holds honest history nodes lead goes n holds window =
       let pages : ArePages old.kept old.checkpoint.base.params.rows old.checkpoint.base.position at_durable b.left = subst (λ i. ArePages old.kept old.checkpoint.base.params.rows old.checkpoint.base.position i b.left) b.position_is b.pages in
       let begins : Begins old.kept old.checkpoint (begun old.checkpoint at_durable old.log.next window_there b.left) (next_of old.checkpoint.base at_durable old.log.next window_there b.left) =
       subst (λ i. Begins old.kept old.checkpoint (begun old.checkpoint i old.log.next (window_of h i) b.left) (next_of old.checkpoint.base i old.log.next (window_of h i) b.left)) b.position_is
       (subst (λ (k : Checkpoint). Begins old.kept old.checkpoint k (next_of old.checkpoint.base position old.log.next (window_of h position) b.left)) b.checkpoint b.begins) in
-      let came = begun_holds failures old window_there b.left runs off above honest history nodes lead n holds window pages begins in
+      let came = begun_holds failures old window_there b.left runs off above honest history nodes lead goes n holds window pages begins in
       (came.0, subst (λ i. Steps n Check (Began i) came.0) (sym b.position_is) came.1, subst (λ (e : Engine D). Holds honest history failures came.0 e) (sym becomes) came.2)
 
 -- where it is refused

@@ -18,7 +18,7 @@ use Rattle.rep_steps.specs.declared.event.Event.TheVariants.{Sync}
 use Rattle.rep_steps.specs.Standings.{Stage, Off, Toward, Retiring, Standing, HasGoal, Flushing as To_flush, Saving as To_save, Ready as To_fill, SuperFilling as To_filling, SuperFilled as To_open, SuperOpening as To_opening}
 use Rattle.rep_steps.specs.Moves.{Found, after, opening, taken, synced_phase, start_after}
 use Rattle.rep_engine.proofs.Items.{behind_more}
-use Rattle.rep_image.proofs.Settling.{phase_synced, next_synced, start_synced}
+use Rattle.rep_image.specs.Syncs.{TheSyncedLogIsTheFacts}
 use Rattle.rep_checkpoint.specs.declared.stage.Part.TheVariants.{Flushing, Saving, Ready, SuperFilling, SuperFilled, SuperOpening}
 use Rattle.rep_checkpoint.specs.declared.stage.Stage.{Stage as Stages}
 use Rattle.rep_checkpoint.specs.declared.stage.Stage.TheVariants.{Off as Off_, Toward as Toward_, Retiring as Retiring_}
@@ -231,18 +231,18 @@ standing_is : (s : Standing) (uuid : List ℕ) (setting : Setting) (base durable
     → record s { uuid = uuid; setting = setting; base = base; durable = durable; ahead = ahead; phase = phase; next = next; start = start; stage = stage; stopped = stopped } ≡ s
 standing_is s uuid setting base durable next start ahead phase stage stopped i j a b c d e f g h = rw i (rw j (rw a (rw b (rw c (rw d (rw e (rw f (rw g (rw h refl)))))))))
 
-pub facts_synced : {D : Type 0} (failures : D → ℕ) (laws : TheStageIsTheFacts) (e new : Engine D) (f : Found) → IsEngine e.layout e.checkpoint e.log e.kept e.block → e.halted ≡ None → new.halted ≡ None → failures new.disk ≡ failures e.disk
+pub facts_synced : {D : Type 0} (failures : D → ℕ) (laws : TheStageIsTheFacts) (of_log : TheSyncedLogIsTheFacts) (e new : Engine D) (f : Found) → IsEngine e.layout e.checkpoint e.log e.kept e.block → e.halted ≡ None → new.halted ≡ None → failures new.disk ≡ failures e.disk
     → new.checkpoint ≡ checkpoint_after e.checkpoint → new.log ≡ started (checkpoint_after e.checkpoint).base.start (after_sync e.log) → new.block ≡ left_of e.log.phase e.block
     → (checkpoint_after e.checkpoint).base.uuid ≡ e.checkpoint.base.uuid → (checkpoint_after e.checkpoint).base.params ≡ e.checkpoint.base.params → facts_of failures new ≡ after (facts_of failures e) Sync f
-facts_synced failures laws e new f h runs still rose checkpoint log block uuid params =
+facts_synced failures laws of_log e new f h runs still rose checkpoint log block uuid params =
     let s : Standing = after (facts_of failures e) Sync f in
     let p = e.log.phase in
     let c = checkpoint_after e.checkpoint in
     let held = engine_synced e.layout e.checkpoint e.log e.kept e.block h in
     let phase : p ≡ phase_at p e.halted = sym (ap (phase_at p) runs) in
     let start : (started c.base.start (after_sync e.log)).start ≡ s.start =
-    start_raised laws e.layout e.checkpoint (after_sync e.log) e.kept (left_of p e.block) held ∙ ap (λ i. start_after i (stage_of e.checkpoint)) (start_synced e.log p) in
+    start_raised laws e.layout e.checkpoint (after_sync e.log) e.kept (left_of p e.block) held ∙ ap (λ i. start_after i (stage_of e.checkpoint)) (of_log.start e.log) in
     let is = standing_is s c.base.uuid c.base.params c.base.position (durable_of (after_sync e.log)) (after_sync e.log).next (started c.base.start (after_sync e.log)).start (left_of p e.block) (after_sync e.log).phase (stage_of c) false
     uuid params (laws.base e.checkpoint) (durable_synced e.log p (omega (arith, h.behind)) ∙ ap (λ q. durable_of e.log + opening q) phase) (ahead_synced p e.block h.whole ∙ ap (λ q. drop (opening q) e.block) phase)
-    (phase_synced e.log p refl ∙ ap synced_phase phase) (next_synced e.log p ∙ ap (λ q. e.log.next + taken q) phase) start (laws.synced e.checkpoint) (sym (ap is_some runs)) in
+    (of_log.phase e.log ∙ ap synced_phase phase) (of_log.next e.log ∙ ap (λ q. e.log.next + taken q) phase) start (laws.synced e.checkpoint) (sym (ap is_some runs)) in
     rw log (rw block (rw checkpoint (rw rose (rw still is))))

@@ -37,8 +37,9 @@ use Rattle.rep_steps.specs.Standings.{Standing}
 use Rattle.rep_steps.specs.Moves.{Found, Moves, after, opening, base_after, replies as replies_of}
 use Rattle.rep_steps.specs.Nodes.{Node, IsNode, Steps, NodesStayNodes, cell, found, moved, passed, gate_at}
 use Rattle.rep_steps.specs.Images.{IsFrontAt}
-use Rattle.rep_steps.proofs.Reaching.{reached_position}
+use Rattle.rep_steps.specs.Judging.{JudgingGoesOn}
 use Rattle.rep_image.specs.Meanings.{Means}
+use Rattle.rep_image.specs.Syncs.{TheSyncedLogIsTheFacts}
 use Rattle.rep_checkpoint.specs.declared.stage.Part.TheVariants.{Flushing, Saving, Ready, SuperFilling, SuperFilled, SuperOpening}
 use Rattle.rep_checkpoint.specs.declared.stage.Stage.{Stage as Stages}
 use Rattle.rep_checkpoint.specs.declared.stage.Stage.TheVariants.{Off, Toward, Retiring}
@@ -147,19 +148,19 @@ module _ {D : Type 0} (honest : D → Type 0) (history : D → History) (size fa
   log_after : (replies : List Reply) → GoesOn old new replies → new.log ≡ started (checkpoint_after old.checkpoint).base.start (after_sync old.log)
   log_after replies on = on.log ∙ ap (started new.checkpoint.base.start) on.synced_is ∙ ap (λ (c : Checkpoint). started c.base.start (after_sync old.log)) on.checkpoint
 
-  facts_after : (replies : List Reply) (f : Found) → IsOk answer → GoesOn old new replies → facts_of failures new ≡ after (facts_of failures old) to_sync f
-  facts_after replies f ok on =
-      facts_synced failures laws old new f h.engine h.runs on.runs (h.call.no_cause ok) on.checkpoint (log_after replies on) on.block
+  facts_after : TheSyncedLogIsTheFacts → (replies : List Reply) (f : Found) → IsOk answer → GoesOn old new replies → facts_of failures new ≡ after (facts_of failures old) to_sync f
+  facts_after of_log replies f ok on =
+      facts_synced failures laws of_log old new f h.engine h.runs on.runs (h.call.no_cause ok) on.checkpoint (log_after replies on) on.block
       (ap (λ (c : Checkpoint). c.base.uuid) (sym on.checkpoint) ∙ on.uuid) (ap (λ (c : Checkpoint). c.base.params) (sym on.checkpoint) ∙ on.params)
 
   -- on any device
-  pub synced_moves : (replies : List Reply) → IsOk answer → GoesOn old new replies → Moves (facts_of failures old) to_sync (Synced replies) (facts_of failures new)
-  synced_moves replies ok on =
+  pub synced_moves : TheSyncedLogIsTheFacts → (replies : List Reply) → IsOk answer → GoesOn old new replies → Moves (facts_of failures old) to_sync (Synced replies) (facts_of failures new)
+  synced_moves of_log replies ok on =
       let found : Found = record { verdict = Commit; stale = false; left = []; row = None } in
       let phase : old.log.phase ≡ phase_at old.log.phase old.halted = sym (ap (phase_at old.log.phase) h.runs) in
       let told : replies ≡ replies_of (facts_of failures old) = on.replies ∙ ap (map reply_of) (told_is old.log.phase old.block h.engine.whole ∙ ap (λ p. take (opening p) old.block) phase) in
       subst (λ rs. Moves (facts_of failures old) to_sync (Synced rs) (facts_of failures new)) (sym told)
-      (done_moves (facts_of failures old) to_sync found (facts_of failures new) (ap is_some h.runs) refl (facts_after replies found ok on))
+      (done_moves (facts_of failures old) to_sync found (facts_of failures new) (ap is_some h.runs) refl (facts_after of_log replies found ok on))
 
   module _ (n : Node) (holds : Holds honest history failures n old) where
     there : Standing_so history n old
@@ -209,7 +210,7 @@ module _ {D : Type 0} (honest : D → Type 0) (history : D → History) (size fa
           },
         )
 
-    module _ (nodes : NodesStayNodes) (law : NodesLeaveTheirFronts) (settle : NodesSettle) (follow : VersionsFollowTheItems) (reads : ImagesReadAsAllowed) (replies : List Reply) (ok : IsOk answer) (on : GoesOn old new replies) where
+    module _ (nodes : NodesStayNodes) (law : NodesLeaveTheirFronts) (settle : NodesSettle) (follow : VersionsFollowTheItems) (reads : ImagesReadAsAllowed) (goes : JudgingGoesOn) (of_log : TheSyncedLogIsTheFacts) (replies : List Reply) (ok : IsOk answer) (on : GoesOn old new replies) where
       steps : Steps n to_sync (Synced replies) after_it
       steps =
           let told : replies ≡ replies_of n.facts =
@@ -232,7 +233,7 @@ module _ {D : Type 0} (honest : D → Type 0) (history : D → History) (size fa
       position =
           let base : base_after n.facts.base n.facts.stage ≡ (checkpoint_after old.checkpoint).base.position =
           ap (base_after n.facts.base) (ap (λ (s : Standing). s.stage) holds.facts) ∙ ap (λ i. base_after i (stage_of old.checkpoint)) (ap (λ (s : Standing). s.base) holds.facts) ∙ sym (laws.base old.checkpoint) in
-          let rises : n.base.position ≤ after_it.base.position = omega (arith, reached_position n.facts.setting n.base (take (passed n.facts) n.items)) in
+          let rises : n.base.position ≤ after_it.base.position = omega (arith, goes.reached_position n.facts.setting n.base (take (passed n.facts) n.items)) in
           let there_then : after_it.base.position ≡ (checkpoint_after old.checkpoint).base.position = held.2.checkpoint.base.position ∙ ap (λ (c : Checkpoint). c.base.position) on.checkpoint in
           omega (arith, base, rises, there_then, holds.node.position)
 
@@ -265,7 +266,7 @@ module _ {D : Type 0} (honest : D → Type 0) (history : D → History) (size fa
         steps,
         record {
           is_honest = h.call.stays_honest holds.is_honest;
-          facts = ap (λ (s : Standing). after s to_sync (found n to_sync)) holds.facts ∙ sym (facts_after replies (found n to_sync) ok on);
+          facts = ap (λ (s : Standing). after s to_sync (found n to_sync)) holds.facts ∙ sym (facts_after of_log replies (found n to_sync) ok on);
           node = is_node;
           runs = λ still. there_after;
           images = fronts_of law after_it (history new.disk) (length (stable (history old.disk))) new.checkpoint new.log held.0 held.1 settled.after is_node held.2 size_stays

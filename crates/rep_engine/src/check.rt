@@ -26,7 +26,7 @@ use rep_checkpoint::{
     versions_lead_to_the_state,
 };
 use rep_disk::Disk;
-use rep_steps::nodes_stay_nodes;
+use rep_steps::{judging_goes_on, nodes_stay_nodes};
 use rep_types::Refusal;
 
 impl<D: Disk> Engine<D> {
@@ -103,6 +103,7 @@ impl<D: Disk> Engine<D> {
         the_checkpoint_is_apart();
         the_stage_is_the_facts();
         versions_lead_to_the_state();
+        judging_goes_on();
         if self.halted.is_some() {
             return Err(Refusal::Stopped);
         }

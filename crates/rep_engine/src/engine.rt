@@ -28,9 +28,10 @@ use rep_checkpoint::{
     Checkpoint, nodes_leave_their_fronts, nodes_settle, the_log_is_apart, the_stage_is_the_facts,
 };
 use rep_disk::Disk;
+use rep_image::the_synced_log_is_the_facts;
 use rep_log::{Log, Phase, Step};
 use rep_record::BlockBuilder;
-use rep_steps::{Replies, nodes_stay_nodes};
+use rep_steps::{Replies, judging_goes_on, nodes_stay_nodes};
 use rep_types::{Gtid, Params, Refusal};
 use rep_versions::{Versions, versions_follow_the_items};
 use std::alloc::Global;
@@ -238,7 +239,9 @@ impl<D: Disk> Engine<D> {
         nodes_leave_their_fronts();
         nodes_settle();
         the_stage_is_the_facts();
+        the_synced_log_is_the_facts();
         versions_follow_the_items();
+        judging_goes_on();
         if self.halted.is_some() {
             return Err(Refusal::Stopped);
         }

@@ -1,3 +1,4 @@
 pub mod Bases
 pub mod Meanings
 pub mod Standing
+pub mod Syncs

@@ -2,6 +2,7 @@
 
 ghost use Rattle.rep_image.specs.Meanings.{ImagesMeanOneThing, ImagesStandForOrders};
 ghost use Rattle.rep_image.specs.Standing.{ImagesMeanWhatStands};
+ghost use Rattle.rep_image.specs.Syncs.{TheSyncedLogIsTheFacts};
 
 use rep_layout::{superblocks_are_told, windows_are_told};
 use rep_log::{the_log_in_every_image, the_log_is_told};
@@ -34,3 +35,9 @@ pub fn images_mean_what_stands()
 {
     the_log_in_every_image();
 }
+
+/// A sync of a log leaves it as it leaves the facts of a node whose log it is: as far with its next block, with the
+/// same next cell, and starting where it did.
+pub fn the_synced_log_is_the_facts()
+    ensures { TheSyncedLogIsTheFacts }
+{}

@@ -252,4 +252,6 @@ module _ {D : Type 0} (honest : D → Type 0) (history : D → History) (failure
     moves = delivered_moves;
     steps = delivered_holds stay;
     leaves = λ n holds. leaves_none (history old.engine.disk) (history new.engine.disk) (ap (λ (e : Engine D). history e.disk) engine);
+    unchanged = tt;
+    spelled = tt;
   }

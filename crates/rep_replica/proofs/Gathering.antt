@@ -1,13 +1,12 @@
 -- What the engine accepts of what waits.
-use Rattle.std.proofs.Common.{◌≡◌, ℕ, suc, ◌+◌, ◌-◌, ◌<◌, ◌≤◌, Bool, true, false, List, [], ◌∷◌, ◌++◌, append_assoc, slice_index_or, length, length-append, length-drop, take, drop, refl, sym, ap, subst, ◌∙◌, arith}
+use Rattle.std.proofs.Common.{◌≡◌, ℕ, ◌+◌, ◌-◌, ◌≤◌, List, [], ◌++◌, append_assoc, length, length-drop, take, drop, refl, sym, ap, subst, ◌∙◌, arith}
 use Rattle.std.specs.Prelude.{◌||◌}
-use Rattle.std.proofs.lemmas.List.{take-append-drop, drop-drop, drop_more, length-take-le}
+use Rattle.std.proofs.lemmas.List.{take-append-drop, drop-drop}
 use Rattle.rep_types.specs.declared.judged.Judged.{Judged}
 use Rattle.rep_disk.specs.History.{History}
-use Rattle.rep_record.specs.Blocks.{has_room}
-use Rattle.rep_record.specs.Fronts.{fitting, IsLongestFront, FrontsAreDetermined}
+use Rattle.rep_record.specs.Fronts.{fitting}
 use Rattle.rep_log.specs.declared.phase.Phase.{Phase}
-use Rattle.rep_log.specs.declared.phase.Phase.TheVariants.{Resting, Closing, Filling, Filled, Opening}
+use Rattle.rep_log.specs.declared.phase.Phase.TheVariants.{Resting}
 use Rattle.rep_cert.specs.Holdings.{Holdings, IsAskable, window_of}
 use Rattle.rep_steps.specs.Standings.{Standing}
 use Rattle.rep_steps.specs.Nodes.{Node, reached, window_at}
@@ -15,70 +14,27 @@ use Rattle.rep_steps.specs.Parts.{with_ahead, part_of}
 use Rattle.rep_steps.specs.Images.{AreJudgedFrom}
 use Rattle.rep_steps.specs.Judging.{JudgingGoesOn}
 use Rattle.rep_engine.specs.Engines.{Engine, facts_of as engine_facts}
-use Rattle.rep_engine.specs.Accepting.{accepted_in}
+use Rattle.rep_engine.specs.Accepting.{accepted_in, AddsItems, AcceptedItemsAreAFront}
 use Rattle.rep_engine.specs.Holding.{Holds as EngineHolds, with_items}
 use Rattle.rep_replica.specs.Replicas.{Replica, facts_of}
-use Rattle.rep_engine.proofs.Accepting.{fitting_append}
+use Rattle.rep_replica.specs.Refusing.{Gathers, taken_next}
 use Rattle.rep_replica.specs.Holding.{Holds}
 use Rattle.rep_replica.proofs.Lists.{take_plus}
 
 -- ---- a block that takes no more
 
--- the first item that it did not take stops it
-stops_there : (block js : List Judged) (k : ℕ) → IsLongestFront block js k → fitting (block ++ take k js) (drop k js) ≡ 0
-stops_there block js k front = by (drop k js) refl
-  where
-    by : (rest : List Judged) → drop k js ≡ rest → fitting (block ++ take k js) rest ≡ 0
-    by [] is = refl
-    by (j ∷ rest) is =
-        let long : length (drop k js) ≡ length js - k = length-drop k js in
-        let inside : k < length js = omega (arith, long, ap length is) in
-        let next : slice_index_or js k j ≡ j = ap (λ (xs : List Judged). slice_index_or xs 0 j) (sym (drop_more js k j inside) ∙ is) in
-        let none : has_room (block ++ take k js) j ≡ false = ap (has_room (block ++ take k js)) (sym next) ∙ front.stops j inside in
-        rw none refl
-
--- a block that took the longest front at rest takes no more
-pub takes_no_more : FrontsAreDetermined → (phase : Phase) (block js more : List Judged) (k : ℕ) → k ≡ accepted_in phase block js → more ≡ block ++ take k js → fitting [] more ≡ length more → phase ≡ Resting
+-- a block that took at rest what comes next takes no more
+pub takes_no_more : AcceptedItemsAreAFront → (phase : Phase) (block js more : List Judged) (k : ℕ) → k ≡ accepted_in phase block js → more ≡ block ++ take k js → fitting [] more ≡ length more → phase ≡ Resting
     → fitting [] more ≡ fitting [] (block ++ js)
-takes_no_more fronts phase block js more k count is fits rests =
-    let at : k ≡ fitting block js = count ∙ ap (λ ph. accepted_in ph block js) rests in
-    let front : IsLongestFront block js k = subst (IsLongestFront block js) (sym at) (fronts.right block js) in
-    let none : fitting more (drop k js) ≡ 0 = ap (λ (xs : List Judged). fitting xs (drop k js)) is ∙ stops_there block js k front in
-    let all : more ++ drop k js ≡ block ++ js =
-    ap (λ (xs : List Judged). xs ++ drop k js) is ∙ append_assoc block (take k js) (drop k js) ∙ ap (λ (xs : List Judged). block ++ xs) (take-append-drop k js) in
-    let whole : fitting [] (block ++ js) ≡ length more + fitting more (drop k js) = ap (fitting []) (sym all) ∙ fitting_append [] more (drop k js) fits in
-    omega (arith, whole, none, fits)
-
--- the front that is taken is taken whole
-fitting_front : (b js : List Judged) → fitting b (take (fitting b js) js) ≡ fitting b js
-fitting_front b [] = refl
-fitting_front b (j ∷ js) = by (has_room b j) refl (fitting_front (b ++ j ∷ []) js)
-  where
-    by : (room : Bool) → has_room b j ≡ room → fitting (b ++ j ∷ []) (take (fitting (b ++ j ∷ []) js) js) ≡ fitting (b ++ j ∷ []) js → fitting b (take (fitting b (j ∷ js)) (j ∷ js)) ≡ fitting b (j ∷ js)
-    by true room further =
-        let one : fitting b (j ∷ js) ≡ suc (fitting (b ++ j ∷ []) js) = rw room (omega arith) in
-        let all : fitting b (j ∷ take (fitting (b ++ j ∷ []) js) js) ≡ fitting (b ++ j ∷ []) (take (fitting (b ++ j ∷ []) js) js) + 1 = rw room refl in
-        ap (λ k. fitting b (take k (j ∷ js))) one ∙ all ∙ ap (λ k. k + 1) further ∙ sym (one ∙ omega arith)
-    by false room further = let none : fitting b (j ∷ js) ≡ 0 = rw room refl in ap (λ k. fitting b (take k (j ∷ js))) none ∙ sym none
+takes_no_more front phase block js more k count is fits rests =
+    let at : k ≡ accepted_in Resting block js = count ∙ ap (λ ph. accepted_in ph block js) rests in
+    let all : more ≡ block ++ take (accepted_in Resting block js) js = is ∙ ap (λ n. block ++ take n js) at in
+    ap (fitting []) all ∙ front.all block js (subst (λ (xs : List Judged). fitting [] xs ≡ length xs) all fits)
 
 -- so what the next block would take of what comes is what it takes of all
-pub takes_as_all : FrontsAreDetermined → (phase : Phase) (block js : List Judged) → fitting [] block ≡ length block → phase ≡ Resting → fitting [] (block ++ take (accepted_in phase block js) js) ≡ fitting [] (block ++ js)
-takes_as_all fronts phase block js fits rests =
-    let k = accepted_in phase block js in
-    let at : k ≡ fitting block js = ap (λ ph. accepted_in ph block js) rests in
-    let taken : fitting block (take k js) ≡ k = ap (λ n. fitting block (take n js)) at ∙ fitting_front block js ∙ sym at in
-    let size : length (take k js) ≡ k = length-take-le k js (omega (arith, at, (fronts.right block js).within)) in
-    let whole : fitting [] (block ++ take k js) ≡ length (block ++ take k js) =
-    fitting_append [] block (take k js) fits ∙ omega (arith, taken, size, length-append block (take k js)) in
-    takes_no_more fronts phase block js (block ++ take k js) k refl refl whole rests
-
--- what is accepted is of what waits
-pub accepted_within : FrontsAreDetermined → (phase : Phase) (block js : List Judged) → accepted_in phase block js ≤ length js
-accepted_within fronts Resting block js = (fronts.right block js).within
-accepted_within fronts Closing block js = (fronts.right block js).within
-accepted_within fronts (Filling n) block js = omega arith
-accepted_within fronts (Filled n) block js = omega arith
-accepted_within fronts (Opening n) block js = omega arith
+pub takes_as_all : AcceptedItemsAreAFront → (phase : Phase) (block js : List Judged) → fitting [] block ≡ length block → phase ≡ Resting → fitting [] (block ++ take (accepted_in phase block js) js) ≡ fitting [] (block ++ js)
+takes_as_all front phase block js fits rests =
+    let k = accepted_in phase block js in takes_no_more front phase block js (block ++ take k js) k refl refl (front.fits phase block js fits) rests
 
 -- ---- items that are accepted
 
@@ -129,3 +85,14 @@ module _ {D : Type 0} (honest : D → Type 0) (history : D → History) (failure
         waiting = backlog ∙ ap (drop count) holds.waiting ∙ drop-drop count q n.items;
         windows = subst (λ (h : Holdings). (k : ℕ) → n.base.position ≤ k → IsAskable h.current k → window_of h.current k ≡ window_at n k) (sym certifier) holds.windows;
       }
+
+-- and it gathered what comes next
+pub gathers : {D : Type 0} (old : Replica D) (engine : Engine D) (backlog : List Judged) (count : ℕ) → count ≡ taken_next old → engine ≡ record old.engine { kept = engine.kept; block = engine.block }
+    → engine.block ≡ old.engine.block ++ take count old.backlog → backlog ≡ drop count old.backlog → AddsItems (take count old.backlog) old.engine.kept engine.kept
+    → Gathers old (record old { engine = engine; backlog = backlog })
+gathers {D} old engine backlog count is rest block left versions = record {
+  versions = subst (λ k. AddsItems (take k old.backlog) old.engine.kept engine.kept) is versions;
+  after =
+      ap (λ (e : Engine D). record old { engine = e; backlog = backlog }) (rest ∙ ap (λ (js : List Judged). record old.engine { kept = engine.kept; block = js }) (block ∙ ap (λ k. old.engine.block ++ take k old.backlog) is))
+      ∙ ap (λ (js : List Judged). record old { engine = record old.engine { kept = engine.kept; block = old.engine.block ++ take (taken_next old) old.backlog }; backlog = js }) (left ∙ ap (λ k. drop k old.backlog) is);
+}

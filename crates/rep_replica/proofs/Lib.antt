@@ -6,6 +6,7 @@ pub mod Joining
 pub mod Settling
 pub mod LoggingOn
 pub mod Gathering
+pub mod Refusing
 pub mod Delivering
 pub mod Stepping
 pub mod Opening

@@ -38,10 +38,10 @@ synced_done (Ok x) P done p = p
 synced_done (Err r) P done p = absurd (refused_done r done)
 
 -- what is done where nothing refuses it
-abbrev Went : Standing → Event → Answer → Standing → Type 0
+abbrev pub Went : Standing → Event → Answer → Standing → Type 0
 Went s e a t = (f : Found) × (a ≡ answer s e f) × (t ≡ after s e f)
 
-went_by : (s t : Standing) (e : Event) (a : Answer) → refusal s e ≡ None → Moves s e a t → Went s e a t ⊎ (Fails s e a t ⊎ MeetsCorruption s e a t)
+pub went_by : (s t : Standing) (e : Event) (a : Answer) → refusal s e ≡ None → Moves s e a t → Went s e a t ⊎ (Fails s e a t ⊎ MeetsCorruption s e a t)
 went_by s t e a none m = subst (λ (o : Option Refusal). MatchOption o (Went s e a t ⊎ (Fails s e a t ⊎ MeetsCorruption s e a t)) (λ r. (a ≡ Refused r) × (t ≡ s))) none m
 
 pub done_by : (s t : Standing) (e : Event) (a : Answer) → refusal s e ≡ None → Moves s e a t → outcome_of a ≡ Ok tt → (f : Found) × (t ≡ after s e f)
@@ -125,12 +125,13 @@ ends_by (Synced replies) = (refl, tt)
 ends_by (Row row) = (refl, tt)
 ends_by (Refused r) = ([], tt, refl)
 
--- steps that were due, one after another
-due_then : (s t u : Standing) (events : List Event) (answers : List Answer) (more : List Event) (told : List Answer) → Runs IsDue s events answers t → Runs IsDue t more told u → Runs IsDue s (events ++ more) (answers ++ told) u
-due_then s t u [] [] more told r q = subst (λ x. Runs IsDue x more told u) (sym r) q
-due_then s t u [] (b ∷ answers) more told r q = absurd r
-due_then s t u (e ∷ events) [] more told r q = absurd r
-due_then s t u (e ∷ events) (b ∷ answers) more told r q = (r.0, r.1, due_then r.0 t u events answers more told r.2 q)
+-- steps of any kind, one after another
+runs_then : {S : Type 0} (one : S → Event → Answer → S → Type 0) (s t u : S) (events : List Event) (answers : List Answer) (more : List Event) (told : List Answer) → Runs one s events answers t → Runs one t more told u
+    → Runs one s (events ++ more) (answers ++ told) u
+runs_then one s t u [] [] more told r q = subst (λ x. Runs one x more told u) (sym r) q
+runs_then one s t u [] (b ∷ answers) more told r q = absurd r
+runs_then one s t u (e ∷ events) [] more told r q = absurd r
+runs_then one s t u (e ∷ events) (b ∷ answers) more told r q = (r.0, r.1, runs_then one r.0 t u events answers more told r.2 q)
 
 module _ {D : Type 0} (honest : D → Type 0) (history : D → History) (failures : D → ℕ) (joined : RunsAreJoined honest history failures) where
   pub works_none : (r : Replica D) → Works honest history failures r r (Ok tt)
@@ -140,6 +141,7 @@ module _ {D : Type 0} (honest : D → Type 0) (history : D → History) (failure
     own = tt;
     ends = tt;
     moves = refl;
+    steps = refl;
     ran = joined.no_run r;
   }
 
@@ -150,6 +152,7 @@ module _ {D : Type 0} (honest : D → Type 0) (history : D → History) (failure
     own = (own, tt);
     ends = ends_by a;
     moves = (facts_of failures new, (is_due, step.moves), refl);
+    steps = (new, step, refl);
     ran = joined.one_run old new e a step;
   }
 
@@ -159,7 +162,8 @@ module _ {D : Type 0} (honest : D → Type 0) (history : D → History) (failure
     answers = w.answers ++ v.answers;
     own = own_then w.events v.events w.own v.own;
     ends = ends_then result w.answers v.answers w.ends v.ends;
-    moves = due_then (facts_of failures old) (facts_of failures mid) (facts_of failures new) w.events w.answers v.events v.answers w.moves v.moves;
+    moves = runs_then IsDue (facts_of failures old) (facts_of failures mid) (facts_of failures new) w.events w.answers v.events v.answers w.moves v.moves;
+    steps = runs_then (IsStep honest history failures) old mid new w.events w.answers v.events v.answers w.steps v.steps;
     ran = joined.both_runs old mid new w.events w.answers v.events v.answers w.ran v.ran;
   }
 

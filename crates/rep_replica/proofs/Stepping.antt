@@ -26,7 +26,10 @@ use Rattle.rep_image.specs.Meanings.{Means}
 use Rattle.rep_engine.specs.Engines.{Engine, IsWhole, facts_of as engine_facts, phase_at, durable_of}
 use Rattle.rep_engine.specs.Holding.{Holds as EngineHolds}
 use Rattle.rep_replica.specs.Replicas.{Replica, facts_of}
+use Rattle.rep_replica.specs.Refusing.{RefusesUnchanged}
+use Rattle.rep_replica.specs.Spelling.{Spells}
 use Rattle.rep_replica.specs.Holding.{Holds, IsStep}
+use Rattle.rep_replica.proofs.Refusing.{spells_stopped}
 use Rattle.rep_replica.proofs.Widening.{running_facts, widened, leaves_whole, leaves_none}
 
 -- ---- which refusal it is
@@ -71,29 +74,42 @@ passed_by base durable start next (Retiring written) h le = omega arith
 
 module _ {D : Type 0} (honest : D → Type 0) (history : D → History) (failures : D → ℕ) where
   -- an event that is refused
-  pub refused_step : (r : Replica D) (e : Event) (refused : Refusal) → refusal (facts_of failures r) e ≡ Some refused → IsStep honest history failures r e (Refused refused) r
-  refused_step r e refused some = record {
+  pub refused_step : (r : Replica D) (e : Event) (refused : Refusal) → refusal (facts_of failures r) e ≡ Some refused → Spells honest history r e (Refused refused) r → IsStep honest history failures r e (Refused refused) r
+  refused_step r e refused some spelled = record {
     moves = by_some _ _ (refusal (facts_of failures r) e) refused some (refl, refl);
     steps = λ n holds. (n, by_some _ _ (refusal n.facts e) refused (ap (λ (s : Standing). refusal s e) holds.facts ∙ some) (refl, refl), holds);
     leaves = λ n holds. leaves_none (history r.engine.disk) (history r.engine.disk) refl;
+    unchanged = inl refl;
+    spelled = spelled;
   }
 
   -- one that wanted memory
-  pub hungry_step : (r : Replica D) (e : Event) → refusal (facts_of failures r) e ≡ None → takes_memory (facts_of failures r) e ≡ true → IsStep honest history failures r e (Refused OutOfMemory) r
-  hungry_step r e none takes = record {
+  pub hungry_step : (r : Replica D) (e : Event) → refusal (facts_of failures r) e ≡ None → takes_memory (facts_of failures r) e ≡ true → Spells honest history r e (Refused OutOfMemory) r → IsStep honest history failures r e (Refused OutOfMemory) r
+  hungry_step r e none takes spelled = record {
     moves = by_none _ _ (refusal (facts_of failures r) e) none (inr (inl (inl (takes, refl, refl))));
     steps = λ n holds.
         let nothing : refusal n.facts e ≡ None = ap (λ (s : Standing). refusal s e) holds.facts ∙ none in
         let may : takes_memory n.facts e ≡ true = ap (λ (s : Standing). takes_memory s e) holds.facts ∙ takes in
         (n, by_none _ _ (refusal n.facts e) nothing (inr (inl (may, refl, refl), refl)), holds);
     leaves = λ n holds. leaves_none (history r.engine.disk) (history r.engine.disk) refl;
+    unchanged = inl refl;
+    spelled = spelled;
   }
 
   -- where it is stopped, every event is refused
   pub stopped_step : (r : Replica D) (e : Event) → (r.stopped || is_some r.engine.halted) ≡ true → IsStep honest history failures r e (Refused Stopped) r
-  stopped_step r e stopped = refused_step r e Stopped (ap (λ b. if b then Some Stopped else refusal_here (facts_of failures r) e) stopped)
+  stopped_step r e stopped = refused_step r e Stopped (ap (λ b. if b then Some Stopped else refusal_here (facts_of failures r) e) stopped) (spells_stopped honest history r e)
 
   -- ---- steps of the engine
+
+  -- A step, but for what it leaves where it is refused, and for what the bytes say.
+  pub record IsMoved (old : Replica D) (e : Event) (a : Answer) (new : Replica D) : Type 0 where
+    pub moves : Moves (facts_of failures old) e a (facts_of failures new)
+    pub steps : (n : Node) → Holds honest history failures n old → (m : Node) × Steps n e a m × Holds honest history failures m new
+    pub leaves : (n : Node) → Holds honest history failures n old → LeavesOnly (history old.engine.disk) (history new.engine.disk) (IsFrontAt Means n)
+
+  pub as_step : (old : Replica D) (e : Event) (a : Answer) (new : Replica D) → IsMoved old e a new → RefusesUnchanged e a old new → Spells honest history old e a new → IsStep honest history failures old e a new
+  as_step old e a new m unchanged spelled = record { moves = m.moves; steps = m.steps; leaves = m.leaves; unchanged = unchanged; spelled = spelled }
 
   -- What the engine's call is: its facts move, and it makes a step of its node.
   pub record EngineSteps (e : Event) (a : Answer) (old new : Engine D) : Type 0 where
@@ -106,7 +122,7 @@ module _ {D : Type 0} (honest : D → Type 0) (history : D → History) (failure
         → ((n : Node) (holds : Holds honest history failures n old) → (m : Node) × Steps (part_of old.engine.block holds.taken n) e a m × EngineHolds honest history failures m new.engine)
         → ((n : Node) → EngineHolds honest history failures n old.engine → LeavesOnly (history old.engine.disk) (history new.engine.disk) (IsFrontAt Means n))
         → ((n part : Node) (holds : Holds honest history failures n old) → Steps (part_of old.engine.block holds.taken n) e a part → Widens n part e a holds.taken)
-        → IsStep honest history failures old e a new
+        → IsMoved old e a new
     widened_step moves steps leaves lift = record {
       moves = moves;
       steps = λ n holds. let to = steps n holds in widened honest history failures stay goes old new n holds e a to.0 (lift n to.0 holds to.1) to.2 params backlog certifier stopped;
@@ -140,7 +156,7 @@ module _ {D : Type 0} (honest : D → Type 0) (history : D → History) (failure
     -- the log, where the next block would take no more
     pub log_step : new.engine.block ≡ old.engine.block → EngineSteps Log a old.engine new.engine
         → (phase_at old.engine.log.phase old.engine.halted ≡ Resting → fitting [] old.engine.block ≡ fitting [] (old.engine.block ++ old.backlog))
-        → IsStep honest history failures old Log a new
+        → IsMoved old Log a new
     log_step block engine full =
         widened_step stay goes old new Log a params backlog certifier stopped
         (kept_facts stay goes old new Log a params backlog certifier stopped running block (parts.log_moves (engine_facts failures old.engine) (engine_facts failures new.engine) a (old.engine.block ++ old.backlog) full engine.moves))
@@ -150,7 +166,7 @@ module _ {D : Type 0} (honest : D → Type 0) (history : D → History) (failure
 
     -- a sync, where what becomes durable was taken
     pub sync_step : (told : opening (phase_at old.engine.log.phase old.engine.halted) ≤ length old.engine.block)
-        → EngineSteps Sync a old.engine new.engine → IsStep honest history failures old Sync a new
+        → EngineSteps Sync a old.engine new.engine → IsMoved old Sync a new
     sync_step told engine =
         let moves : Moves (with_ahead (old.engine.block ++ old.backlog) (engine_facts failures old.engine)) Sync a (with_ahead (new.engine.block ++ old.backlog) (engine_facts failures new.engine)) =
         parts.sync_moves (engine_facts failures old.engine) (engine_facts failures new.engine) a old.backlog told engine.moves in
@@ -171,7 +187,7 @@ module _ {D : Type 0} (honest : D → Type 0) (history : D → History) (failure
     pub check_step : new.engine.block ≡ old.engine.block → Moves (engine_facts failures old.engine) Check a (engine_facts failures new.engine)
         → ((n : Node) → EngineHolds honest history failures n old.engine → window_of old.certifier.current (durable_of old.engine.log) ≡ window_at n n.facts.durable → (m : Node) × Steps n Check a m × EngineHolds honest history failures m new.engine)
         → ((n : Node) → EngineHolds honest history failures n old.engine → LeavesOnly (history old.engine.disk) (history new.engine.disk) (IsFrontAt Means n))
-        → IsAskable old.certifier.current (durable_of old.engine.log) → IsStep honest history failures old Check a new
+        → IsAskable old.certifier.current (durable_of old.engine.log) → IsMoved old Check a new
     check_step block moves steps leaves askable =
         widened_step stay goes old new Check a params backlog certifier stopped
         (kept_facts stay goes old new Check a params backlog certifier stopped running block (parts.check_moves (engine_facts failures old.engine) (engine_facts failures new.engine) a (old.engine.block ++ old.backlog) moves))
@@ -187,7 +203,7 @@ module _ {D : Type 0} (honest : D → Type 0) (history : D → History) (failure
             ∙ ap (λ (xs : List Judged). (reached n.facts.setting n.base xs).kept) (sym (take-take behind holds.taken n.items few)) ∙ ap (window_at (part_of old.engine.block holds.taken n)) (sym durable)
 
     -- a page
-    pub flush_step : (page : ℕ) → new.engine.block ≡ old.engine.block → EngineSteps (Flush page) a old.engine new.engine → IsStep honest history failures old (Flush page) a new
+    pub flush_step : (page : ℕ) → new.engine.block ≡ old.engine.block → EngineSteps (Flush page) a old.engine new.engine → IsMoved old (Flush page) a new
     flush_step page block engine =
         widened_step stay goes old new (Flush page) a params backlog certifier stopped
         (kept_facts stay goes old new (Flush page) a params backlog certifier stopped running block (parts.flush_moves (engine_facts failures old.engine) (engine_facts failures new.engine) page a (old.engine.block ++ old.backlog) engine.moves))
@@ -195,7 +211,7 @@ module _ {D : Type 0} (honest : D → Type 0) (history : D → History) (failure
         (λ n part holds steps. parts.flush n part old.engine.block holds.taken page a steps)
 
     -- a read
-    pub read_step : (key : Key) (at : ℕ) → new.engine.block ≡ old.engine.block → EngineSteps (Read key at) a old.engine new.engine → IsStep honest history failures old (Read key at) a new
+    pub read_step : (key : Key) (at : ℕ) → new.engine.block ≡ old.engine.block → EngineSteps (Read key at) a old.engine new.engine → IsMoved old (Read key at) a new
     read_step key at block engine =
         widened_step stay goes old new (Read key at) a params backlog certifier stopped
         (kept_facts stay goes old new (Read key at) a params backlog certifier stopped running block (parts.read_moves (engine_facts failures old.engine) (engine_facts failures new.engine) key at a (old.engine.block ++ old.backlog) engine.moves))
@@ -205,7 +221,7 @@ module _ {D : Type 0} (honest : D → Type 0) (history : D → History) (failure
   -- ---- where items were accepted before
 
   pub step_from : (old mid new : Replica D) (e : Event) (a : Answer) → facts_of failures mid ≡ facts_of failures old → ((n : Node) → Holds honest history failures n old → Holds honest history failures n mid) → mid.engine.disk ≡ old.engine.disk
-      → IsStep honest history failures mid e a new → IsStep honest history failures old e a new
+      → IsMoved mid e a new → IsMoved old e a new
   step_from old mid new e a facts still disk step = record {
     moves = subst (λ (s : Standing). Moves s e a (facts_of failures new)) facts step.moves;
     steps = λ n holds. step.steps n (still n holds);

@@ -12,6 +12,8 @@ use Rattle.rep_steps.specs.Images.{IsFrontAt, IsEndOf, AreJudgedFrom}
 use Rattle.rep_image.specs.Meanings.{Means}
 use Rattle.rep_engine.specs.Holding.{Holds as EngineHolds}
 use Rattle.rep_replica.specs.Replicas.{Replica, facts_of}
+use Rattle.rep_replica.specs.Refusing.{RefusesUnchanged}
+use Rattle.rep_replica.specs.Spelling.{Spells}
 
 -- The replica stands for the node, on an honest device: the items were judged one after another from the base on; the engine has
 -- taken so many of them and stands for the node with those, the others wait; and the certifier's windows from the base on are the
@@ -29,11 +31,14 @@ pub record Holds {D : Type 0} (honest : D → Type 0) (history : D → History) 
 
 -- A step of a replica. On any device the facts move, and with them each refusal comes exactly where it says. A replica that stands
 -- for a node makes a step of that node; and a stop at any moment of it leaves images that mean a front of the node with all that is
--- durable.
+-- durable. What is refused leaves the replica as it was, but for a page that was asked for in vain and for a device that failed; and
+-- the bytes decide which page is corrupt.
 pub record IsStep {D : Type 0} (honest : D → Type 0) (history : D → History) (failures : D → ℕ) (old : Replica D) (e : Event) (a : Answer) (new : Replica D) : Type 0 where
   pub moves : Moves (facts_of failures old) e a (facts_of failures new)
   pub steps : (n : Node) → Holds honest history failures n old → (m : Node) × Steps n e a m × Holds honest history failures m new
   pub leaves : (n : Node) → Holds honest history failures n old → LeavesOnly (history old.engine.disk) (history new.engine.disk) (IsFrontAt Means n)
+  pub unchanged : RefusesUnchanged e a old new
+  pub spelled : Spells honest history old e a new
 
 -- More is so while it isn't stopped: each image means a front that ends exactly at what is durable, or, where a log's gate is opening,
 -- at that with its block. So what was only delivered, and what was only written, doesn't come back.

@@ -1,4 +1,6 @@
 pub mod Replicas
+pub mod Refusing
+pub mod Spelling
 pub mod Holding
 pub mod Running
 pub mod Opening

@@ -15,6 +15,7 @@ use Rattle.rep_steps.specs.Standings.{Standing, Part, Flushing, Saving, Ready, S
 use Rattle.rep_steps.specs.Moves.{Moves, is_off}
 use Rattle.rep_steps.specs.Runs.{Runs}
 use Rattle.rep_replica.specs.Replicas.{Replica, facts_of}
+use Rattle.rep_replica.specs.Holding.{IsStep}
 use Rattle.rep_replica.specs.Running.{Ran}
 
 -- All that was delivered is durable, and no checkpoint is under way.
@@ -96,13 +97,15 @@ EndsIn (Ok x) answers = AreDone answers
 EndsIn (Err e) answers = (done : List Answer) × AreDone done × (answers ≡ done ++ Refused e ∷ [])
 
 -- The replica took some steps of its own one after another, each the one that is due, none of which was refused but the last one, where
--- it ended early: a run on any device, and one of the node that it stands for.
+-- it ended early: a run on any device, and one of the node that it stands for. So a corrupt page is one that its last step flushed, where
+-- the bytes have none; and what a refusal leaves is what that step left.
 pub record Works {D : Type 0} (honest : D → Type 0) (history : D → History) (failures : D → ℕ) (old new : Replica D) (result : Result (Unit {0}) Refusal) : Type 0 where
   pub events : List Event
   pub answers : List Answer
   pub own : AreOwn events
   pub ends : EndsIn result answers
   pub moves : Runs IsDue (facts_of failures old) events answers (facts_of failures new)
+  pub steps : Runs (IsStep honest history failures) old events answers new
   pub ran : Ran honest history failures old new events answers
 
 -- why a step of its own is refused that is due

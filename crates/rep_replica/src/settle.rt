@@ -131,11 +131,13 @@ impl<D: Disk> Replica<D> {
     ///
     /// Refuses with `Stopped`; with `OutOfMemory`, and then it stands between two steps, and a later call goes
     /// on from there; with `DiskFault` where the device failed, and then the replica is stopped; and with
-    /// `Corrupt` of the pages where a page that a checkpoint reads is not of its form.
+    /// `Corrupt` of the pages exactly where the base's page that the checkpoint flushes next is not of its form, of its
+    /// number, and of a position not above the base's.
     pub fn settle(&mut self) -> Result<(), Refusal>
         ensures quiet { OnOk result (is_quiet (facts_of D.failures self.new) ≡ true) }
         // It did some steps of its own, each the one that was due, and each of which was done but the last one, where it ended
-        // early. So it begins no checkpoint but where the log's next cell is live, and syncs nothing but what awaits it.
+        // early. So it begins no checkpoint but where the log's next cell is live, and syncs nothing but what awaits it; and what
+        // a refusal leaves, and which page is corrupt, is what the last step says.
         ensures works { (self.old.stopped || is_some self.old.engine.halted) ≡ false → Works D.honest D.history D.failures self.old self.new result }
         ensures refused { IfErr result (λ e. (e ≡ Refusal.Stopped) ⊎ EndsEarly e) }
         // Where it is stopped, nothing changes.

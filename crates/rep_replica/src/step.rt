@@ -15,14 +15,15 @@ ghost use Rattle.rep_engine.specs.Holding.{wrote, synced, row};
 ghost use Rattle.rep_engine.specs.Checking.{checked};
 ghost use Rattle.rep_engine.specs.Writing.{written_in};
 ghost use Rattle.rep_replica.specs.Replicas.{facts_of};
+ghost use Rattle.rep_replica.specs.Refusing.{Gathers};
+ghost use Rattle.rep_replica.specs.Spelling.{ReadIsSpelled};
 ghost use Rattle.rep_replica.specs.Holding.{Holds, IsStep};
 ghost use Rattle.rep_replica.specs.Settling.{outcome_of};
 
 use crate::replica::Replica;
 use rep_disk::Disk;
-use rep_engine::certifiers_hold_windows;
+use rep_engine::{accepted_items_are_a_front, certifiers_hold_windows};
 use rep_log::Phase;
-use rep_record::fronts_are_determined;
 use rep_steps::{
     Answer, Event, Replies, judging_goes_on, nodes_stay_nodes, parts_step_as_the_whole,
     verdicts_have_a_place,
@@ -129,10 +130,11 @@ impl<D: Disk> Replica<D> {
         ensures holds { (n : Node) → Holds D.honest D.history D.failures n self.old → Holds D.honest D.history D.failures n self.new }
         ensures engine { self.new.engine ≡ record (self.old.engine) { kept = self.new.engine.kept; block = self.new.engine.block } }
         ensures gathered { OnOk result (self.old.engine.log.phase ≡ Phase.Resting → fitting [] self.new.engine.block ≡ fitting [] (self.old.engine.block ++ self.old.backlog)) }
+        ensures took { OnOk result (Gathers self.old self.new) }
         ensures running { self.new.stopped ≡ false }
         ensures refused { IfErr result (λ e. (e ≡ OutOfMemory) × (is_gathering self.old.engine.log.phase ≡ true) × (self.new ≡ self.old)) }
     {
-        fronts_are_determined();
+        accepted_items_are_a_front();
         judging_goes_on();
         self.engine.accept(&mut self.backlog)?;
         // Tells the proof what holds of the engine.
@@ -150,7 +152,7 @@ impl<D: Disk> Replica<D> {
         parts_step_as_the_whole();
         nodes_stay_nodes();
         judging_goes_on();
-        fronts_are_determined();
+        accepted_items_are_a_front();
         // Tells the proof what holds of the engine.
         let _durable = self.engine.durable();
         if let Some(refusal) = self.engine.due(&self.backlog) {
@@ -205,13 +207,16 @@ impl<D: Disk> Replica<D> {
     ///
     /// Refuses with `Stopped`; with `BadKey` outside the schema; with `NotYet` above what is durable; with
     /// `TooOld` below the base; with `DiskFault` where the device failed, and then the replica is stopped;
-    /// and with `Corrupt` of the pages where the page that is read is not of its form.
+    /// and with `Corrupt` of the pages exactly where no item behind the base wrote the row up to there and the page
+    /// is not of its form, of its number, and of a position not above the base's.
     pub fn read(&mut self, key: Key, s: u64) -> Result<Option<Value>, Refusal>
         ensures step { IsStep D.honest D.history D.failures self.old (Read key s) (row result) self.new }
         // The device is asked at most, and nothing else changes but whether it is stopped.
         ensures call { IsCall D.size D.failures D.honest self.old.engine.disk self.new.engine.disk (fault_of result) }
         ensures rest { self.new ≡ record (self.old) { engine = record (self.old.engine) { disk = self.new.engine.disk; halted = self.new.engine.halted } } }
         ensures same { D.honest self.old.engine.disk → D.history self.new.engine.disk ≡ D.history self.old.engine.disk }
+        // Whatever stands on an honest device: its bytes decide, where no write failed in the slot of the row's page.
+        ensures spelled { ReadIsSpelled D.honest D.history key s self.old result }
         // Where it is stopped, nothing changes.
         ensures stopped { (self.old.stopped || is_some self.old.engine.halted) ≡ true → (result ≡ Err Refusal.Stopped) × (self.new ≡ self.old) }
     {
@@ -242,14 +247,15 @@ impl<D: Disk> Replica<D> {
     ///   stands at what is durable, pages are left, or a write awaits its sync, with `OutOfMemory` where one would
     ///   begin, and with `DiskFault`.
     /// - `Flush` writes a page that the checkpoint has left, as it is at the checkpoint's position. It is refused
-    ///   with `NotDue` where that page is not left, with `DiskFault`, and with `Corrupt` where the base's page is
-    ///   not of its form.
+    ///   with `NotDue` where that page is not left, with `DiskFault`, and with `Corrupt` of the pages exactly where
+    ///   the base's page is not of its form, of its number, and of a position not above the base's.
     /// - `Read` gives the row of the key after the first `s` items. It is refused, in this order, with
     ///   `BadKey` outside the schema, `NotYet` above what is durable, `TooOld` below the base, `DiskFault`, and
-    ///   `Corrupt` where the page that it reads is not of its form.
+    ///   `Corrupt` as `read` is.
     ///
-    /// A refused step changes nothing, but that after `DiskFault` it is stopped: every event is then refused with
-    /// `Stopped`.
+    /// A refused step changes nothing, want of memory included, but for two: after `Corrupt` the device was asked for
+    /// the page; and after `DiskFault` it is stopped, so that every event is refused with `Stopped`. What was delivered
+    /// still is then, and as much is durable; of what waits, `Log` had gathered what its block takes.
     pub fn step(&mut self, event: Event) -> Answer
         ensures step { IsStep D.honest D.history D.failures self.old event result self.new }
         // Where it is stopped, nothing changes.

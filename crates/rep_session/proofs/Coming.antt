@@ -1,5 +1,5 @@
 -- All calls of a session, and what it comes to.
-use Rattle.std.proofs.Common.{◌≡◌, ℕ, Bool, true, false, List, [], ◌∷◌, ◌++◌, length, Contains, Option, None, Some, Result, Ok, Err, refl, sym, ap, ◌∙◌, subst, inl, inr, ⊎_elim}
+use Rattle.std.proofs.Common.{◌≡◌, ℕ, Bool, true, false, List, [], ◌∷◌, ◌++◌, length, Contains, Option, None, Some, Result, Ok, Err, refl, sym, ap, ◌∙◌, subst, inl, inr, ⊎_elim, arith}
 use Rattle.std.specs.Prelude.{◌⊎◌, nat_lt, if◌then◌else◌}
 use Rattle.std.specs.Option.{option_or}
 use Rattle.rep_types.specs.declared.key.Key.{Key}
@@ -9,7 +9,6 @@ use Rattle.rep_types.specs.Settings.{Setting}
 use Rattle.rep_types.specs.Transactions.{Transaction, transaction}
 use Rattle.rep_types.specs.Order.{Order, item, read}
 use Rattle.rep_types.specs.Verdicts.{ReadsAreSerial}
-use Rattle.rep_types.proofs.Members.{Contains-nothing}
 use Rattle.rep_session.specs.declared.finished.Finished.TheVariants.{ReadOnly, WriteSet}
 use Rattle.rep_session.specs.Sessions.{Progress, begun, write_of}
 use Rattle.rep_session.specs.Runs.{Call, Got, Wrote, Runs, done, last_write, WasGot, SessionsComeTo, SessionsAreSerial}
@@ -138,7 +137,7 @@ module _ {S : Type 0} (gives : S → Key → ℕ → Result (Option (List ℕ)) 
         trx = c.trx;
         snapshot = c.snapshot;
         reads = λ key. (
-          (λ has. ⊎_elim (λ old. absurd (Contains-nothing key old))
+          (λ has. ⊎_elim (λ old. absurd (omega (arith, old.1)))
               (λ found. (found.0, record { got = found.1.got; unwritten = sym (or_none (last_write (done found.1.got.before) key)) ∙ found.1.unwritten }))
               (c.from key has)),
           (λ found. (c.read_now key found.0 (record { got = found.1.got; unwritten = or_none (last_write (done found.1.got.before) key) ∙ found.1.unwritten })).0),

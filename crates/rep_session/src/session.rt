@@ -43,10 +43,7 @@ impl Session {
         ensures begun { result ≡ begun source trx (R.tables rows.old) result.snapshot }
         ensures snapshot { R.front_gives rows.old result.snapshot rows.new }
     {
-        let schema = match Schema::new(rows.schema().rows()) {
-            Ok(schema) => schema,
-            Err(_) => unreachable!(),
-        };
+        let schema = rows.schema().copied();
         Session {
             source,
             trx,

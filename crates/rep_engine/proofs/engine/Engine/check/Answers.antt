@@ -32,7 +32,7 @@ returns-in-Ok-clause-steps g c = λ n holds window.
     let old : Engine g.row.D.Denot = c.args.self.now in
     let runs : old.halted ≡ None = sym (ap (λ (e : Engine g.row.D.Denot). e.halted) c.self.view_is) ∙ none_of c.self.inside.halted c.if-is_some.ensures in
     let off : old.checkpoint.stage ≡ Off = sym (ap (λ (e : Engine g.row.D.Denot). e.checkpoint.stage) c.self.view_is) ∙ begin_due c.self.inside.checkpoint.stage c.in-Begin.ensures in
-    began_holds g.D.Disk.failures old c.begin.new.self c.args.certifier.now.current c.in-Ok.position runs off c.begin.ensures.rest c.in-Ok.ensures.begun g.D.Disk.honest g.D.Disk.history c.nodes_stay_nodes.ensures c.versions_lead_to_the_state.ensures n holds window
+    began_holds g.D.Disk.failures old c.begin.new.self c.args.certifier.now.current c.in-Ok.position runs off c.begin.ensures.rest c.in-Ok.ensures.begun g.D.Disk.honest g.D.Disk.history c.nodes_stay_nodes.ensures c.versions_lead_to_the_state.ensures c.judging_goes_on.ensures n holds window
 
 pub returns-in-Err-clause-steps : goal.returns-in-Err-clause-steps
 returns-in-Err-clause-steps g c = λ n holds window.

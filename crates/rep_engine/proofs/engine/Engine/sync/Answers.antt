@@ -91,13 +91,13 @@ on g c =
 pub returns-clause-moves : goal.returns-clause-moves
 returns-clause-moves g c =
     subst (λ (e : Engine g.row.D.Denot). Moves (facts_of g.D.Disk.failures e) to_sync (Synced c.settle-replies.result) (facts_of g.D.Disk.failures c.raise.new.self)) c.self.view_is
-    (synced_moves g.D.Disk.honest g.D.Disk.history g.D.Disk.size g.D.Disk.failures g.met.D.Disk.sized c.the_stage_is_the_facts.ensures _ _ (Ok c.settle-replies.result) c.sync.result (done g c) c.settle-replies.result c.if-is_err.ensures.negation (on g c))
+    (synced_moves g.D.Disk.honest g.D.Disk.history g.D.Disk.size g.D.Disk.failures g.met.D.Disk.sized c.the_stage_is_the_facts.ensures _ _ (Ok c.settle-replies.result) c.sync.result (done g c) c.the_synced_log_is_the_facts.ensures c.settle-replies.result c.if-is_err.ensures.negation (on g c))
 
 pub returns-clause-steps : goal.returns-clause-steps
 returns-clause-steps g c = λ n holds.
     sync_holds g.D.Disk.honest g.D.Disk.history g.D.Disk.size g.D.Disk.failures g.met.D.Disk.sized c.the_stage_is_the_facts.ensures _ _ (Ok c.settle-replies.result) c.sync.result (done g c) n
     (subst (λ (e : Engine g.row.D.Denot). Holds g.D.Disk.honest g.D.Disk.history g.D.Disk.failures n e) (sym c.self.view_is) holds)
-    c.nodes_stay_nodes.ensures c.nodes_leave_their_fronts.ensures c.nodes_settle.ensures c.versions_follow_the_items.ensures c.images_read_as_allowed.ensures c.settle-replies.result c.if-is_err.ensures.negation (on g c)
+    c.nodes_stay_nodes.ensures c.nodes_leave_their_fronts.ensures c.nodes_settle.ensures c.versions_follow_the_items.ensures c.images_read_as_allowed.ensures c.judging_goes_on.ensures c.the_synced_log_is_the_facts.ensures c.settle-replies.result c.if-is_err.ensures.negation (on g c)
 
 pub returns-clause-leaves : goal.returns-clause-leaves
 returns-clause-leaves g c = λ n holds.

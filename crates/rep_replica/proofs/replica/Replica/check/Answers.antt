@@ -9,7 +9,8 @@ use Rattle.rep_engine.specs.Checking.{checked}
 use Rattle.rep_replica.specs.Replicas.{Replica}
 use Rattle.rep_replica.specs.Holding.{IsStep}
 use Rattle.rep_replica.proofs.Keeping.{check_keeps, replica_keeps}
-use Rattle.rep_replica.proofs.Stepping.{check_step}
+use Rattle.rep_replica.proofs.Refusing.{left_by_checked, refused_left}
+use Rattle.rep_replica.proofs.Stepping.{as_step, check_step}
 use Rattle.rep_replica.proofs.replica.Replica.check.Goals as goal
 
 pub check-requires : goal.check-requires
@@ -43,4 +44,6 @@ returns g c =
     let step = check_step g.D.Disk.honest g.D.Disk.history g.D.Disk.failures c.nodes_stay_nodes.ensures c.judging_goes_on.ensures c.parts_step_as_the_whole.ensures (old g c) (new g c) (checked c.check.result) c.check.ensures.params refl refl refl (running g c)
     block c.check.ensures.moves c.check.ensures.steps c.check.ensures.leaves c.self.invariant.askable in
     subst (λ (r : Replica g.row.D.Denot). IsStep g.D.Disk.honest g.D.Disk.history g.D.Disk.failures r Check c.checked.result (new g c)) c.self.view_is
-    (subst (λ (a : Answer). IsStep g.D.Disk.honest g.D.Disk.history g.D.Disk.failures (old g c) Check a (new g c)) (sym c.checked.ensures) step)
+    (subst (λ (a : Answer). IsStep g.D.Disk.honest g.D.Disk.history g.D.Disk.failures (old g c) Check a (new g c)) (sym c.checked.ensures)
+    (as_step g.D.Disk.honest g.D.Disk.history g.D.Disk.failures (old g c) Check (checked c.check.result) (new g c) step
+    (left_by_checked Check (old g c) (new g c) c.check.result (refused_left Check (old g c) c.check.new.self (λ fault. fault) c.check.result c.check.ensures.unchanged c.check.ensures.fault)) tt))

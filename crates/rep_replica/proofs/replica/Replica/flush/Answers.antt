@@ -6,7 +6,8 @@ use Rattle.rep_engine.specs.Holding.{wrote}
 use Rattle.rep_replica.specs.Replicas.{Replica}
 use Rattle.rep_replica.specs.Holding.{IsStep}
 use Rattle.rep_replica.proofs.Keeping.{Keep, flush_keeps, replica_keeps}
-use Rattle.rep_replica.proofs.Stepping.{flush_step}
+use Rattle.rep_replica.proofs.Refusing.{left_by_wrote, asked_left, flush_spells}
+use Rattle.rep_replica.proofs.Stepping.{as_step, flush_step}
 use Rattle.rep_replica.proofs.replica.Replica.flush.Goals as goal
 
 abbrev old : (g : _) (c : goal.After-wrote g) → Replica g.row.D.Denot
@@ -31,4 +32,8 @@ returns g c =
     let step = flush_step g.D.Disk.honest g.D.Disk.history g.D.Disk.failures c.nodes_stay_nodes.ensures c.judging_goes_on.ensures c.parts_step_as_the_whole.ensures (old g c) (new g c) (wrote c.flush.result) (keeps g c).setting refl refl refl (running g c) c.args.page
     block (record { moves = c.flush.ensures.moves; steps = c.flush.ensures.steps; leaves = c.flush.ensures.leaves }) in
     subst (λ (r : Replica g.row.D.Denot). IsStep g.D.Disk.honest g.D.Disk.history g.D.Disk.failures r (Flush c.args.page) c.wrote.result (new g c)) c.self.view_is
-    (subst (λ (a : Answer). IsStep g.D.Disk.honest g.D.Disk.history g.D.Disk.failures (old g c) (Flush c.args.page) a (new g c)) (sym c.wrote.ensures) step)
+    (subst (λ (a : Answer). IsStep g.D.Disk.honest g.D.Disk.history g.D.Disk.failures (old g c) (Flush c.args.page) a (new g c)) (sym c.wrote.ensures)
+    (as_step g.D.Disk.honest g.D.Disk.history g.D.Disk.failures (old g c) (Flush c.args.page) (wrote c.flush.result) (new g c) step
+    (left_by_wrote (Flush c.args.page) (old g c) (new g c) c.flush.result
+    (asked_left (Flush c.args.page) (old g c) c.flush.new.self (λ fault. fault) c.flush.result c.flush.ensures.unchanged c.flush.ensures.fault))
+    (flush_spells g.D.Disk.honest g.D.Disk.history c.args.page (old g c) (new g c) c.flush.result c.flush.ensures.spelled)))

@@ -13,9 +13,10 @@ use Rattle.rep_steps.specs.Standings.{Standing, refusal, log_refusal}
 use Rattle.rep_steps.specs.Moves.{takes_memory, is_at_rest}
 use Rattle.rep_steps.specs.Parts.{with_ahead}
 use Rattle.rep_engine.specs.Engines.{Engine, IsEngine, facts_of as engine_facts, phase_at}
-use Rattle.rep_engine.specs.Accepting.{accepted_in, is_gathering}
+use Rattle.rep_engine.specs.Accepting.{accepted_in, is_gathering, AcceptedItemsAreAFront}
 use Rattle.rep_engine.specs.Holding.{wrote}
 use Rattle.rep_replica.specs.Replicas.{Replica, facts_of}
+use Rattle.rep_replica.specs.Refusing.{Gathers, RefusesUnchanged}
 use Rattle.rep_replica.specs.Holding.{IsStep}
 use Rattle.rep_log.specs.Standing.{Standing as LogStanding, due_of}
 use Rattle.rep_engine.specs.Writing.{written_in}
@@ -24,12 +25,12 @@ use Rattle.rep_replica.proofs.Settling.{refused_done, wrote_done}
 use Rattle.rep_replica.proofs.Widening.{running_facts}
 use Rattle.rep_replica.proofs.Keeping.{log_keeps, replica_keeps}
 use Rattle.rep_replica.proofs.Gathering.{takes_as_all}
-use Rattle.rep_replica.proofs.Stepping.{refusal_same, refused_step, hungry_step, log_step, step_from}
-use Rattle.rep_record.specs.Fronts.{FrontsAreDetermined}
+use Rattle.rep_replica.proofs.Refusing.{log_left}
+use Rattle.rep_replica.proofs.Stepping.{IsMoved, as_step, refusal_same, refused_step, hungry_step, log_step, step_from}
 use Rattle.rep_replica.proofs.replica.Replica.log.Goals as goal
 
 -- what the engine would refuse once it had accepted is what the replica refuses
-due_is : {D : Type 0} (failures : D → _) (fronts : FrontsAreDetermined) (r : Replica D) → r.stopped ≡ false → r.engine.halted ≡ None → IsEngine r.engine.layout r.engine.checkpoint r.engine.log r.engine.kept r.engine.block
+due_is : {D : Type 0} (failures : D → _) (fronts : AcceptedItemsAreAFront) (r : Replica D) → r.stopped ≡ false → r.engine.halted ≡ None → IsEngine r.engine.layout r.engine.checkpoint r.engine.log r.engine.kept r.engine.block
     → refusal (facts_of failures r) Log ≡ refusal (record (engine_facts failures r.engine) { ahead = r.engine.block ++ take (accepted_in r.engine.log.phase r.engine.block r.backlog) r.backlog }) Log
 due_is failures fronts r running runs engine =
     let e = r.engine in
@@ -51,21 +52,21 @@ returns-in-Some-clause-step g c =
     let r : Replica g.row.D.Denot = record { engine = c.self.inside.engine; backlog = c.self.inside.backlog; certifier = c.self.inside.certifier; stopped = c.self.inside.stopped } in
     let running : c.self.inside.stopped ≡ false = ap (λ (x : Replica g.row.D.Denot). x.stopped) c.self.view_is ∙ c.requires.running.0 in
     let runs : c.self.inside.engine.halted ≡ None = ap (λ (x : Replica g.row.D.Denot). x.engine.halted) c.self.view_is ∙ c.requires.running.1 in
-    let due = due_is g.D.Disk.failures c.fronts_are_determined.ensures r running runs c.durable-durable.ensures.engine ∙ sym c.due.ensures ∙ c.in-Some.is in
+    let due = due_is g.D.Disk.failures c.accepted_items_are_a_front.ensures r running runs c.durable-durable.ensures.engine ∙ sym c.due.ensures ∙ c.in-Some.is in
     subst (λ (x : Replica g.row.D.Denot). IsStep g.D.Disk.honest g.D.Disk.history g.D.Disk.failures x Log (Refused c.in-Some.refusal) x) c.self.view_is
-    (refused_step g.D.Disk.honest g.D.Disk.history g.D.Disk.failures r Log c.in-Some.refusal due)
+    (refused_step g.D.Disk.honest g.D.Disk.history g.D.Disk.failures r Log c.in-Some.refusal due tt)
 
 pub returns-in-Err-clause-step : goal.returns-in-Err-clause-step
 returns-in-Err-clause-step g c =
     let r : Replica g.row.D.Denot = record { engine = c.self.inside.engine; backlog = c.self.inside.backlog; certifier = c.self.inside.certifier; stopped = c.self.inside.stopped } in
     let running : c.self.inside.stopped ≡ false = ap (λ (x : Replica g.row.D.Denot). x.stopped) c.self.view_is ∙ c.requires.running.0 in
     let runs : c.self.inside.engine.halted ≡ None = ap (λ (x : Replica g.row.D.Denot). x.engine.halted) c.self.view_is ∙ c.requires.running.1 in
-    let none = due_is g.D.Disk.failures c.fronts_are_determined.ensures r running runs c.durable-durable.ensures.engine ∙ sym c.due.ensures ∙ c.in_default.is in
+    let none = due_is g.D.Disk.failures c.accepted_items_are_a_front.ensures r running runs c.durable-durable.ensures.engine ∙ sym c.due.ensures ∙ c.in_default.is in
     let why = c.in-Err.ensures.refused in
     let gathers : is_gathering c.self.inside.engine.log.phase ≡ true = ap (λ (x : Replica g.row.D.Denot). is_gathering x.engine.log.phase) c.self.view_is ∙ why.1 in
     let stopped : (facts_of g.D.Disk.failures r).stopped ≡ false = ap (λ b. b || is_some c.self.inside.engine.halted) running ∙ ap is_some runs in
     let takes = rests_by (facts_of g.D.Disk.failures r) c.self.inside.engine.log.phase stopped none (ap (phase_at c.self.inside.engine.log.phase) runs) gathers in
-    let step = hungry_step g.D.Disk.honest g.D.Disk.history g.D.Disk.failures r Log none takes in
+    let step = hungry_step g.D.Disk.honest g.D.Disk.history g.D.Disk.failures r Log none takes tt in
     subst (λ (x : Replica g.row.D.Denot). IsStep g.D.Disk.honest g.D.Disk.history g.D.Disk.failures c.args.self.now Log (Refused c.in-Err.refusal) x) (sym why.2)
     (subst (λ (e : Refusal). IsStep g.D.Disk.honest g.D.Disk.history g.D.Disk.failures c.args.self.now Log (Refused e) c.args.self.now) (sym why.0)
     (subst (λ (x : Replica g.row.D.Denot). IsStep g.D.Disk.honest g.D.Disk.history g.D.Disk.failures x Log (Refused OutOfMemory) x) c.self.view_is step))
@@ -99,16 +100,32 @@ full g c rests =
     ap (λ (x : Replica g.row.D.Denot). fitting [] x.engine.block) c.self-2.view_is ∙ c.in_default-gather.ensures.gathered at_rest ∙ ap (fitting []) ahead
     ∙ sym (ap (λ (x : Replica g.row.D.Denot). fitting [] (x.engine.block ++ x.backlog)) c.self-2.view_is)
 
+-- what the device's failure leaves
+left : (g : _) (c : goal.After-wrote g) → RefusesUnchanged Log (wrote c.log.result) c.args.self.now (new g c)
+left g c =
+    let failures = g.D.Disk.failures in
+    let gathered = c.in_default-gather.ensures.took in
+    let due : refusal (engine_facts failures c.gather.new.self.engine) Log ≡ None =
+    ap (λ (x : Replica g.row.D.Denot). refusal (engine_facts failures x.engine) Log) gathered.after
+    ∙ ap (λ (x : Replica g.row.D.Denot). refusal (record (engine_facts failures x.engine) { ahead = x.engine.block ++ take (accepted_in x.engine.log.phase x.engine.block x.backlog) x.backlog }) Log) (sym c.self.view_is)
+    ∙ sym c.due.ensures ∙ c.in_default.is in
+    let none : refusal (engine_facts failures c.self-2.inside.engine) Log ≡ None = ap (λ (x : Replica g.row.D.Denot). refusal (engine_facts failures x.engine) Log) c.self-2.view_is ∙ due in
+    log_left failures c.args.self.now (mid g c) (subst (Gathers c.args.self.now) (sym c.self-2.view_is) gathered) c.log.new.self none c.log.result c.log.ensures.moves c.log.ensures.memory c.log.ensures.fault
+
 pub returns-clause-step : goal.returns-clause-step
 returns-clause-step g c =
+    let honest = g.D.Disk.honest in
+    let history = g.D.Disk.history in
+    let failures = g.D.Disk.failures in
     let params = ap (λ (x : Engine g.row.D.Denot). x.checkpoint.base.params) c.log.ensures.rest in
     let block = ap (λ (x : Engine g.row.D.Denot). x.block) c.log.ensures.rest in
-    let step = log_step g.D.Disk.honest g.D.Disk.history g.D.Disk.failures c.nodes_stay_nodes.ensures c.judging_goes_on.ensures c.parts_step_as_the_whole.ensures (mid g c) (new g c) (wrote c.log.result) params refl refl refl (running_on g c) block
+    let step = log_step honest history failures c.nodes_stay_nodes.ensures c.judging_goes_on.ensures c.parts_step_as_the_whole.ensures (mid g c) (new g c) (wrote c.log.result) params refl refl refl (running_on g c) block
     (record { moves = c.log.ensures.moves; steps = c.log.ensures.steps; leaves = c.log.ensures.leaves }) (full g c) in
-    let from = subst (λ (x : Replica g.row.D.Denot). IsStep g.D.Disk.honest g.D.Disk.history g.D.Disk.failures x Log (wrote c.log.result) (new g c)) c.self-2.view_is step in
+    let from = subst (λ (x : Replica g.row.D.Denot). IsMoved honest history failures x Log (wrote c.log.result) (new g c)) c.self-2.view_is step in
     let disk = ap (λ (e : Engine g.row.D.Denot). e.disk) c.in_default-gather.ensures.engine in
-    subst (λ (a : Answer). IsStep g.D.Disk.honest g.D.Disk.history g.D.Disk.failures c.args.self.now Log a (new g c)) (sym c.wrote.ensures)
-    (step_from g.D.Disk.honest g.D.Disk.history g.D.Disk.failures c.args.self.now c.gather.new.self (new g c) Log (wrote c.log.result) c.in_default-gather.ensures.facts c.in_default-gather.ensures.holds disk from)
+    subst (λ (a : Answer). IsStep honest history failures c.args.self.now Log a (new g c)) (sym c.wrote.ensures)
+    (as_step honest history failures c.args.self.now Log (wrote c.log.result) (new g c)
+    (step_from honest history failures c.args.self.now c.gather.new.self (new g c) Log (wrote c.log.result) c.in_default-gather.ensures.facts c.in_default-gather.ensures.holds disk from) (left g c) tt)
 
 -- ---- the log after it
 

@@ -6,7 +6,8 @@ use Rattle.rep_engine.specs.Holding.{row}
 use Rattle.rep_replica.specs.Replicas.{Replica}
 use Rattle.rep_replica.specs.Holding.{IsStep}
 use Rattle.rep_replica.proofs.Widening.{leaves_none}
-use Rattle.rep_replica.proofs.Stepping.{read_step}
+use Rattle.rep_replica.proofs.Refusing.{left_by_row, asked_left, read_spells, stopped_read}
+use Rattle.rep_replica.proofs.Stepping.{as_step, read_step, stopped_step}
 use Rattle.rep_replica.proofs.replica.Replica.read.Goals as goal
 
 abbrev old : (g : _) (c : goal.After-read g) → Replica g.row.D.Denot
@@ -33,4 +34,15 @@ returns-clause-step g c =
       steps = c.read.ensures.steps;
       leaves = λ n holds. leaves_none (g.D.Disk.history e.disk) (g.D.Disk.history c.read.new.self.disk) (c.read.ensures.same holds.is_honest);
     }) in
-    subst (λ (r : Replica g.row.D.Denot). IsStep g.D.Disk.honest g.D.Disk.history g.D.Disk.failures r (Read c.args.key c.args.s) (row c.read.result) (new g c)) c.self.view_is step
+    subst (λ (r : Replica g.row.D.Denot). IsStep g.D.Disk.honest g.D.Disk.history g.D.Disk.failures r (Read c.args.key c.args.s) (row c.read.result) (new g c)) c.self.view_is
+    (as_step g.D.Disk.honest g.D.Disk.history g.D.Disk.failures (old g c) (Read c.args.key c.args.s) (row c.read.result) (new g c) step
+    (left_by_row (Read c.args.key c.args.s) (old g c) (new g c) c.read.result
+    (asked_left (Read c.args.key c.args.s) (old g c) c.read.new.self (λ fault. fault) c.read.result c.read.ensures.unchanged c.read.ensures.fault))
+    (read_spells g.D.Disk.honest g.D.Disk.history c.args.key c.args.s (old g c) (new g c) c.read.result c.read.ensures.spelled))
+
+pub returns-then-is_stopped-clause-step : goal.returns-then-is_stopped-clause-step
+returns-then-is_stopped-clause-step g c =
+    stopped_step g.D.Disk.honest g.D.Disk.history g.D.Disk.failures c.args.self.now (Read c.args.key c.args.s) (sym c.is_stopped.ensures ∙ c.if-is_stopped.true)
+
+pub returns-then-is_stopped-clause-spelled : goal.returns-then-is_stopped-clause-spelled
+returns-then-is_stopped-clause-spelled g c = stopped_read g.D.Disk.honest g.D.Disk.history c.args.self.now c.args.key c.args.s

@@ -9,7 +9,8 @@ use Rattle.rep_replica.specs.Holding.{IsStep}
 use Rattle.rep_log.specs.Moves.{after_sync, started}
 use Rattle.rep_replica.specs.Settling.{outcome_of}
 use Rattle.rep_replica.proofs.Settling.{synced_done}
-use Rattle.rep_replica.proofs.Stepping.{sync_step, opening_within}
+use Rattle.rep_replica.proofs.Refusing.{left_by_synced, refused_left}
+use Rattle.rep_replica.proofs.Stepping.{as_step, sync_step, opening_within}
 use Rattle.rep_replica.proofs.replica.Replica.sync.Goals as goal
 
 abbrev old : (g : _) (c : goal.After-synced g) → Replica g.row.D.Denot
@@ -28,7 +29,9 @@ returns-clause-step g c =
     let step = sync_step g.D.Disk.honest g.D.Disk.history g.D.Disk.failures c.nodes_stay_nodes.ensures c.judging_goes_on.ensures c.parts_step_as_the_whole.ensures (old g c) (new g c) (synced c.sync.result) params refl refl refl running told
     (record { moves = c.sync.ensures.moves; steps = c.sync.ensures.steps; leaves = c.sync.ensures.leaves }) in
     subst (λ (r : Replica g.row.D.Denot). IsStep g.D.Disk.honest g.D.Disk.history g.D.Disk.failures r Sync c.synced.result (new g c)) c.self.view_is
-    (subst (λ (a : Answer). IsStep g.D.Disk.honest g.D.Disk.history g.D.Disk.failures (old g c) Sync a (new g c)) (sym c.synced.ensures) step)
+    (subst (λ (a : Answer). IsStep g.D.Disk.honest g.D.Disk.history g.D.Disk.failures (old g c) Sync a (new g c)) (sym c.synced.ensures)
+    (as_step g.D.Disk.honest g.D.Disk.history g.D.Disk.failures (old g c) Sync (synced c.sync.result) (new g c) step
+    (left_by_synced Sync (old g c) (new g c) c.sync.result (refused_left Sync (old g c) c.sync.new.self (λ fault. fault) c.sync.result c.sync.ensures.unchanged c.sync.ensures.fault)) tt))
 
 pub returns-clause-log : goal.returns-clause-log
 returns-clause-log g c = λ done.
