@@ -1,6 +1,9 @@
+pub mod Answering
 pub mod Stepping
 pub mod Progress
 pub mod LineEnds
 pub mod SaidLines
 pub mod OrderTexts
 pub mod SavedTexts
+pub mod Scripting
+pub mod Formatting

@@ -14,10 +14,11 @@ use Rattle.rep_record.specs.Lines.{Unread, ahead, raw_lines, without_feed, line_
 use Rattle.rep_record.specs.Reading.{item_line, params_line}
 use Rattle.rep_record.specs.Texts.{verdict_line}
 
--- What an order text says: the parameters, the items up to the first fault, and that fault.
-pub record Reading : Type 0 where
+-- What a text with parameters says: the parameters, what the lines behind them say up to the first fault, and that fault. Of an order
+-- text the lines say items.
+pub record Reading (A : Type 0) : Type 0 where
   pub setting : Setting
-  pub order : Order
+  pub order : List A
   pub fault : Option Refusal
 
 -- A line with its line feed, its number, and the number of bytes before it, as it is read: a fault of any line comes first,
@@ -29,40 +30,45 @@ line_reading read number before raw None = if is_blank (without_feed raw) then N
 abbrev pub read_line : {A : Type 0} → (ℕ → List ℕ → Result A Refusal) → ℕ → ℕ → List ℕ → Option (Result A Refusal)
 read_line read number before raw = line_reading read number before raw (line_fault number before raw)
 
--- the items of a line and of the lines after it
-abbrev pub with_line : Option (Result Transaction Refusal) → Order × Option Refusal → Order × Option Refusal
+-- what a line and the lines after it say
+abbrev pub with_line : {A : Type 0} → Option (Result A Refusal) → List A × Option Refusal → List A × Option Refusal
 with_line None later = later
-with_line (Some (Ok w)) later = (w ∷ later.0, later.1)
+with_line (Some (Ok x)) later = (x ∷ later.0, later.1)
 with_line (Some (Err fault)) later = ([], Some fault)
 
--- The items of these lines up to the first fault, and that fault; the first line has this number, and so many bytes stand before it.
-unfoldable pub items_of : ℕ → ℕ → List (List ℕ) → Order × Option Refusal
-items_of number before [] = ([], None)
-items_of number before (raw ∷ lines) = with_line (read_line item_line number before raw) (items_of (number + 1) (before + length raw) lines)
+-- What these lines say up to the first fault, each read so, and that fault; the first line has this number, and so many bytes stand
+-- before it.
+unfoldable pub said_by : {A : Type 0} → (ℕ → List ℕ → Result A Refusal) → ℕ → ℕ → List (List ℕ) → List A × Option Refusal
+said_by read number before [] = ([], None)
+said_by read number before (raw ∷ lines) = with_line (read_line read number before raw) (said_by read (number + 1) (before + length raw) lines)
+
+-- the items of these lines
+abbrev pub items_of : ℕ → ℕ → List (List ℕ) → Order × Option Refusal
+items_of number before lines = said_by item_line number before lines
 
 -- what stands where a text has no parameters
 abbrev pub no_setting : Setting
 no_setting = record { window = 0; cells = 0; rows = [] }
 
-abbrev pub refused : Refusal → Reading
+abbrev pub refused : {A : Type 0} → Refusal → Reading A
 refused fault = record { setting = no_setting; order = []; fault = Some fault }
 
--- the parameters of a line, and the items of the lines after it
-abbrev pub with_params : Option (Result Setting Refusal) → Order × Option Refusal → Reading → Reading
-with_params None items later = later
-with_params (Some (Ok p)) items later = record { setting = p; order = items.0; fault = items.1 }
-with_params (Some (Err fault)) items later = refused fault
+-- the parameters of a line, and what the lines after it say
+abbrev pub with_params : {A : Type 0} → Option (Result Setting Refusal) → List A × Option Refusal → Reading A → Reading A
+with_params None said later = later
+with_params (Some (Ok p)) said later = record { setting = p; order = said.0; fault = said.1 }
+with_params (Some (Err fault)) said later = refused fault
 
--- What these lines say: the first with words is a params line, and the others with words are items. Where none has words,
+-- What these lines say: the first with words is a params line, and the others with words are read so. Where none has words,
 -- the params line is missing at the number after the last.
-unfoldable pub text_of : ℕ → ℕ → List (List ℕ) → Reading
-text_of number before [] = refused (Malformed number)
-text_of number before (raw ∷ lines) =
-    with_params (read_line params_line number before raw) (items_of (number + 1) (before + length raw) lines) (text_of (number + 1) (before + length raw) lines)
+unfoldable pub text_of : {A : Type 0} → (ℕ → List ℕ → Result A Refusal) → ℕ → ℕ → List (List ℕ) → Reading A
+text_of read number before [] = refused (Malformed number)
+text_of read number before (raw ∷ lines) =
+    with_params (read_line params_line number before raw) (said_by read (number + 1) (before + length raw) lines) (text_of read (number + 1) (before + length raw) lines)
 
 -- What an order text says.
-abbrev pub reading : List ℕ → Reading
-reading text = text_of 1 0 (raw_lines text)
+abbrev pub reading : List ℕ → Reading Transaction
+reading text = text_of item_line 1 0 (raw_lines text)
 
 -- the line of a judged item
 abbrev pub line_of : Judged → List ℕ
@@ -73,39 +79,48 @@ abbrev pub verdict_lines : List Judged → List ℕ
 verdict_lines h = flat_map line_of h
 
 -- The verdict lines of what a text says, by the definition of a verdict.
-abbrev pub judged_text : Reading → List ℕ
+abbrev pub judged_text : Reading Transaction → List ℕ
 judged_text r = verdict_lines (history r.setting r.order)
 
--- What judging a text wrote, and how it ended: at the end of a text without fault, all verdict lines; at want of memory, the
+-- How judging a text ended, and what is answered then: at the end of a text without fault, all verdict lines; at want of memory, the
 -- lines of some first items, whole; at a stream fault, which may also be the reader's or the writer's, a front of all verdict
 -- lines; at any other refusal, which is the text's first fault, all verdict lines of the items before it.
-abbrev pub Ends : Reading → Option (List ℕ) → Option (List ℕ) → Result (Unit {0}) Refusal → Type 0
-Ends r old new (Ok _) = (r.fault ≡ None) × Appends old new (judged_text r)
-Ends r old new (Err OutOfMemory) = (k : ℕ) × Appends old new (verdict_lines (take k (history r.setting r.order)))
-Ends r old new (Err StreamFault) = (k : ℕ) × Appends old new (take k (judged_text r))
-Ends r old new (Err refusal) = (r.fault ≡ Some refusal) × Appends old new (judged_text r)
+abbrev pub EndsBy : Reading Transaction → (List ℕ → Type 0) → Result (Unit {0}) Refusal → Type 0
+EndsBy r IsAnswered (Ok _) = (r.fault ≡ None) × IsAnswered (judged_text r)
+EndsBy r IsAnswered (Err OutOfMemory) = (k : ℕ) × IsAnswered (verdict_lines (take k (history r.setting r.order)))
+EndsBy r IsAnswered (Err StreamFault) = (k : ℕ) × IsAnswered (take k (judged_text r))
+EndsBy r IsAnswered (Err refusal) = (r.fault ≡ Some refusal) × IsAnswered (judged_text r)
+
+-- how it ended, where all that is answered was written
+abbrev pub Ends : Reading Transaction → Option (List ℕ) → Option (List ℕ) → Result (Unit {0}) Refusal → Type 0
+Ends r old new result = EndsBy r (Appends old new) result
 
 -- a reading with these parameters
-abbrev pub reading_of : Setting → Order × Option Refusal → Reading
-reading_of p items = record { setting = p; order = items.0; fault = items.1 }
+abbrev pub reading_of : {A : Type 0} → Setting → List A × Option Refusal → Reading A
+reading_of p said = record { setting = p; order = said.0; fault = said.1 }
 
--- what the items of the text say that a reader of lines still has
+-- what the lines say that a reader of lines still has
+abbrev pub said_ahead : {A : Type 0} → (ℕ → List ℕ → Result A Refusal) → Unread → List ℕ → List A × Option Refusal
+said_ahead read u text = said_by read (u.number + 1) u.taken (raw_lines text)
+
+-- the items of these lines
 abbrev pub items_ahead : Unread → List ℕ → Order × Option Refusal
-items_ahead u text = items_of (u.number + 1) u.taken (raw_lines text)
+items_ahead u text = said_ahead item_line u text
 
 -- what the text says that a reader of lines still has
-abbrev pub text_ahead : Unread → List ℕ → Reading
-text_ahead u text = text_of (u.number + 1) u.taken (raw_lines text)
+abbrev pub text_ahead : {A : Type 0} → (ℕ → List ℕ → Result A Refusal) → Unread → List ℕ → Reading A
+text_ahead read u text = text_of read (u.number + 1) u.taken (raw_lines text)
 
--- How the params line was read: on success what follows it is ahead; a stream fault may also be the reader's.
-abbrev pub ReadsParams : List ℕ → Unread → Result Setting Refusal → Unread → Option (List ℕ) → Type 0
-ReadsParams text old (Ok p) new left = IsSomeAnd (ahead new left) (λ rest. text_ahead old text ≡ reading_of p (items_ahead new rest))
-ReadsParams text old (Err StreamFault) new left = Unit {0}
-ReadsParams text old (Err refusal) new left = text_ahead old text ≡ refused refusal
+-- How the params line was read of a text whose other lines are read so: on success what follows it is ahead; a stream fault may also
+-- be the reader's.
+abbrev pub ReadsParams : {A : Type 0} → (ℕ → List ℕ → Result A Refusal) → List ℕ → Unread → Result Setting Refusal → Unread → Option (List ℕ) → Type 0
+ReadsParams read text old (Ok p) new left = IsSomeAnd (ahead new left) (λ rest. text_ahead read old text ≡ reading_of p (said_ahead read new rest))
+ReadsParams read text old (Err StreamFault) new left = Unit {0}
+ReadsParams read text old (Err refusal) new left = text_ahead read old text ≡ refused refusal
 
 -- what a line without its line feed says
-abbrev pub content : ℕ → List ℕ → Option (Result Transaction Refusal)
-content number line = if is_blank line then None else Some (item_line number line)
+abbrev pub content : {A : Type 0} → (ℕ → List ℕ → Result A Refusal) → ℕ → List ℕ → Option (Result A Refusal)
+content read number line = if is_blank line then None else Some (read number line)
 
 -- the line that is written for the next item
 abbrev pub next_verdict_line : Delivered → Transaction → List ℕ

@@ -1,6 +1,7 @@
 //! The lines that a script is answered by.
 
-ghost use Rattle.std.specs.Prelude.{◌≡◌, IfErr};
+ghost use Rattle.std.specs.Prelude.{◌≡◌, ℕ, [], ◌∷◌, ◌++◌, take, IfSome, IfErr, OnOk, OnErr};
+ghost use Rattle.std.specs.Io.KnownBytes.{Appends};
 
 use arrayvec::ArrayVec;
 use rep_disk::Disk;
@@ -18,7 +19,8 @@ type Line = ArrayVec<u8, 6144>;
 /// Puts the text at the end of the line. A line without room for it would be refused as a writer that
 /// fails.
 fn put<D: Display + Drop>(line: &mut Line, text: D) -> Result<(), Refusal>
-    ensures { IfErr result (λ refusal. refusal ≡ Refusal.StreamFault) }
+    ensures put { OnOk result (IfSome (D.output text) (λ bytes. line.new.items ≡ line.old.items ++ bytes)) }
+    ensures err { IfErr result (λ refusal. refusal ≡ Refusal.StreamFault) }
 {
     line.write_fmt(text).map_err(|_| Refusal::StreamFault)
 }
@@ -28,7 +30,9 @@ fn put<D: Display + Drop>(line: &mut Line, text: D) -> Result<(), Refusal>
 /// Refuses with `StreamFault` a writer that fails, which has then taken a front of the line, and a longer text, of which
 /// nothing is written.
 pub fn write_line<W: Write, D: Display + Drop>(writer: &mut W, text: D) -> Result<(), Refusal>
-    ensures { IfErr result (λ refusal. refusal ≡ Refusal.StreamFault) }
+    ensures ok { OnOk result (IfSome (D.output text) (λ bytes. Appends (W.contents writer.old) (W.contents writer.new) (bytes ++ 10 ∷ []))) }
+    ensures cut { OnErr result (IfSome (D.output text) (λ bytes. (k : ℕ) × Appends (W.contents writer.old) (W.contents writer.new) (take k (bytes ++ 10 ∷ [])))) }
+    ensures err { IfErr result (λ refusal. refusal ≡ Refusal.StreamFault) }
 {
     let mut line = Line::new();
     put(&mut line, text)?;
@@ -37,7 +41,9 @@ pub fn write_line<W: Write, D: Display + Drop>(writer: &mut W, text: D) -> Resul
 }
 
 /// Writes the lines of the replies: how many there are, and each.
-fn write_replies<W: Write>(writer: &mut W, replies: &[Reply]) -> Result<(), Refusal> {
+fn write_replies<W: Write>(writer: &mut W, replies: &[Reply]) -> Result<(), Refusal>
+    ensures { IfErr result (λ refusal. refusal ≡ Refusal.StreamFault) }
+{
     let count = replies.len();
     write_line(writer, format_args!("synced {count}"))?;
     for reply in replies {
@@ -51,7 +57,9 @@ fn write_replies<W: Write>(writer: &mut W, replies: &[Reply]) -> Result<(), Refu
 }
 
 /// Writes the line of a row: its value in hexadecimal digits, two for each byte, or that it is absent.
-fn write_row<W: Write>(writer: &mut W, row: Option<&Value>) -> Result<(), Refusal> {
+fn write_row<W: Write>(writer: &mut W, row: Option<&Value>) -> Result<(), Refusal>
+    ensures { IfErr result (λ refusal. refusal ≡ Refusal.StreamFault) }
+{
     let Some(value) = row else {
         return write_line(writer, "absent");
     };
@@ -68,7 +76,9 @@ fn write_row<W: Write>(writer: &mut W, row: Option<&Value>) -> Result<(), Refusa
 /// Writes the line of a refusal that a script goes on behind: `refused`, its number and its text.
 ///
 /// Refuses with `StreamFault` a writer that fails.
-pub fn write_refused<W: Write>(writer: &mut W, refusal: Refusal) -> Result<(), Refusal> {
+pub fn write_refused<W: Write>(writer: &mut W, refusal: Refusal) -> Result<(), Refusal>
+    ensures { IfErr result (λ refusal. refusal ≡ Refusal.StreamFault) }
+{
     let number = refusal.number();
     write_line(writer, format_args!("refused {number} {refusal}"))
 }
@@ -81,7 +91,9 @@ pub fn write_answer<D: Disk, W: Write>(
     writer: &mut W,
     replica: &Replica<D>,
     answer: &Answer,
-) -> Result<(), Refusal> {
+) -> Result<(), Refusal>
+    ensures { IfErr result (λ refusal. refusal ≡ Refusal.StreamFault) }
+{
     match answer {
         Answer::Gave(verdict) => write_verdict(writer, replica.delivered(), *verdict),
         Answer::Wrote => write_line(writer, "wrote"),
@@ -100,7 +112,9 @@ pub fn write_state<D: Disk, W: Write>(
     writer: &mut W,
     replica: &Replica<D>,
     window: &[Entry],
-) -> Result<(), Refusal> {
+) -> Result<(), Refusal>
+    ensures { IfErr result (λ refusal. refusal ≡ Refusal.StreamFault) }
+{
     let gtid = replica.gtid();
     let base = replica.base();
     let mut line = Line::new();
@@ -116,6 +130,8 @@ pub fn write_state<D: Disk, W: Write>(
 /// Writes the line of a disk that was opened again at this GTID.
 ///
 /// Refuses with `StreamFault` a writer that fails.
-pub fn write_open<W: Write>(writer: &mut W, gtid: Gtid) -> Result<(), Refusal> {
+pub fn write_open<W: Write>(writer: &mut W, gtid: Gtid) -> Result<(), Refusal>
+    ensures { IfErr result (λ refusal. refusal ≡ Refusal.StreamFault) }
+{
     write_line(writer, format_args!("open {gtid}"))
 }

@@ -1,9 +1,9 @@
 //! Formatting a disk.
 
-ghost use Rattle.std.specs.Prelude.{◌≡◌, ◌<◌, ◌≤◌, ◌⊎◌, [], Err, IfErr, OnOk, MatchResult};
+ghost use Rattle.std.specs.Prelude.{◌≡◌, ◌≢◌, ◌<◌, ◌≤◌, ◌⊎◌, [], Err, IfErr, OnOk, MatchResult};
 ghost use Rattle.rep_layout.specs.Places.{layout_of, need_of};
 ghost use Rattle.rep_recover.specs.Formatting.{uuid_of, ImagesStandFor};
-ghost use Rattle.rep_script.specs.Formatting.{first_gtid};
+ghost use Rattle.rep_script.specs.Formatting.{first_gtid, formatted_line, Tells};
 
 use crate::answers::write_line;
 use rep_disk::Disk;
@@ -31,7 +31,9 @@ fn write_formatted<W: Write>(
     outcome: Result<(), Refusal>,
     gtid: Gtid,
 ) -> Result<(), Refusal>
-    ensures { MatchResult outcome (λ _. IfErr result (λ refusal. refusal ≡ Refusal.StreamFault)) (λ refusal. result ≡ Err refusal) }
+    requires { IfErr outcome (λ refusal. refusal ≢ Refusal.StreamFault) }
+    ensures told { Tells (formatted_line gtid) (W.contents writer.old) (W.contents writer.new) result }
+    ensures refused { MatchResult outcome (λ _. IfErr result (λ refusal. refusal ≡ Refusal.StreamFault)) (λ refusal. result ≡ Err refusal) }
 {
     outcome?;
     write_line(writer, format_args!("formatted {gtid}"))
@@ -40,7 +42,8 @@ fn write_formatted<W: Write>(
 /// Makes a new node's disk of this one, and then writes the line `formatted <gtid>`. The disk comes back beside
 /// the answer.
 ///
-/// Refuses as `format_disk` does, and with `StreamFault` where the writer fails; the disk is formatted then.
+/// Refuses as `format_disk` does, and then writes nothing; and with `StreamFault` where the writer fails, which has then
+/// taken a front of the line: the disk is formatted then.
 pub fn format_text<D: Disk, W: Write>(
     disk: D,
     params: &Params,
@@ -49,8 +52,10 @@ pub fn format_text<D: Disk, W: Write>(
 ) -> (D, Result<(), Refusal>)
     ensures small { D.size disk < need_of (layout_of params.now) → (result.1 ≡ Err (Refusal.TooSmall (need_of (layout_of params.now)))) × (result.0 ≡ disk) }
     ensures refused { need_of (layout_of params.now) ≤ D.size disk → IfErr result.1 (λ refusal. (refusal ≡ Refusal.DiskFault) ⊎ (refusal ≡ Refusal.StreamFault)) }
-    // Every image of the disk then stands for the empty order.
+    ensures told { Tells (formatted_line (first_gtid uuid)) (W.contents writer.old) (W.contents writer.new) result.1 }
+    // Every image of the disk then stands for the empty order, also where the line could not be written.
     ensures formatted { D.honest disk → OnOk result.1 (ImagesStandFor (uuid_of uuid) params.now [] (D.history result.0)) }
+    ensures untold { D.honest disk → result.1 ≡ Err Refusal.StreamFault → ImagesStandFor (uuid_of uuid) params.now [] (D.history result.0) }
 {
     let state = uuid;
     let gtid = first_gtid(state);

@@ -3,8 +3,12 @@
 ghost use Rattle.std.specs.Prelude.{◌≡◌, ◌++◌, [], IfSome};
 ghost use Rattle.std.specs.Io.KnownBytes.{Appends};
 ghost use Rattle.rep_record.specs.Lines.{Unread, ahead};
-ghost use Rattle.rep_script.specs.Judging.{reading, reading_of, items_ahead, Ends, ReadsParams, JudgesLine, content};
+ghost use Rattle.rep_record.specs.Reading.{item_line};
+ghost use Rattle.rep_script.specs.Judging.{reading, reading_of, items_ahead, Ends, EndsBy, ReadsParams, JudgesLine, content};
+ghost use Rattle.rep_script.specs.Answering.{Answered};
+ghost use Rattle.rep_script.specs.ScriptLines.{script_line};
 
+use crate::exchange::{Counted, Waiting, next_line, send};
 use arrayvec::ArrayVec;
 use rep_plain::PlainNode;
 use rep_record::{TextReader, is_blank, read_item_line, read_params_line, write_verdict};
@@ -22,7 +26,9 @@ pub fn read_params<R: Read>(
     reader: &mut R,
     line: &mut ArrayVec<u8, 4096>,
 ) -> Result<Params, Refusal>
-    ensures { IfSome (ahead text.old (R.remaining reader.old)) (λ known. ReadsParams known text.old result text.new (R.remaining reader.new)) }
+    // The lines behind it are items, or commands.
+    ensures { IfSome (ahead text.old (R.remaining reader.old)) (λ known.
+        ReadsParams item_line known text.old result text.new (R.remaining reader.new) × ReadsParams script_line known text.old result text.new (R.remaining reader.new)) }
 {
     'lines: while text.next_line(reader, line)? {
         if !is_blank(line) {
@@ -34,14 +40,14 @@ pub fn read_params<R: Read>(
     })
 }
 
-/// Judges the item of the line, if the line has words, and writes its verdict line.
+/// Judges the item of the line, if the line has words, and answers its verdict line.
 fn judge_line<W: Write>(
     node: &mut PlainNode,
     line: &[u8],
     number: u64,
     writer: &mut W,
 ) -> Result<(), Refusal>
-    ensures { JudgesLine node.old (content number line.now) result node.new (W.contents writer.old) (W.contents writer.new) }
+    ensures { JudgesLine node.old (content item_line number line.now) result node.new (W.contents writer.old) (W.contents writer.new) }
 {
     if is_blank(line) {
         return Ok(());
@@ -51,25 +57,42 @@ fn judge_line<W: Write>(
     write_verdict(writer, node.position(), verdict)
 }
 
-/// Judges the items of the rest of the text at a node with these parameters.
-fn judge_items<R: Read, W: Write>(
+/// Judges the items of the rest of the text at a node with these parameters. The last verdict lines wait.
+fn judge_lines<R: Read, W: Write>(
     mut node: PlainNode,
     text: &mut TextReader,
-    reader: &mut R,
+    reader: &mut Counted<'_, R>,
     writer: &mut W,
+    waiting: &mut Waiting,
 ) -> Result<(), Refusal>
-    ensures { node.order ≡ [] → IfSome (ahead text.old (R.remaining reader.old)) (λ known.
-        Ends (reading_of node.setting (items_ahead text.old known)) (W.contents writer.old) (W.contents writer.new) result) }
+    ensures { node.order ≡ [] → waiting.old.items ≡ [] → IfSome (ahead text.old (R.remaining reader.old.reader.now)) (λ known.
+        EndsBy (reading_of node.setting (items_ahead text.old known)) (Answered (W.contents writer.old) (W.contents writer.new) waiting.new.items) result) }
 {
     let mut line = ArrayVec::new();
-    'lines: while text.next_line(reader, &mut line)? {
-        judge_line(&mut node, &line, text.number(), writer)?;
+    'lines: while next_line(text, reader, &mut line, writer, waiting)? {
+        judge_line(&mut node, &line, text.number(), waiting)?;
     }
     Ok(())
 }
 
-/// Judges an order text: writes a verdict line for each of its items, as soon as the item's line is
-/// read.
+/// Judges the items of the rest of the text at a node with these parameters, and writes their verdict lines.
+fn judge_items<R: Read, W: Write>(
+    node: PlainNode,
+    text: &mut TextReader,
+    reader: &mut Counted<'_, R>,
+    writer: &mut W,
+) -> Result<(), Refusal>
+    ensures { node.order ≡ [] → IfSome (ahead text.old (R.remaining reader.old.reader.now)) (λ known.
+        Ends (reading_of node.setting (items_ahead text.old known)) (W.contents writer.old) (W.contents writer.new) result) }
+{
+    let mut waiting = Waiting::new();
+    let outcome = judge_lines(node, text, reader, writer, &mut waiting);
+    send(writer, &mut waiting)?;
+    outcome
+}
+
+/// Judges an order text: writes a verdict line for each of its items. The lines go out together, but each before the
+/// reader is asked for what comes after the item's line.
 ///
 /// Refuses a params line as `read_params_line` does, an item's line as `read_item_line` does, want of
 /// memory with `OutOfMemory`, and with `StreamFault` a reader or a writer that fails and a text of more
@@ -83,6 +106,12 @@ pub fn judge_text<R: Read, W: Write>(
 {
     let mut text = TextReader::new();
     let mut line = ArrayVec::new();
-    let params = read_params(&mut text, reader, &mut line)?;
-    judge_items(PlainNode::new(alloc, params), &mut text, reader, writer)
+    let mut reader = Counted::new(reader);
+    let params = read_params(&mut text, &mut reader, &mut line)?;
+    judge_items(
+        PlainNode::new(alloc, params),
+        &mut text,
+        &mut reader,
+        writer,
+    )
 }

@@ -5,6 +5,7 @@
 #![tactic(auto)]
 
 mod answers;
+mod exchange;
 mod format;
 mod judge;
 mod laws;

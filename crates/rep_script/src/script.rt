@@ -1,6 +1,14 @@
 //! Running a script.
 
+ghost use Rattle.std.specs.Prelude.{◌≡◌, IfSome};
+ghost use Rattle.rep_types.specs.Settings.{Setting};
+ghost use Rattle.rep_record.specs.Lines.{Unread, ahead};
+ghost use Rattle.rep_script.specs.ScriptLines.{script_line};
+ghost use Rattle.rep_script.specs.Judging.{reading_of, said_ahead, content};
+ghost use Rattle.rep_script.specs.Scripts.{script, script_on_disk, disk_line, Opened, OnNewDisk, Crashes, Stops, ScriptEnds, RunEnds, EndsOnDisk, Does, RunsCommand, RunsLine, RunsDiskLine};
+
 use crate::answers::{write_answer, write_open, write_refused, write_state};
+use crate::exchange::{Counted, Waiting, next_line, send};
 use crate::judge::read_params;
 use crate::script_line::{Command, read_command};
 use arrayvec::ArrayVec;
@@ -23,7 +31,9 @@ const SCRIPT_UUID: [u8; 16] = [
 /// A replica on this disk, which is let go where it is refused.
 ///
 /// Refuses the disk as `Replica::open` does.
-pub fn opened<D: Disk + Drop>(alloc: Global, disk: D) -> Result<Replica<D>, Refusal> {
+pub fn opened<D: Disk + Drop>(alloc: Global, disk: D) -> Result<Replica<D>, Refusal>
+    ensures { Opened D.size D.failures D.honest D.history disk result }
+{
     match Replica::open(alloc, disk) {
         Ok(replica) => Ok(replica),
         Err((_, refusal)) => Err(refusal),
@@ -34,7 +44,9 @@ pub fn opened<D: Disk + Drop>(alloc: Global, disk: D) -> Result<Replica<D>, Refu
 /// scripts run on.
 ///
 /// Refuses with `OutOfMemory` where there is no room for the disk, and else as `format_disk` and `Replica::open` do.
-pub fn on_new_disk(alloc: Global, params: &Params) -> Result<Replica<MemDisk>, Refusal> {
+pub fn on_new_disk(alloc: Global, params: &Params) -> Result<Replica<MemDisk>, Refusal>
+    ensures { OnNewDisk ⟦<MemDisk as Disk>⟧.size ⟦<MemDisk as Disk>⟧.failures ⟦<MemDisk as Disk>⟧.honest ⟦<MemDisk as Disk>⟧.history params.now result }
+{
     let disk = MemDisk::new(alloc, need(params) as usize)?;
     let (disk, outcome) = format_disk(disk, params, Some(Uuid::from_bytes(SCRIPT_UUID)));
     outcome?;
@@ -46,25 +58,24 @@ fn stopped_and_opened(
     alloc: Global,
     replica: Replica<MemDisk>,
     loss: Loss,
-) -> Result<Replica<MemDisk>, Refusal> {
+) -> Result<Replica<MemDisk>, Refusal>
+    ensures { Stops ⟦<MemDisk as Disk>⟧.size ⟦<MemDisk as Disk>⟧.failures ⟦<MemDisk as Disk>⟧.honest ⟦<MemDisk as Disk>⟧.history Crashes loss replica result }
+{
     let mut disk = replica.into_disk();
     disk.crash(loss);
     opened(alloc, disk)
 }
 
-/// Does what the line with this number asks for, and writes what came of it. A stop is handed back: what it
-/// is depends on the disk.
-fn run_line<D: Disk, W: Write>(
+/// Does what the command asks for, and writes what came of it. A stop is handed back: what it is depends on the disk.
+fn run_command<D: Disk, W: Write>(
     alloc: Global,
     replica: &mut Replica<D>,
-    line: &[u8],
-    number: u64,
+    command: Command,
     writer: &mut W,
-) -> Result<Option<Loss>, Refusal> {
-    if is_blank(line) {
-        return Ok(None);
-    }
-    match read_command(line, number)? {
+) -> Result<Option<Loss>, Refusal>
+    ensures { RunsCommand D.honest D.history D.failures replica.old command result replica.new }
+{
+    match command {
         Command::Step(event) => {
             let answer = replica.step(event);
             write_answer(writer, replica, &answer)?;
@@ -78,10 +89,68 @@ fn run_line<D: Disk, W: Write>(
     Ok(None)
 }
 
+/// Does what the line with this number asks for, and writes what came of it. A stop is handed back.
+///
+/// Refuses a line as `read_command` does, and with `StreamFault` a writer that fails.
+fn run_line<D: Disk, W: Write>(
+    alloc: Global,
+    replica: &mut Replica<D>,
+    line: &[u8],
+    number: u64,
+    writer: &mut W,
+) -> Result<Option<Loss>, Refusal>
+    ensures { RunsLine D.honest D.history D.failures replica.old (content script_line number line.now) result replica.new }
+{
+    if is_blank(line) {
+        return Ok(None);
+    }
+    let command = read_command(line, number)?;
+    run_command(alloc, replica, command, writer)
+}
+
+/// Runs the rest of a script at a replica on a new disk in memory. The last answers wait.
+fn run_in_memory<R: Read, W: Write>(
+    alloc: Global,
+    mut replica: Replica<MemDisk>,
+    text: &mut TextReader,
+    reader: &mut Counted<'_, R>,
+    writer: &mut W,
+    waiting: &mut Waiting,
+) -> Result<(), Refusal>
+    ensures { (p : Setting) → OnNewDisk ⟦<MemDisk as Disk>⟧.size ⟦<MemDisk as Disk>⟧.failures ⟦<MemDisk as Disk>⟧.honest ⟦<MemDisk as Disk>⟧.history p (Ok replica) → IfSome (ahead text.old (R.remaining reader.old.reader.now)) (λ known.
+        ScriptEnds ⟦<MemDisk as Disk>⟧.size ⟦<MemDisk as Disk>⟧.failures ⟦<MemDisk as Disk>⟧.honest ⟦<MemDisk as Disk>⟧.history Crashes (reading_of p (said_ahead script_line text.old known)) result) }
+{
+    let mut line = ArrayVec::new();
+    'lines: while next_line(text, reader, &mut line, writer, waiting)? {
+        if let Some(loss) = run_line(alloc, &mut replica, &line, text.number(), waiting)? {
+            replica = stopped_and_opened(alloc, replica, loss)?;
+            write_open(waiting, replica.gtid())?;
+        }
+    }
+    Ok(())
+}
+
+/// Runs the rest of a script at a replica on a new disk in memory, and writes what came of it.
+fn run_from<R: Read, W: Write>(
+    alloc: Global,
+    replica: Replica<MemDisk>,
+    text: &mut TextReader,
+    reader: &mut Counted<'_, R>,
+    writer: &mut W,
+) -> Result<(), Refusal>
+    ensures { (p : Setting) → OnNewDisk ⟦<MemDisk as Disk>⟧.size ⟦<MemDisk as Disk>⟧.failures ⟦<MemDisk as Disk>⟧.honest ⟦<MemDisk as Disk>⟧.history p (Ok replica) → IfSome (ahead text.old (R.remaining reader.old.reader.now)) (λ known.
+        ScriptEnds ⟦<MemDisk as Disk>⟧.size ⟦<MemDisk as Disk>⟧.failures ⟦<MemDisk as Disk>⟧.honest ⟦<MemDisk as Disk>⟧.history Crashes (reading_of p (said_ahead script_line text.old known)) result) }
+{
+    let mut waiting = Waiting::new();
+    let outcome = run_in_memory(alloc, replica, text, reader, writer, &mut waiting);
+    send(writer, &mut waiting)?;
+    outcome
+}
+
 /// Runs a script on a new disk in memory: it has as many bytes as its parameters need, which are in the
 /// script's first line with words, and is formatted with the UUID 11111111-1111-4111-8111-111111111111 and opened.
-/// Does what each further line asks for, and writes what came of it before the next line is read. At a stop the
-/// disk loses of what is not stable what the line says, and is opened again.
+/// Does what each further line asks for, and writes what came of it before the reader is asked for what comes after the
+/// line. At a stop the disk loses of what is not stable what the line says, and is opened again.
 ///
 /// A step that the replica refuses is written as such, and the script goes on; so is want of memory, which `log`
 /// and the line of the state may meet. A write or a sync for which the disk in memory finds no room is a failure
@@ -94,36 +163,70 @@ pub fn run_script<R: Read, W: Write>(
     alloc: Global,
     reader: &mut R,
     writer: &mut W,
-) -> Result<(), Refusal> {
+) -> Result<(), Refusal>
+    ensures { IfSome (R.remaining reader.old) (λ text. ScriptEnds ⟦<MemDisk as Disk>⟧.size ⟦<MemDisk as Disk>⟧.failures ⟦<MemDisk as Disk>⟧.honest ⟦<MemDisk as Disk>⟧.history Crashes (script text) result) }
+{
     let mut text = TextReader::new();
     let mut line = ArrayVec::new();
-    let params = read_params(&mut text, reader, &mut line)?;
-    let mut replica = on_new_disk(alloc, &params)?;
-    'lines: while text.next_line(reader, &mut line)? {
-        if let Some(loss) = run_line(alloc, &mut replica, &line, text.number(), writer)? {
-            replica = stopped_and_opened(alloc, replica, loss)?;
-            write_open(writer, replica.gtid())?;
-        }
+    let mut reader = Counted::new(reader);
+    let params = read_params(&mut text, &mut reader, &mut line)?;
+    let replica = on_new_disk(alloc, &params)?;
+    run_from(alloc, replica, &mut text, &mut reader, writer)
+}
+
+/// Does what the line with this number of a script on a disk asks for, and writes what came of it.
+///
+/// Refuses a line as `read_command` does, a stop with `Malformed`, and with `StreamFault` a writer that fails.
+fn run_disk_line<D: Disk, W: Write>(
+    alloc: Global,
+    replica: &mut Replica<D>,
+    line: &[u8],
+    number: u64,
+    writer: &mut W,
+) -> Result<(), Refusal>
+    ensures { RunsDiskLine D.honest D.history D.failures replica.old (content disk_line number line.now) result replica.new }
+{
+    match run_line(alloc, replica, line, number, writer)? {
+        None => Ok(()),
+        Some(_) => Err(Refusal::Malformed { at: number }),
+    }
+}
+
+/// Does what the lines of a script ask for, on a disk that does not crash at a line's word. The last answers wait.
+fn run_lines<D: Disk, R: Read, W: Write>(
+    alloc: Global,
+    replica: &mut Replica<D>,
+    text: &mut TextReader,
+    reader: &mut Counted<'_, R>,
+    writer: &mut W,
+    waiting: &mut Waiting,
+) -> Result<(), Refusal>
+    ensures { IfSome (ahead text.old (R.remaining reader.old.reader.now)) (λ known.
+        RunEnds (Does D.honest D.history D.failures) (said_ahead disk_line text.old known) replica.old result replica.new) }
+{
+    let mut line = ArrayVec::new();
+    'lines: while next_line(text, reader, &mut line, writer, waiting)? {
+        run_disk_line(alloc, replica, &line, text.number(), waiting)?;
     }
     Ok(())
 }
 
-/// Does what the lines of a script ask for, on a disk that does not crash at a line's word.
-fn run_lines<D: Disk, R: Read, W: Write>(
+/// Does what the lines of a script ask for, on a disk that does not crash at a line's word, and writes what came of it.
+fn run_text<D: Disk, R: Read, W: Write>(
     alloc: Global,
     replica: &mut Replica<D>,
     reader: &mut R,
     writer: &mut W,
-) -> Result<(), Refusal> {
+) -> Result<(), Refusal>
+    ensures { IfSome (R.remaining reader.old) (λ text.
+        RunEnds (Does D.honest D.history D.failures) (script_on_disk text) replica.old result replica.new) }
+{
     let mut text = TextReader::new();
-    let mut line = ArrayVec::new();
-    'lines: while text.next_line(reader, &mut line)? {
-        let number = text.number();
-        if run_line(alloc, replica, &line, number, writer)?.is_some() {
-            return Err(Refusal::Malformed { at: number });
-        }
-    }
-    Ok(())
+    let mut reader = Counted::new(reader);
+    let mut waiting = Waiting::new();
+    let outcome = run_lines(alloc, replica, &mut text, &mut reader, writer, &mut waiting);
+    send(writer, &mut waiting)?;
+    outcome
 }
 
 /// Runs a script without a params line on this disk, which is opened first. Else as `run_script`; but a stop is no
@@ -135,10 +238,13 @@ pub fn run_on_disk<D: Disk, R: Read, W: Write>(
     disk: D,
     reader: &mut R,
     writer: &mut W,
-) -> (D, Result<(), Refusal>) {
+) -> (D, Result<(), Refusal>)
+    ensures { IfSome (R.remaining reader.old) (λ text.
+        EndsOnDisk D.size D.failures D.honest D.history (script_on_disk text) disk result.0 result.1) }
+{
     match Replica::open(alloc, disk) {
         Ok(mut replica) => {
-            let outcome = run_lines(alloc, &mut replica, reader, writer);
+            let outcome = run_text(alloc, &mut replica, reader, writer);
             (replica.into_disk(), outcome)
         }
         Err((disk, refusal)) => (disk, Err(refusal)),

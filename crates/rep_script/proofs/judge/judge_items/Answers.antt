@@ -1,48 +1,20 @@
-use Rattle.std.proofs.Common.{◌≡◌, Ok, Err, true, false}
+use Rattle.std.proofs.Common.{Err, ap, ◌∙◌}
 use Rattle.std.proofs.lemmas.Result.{err_from_is_err_and}
 use Rattle.rep_record.specs.Lines.{ahead}
-use Rattle.rep_script.specs.Judging.{JudgesLine, content}
-use Rattle.rep_script.proofs.Progress.{judged_more, judged_all, judged_refused, judged_line_ends}
+use Rattle.rep_script.proofs.Progress.{items_sent, items_unsent}
 use Rattle.rep_script.proofs.judge.judge_items.Goals as goal
 
-pub returns-in_err-next_line : goal.returns-in_err-next_line
-returns-in_err-next_line g c =
-    let left = g.R.Read.remaining in
+pub returns-in_err-send : goal.returns-in_err-send
+returns-in_err-send g c none =
     let held = g.W.Write.contents in
-    let p = err_from_is_err_and c.from_residual.result c.from_residual.ensures.1 in
-    rw (p.1, p.2) (λ none. judged_refused (ahead c.args.text.now (left c.args.reader.now)) (left c.lines.reader) (left c.next_line.new.reader) c.args.text.now c.lines.text
-    c.next_line.new.self c.args.node.setting c.lines.node c.in_err-next_line.field-0.0 c.next_line.new.line.items (held c.args.writer.now) (held c.lines.writer)
-    (c.lines.invariant none) (rw c.in_err-next_line.was at c.next_line.ensures.known))
-
-pub lines-preserved : goal.lines-preserved
-lines-preserved g c none =
-    let left = g.R.Read.remaining in
-    let held = g.W.Write.contents in
-    let was : c.next_line.result ≡ Ok true = rw (← c.if-branch.true) c.in_ok-next_line.was in
-    let counts = rw was at c.next_line.ensures.ok in
-    let judges : JudgesLine c.lines.node (content c.next_line.new.self.number c.next_line.new.line.items) (Ok tt) c.judge_line.new.node (held c.lines.writer) (held c.judge_line.new.writer) =
-    rw (← c.deref.ensures.0, ← c.number.ensures.number) (rw c.in_ok-judge_line.was at c.judge_line.ensures) in
-    judged_more (ahead c.args.text.now (left c.args.reader.now)) (left c.lines.reader) (left c.next_line.new.reader) c.args.text.now c.lines.text c.next_line.new.self
-    c.args.node.setting c.lines.node c.judge_line.new.node c.next_line.new.line.items (held c.args.writer.now) (held c.lines.writer) (held c.judge_line.new.writer)
-    (c.lines.invariant none) (rw was at c.next_line.ensures.known) counts.0 judges
-
-pub returns-in_err-judge_line : goal.returns-in_err-judge_line
-returns-in_err-judge_line g c =
-    let left = g.R.Read.remaining in
-    let held = g.W.Write.contents in
-    let was : c.next_line.result ≡ Ok true = rw (← c.if-branch.true) c.in_ok-next_line.was in
-    let counts = rw was at c.next_line.ensures.ok in
-    let judges : JudgesLine c.lines.node (content c.next_line.new.self.number c.next_line.new.line.items) (Err c.in_err-judge_line.field-0.0) c.judge_line.new.node (held c.lines.writer) (held c.judge_line.new.writer) =
-    rw (← c.deref.ensures.0, ← c.number.ensures.number) (rw c.in_err-judge_line.was at c.judge_line.ensures) in
-    let p = err_from_is_err_and c.from_residual-in_err-judge_line.result c.from_residual-in_err-judge_line.ensures.1 in
-    rw (p.1, p.2) (λ none. judged_line_ends (ahead c.args.text.now (left c.args.reader.now)) (left c.lines.reader) (left c.next_line.new.reader) c.args.text.now c.lines.text
-    c.next_line.new.self c.args.node.setting c.lines.node c.judge_line.new.node c.in_err-judge_line.field-0.0 c.next_line.new.line.items (held c.args.writer.now)
-    (held c.lines.writer) (held c.judge_line.new.writer) (c.lines.invariant none) (rw was at c.next_line.ensures.known) counts.0 judges)
+    let q = err_from_is_err_and c.from_residual.result c.from_residual.ensures.1 in
+    items_unsent (ahead c.args.text.now (g.R.Read.remaining c.args.reader.now.reader.now)) c.args.text.now c.args.node.setting c.judge_lines-outcome.result c.from_residual.result
+    c.in_err-send.field-0.0 (held c.args.writer.now) (held c.judge_lines-outcome.new.writer) (held c.send.new.writer) c.judge_lines-outcome.new.waiting.items (q.1 ∙ ap Err q.2)
+    (rw c.in_err-send.was at c.send.ensures.err) (c.judge_lines-outcome.ensures none c.new-waiting.ensures) (rw c.in_err-send.was at c.send.ensures.cut)
 
 pub returns : goal.returns
 returns g c none =
-    let left = g.R.Read.remaining in
     let held = g.W.Write.contents in
-    let was : c.next_line.result ≡ Ok false = rw (← c.if-branch.false) c.in_ok-next_line.was in
-    judged_all (ahead c.args.text.now (left c.args.reader.now)) (left c.lines.reader) (left c.next_line.new.reader) c.args.text.now c.lines.text c.next_line.new.self
-    c.args.node.setting c.lines.node c.next_line.new.line.items (held c.args.writer.now) (held c.lines.writer) (c.lines.invariant none) (rw was at c.next_line.ensures.known)
+    items_sent (ahead c.args.text.now (g.R.Read.remaining c.args.reader.now.reader.now)) c.args.text.now c.args.node.setting c.judge_lines-outcome.result
+    (held c.args.writer.now) (held c.judge_lines-outcome.new.writer) (held c.send.new.writer) c.judge_lines-outcome.new.waiting.items
+    (c.judge_lines-outcome.ensures none c.new-waiting.ensures) (rw c.in_ok-send.was at c.send.ensures.ok)

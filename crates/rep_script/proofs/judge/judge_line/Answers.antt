@@ -11,12 +11,12 @@ returns g c =
     let old = c.args.node.now in
     let w = c.in_ok-item.item in
     let held = g.W.Write.contents in
-    let said : content c.args.number c.args.line.now ≡ Some (Ok w) =
+    let said : content item_line c.args.number c.args.line.now ≡ Some (Ok w) =
     ap (λ blank. cond blank None (Some (item_line c.args.number c.args.line.now))) (sym c.is_blank.ensures.value ∙ c.if-is_blank.false)
     ∙ ap Some (sym c.read_item_line.ensures.exact ∙ c.in_ok-item.was) in
     let grown : c.deliver.new.self ≡ record old { order = old.order ++ w ∷ [] } = rw c.in_ok-verdict.was at c.deliver.ensures.order in
     let numbered : c.position.result ≡ length old.order + 1 =
     c.position.ensures ∙ (ap (λ (d : Delivered). length d.order) grown ∙ length_push old.order w) in
-    judges_item old c.deliver.new.self (content c.args.number c.args.line.now) w c.position.result c.in_ok-verdict.verdict c.write_verdict.result (held c.args.writer.now)
+    judges_item old c.deliver.new.self (content item_line c.args.number c.args.line.now) w c.position.result c.in_ok-verdict.verdict c.write_verdict.result (held c.args.writer.now)
     (held c.write_verdict.new.writer) said grown numbered (rw c.in_ok-verdict.was at c.deliver.ensures.verdict) c.write_verdict.ensures.ok c.write_verdict.ensures.cut
     c.write_verdict.ensures.err

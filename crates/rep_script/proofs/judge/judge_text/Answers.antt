@@ -1,3 +1,4 @@
+use Rattle.std.proofs.Common.{◌≡◌, refl}
 use Rattle.std.proofs.lemmas.Result.{err_from_is_err_and}
 use Rattle.rep_script.proofs.Progress.{text_unread, text_read}
 use Rattle.rep_script.proofs.judge.judge_text.Goals as goal
@@ -5,13 +6,16 @@ use Rattle.rep_script.proofs.judge.judge_text.Goals as goal
 pub returns-in_err-params : goal.returns-in_err-params
 returns-in_err-params g c =
     let left = g.R.Read.remaining in
+    let same : left c.new-reader.result.reader.now ≡ left c.args.reader.now = rw c.new-reader.ensures refl in
     let p = err_from_is_err_and c.from_residual.result c.from_residual.ensures.1 in
-    rw (p.1, p.2) (text_unread (left c.args.reader.now) (left c.read_params.new.reader) (g.W.Write.contents c.args.writer.now) c.new-text.result c.read_params.new.text
-    c.in_err-params.field-0.0 c.new-text.ensures (rw c.in_err-params.was at c.read_params.ensures))
+    rw (p.1, p.2, ← same) (text_unread (left c.new-reader.result.reader.now) (left c.read_params.new.reader.reader.now) (g.W.Write.contents c.args.writer.now) c.new-text.result
+    c.read_params.new.text c.in_err-params.field-0.0 c.new-text.ensures (rw c.in_err-params.was at c.read_params.ensures))
 
 pub returns : goal.returns
 returns g c =
     let left = g.R.Read.remaining in
     let held = g.W.Write.contents in
-    text_read (left c.args.reader.now) (left c.read_params.new.reader) (held c.args.writer.now) (held c.judge_items.new.writer) c.new-text.result c.read_params.new.text
-    c.in_ok-params.params c.new.result c.judge_items.result c.new-text.ensures c.new.ensures (rw c.in_ok-params.was at c.read_params.ensures) c.judge_items.ensures
+    let same : left c.new-reader.result.reader.now ≡ left c.args.reader.now = rw c.new-reader.ensures refl in
+    rw (← same) (text_read (left c.new-reader.result.reader.now) (left c.read_params.new.reader.reader.now) (held c.args.writer.now) (held c.judge_items.new.writer) c.new-text.result
+    c.read_params.new.text c.in_ok-params.params c.new.result c.judge_items.result c.new-text.ensures c.new.ensures (rw c.in_ok-params.was at c.read_params.ensures)
+    c.judge_items.ensures)

@@ -2,15 +2,16 @@ use Rattle.std.proofs.Common.{◌≡◌, ◌∙◌, sym, Ok, true, false}
 use Rattle.std.proofs.lemmas.Result.{err_from_is_err_and}
 use Rattle.rep_record.specs.Words.{is_blank}
 use Rattle.rep_record.specs.Lines.{ahead}
-use Rattle.rep_record.specs.Reading.{params_line}
-use Rattle.rep_script.proofs.Stepping.{params_refused, params_missing, params_blank, params_found}
+use Rattle.rep_record.specs.Reading.{item_line, params_line}
+use Rattle.rep_script.specs.ScriptLines.{script_line}
+use Rattle.rep_script.proofs.Stepping.{both_refused, both_missing, params_blank, both_found}
 use Rattle.rep_script.proofs.judge.read_params.Goals as goal
 
 pub returns-in_err-next_line : goal.returns-in_err-next_line
 returns-in_err-next_line g c =
     let left = g.R.Read.remaining in
     let p = err_from_is_err_and c.from_residual.result c.from_residual.ensures.1 in
-    rw (p.1, p.2) (params_refused (ahead c.args.text.now (left c.args.reader.now)) (left c.lines.reader) (left c.next_line.new.reader) c.args.text.now c.lines.text
+    rw (p.1, p.2) (both_refused (ahead c.args.text.now (left c.args.reader.now)) (left c.lines.reader) (left c.next_line.new.reader) c.args.text.now c.lines.text
     c.next_line.new.self c.in_err-next_line.field-0.0 c.next_line.new.line.items c.lines.invariant (rw c.in_err-next_line.was at c.next_line.ensures.known))
 
 pub returns-then-not-is_blank : goal.returns-then-not-is_blank
@@ -22,7 +23,7 @@ returns-then-not-is_blank g c =
     let filled : is_blank c.next_line.new.line.items ≡ false = rw (← c.deref.ensures.0) (sym c.is_blank.ensures.value ∙ c.if-not-is_blank.true) in
     let read : c.read_params_line.result ≡ params_line c.next_line.new.self.number c.next_line.new.line.items =
     rw (← c.deref-then-not-is_blank.ensures.0, ← c.number.ensures.number) c.read_params_line.ensures.exact in
-    params_found (ahead c.args.text.now (left c.args.reader.now)) (left c.lines.reader) (left c.next_line.new.reader) c.args.text.now c.lines.text c.next_line.new.self
+    both_found (ahead c.args.text.now (left c.args.reader.now)) (left c.lines.reader) (left c.next_line.new.reader) c.args.text.now c.lines.text c.next_line.new.self
     c.next_line.new.line.items c.read_params_line.result c.lines.invariant known counts.0 filled read
 
 pub lines-preserved : goal.lines-preserved
@@ -32,8 +33,10 @@ lines-preserved g c =
     let known = rw was at c.next_line.ensures.known in
     let counts = rw was at c.next_line.ensures.ok in
     let blank : is_blank c.next_line.new.line.items ≡ true = rw (← c.deref.ensures.0) (sym c.is_blank.ensures.value ∙ c.if-not-is_blank.false) in
-    params_blank (ahead c.args.text.now (left c.args.reader.now)) (left c.lines.reader) (left c.next_line.new.reader) c.args.text.now c.lines.text c.next_line.new.self
-    c.next_line.new.line.items c.lines.invariant known counts.0 blank
+    let start = ahead c.args.text.now (left c.args.reader.now) in (
+      params_blank item_line start (left c.lines.reader) (left c.next_line.new.reader) c.args.text.now c.lines.text c.next_line.new.self c.next_line.new.line.items c.lines.invariant.0 known counts.0 blank,
+      params_blank script_line start (left c.lines.reader) (left c.next_line.new.reader) c.args.text.now c.lines.text c.next_line.new.self c.next_line.new.line.items c.lines.invariant.1 known counts.0 blank,
+    )
 
 pub returns : goal.returns
 returns g c =
@@ -41,5 +44,5 @@ returns g c =
     let was : c.next_line.result ≡ Ok false = rw (← c.if-branch.false) c.in_ok-next_line.was in
     let known = rw was at c.next_line.ensures.known in
     let counts = rw was at c.next_line.ensures.ok in
-    params_missing (ahead c.args.text.now (left c.args.reader.now)) (left c.lines.reader) (left c.next_line.new.reader) c.args.text.now c.lines.text c.next_line.new.self
+    both_missing (ahead c.args.text.now (left c.args.reader.now)) (left c.lines.reader) (left c.next_line.new.reader) c.args.text.now c.lines.text c.next_line.new.self
     c.next_line.new.line.items c.number-2.result c.lines.invariant known counts.0 c.number-2.ensures.number

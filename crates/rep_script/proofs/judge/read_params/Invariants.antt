@@ -1,14 +1,12 @@
-use Rattle.std.proofs.Common.{◌≡◌, ◌-◌, IfSome}
-use Rattle.std.specs.Prelude.{IsSomeAnd}
+use Rattle.std.proofs.Common.{◌-◌}
 use Rattle.rep_record.specs.Lines.{ahead}
-use Rattle.rep_script.specs.Judging.{text_ahead}
+use Rattle.rep_script.proofs.Stepping.{NeitherSaid}
 use Rattle.rep_script.proofs.judge.read_params.Given as goal
 
 -- the lines so far said nothing
 abbrev pub invariant-lines : goal.invariant-lines
 invariant-lines g l =
-    IfSome (ahead l.initial.text (g.R.Read.remaining l.initial.reader)) (λ first.
-    IsSomeAnd (ahead l.text (g.R.Read.remaining l.reader)) (λ rest. text_ahead l.initial.text first ≡ text_ahead l.text rest))
+    NeitherSaid (ahead l.initial.text (g.R.Read.remaining l.initial.reader)) l.initial.text l.text (ahead l.text (g.R.Read.remaining l.reader))
 
 -- what is left of the limit of a text
 abbrev pub decreases-lines : goal.decreases-lines

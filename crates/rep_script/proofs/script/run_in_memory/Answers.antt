@@ -1,0 +1,88 @@
+use Rattle.std.proofs.Common.{◌≡◌, None, Some, Ok, Err, true, false, refl, ap, ◌∙◌}
+use Rattle.std.proofs.lemmas.Result.{err_from_is_err_and}
+use Rattle.rep_record.specs.Lines.{ahead}
+use Rattle.rep_script.specs.ScriptLines.{script_line}
+use Rattle.rep_script.specs.Judging.{content}
+use Rattle.rep_script.specs.Scripts.{Crashes, Stops, RunsLine}
+use Rattle.rep_script.proofs.Scripting.{size_of, failures_of, IsHonest, history_of, DoesInMemory, run_refused, run_all, run_more, run_line_ends, ran_in_memory, failed_in_memory, stop_ran, ends_in_memory, stop_fails_in_memory, unwritten_in_memory}
+use Rattle.rep_script.proofs.script.run_in_memory.Goals as goal
+
+pub returns-in_err-next_line : goal.returns-in_err-next_line
+returns-in_err-next_line g c p on =
+    let left = g.R.Read.remaining in
+    let q = err_from_is_err_and c.from_residual.result c.from_residual.ensures.1 in
+    let start = ahead c.args.text.now (left c.args.reader.now.reader.now) in
+    ends_in_memory p start c.args.text.now c.args.replica c.lines.replica c.from_residual.result (Err c.in_err-next_line.field-0.0) (q.1 ∙ ap Err q.2) on
+    (run_refused DoesInMemory script_line start (left c.lines.reader.reader.now) (left c.next_line.new.reader.reader.now) c.args.text.now c.lines.text c.next_line.new.text c.args.replica c.lines.replica
+    c.in_err-next_line.field-0.0 c.next_line.new.line.items c.lines.invariant (rw c.in_err-next_line.was at c.next_line.ensures.known))
+
+pub returns-in_err-loss : goal.returns-in_err-loss
+returns-in_err-loss g c p on =
+    let left = g.R.Read.remaining in
+    let was : c.next_line.result ≡ Ok true = rw (← c.if-branch.true) c.in_ok-next_line.was in
+    let counts = rw was at c.next_line.ensures.ok in
+    let said = content script_line c.next_line.new.text.number c.next_line.new.line.items in
+    let runs : RunsLine IsHonest history_of failures_of c.lines.replica said (Err c.in_err-loss.field-0.0) c.run_line.new.replica =
+    rw (← c.deref.ensures.0, ← c.number.ensures.number) (rw c.in_err-loss.was at c.run_line.ensures) in
+    let q = err_from_is_err_and c.from_residual-in_err-loss.result c.from_residual-in_err-loss.ensures.1 in
+    let start = ahead c.args.text.now (left c.args.reader.now.reader.now) in
+    ends_in_memory p start c.args.text.now c.args.replica c.run_line.new.replica c.from_residual-in_err-loss.result (Err c.in_err-loss.field-0.0) (q.1 ∙ ap Err q.2) on
+    (run_line_ends DoesInMemory script_line start (left c.lines.reader.reader.now) (left c.next_line.new.reader.reader.now) c.args.text.now c.lines.text c.next_line.new.text c.args.replica c.lines.replica
+    c.run_line.new.replica c.in_err-loss.field-0.0 c.next_line.new.line.items c.lines.invariant (rw was at c.next_line.ensures.known) counts.0
+    (failed_in_memory size_of failures_of IsHonest history_of Crashes c.lines.replica c.run_line.new.replica said c.in_err-loss.field-0.0 runs))
+
+pub returns-in_err-replica : goal.returns-in_err-replica
+returns-in_err-replica g c p on =
+    let left = g.R.Read.remaining in
+    let was : c.next_line.result ≡ Ok true = rw (← c.if-branch.true) c.in_ok-next_line.was in
+    let counts = rw was at c.next_line.ensures.ok in
+    let said = content script_line c.next_line.new.text.number c.next_line.new.line.items in
+    let runs : RunsLine IsHonest history_of failures_of c.lines.replica said (Ok (Some c.in-Some.loss)) c.run_line.new.replica =
+    rw (← c.deref.ensures.0, ← c.number.ensures.number) (rw (c.in_ok-loss.was, c.in-Some.is) at c.run_line.ensures) in
+    let stops : Stops size_of failures_of IsHonest history_of Crashes c.in-Some.loss c.run_line.new.replica (Err c.in_err-replica.field-0.0) =
+    rw c.in_err-replica.was at c.stopped_and_opened.ensures in
+    let q = err_from_is_err_and c.from_residual-in_err-replica.result c.from_residual-in_err-replica.ensures.1 in
+    stop_fails_in_memory p (ahead c.args.text.now (left c.args.reader.now.reader.now)) (left c.lines.reader.reader.now) (left c.next_line.new.reader.reader.now) c.args.text.now c.lines.text c.next_line.new.text
+    c.args.replica c.lines.replica c.run_line.new.replica c.in-Some.loss c.from_residual-in_err-replica.result c.in_err-replica.field-0.0 c.next_line.new.line.items (q.1 ∙ ap Err q.2) on
+    c.lines.invariant (rw was at c.next_line.ensures.known) counts.0 runs stops
+
+pub lines-preserved-in-Continue-branch-5 : goal.lines-preserved-in-Continue-branch-5
+lines-preserved-in-Continue-branch-5 g c =
+    let left = g.R.Read.remaining in
+    let was : c.next_line.result ≡ Ok true = rw (← c.if-branch.true) c.in_ok-next_line.was in
+    let counts = rw was at c.next_line.ensures.ok in
+    let said = content script_line c.next_line.new.text.number c.next_line.new.line.items in
+    let runs : RunsLine IsHonest history_of failures_of c.lines.replica said (Ok (Some c.in-Some.loss)) c.run_line.new.replica =
+    rw (← c.deref.ensures.0, ← c.number.ensures.number) (rw (c.in_ok-loss.was, c.in-Some.is) at c.run_line.ensures) in
+    let stops : Stops size_of failures_of IsHonest history_of Crashes c.in-Some.loss c.run_line.new.replica (Ok c.in_ok-replica.replica) =
+    rw c.in_ok-replica.was at c.stopped_and_opened.ensures in
+    run_more DoesInMemory script_line (ahead c.args.text.now (left c.args.reader.now.reader.now)) (left c.lines.reader.reader.now) (left c.next_line.new.reader.reader.now) c.args.text.now c.lines.text c.next_line.new.text
+    c.args.replica c.lines.replica c.in_ok-replica.replica c.next_line.new.line.items c.lines.invariant (rw was at c.next_line.ensures.known) counts.0
+    (stop_ran size_of failures_of IsHonest history_of Crashes c.lines.replica c.run_line.new.replica c.in_ok-replica.replica said c.in-Some.loss runs stops)
+
+pub returns-in_err-write_open : goal.returns-in_err-write_open
+returns-in_err-write_open g c p on =
+    let q = err_from_is_err_and c.from_residual-in_err-write_open.result c.from_residual-in_err-write_open.ensures.1 in
+    unwritten_in_memory p (ahead c.args.text.now (g.R.Read.remaining c.args.reader.now.reader.now)) c.args.text.now c.from_residual-in_err-write_open.result c.in_err-write_open.field-0.0
+    (q.1 ∙ ap Err q.2) (rw c.in_err-write_open.was at c.write_open.ensures)
+
+pub lines-preserved : goal.lines-preserved
+lines-preserved g c =
+    let left = g.R.Read.remaining in
+    let was : c.next_line.result ≡ Ok true = rw (← c.if-branch.true) c.in_ok-next_line.was in
+    let counts = rw was at c.next_line.ensures.ok in
+    let said = content script_line c.next_line.new.text.number c.next_line.new.line.items in
+    let runs : RunsLine IsHonest history_of failures_of c.lines.replica said (Ok None) c.run_line.new.replica =
+    rw (← c.deref.ensures.0, ← c.number.ensures.number) (rw (c.in_ok-loss.was, c.in_default.is) at c.run_line.ensures) in
+    run_more DoesInMemory script_line (ahead c.args.text.now (left c.args.reader.now.reader.now)) (left c.lines.reader.reader.now) (left c.next_line.new.reader.reader.now) c.args.text.now c.lines.text c.next_line.new.text
+    c.args.replica c.lines.replica c.run_line.new.replica c.next_line.new.line.items c.lines.invariant (rw was at c.next_line.ensures.known) counts.0
+    (ran_in_memory size_of failures_of IsHonest history_of Crashes c.lines.replica c.run_line.new.replica said runs)
+
+pub returns : goal.returns
+returns g c p on =
+    let left = g.R.Read.remaining in
+    let was : c.next_line.result ≡ Ok false = rw (← c.if-branch.false) c.in_ok-next_line.was in
+    let start = ahead c.args.text.now (left c.args.reader.now.reader.now) in
+    ends_in_memory p start c.args.text.now c.args.replica c.lines.replica (Ok tt) (Ok tt) refl on
+    (run_all DoesInMemory script_line start (left c.lines.reader.reader.now) (left c.next_line.new.reader.reader.now) c.args.text.now c.lines.text c.next_line.new.text c.args.replica c.lines.replica
+    c.next_line.new.line.items c.lines.invariant (rw was at c.next_line.ensures.known))
