@@ -1,16 +1,15 @@
-//! A disk or a node on it, and what is done to it.
+//! Does what the lines of a text ask for: to the disk, and to a node on it.
 
 use crate::device::{Device, armed, blank, changed, crashed, cut, damaged, failures, written};
+use crate::node::{Bench, kept, opened};
 use crate::order::{Change, DiskOrder, NodeOrder, Order, Sight, read_order};
-use crate::shown::{write_bytes, write_node, write_sum, write_window};
+use crate::shown::{write_bytes, write_sum};
 use arrayvec::ArrayVec;
-use rep_record::{MAX_LINE, TextReader, is_blank, write_verdict};
+use rep_disk::Disk;
+use rep_record::{MAX_LINE, TextReader, is_blank};
 use rep_replica::Replica;
-use rep_script::{
-    Command, format_text, read_command, write_answer, write_line, write_open, write_refused,
-    write_state,
-};
-use rep_steps::{Answer, Event};
+use rep_script::{Command, format_text, read_command, write_line, write_refused};
+use rep_steps::Event;
 use rep_types::{Params, Refusal};
 use std::alloc::Global;
 use std::io::{Read, Write};
@@ -21,38 +20,21 @@ const UUID: [u8; 16] = [
     0x11, 0x11, 0x11, 0x11, 0x11, 0x11, 0x41, 0x11, 0x81, 0x11, 0x11, 0x11, 0x11, 0x11, 0x11, 0x11,
 ];
 
-/// A node on its device.
-type Node = Replica<Device>;
-
-/// What there is: a disk, or a node on one.
-#[derive(Drop)]
-pub(crate) enum Bench {
-    Disk(Device),
-    Node(Node),
-}
+/// A line of a text.
+type Line = ArrayVec<u8, MAX_LINE>;
 
 /// Formats the disk, and writes what came of it.
-fn formatted<W: Write>(device: Device, params: &Params, writer: &mut W) -> Result<Device, Refusal> {
+fn formatted<D: Disk + Drop, W: Write>(
+    disk: D,
+    params: &Params,
+    writer: &mut W,
+) -> Result<D, Refusal> {
     let uuid = Some(Uuid::from_bytes(UUID));
-    let (device, outcome) = format_text(device, params, uuid, writer);
+    let (disk, outcome) = format_text(disk, params, uuid, writer);
     if let Err(refusal) = outcome {
         write_refused(writer, refusal)?;
     }
-    Ok(device)
-}
-
-/// Opens the disk, and writes what came of it.
-fn opened<W: Write>(alloc: Global, device: Device, writer: &mut W) -> Result<Bench, Refusal> {
-    match Replica::open(alloc, device) {
-        Ok(node) => {
-            write_open(writer, node.gtid())?;
-            Ok(Bench::Node(node))
-        }
-        Err((device, refusal)) => {
-            write_refused(writer, refusal)?;
-            Ok(Bench::Disk(device))
-        }
-    }
+    Ok(disk)
 }
 
 /// Has these bytes stand at this place of the disk, and writes whether they fit.
@@ -138,112 +120,51 @@ fn on_disk<W: Write>(
     }
 }
 
-/// Has the node settle, and writes what came of it.
-fn settle<W: Write>(node: &mut Node, writer: &mut W) -> Result<(), Refusal> {
-    match node.settle() {
-        Ok(()) => write_line(writer, "settled"),
-        Err(refusal) => write_refused(writer, refusal),
-    }
-}
-
-/// Does one step, and writes its answer.
-fn step<W: Write>(node: &mut Node, event: Event, writer: &mut W) -> Result<(), Refusal> {
-    let answer = node.step(event);
-    write_answer(writer, node, &answer)
-}
-
-/// Shows the node's state, and its window in full where that is asked.
-fn show_state<W: Write>(
-    alloc: Global,
-    node: &Node,
-    is_full: bool,
-    writer: &mut W,
-) -> Result<(), Refusal> {
-    match node.window(alloc) {
-        Ok(window) if is_full => write_window(writer, &window),
-        Ok(window) => write_state(writer, node, &window),
-        Err(refusal) => write_refused(writer, refusal),
-    }
-}
-
-/// Takes the node apart and puts it together again, as a stopped one or as it was.
-fn together(node: Node, stopped: bool) -> Node {
-    let stopped = stopped || node.is_stopped();
-    let (certifier, backlog, engine) = node.into_parts();
-    Replica::from_parts(certifier, backlog, engine, stopped)
-}
-
-/// Does this to the node where it stays one and the same, and writes what came of it.
-fn at_node<W: Write>(
-    alloc: Global,
-    node: &mut Node,
-    order: NodeOrder,
-    writer: &mut W,
-) -> Result<(), Refusal> {
-    match order {
-        NodeOrder::Script(Command::Step(event)) => step(node, event, writer),
-        NodeOrder::Script(_) => show_state(alloc, node, false, writer),
-        NodeOrder::Settle => settle(node, writer),
-        NodeOrder::Window => show_state(alloc, node, true, writer),
-        NodeOrder::Apart(_) | NodeOrder::Node => write_node(writer, node),
-    }
-}
-
 /// Does this to the node, and writes what came of it.
 fn on_node<W: Write>(
     alloc: Global,
-    mut node: Node,
+    node: Replica<Device>,
     order: NodeOrder,
     writer: &mut W,
-) -> Result<Bench, Refusal> {
+) -> Result<Bench<Device>, Refusal> {
     match order {
         NodeOrder::Script(Command::Stop(loss)) => {
             opened(alloc, crashed(node.into_disk(), loss), writer)
         }
-        NodeOrder::Apart(stopped) => {
-            let node = together(node, stopped);
-            write_node(writer, &node)?;
-            Ok(Bench::Node(node))
-        }
-        order => {
-            at_node(alloc, &mut node, order, writer)?;
-            Ok(Bench::Node(node))
-        }
+        order => kept(alloc, node, order, writer),
     }
 }
 
-/// Writes the answers to the events, which were run together.
-fn write_answers<W: Write>(
-    node: &Node,
-    events: &[Event],
-    answers: &[Answer],
-    writer: &mut W,
-) -> Result<(), Refusal> {
-    if answers.len() != events.len() {
-        let (count, wanted) = (answers.len(), events.len());
-        write_line(writer, format_args!("{count} answers to {wanted} events"))?;
-    }
-    for (event, answer) in events.iter().zip(answers) {
-        match (event, answer) {
-            (Event::Deliver(seqno, _), Answer::Gave(verdict)) => {
-                write_verdict(writer, *seqno, *verdict)?;
-            }
-            _ => write_answer(writer, node, answer)?,
-        }
-    }
-    Ok(())
-}
-
-/// Runs the events together, and writes their answers.
-fn run_together<W: Write>(
+/// Does this to the node, where there is one, and writes what came of it.
+fn at_bench<W: Write>(
     alloc: Global,
-    node: &mut Node,
-    events: &[Event],
+    bench: Bench<Device>,
+    order: NodeOrder,
     writer: &mut W,
-) -> Result<(), Refusal> {
-    match node.run(alloc, events) {
-        Ok(answers) => write_answers(node, events, &answers, writer),
-        Err(refusal) => write_refused(writer, refusal),
+) -> Result<Bench<Device>, Refusal> {
+    match bench {
+        Bench::Node(node) => on_node(alloc, node, order, writer),
+        bench => {
+            write_line(writer, "off")?;
+            Ok(bench)
+        }
+    }
+}
+
+/// The next line, if there is one.
+fn next_line<R: Read>(
+    text: &mut TextReader,
+    reader: &mut R,
+    line: &mut Line,
+) -> Result<bool, Refusal> {
+    text.next_line(reader, line)
+}
+
+/// The event that the line with this number asks for.
+fn read_event(line: &[u8], number: u64) -> Result<Event, Refusal> {
+    match read_command(line, number)? {
+        Command::Step(event) => Ok(event),
+        _ => Err(Refusal::Malformed { at: number }),
     }
 }
 
@@ -254,93 +175,110 @@ fn read_events<R: Read>(
     reader: &mut R,
     count: u64,
 ) -> Result<Vec<Event>, Refusal> {
-    let mut line = ArrayVec::new();
+    let mut line = Line::new();
     let mut events = Vec::new(alloc);
     for _ in 0..count {
-        if !text.next_line(reader, &mut line)? {
+        if !next_line(text, reader, &mut line)? {
             break;
         }
-        let number = text.number();
-        match read_command(&line, number)? {
-            Command::Step(event) => events.push(event)?,
-            _ => return Err(Refusal::Malformed { at: number }),
-        }
+        events.push(read_event(&line, text.number())?)?;
     }
     Ok(events)
 }
 
-impl Bench {
-    /// A disk without bytes.
-    pub(crate) fn new(alloc: Global) -> Result<Bench, Refusal> {
-        Ok(Bench::Disk(blank(alloc, 0, 0)?))
-    }
+/// Runs the events together that the next so many lines ask for, and writes what came of it.
+fn batch<R: Read, W: Write>(
+    alloc: Global,
+    bench: &mut Bench<Device>,
+    text: &mut TextReader,
+    reader: &mut R,
+    count: u64,
+    writer: &mut W,
+) -> Result<(), Refusal> {
+    let events = read_events(alloc, text, reader, count)?;
+    bench.batch(alloc, &events, writer)
+}
 
-    /// The disk, of a node that is let go where there is one.
-    fn into_device(self) -> Device {
-        match self {
-            Bench::Disk(device) => device,
-            Bench::Node(node) => node.into_disk(),
+/// Does what a line asks for, and writes what came of it. Where there is no node, what asks for one is answered by `off`.
+fn done<R: Read, W: Write>(
+    alloc: Global,
+    mut bench: Bench<Device>,
+    order: Order,
+    text: &mut TextReader,
+    reader: &mut R,
+    writer: &mut W,
+) -> Result<Bench<Device>, Refusal> {
+    match order {
+        Order::Disk(order) => {
+            let device = on_disk(alloc, bench.into_disk(), order, writer)?;
+            Ok(Bench::Disk(device))
+        }
+        Order::Open => opened(alloc, bench.into_disk(), writer),
+        Order::Node(order) => at_bench(alloc, bench, order, writer),
+        Order::Batch(count) => {
+            batch(alloc, &mut bench, text, reader, count, writer)?;
+            Ok(bench)
         }
     }
+}
 
-    /// Does what a line asks for, but for a batch, and writes what came of it. Where there is no node, what asks for one is answered by
-    /// `off`.
-    fn done<W: Write>(self, alloc: Global, order: Order, writer: &mut W) -> Result<Bench, Refusal> {
-        match (self, order) {
-            (bench, Order::Disk(order)) => {
-                let device = on_disk(alloc, bench.into_device(), order, writer)?;
-                Ok(Bench::Disk(device))
-            }
-            (bench, Order::Open) => opened(alloc, bench.into_device(), writer),
-            (Bench::Node(node), Order::Node(order)) => on_node(alloc, node, order, writer),
-            (bench, _) => {
-                write_line(writer, "off")?;
-                Ok(bench)
-            }
+/// What the next line with words asks for.
+fn next_order<R: Read>(text: &mut TextReader, reader: &mut R) -> Result<Option<Order>, Refusal> {
+    let mut line = Line::new();
+    for _ in 0..u64::MAX {
+        if !next_line(text, reader, &mut line)? {
+            break;
+        }
+        if !is_blank(&line) {
+            return Ok(Some(read_order(&line, text.number())?));
         }
     }
+    Ok(None)
+}
 
-    /// Runs these events together, where there is a node.
-    fn batch<W: Write>(
-        &mut self,
-        alloc: Global,
-        events: &[Event],
-        writer: &mut W,
-    ) -> Result<(), Refusal> {
-        match self {
-            Bench::Node(node) => run_together(alloc, node, events, writer),
-            Bench::Disk(_) => write_line(writer, "off"),
+/// Does what the next line asks for, if there is one, and writes what came of it. Says whether there was one.
+fn answer_next<R: Read, W: Write>(
+    alloc: Global,
+    bench: &mut Option<Bench<Device>>,
+    text: &mut TextReader,
+    reader: &mut R,
+    writer: &mut W,
+) -> Result<bool, Refusal> {
+    let Some(order) = next_order(text, reader)? else {
+        return Ok(false);
+    };
+    let Some(before) = bench.take() else {
+        return Ok(false);
+    };
+    *bench = Some(done(alloc, before, order, text, reader, writer)?);
+    Ok(true)
+}
+
+/// Does what each line of the text asks for, and writes what came of it.
+fn answer_all<R: Read, W: Write>(
+    alloc: Global,
+    bench: &mut Option<Bench<Device>>,
+    text: &mut TextReader,
+    reader: &mut R,
+    writer: &mut W,
+) -> Result<(), Refusal> {
+    for _ in 0..u64::MAX {
+        if !answer_next(alloc, bench, text, reader, writer)? {
+            break;
         }
     }
+    Ok(())
+}
 
-    /// Does what each line of the text asks for, and writes what came of it.
-    ///
-    /// Refuses a line of no such form as `read_command` does, want of memory for a disk with `OutOfMemory`, and with `StreamFault` a
-    /// reader or a writer that fails.
-    pub(crate) fn run<R: Read, W: Write>(
-        self,
-        alloc: Global,
-        reader: &mut R,
-        writer: &mut W,
-    ) -> Result<(), Refusal> {
-        let mut bench = self;
-        let mut text = TextReader::new();
-        let mut line: ArrayVec<u8, MAX_LINE> = ArrayVec::new();
-        for _ in 0..u64::MAX {
-            if !text.next_line(reader, &mut line)? {
-                break;
-            }
-            if is_blank(&line) {
-                continue;
-            }
-            match read_order(&line, text.number())? {
-                Order::Batch(count) => {
-                    let events = read_events(alloc, &mut text, reader, count)?;
-                    bench.batch(alloc, &events, writer)?;
-                }
-                order => bench = bench.done(alloc, order, writer)?,
-            }
-        }
-        Ok(())
-    }
+/// Does what each line of the text asks for, on a disk that has no bytes at first, and writes what came of it.
+///
+/// Refuses a line of no such form as `read_command` does, want of memory for a disk with `OutOfMemory`, and with
+/// `StreamFault` a reader or a writer that fails.
+pub(crate) fn run<R: Read, W: Write>(
+    alloc: Global,
+    reader: &mut R,
+    writer: &mut W,
+) -> Result<(), Refusal> {
+    let mut bench = Some(Bench::Disk(blank(alloc, 0, 0)?));
+    answer_all(alloc, &mut bench, &mut TextReader::new(), reader, writer)
 }

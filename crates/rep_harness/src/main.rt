@@ -6,16 +6,16 @@
 mod bench;
 mod damaged;
 mod device;
+mod node;
 mod order;
 mod shown;
 
-use bench::Bench;
 use rep_types::Refusal;
 use std::io;
 use std::process::ExitCode;
 
 fn run<R: Input + Print + AllocGlobal>(rt: &R) -> Result<(), Refusal> {
-    Bench::new(rt.alloc())?.run(rt.alloc(), &mut rt.reader(), &mut io::writer(rt))
+    bench::run(rt.alloc(), &mut rt.reader(), &mut io::writer(rt))
 }
 
 fn main(rt: HostRuntime) -> ExitCode {

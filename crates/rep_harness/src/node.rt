@@ -1,0 +1,185 @@
+//! A disk or a node on it, whatever disk it is, and what is done to the node.
+
+use crate::order::NodeOrder;
+use crate::shown::{write_node, write_window};
+use rep_disk::Disk;
+use rep_record::write_verdict;
+use rep_replica::Replica;
+use rep_script::{Command, write_answer, write_line, write_open, write_refused, write_state};
+use rep_steps::{Answer, Event};
+use rep_types::Refusal;
+use std::alloc::Global;
+use std::io::Write;
+
+/// What there is: a disk, or a node on one.
+#[derive(Drop)]
+pub(crate) enum Bench<D: Disk> {
+    Disk(D),
+    Node(Replica<D>),
+}
+
+/// Opens the disk, and writes what came of it.
+pub(crate) fn opened<D: Disk + Drop, W: Write>(
+    alloc: Global,
+    disk: D,
+    writer: &mut W,
+) -> Result<Bench<D>, Refusal> {
+    match Replica::open(alloc, disk) {
+        Ok(node) => {
+            write_open(writer, node.gtid())?;
+            Ok(Bench::Node(node))
+        }
+        Err((disk, refusal)) => {
+            write_refused(writer, refusal)?;
+            Ok(Bench::Disk(disk))
+        }
+    }
+}
+
+/// Has the node settle, and writes what came of it.
+fn settle<D: Disk, W: Write>(node: &mut Replica<D>, writer: &mut W) -> Result<(), Refusal> {
+    match node.settle() {
+        Ok(()) => write_line(writer, "settled"),
+        Err(refusal) => write_refused(writer, refusal),
+    }
+}
+
+/// Does one step, and writes its answer.
+fn step<D: Disk, W: Write>(
+    node: &mut Replica<D>,
+    event: Event,
+    writer: &mut W,
+) -> Result<(), Refusal> {
+    let answer = node.step(event);
+    write_answer(writer, node, &answer)
+}
+
+/// Shows the node's state, and its window in full where that is asked.
+fn show_state<D: Disk, W: Write>(
+    alloc: Global,
+    node: &Replica<D>,
+    is_full: bool,
+    writer: &mut W,
+) -> Result<(), Refusal> {
+    match node.window(alloc) {
+        Ok(window) if is_full => write_window(writer, &window),
+        Ok(window) => write_state(writer, node, &window),
+        Err(refusal) => write_refused(writer, refusal),
+    }
+}
+
+/// Takes the node apart and puts it together again, as a stopped one or as it was.
+fn together<D: Disk>(node: Replica<D>, stopped: bool) -> Replica<D> {
+    let stopped = stopped || node.is_stopped();
+    let (certifier, backlog, engine) = node.into_parts();
+    Replica::from_parts(certifier, backlog, engine, stopped)
+}
+
+/// The node, which is taken apart and put together again where that is asked.
+fn parted<D: Disk>(node: Replica<D>, order: &NodeOrder) -> Replica<D> {
+    match order {
+        NodeOrder::Apart(stopped) => together(node, *stopped),
+        _ => node,
+    }
+}
+
+/// Does this to the node where it stays one and the same, and writes what came of it.
+fn at_node<D: Disk, W: Write>(
+    alloc: Global,
+    node: &mut Replica<D>,
+    order: NodeOrder,
+    writer: &mut W,
+) -> Result<(), Refusal> {
+    match order {
+        NodeOrder::Script(Command::Step(event)) => step(node, event, writer),
+        NodeOrder::Script(_) => show_state(alloc, node, false, writer),
+        NodeOrder::Settle => settle(node, writer),
+        NodeOrder::Window => show_state(alloc, node, true, writer),
+        NodeOrder::Apart(_) | NodeOrder::Node => write_node(writer, node),
+    }
+}
+
+/// Does this to the node, which stays on its disk, and writes what came of it.
+pub(crate) fn kept<D: Disk + Drop, W: Write>(
+    alloc: Global,
+    node: Replica<D>,
+    order: NodeOrder,
+    writer: &mut W,
+) -> Result<Bench<D>, Refusal> {
+    let mut node = parted(node, &order);
+    at_node(alloc, &mut node, order, writer)?;
+    Ok(Bench::Node(node))
+}
+
+/// Writes the answer to an event that was run with others.
+fn write_answer_to<D: Disk, W: Write>(
+    node: &Replica<D>,
+    event: &Event,
+    answer: &Answer,
+    writer: &mut W,
+) -> Result<(), Refusal> {
+    match (event, answer) {
+        (Event::Deliver(seqno, _), Answer::Gave(verdict)) => {
+            write_verdict(writer, *seqno, *verdict)
+        }
+        _ => write_answer(writer, node, answer),
+    }
+}
+
+/// Writes how many answers there are, where these are not as many as the events.
+fn write_counts<W: Write>(count: usize, wanted: usize, writer: &mut W) -> Result<(), Refusal> {
+    if count == wanted {
+        return Ok(());
+    }
+    write_line(writer, format_args!("{count} answers to {wanted} events"))
+}
+
+/// Writes the answers to the events, which were run together.
+fn write_answers<D: Disk, W: Write>(
+    node: &Replica<D>,
+    events: &[Event],
+    answers: &[Answer],
+    writer: &mut W,
+) -> Result<(), Refusal> {
+    write_counts(answers.len(), events.len(), writer)?;
+    for (event, answer) in events.iter().zip(answers) {
+        write_answer_to(node, event, answer, writer)?;
+    }
+    Ok(())
+}
+
+/// Runs the events together, and writes their answers.
+fn run_together<D: Disk, W: Write>(
+    alloc: Global,
+    node: &mut Replica<D>,
+    events: &[Event],
+    writer: &mut W,
+) -> Result<(), Refusal> {
+    match node.run(alloc, events) {
+        Ok(answers) => write_answers(node, events, &answers, writer),
+        Err(refusal) => write_refused(writer, refusal),
+    }
+}
+
+impl<D: Disk> Bench<D> {
+    /// The disk, of a node that is let go where there is one.
+    pub(crate) fn into_disk(self) -> D {
+        match self {
+            Bench::Disk(disk) => disk,
+            Bench::Node(node) => node.into_disk(),
+        }
+    }
+
+    /// Runs these events together, where there is a node.
+    pub(crate) fn batch<W: Write>(
+        &mut self,
+        alloc: Global,
+        events: &[Event],
+        writer: &mut W,
+    ) -> Result<(), Refusal> {
+        match self {
+            Bench::Node(node) => run_together(alloc, node, events, writer),
+            Bench::Disk(_) => write_line(writer, "off"),
+        }
+    }
+}
