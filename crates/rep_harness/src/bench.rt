@@ -151,7 +151,7 @@ fn at_bench<W: Write>(
     }
 }
 
-/// The next line, if there is one.
+/// The next line, if there is one. It promises nothing of the line, so that a proof of who calls it need not carry that.
 fn next_line<R: Read>(
     text: &mut TextReader,
     reader: &mut R,
