@@ -14,9 +14,9 @@ use Rattle.rep_log.specs.Standing.{Standing as Log}
 use Rattle.rep_log.specs.Laws.{MayHold, HoldsFrom, TheLogInEveryImage}
 use Rattle.rep_steps.specs.Nodes.{Node, IsNode, reached}
 use Rattle.rep_steps.specs.Images.{Meaning, AreJudgedFrom, IsEndOf}
+use Rattle.rep_steps.specs.Judging.{JudgingGoesOn}
 use Rattle.rep_image.specs.Meanings.{Means}
-use Rattle.rep_steps.proofs.Judging.{first_judged, later_judged}
-use Rattle.rep_image.proofs.Leaving.{HeldEnds, held_ends, least_end}
+use Rattle.rep_image.specs.Ends.{HeldEnds, LogsEndInTheirNode}
 use Rattle.rep_checkpoint.specs.declared.stage.Part.TheVariants.{SuperOpening}
 use Rattle.rep_checkpoint.specs.declared.stage.Stage.{Stage}
 use Rattle.rep_checkpoint.specs.declared.stage.Stage.TheVariants.{Toward}
@@ -54,7 +54,7 @@ held_first n phase k blocks sealed held le (inr more) = (ap (take k) more.2 ∙ 
 
 -- ---- an image with a base that the items lead to
 
-module _ (image : List ℕ) (n : Node) (c : Standing) (log : Log) (blocks : List (List Judged)) (sealed : List Judged) (s : States) (h : IsNode n) (stands : StandsAs n (length image) c log blocks sealed s)
+module _ (goes : JudgingGoesOn) (logs_end : LogsEndInTheirNode) (image : List ℕ) (n : Node) (c : Standing) (log : Log) (blocks : List (List Judged)) (sealed : List Judged) (s : States) (h : IsNode n) (stands : StandsAs n (length image) c log blocks sealed s)
     (b : SuperBody) (x : State) (uuid : b.uuid ≡ c.base.uuid) (params : b.params ≡ c.base.params) (led : IsLedTo n log blocks b x)
     (held : List (List Judged)) (may : MayHold log.phase blocks sealed held) where
   abbrev p : Setting
@@ -67,7 +67,7 @@ module _ (image : List ℕ) (n : Node) (c : Standing) (log : Log) (blocks : List
   base_at = stands.checkpoint.base.position
 
   ends : HeldEnds n held
-  ends = held_ends n log.phase blocks sealed h stands.phase stands.durable stands.coming held may
+  ends = logs_end.held n log.phase blocks sealed h stands.phase stands.durable stands.coming held may
 
   first : (take led.cells held ≡ take led.cells blocks) × (led.cells ≤ length held)
   first = held_first n log.phase led.cells blocks sealed held led.few may
@@ -99,8 +99,8 @@ module _ (image : List ℕ) (n : Node) (c : Standing) (log : Log) (blocks : List
 
   judged : AreJudgedFrom p x (records_of (drop led.cells held))
   judged =
-      let later = later_judged p n.base led.past n.items stands.judged in
-      let some = first_judged p (reached p n.base (take led.past n.items)) rest (drop led.past n.items) later in
+      let later = goes.judged_behind p n.base led.past n.items stands.judged in
+      let some = goes.judged_front p (reached p n.base (take led.past n.items)) rest (drop led.past n.items) later in
       let at_base = subst (λ (S : State). AreJudgedFrom p S (take rest (drop led.past n.items))) (sym led.state) some in
       subst (AreJudgedFrom p x) (sym tail) at_base
 
@@ -164,8 +164,8 @@ module _ (n : Node) (size : ℕ) (c : Standing) (log : Log) (blocks : List (List
   follows : (next : Next) → c.stage ≡ Toward next SuperOpening → IsNext c.base next
   follows next stage = (subst (λ (t : Stage). StandsBeside size c.base t stands.goal s) stage stands.checkpoint.beside).follows
 
-pub leave_ends : TheBaseInEveryImage → TheLogInEveryImage → NodesLeaveTheirEnds
-leave_ends base law image n c log blocks sealed s h stands allowed =
+pub leave_ends : JudgingGoesOn → LogsEndInTheirNode → TheBaseInEveryImage → TheLogInEveryImage → NodesLeaveTheirEnds
+leave_ends goes logs_end base law image n c log blocks sealed s h stands allowed =
     let l = layout_of c.base.params in
     let r = reading_of l image in
     let told = base (length image) l s r c n.base stands.goal refl stands.checkpoint allowed in
@@ -176,18 +176,18 @@ leave_ends base law image n c log blocks sealed s h stands allowed =
       | inl still ↦
           let led = subst (λ (y : State). IsLedTo n log blocks b y) (sym still.1) (subst (λ (d : SuperBody). IsLedTo n log blocks d n.base) (sym still.0) (to_base n (length image) c log blocks sealed s h stands)) in
           let params : b.params ≡ c.base.params = ap (λ (d : SuperBody). d.params) still.0 in
-          is_end image n c log blocks sealed s h stands b x (ap (λ (d : SuperBody). d.uuid) still.0) params led logs.0 logs.1
-          (means image n c log blocks sealed s h stands b x (ap (λ (d : SuperBody). d.uuid) still.0) params led logs.0 logs.1 r (ap (λ (p : Setting). reading_of (layout_of p) image) (sym params)) told.3 logs.2)
+          is_end goes logs_end image n c log blocks sealed s h stands b x (ap (λ (d : SuperBody). d.uuid) still.0) params led logs.0 logs.1
+          (means goes logs_end image n c log blocks sealed s h stands b x (ap (λ (d : SuperBody). d.uuid) still.0) params led logs.0 logs.1 r (ap (λ (p : Setting). reading_of (layout_of p) image) (sym params)) told.3 logs.2)
       | inr next ↦
           let led = subst (λ (y : State). IsLedTo n log blocks b y) (sym next.3) (subst (λ (d : SuperBody). IsLedTo n log blocks d stands.goal) (sym next.2) (stands.toward next.0 SuperOpening next.1)) in
           let after = follows n (length image) c log blocks sealed s h stands next.0 next.1 in
           let uuid : b.uuid ≡ c.base.uuid = ap (λ (d : SuperBody). d.uuid) next.2 ∙ after.uuid in
           let params : b.params ≡ c.base.params = ap (λ (d : SuperBody). d.params) next.2 ∙ after.params in
-          is_end image n c log blocks sealed s h stands b x uuid params led logs.0 logs.1
-          (means image n c log blocks sealed s h stands b x uuid params led logs.0 logs.1 r (ap (λ (p : Setting). reading_of (layout_of p) image) (sym params)) told.3 logs.2)
+          is_end goes logs_end image n c log blocks sealed s h stands b x uuid params led logs.0 logs.1
+          (means goes logs_end image n c log blocks sealed s h stands b x uuid params led logs.0 logs.1 r (ap (λ (p : Setting). reading_of (layout_of p) image) (sym params)) told.3 logs.2)
     ]
 
-pub leave_fronts : NodesLeaveTheirEnds → NodesLeaveTheirFronts
-leave_fronts law image n c log blocks sealed s h stands allowed =
+pub leave_fronts : LogsEndInTheirNode → NodesLeaveTheirEnds → NodesLeaveTheirFronts
+leave_fronts logs_end law image n c log blocks sealed s h stands allowed =
     let e = law image n c log blocks sealed s h stands allowed in
-    record { meaning = e.meaning; reads = e.reads; end = e.end; least = least_end n e.end e.ends; front = e.front }
+    record { meaning = e.meaning; reads = e.reads; end = e.end; least = logs_end.least n e.end e.ends; front = e.front }

@@ -19,8 +19,8 @@ use Rattle.rep_steps.specs.declared.event.Event.TheVariants.{Sync}
 use Rattle.rep_steps.specs.Standings.{underway}
 use Rattle.rep_steps.specs.Moves.{opening, taken, synced_phase, base_after}
 use Rattle.rep_steps.specs.Nodes.{Node, IsNode, moved, passed, reached}
-use Rattle.rep_steps.proofs.Judging.{later_judged}
-use Rattle.rep_image.proofs.Settling.{left_sealed, log_synced, records_synced, coming_synced, phase_synced, next_synced, start_synced}
+use Rattle.rep_steps.specs.Judging.{JudgingGoesOn}
+use Rattle.rep_image.specs.Syncs.{left_sealed, TheSyncedLogIsTheFacts}
 use Rattle.rep_checkpoint.specs.declared.stage.Part.{Part}
 use Rattle.rep_checkpoint.specs.declared.stage.Part.TheVariants.{Flushing, Saving, Ready, SuperFilling, SuperFilled, SuperOpening}
 use Rattle.rep_checkpoint.specs.declared.stage.Stage.{Stage}
@@ -108,7 +108,7 @@ started_at start cells next le within = omega (arith, le, within)
 
 -- ---- the node after it
 
-module _ (n : Node) (size : ℕ) (c after : Standing) (log synced next : Log) (blocks : List (List Judged)) (sealed : List Judged) (s t : States)
+module _ (goes : JudgingGoesOn) (facts : TheSyncedLogIsTheFacts) (n : Node) (size : ℕ) (c after : Standing) (log synced next : Log) (blocks : List (List Judged)) (sealed : List Judged) (s t : States)
     (h : IsNode n) (stage : n.facts.stage ≡ stage_of c) (stands : StandsAs n size c log blocks sealed s) (syncs : Syncs s t) (checkpoint_syncs : SyncsTo c after)
     (synced_is : synced ≡ log_after_sync log) (log_syncs : SyncsLog log synced) (next_is : next ≡ started after.base.start synced) (later : StartsLater synced next)
     (base : Based n c after log blocks stands.goal) where
@@ -145,10 +145,10 @@ module _ (n : Node) (size : ℕ) (c after : Standing) (log synced next : Log) (b
   -- ---- the log
 
   at_start : synced.start ≡ log.start
-  at_start = ap (λ (k : Log). k.start) synced_is ∙ start_synced log log.phase
+  at_start = ap (λ (k : Log). k.start) synced_is ∙ facts.start log
 
   at_next : synced.next ≡ log.next + taken log.phase
-  at_next = ap (λ (k : Log). k.next) synced_is ∙ next_synced log log.phase
+  at_next = ap (λ (k : Log). k.next) synced_is ∙ facts.next log
 
   begun : next.start ≡ log.start + led.cells
   begun =
@@ -159,7 +159,7 @@ module _ (n : Node) (size : ℕ) (c after : Standing) (log synced next : Log) (b
   settled =
       let held = log_syncs (layout_of c.base.params) s t first blocks sealed syncs stands.log_is in
       subst (λ (k : Log). LogIs (layout_of c.base.params) k first all coming t) (sym synced_is)
-      (log_synced (layout_of c.base.params) log first blocks sealed t log.phase refl (subst (λ (k : Log). LogIs (layout_of c.base.params) k first all sealed t) synced_is held))
+      (facts.stands (layout_of c.base.params) log first blocks sealed t (subst (λ (k : Log). LogIs (layout_of c.base.params) k first all sealed t) synced_is held))
 
   count : length (records_of (take led.cells all)) ≡ led.past
   count =
@@ -178,7 +178,7 @@ module _ (n : Node) (size : ℕ) (c after : Standing) (log synced next : Log) (b
       (subst (λ i. LogIs (layout_of c.base.params) next i (drop led.cells all) coming t) seqno behind)
 
   phase_is : next.phase ≡ m.facts.phase
-  phase_is = ap (λ (k : Log). k.phase) next_is ∙ ap (λ (k : Log). k.phase) synced_is ∙ phase_synced log log.phase refl ∙ ap synced_phase stands.phase
+  phase_is = ap (λ (k : Log). k.phase) next_is ∙ ap (λ (k : Log). k.phase) synced_is ∙ facts.phase log ∙ ap synced_phase stands.phase
 
   -- ---- the items
 
@@ -186,7 +186,7 @@ module _ (n : Node) (size : ℕ) (c after : Standing) (log synced next : Log) (b
   coming_is = stands.coming ∙ ap (λ p. take (underway p) n.facts.ahead) (sym stands.phase)
 
   held : records_of all ≡ take (n.facts.durable - n.facts.base + opening log.phase) n.items
-  held = records_synced log.phase blocks sealed n.items n.facts.ahead (n.facts.durable - n.facts.base) stands.durable h.ahead coming_is
+  held = facts.durable log.phase blocks sealed n.items n.facts.ahead (n.facts.durable - n.facts.base) stands.durable h.ahead coming_is
 
   left : records_of (drop led.cells all) ≡ take (m.facts.durable - m.facts.base) m.items
   left =
@@ -228,18 +228,18 @@ module _ (n : Node) (size : ℕ) (c after : Standing) (log synced next : Log) (b
     log_is = log_is;
     phase = phase_is;
     durable = left;
-    coming = coming_synced log.phase sealed n.facts.ahead coming_is ∙ ap (λ p. take (underway (synced_phase p)) (drop (opening p) n.facts.ahead)) stands.phase;
-    judged = later_judged n.facts.setting n.base (passed n.facts) n.items stands.judged;
+    coming = facts.coming log.phase sealed n.facts.ahead coming_is ∙ ap (λ p. take (underway (synced_phase p)) (drop (opening p) n.facts.ahead)) stands.phase;
+    judged = goes.judged_behind n.facts.setting n.base (passed n.facts) n.items stands.judged;
     undefined = λ nil others may.
         let was : IsNil c.base.uuid = subst IsNil base.uuid nil in
         none_synced log.phase blocks sealed (stands.undefined was) led.cells others
         (subst (λ p. MayHold p (drop led.cells all) coming others) (phase_is ∙ ap synced_phase (sym stands.phase)) may);
   }
 
-pub settle : NodesSettle
-settle n size c after log synced next blocks sealed s t h stage stands syncs after_is checkpoint_syncs synced_is log_syncs next_is later =
+pub settle : JudgingGoesOn → TheSyncedLogIsTheFacts → NodesSettle
+settle goes facts n size c after log synced next blocks sealed s t h stage stands syncs after_is checkpoint_syncs synced_is log_syncs next_is later =
     let base = subst (λ (a : Standing). Based n c a log blocks stands.goal) (sym after_is) (based n size log blocks sealed s h c.base c.stage stands) in (
       drop base.led.cells (blocks_synced log.phase blocks sealed),
       left_sealed log.phase sealed,
-      stands_settled n size c after log synced next blocks sealed s t h stage stands syncs checkpoint_syncs synced_is log_syncs next_is later base,
+      stands_settled goes facts n size c after log synced next blocks sealed s t h stage stands syncs checkpoint_syncs synced_is log_syncs next_is later base,
     )

@@ -4,9 +4,11 @@ ghost use Rattle.rep_checkpoint.specs.Nodes.{NodesLeaveTheirEnds, NodesLeaveThei
 ghost use Rattle.rep_checkpoint.specs.Laws.{TheBaseInEveryImage, TheBaseStandsStill, TheBaseIsFound, TheLogIsApart, TheCheckpointIsApart, TheStageIsTheFacts, BytesTellThePage};
 ghost use Rattle.rep_checkpoint.specs.Windows.{WindowsGoOn};
 
+use rep_image::{logs_end_in_their_node, the_synced_log_is_the_facts};
 use rep_layout::{row_places_are_told, turns_are_taken};
 use rep_log::the_log_in_every_image;
 use rep_pages::pages_are_told;
+use rep_steps::judging_goes_on;
 use rep_versions::versions_follow_the_items;
 
 /// In every image, so after a stop, the base is the one that stands, or the next one while its superblock's gate
@@ -49,6 +51,8 @@ pub fn the_stage_is_the_facts()
 pub fn nodes_leave_their_ends()
     ensures { NodesLeaveTheirEnds }
 {
+    judging_goes_on();
+    logs_end_in_their_node();
     the_base_in_every_image();
     the_log_in_every_image();
 }
@@ -57,6 +61,7 @@ pub fn nodes_leave_their_ends()
 pub fn nodes_leave_their_fronts()
     ensures { NodesLeaveTheirFronts }
 {
+    logs_end_in_their_node();
     nodes_leave_their_ends();
 }
 
@@ -64,7 +69,10 @@ pub fn nodes_leave_their_fronts()
 /// it made a block durable, raised the base, or both.
 pub fn nodes_settle()
     ensures { NodesSettle }
-{}
+{
+    judging_goes_on();
+    the_synced_log_is_the_facts();
+}
 
 /// What the versions of a node's items say of the state that the first of them lead to: they make the base's
 /// rows those of that state, and the pages with a change up to there are those that the items touched. So a
@@ -72,6 +80,7 @@ pub fn nodes_settle()
 pub fn versions_lead_to_the_state()
     ensures { VersionsLeadToTheState }
 {
+    judging_goes_on();
     row_places_are_told();
     versions_follow_the_items();
 }

@@ -10,22 +10,15 @@ use Rattle.rep_log.specs.Laws.{MayHold}
 use Rattle.rep_steps.specs.Standings.{underway}
 use Rattle.rep_steps.specs.Nodes.{Node, IsNode}
 use Rattle.rep_steps.specs.Images.{Ends}
+use Rattle.rep_image.specs.Ends.{HeldEnds, LogsEndInTheirNode}
 
 pub records-append : (blocks more : List (List Judged)) → records_of (blocks ++ more) ≡ records_of blocks ++ records_of more
 records-append [] more = refl
 records-append (block ∷ blocks) more = ap (λ js. block ++ js) (records-append blocks more) ∙ sym (append_assoc block (records_of blocks) (records_of more))
 
--- what the log may hold are the first items, up to an end
-pub record HeldEnds (n : Node) (held : List (List Judged)) : Type 0 where
-  pub end : ℕ
-  pub ends : Ends n end
-  pub least : n.facts.durable ≤ end
-  pub most : end ≤ n.facts.base + length n.items
-  pub items : records_of held ≡ take (end - n.facts.base) n.items
-
 module _ (n : Node) (phase : Phase) (blocks : List (List Judged)) (sealed : List Judged) (h : IsNode n) (same : phase ≡ n.facts.phase)
     (durable : records_of blocks ≡ take (n.facts.durable - n.facts.base) n.items) (coming : sealed ≡ take (underway n.facts.phase) n.facts.ahead) where
-  pub held_ends : (held : List (List Judged)) → MayHold phase blocks sealed held → HeldEnds n held
+  held_ends : (held : List (List Judged)) → MayHold phase blocks sealed held → HeldEnds n held
   held_ends held (inl is) = record { end = n.facts.durable; ends = inl refl; least = omega arith; most = h.enough; items = ap records_of is ∙ durable }
   held_ends held (inr more) =
       let k = more.0 in
@@ -46,6 +39,9 @@ module _ (n : Node) (phase : Phase) (blocks : List (List Judged)) (sealed : List
       }
 
 -- such an end has what is durable
-pub least_end : (n : Node) (end : ℕ) → Ends n end → n.facts.durable ≤ end
+least_end : (n : Node) (end : ℕ) → Ends n end → n.facts.durable ≤ end
 least_end n end (inl same) = omega (arith, same)
 least_end n end (inr more) = omega (arith, more.2)
+
+pub logs_end : LogsEndInTheirNode
+logs_end = record { held = held_ends; least = least_end }

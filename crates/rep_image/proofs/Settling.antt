@@ -12,25 +12,26 @@ use Rattle.rep_log.specs.Standing.{Standing as Log, LogIs, IsDue}
 use Rattle.rep_log.specs.Moves.{synced_in, blocks_synced}
 use Rattle.rep_steps.specs.Standings.{underway}
 use Rattle.rep_steps.specs.Moves.{opening, taken, synced_phase}
+use Rattle.rep_image.specs.Syncs.{left_sealed, TheSyncedLogIsTheFacts}
 use Rattle.rep_image.proofs.Leaving.{records-append}
 
 -- ---- the log
 
-pub phase_synced : (log : Log) (phase : Phase) → log.phase ≡ phase → (synced_in log phase).phase ≡ synced_phase phase
+phase_synced : (log : Log) (phase : Phase) → log.phase ≡ phase → (synced_in log phase).phase ≡ synced_phase phase
 phase_synced log Resting e = e
 phase_synced log Closing e = refl
 phase_synced log (Filling n) e = refl
 phase_synced log (Filled n) e = e
 phase_synced log (Opening n) e = refl
 
-pub next_synced : (log : Log) (phase : Phase) → (synced_in log phase).next ≡ log.next + taken phase
+next_synced : (log : Log) (phase : Phase) → (synced_in log phase).next ≡ log.next + taken phase
 next_synced log Resting = omega arith
 next_synced log Closing = omega arith
 next_synced log (Filling n) = omega arith
 next_synced log (Filled n) = omega arith
 next_synced log (Opening n) = refl
 
-pub start_synced : (log : Log) (phase : Phase) → (synced_in log phase).start ≡ log.start
+start_synced : (log : Log) (phase : Phase) → (synced_in log phase).start ≡ log.start
 start_synced log Resting = refl
 start_synced log Closing = refl
 start_synced log (Filling n) = refl
@@ -38,11 +39,6 @@ start_synced log (Filled n) = refl
 start_synced log (Opening n) = refl
 
 -- ---- the blocks and their records
-
--- the records on their way after it
-abbrev pub left_sealed : Phase → List Judged → List Judged
-left_sealed (Opening n) sealed = []
-left_sealed phase sealed = sealed
 
 -- while nothing is on its way the log may hold any
 resealed : (l : Layout) (log : Log) (first : ℕ) (blocks : List (List Judged)) (sealed : List Judged) (s : States) → log.phase ≡ Resting → LogIs l log first blocks sealed s → LogIs l log first blocks [] s
@@ -60,7 +56,7 @@ resealed l log first blocks sealed s rests is = record {
   due = subst (λ (p : Phase). IsDue p l (log.next % l.cells) log.next log.seqno [] (s (log_of l log.next))) (sym rests) tt;
 }
 
-pub log_synced : (l : Layout) (log : Log) (first : ℕ) (blocks : List (List Judged)) (sealed : List Judged) (t : States) (phase : Phase) → log.phase ≡ phase → LogIs l (synced_in log phase) first (blocks_synced phase blocks sealed) sealed t
+log_synced : (l : Layout) (log : Log) (first : ℕ) (blocks : List (List Judged)) (sealed : List Judged) (t : States) (phase : Phase) → log.phase ≡ phase → LogIs l (synced_in log phase) first (blocks_synced phase blocks sealed) sealed t
     → LogIs l (synced_in log phase) first (blocks_synced phase blocks sealed) (left_sealed phase sealed) t
 log_synced l log first blocks sealed t Resting e is = is
 log_synced l log first blocks sealed t Closing e is = is
@@ -69,7 +65,7 @@ log_synced l log first blocks sealed t (Filled n) e is = is
 log_synced l log first blocks sealed t (Opening n) e is = resealed l (synced_in log (Opening n)) first (blocks ++ sealed ∷ []) sealed t refl is
 
 -- the durable items
-pub records_synced : (phase : Phase) (blocks : List (List Judged)) (sealed items ahead : List Judged) (past : ℕ) → records_of blocks ≡ take past items → ahead ≡ drop past items → sealed ≡ take (underway phase) ahead
+records_synced : (phase : Phase) (blocks : List (List Judged)) (sealed items ahead : List Judged) (past : ℕ) → records_of blocks ≡ take past items → ahead ≡ drop past items → sealed ≡ take (underway phase) ahead
     → records_of (blocks_synced phase blocks sealed) ≡ take (past + opening phase) items
 records_synced Resting blocks sealed items ahead past held rest coming = held ∙ ap (λ k. take k items) (omega arith)
 records_synced Closing blocks sealed items ahead past held rest coming = held ∙ ap (λ k. take k items) (omega arith)
@@ -80,9 +76,19 @@ records_synced (Opening n) blocks sealed items ahead past held rest coming =
     ∙ ap (λ js. take past items ++ js) (coming ∙ ap (take n) rest) ∙ sym (take-add past n items)
 
 -- those on their way
-pub coming_synced : (phase : Phase) (sealed ahead : List Judged) → sealed ≡ take (underway phase) ahead → left_sealed phase sealed ≡ take (underway (synced_phase phase)) (drop (opening phase) ahead)
+coming_synced : (phase : Phase) (sealed ahead : List Judged) → sealed ≡ take (underway phase) ahead → left_sealed phase sealed ≡ take (underway (synced_phase phase)) (drop (opening phase) ahead)
 coming_synced Resting sealed ahead coming = coming
 coming_synced Closing sealed ahead coming = coming
 coming_synced (Filling n) sealed ahead coming = coming
 coming_synced (Filled n) sealed ahead coming = coming
 coming_synced (Opening n) sealed ahead coming = refl
+
+pub synced_log : TheSyncedLogIsTheFacts
+synced_log = record {
+  phase = λ log. phase_synced log log.phase refl;
+  next = λ log. next_synced log log.phase;
+  start = λ log. start_synced log log.phase;
+  stands = λ l log first blocks sealed t. log_synced l log first blocks sealed t log.phase refl;
+  durable = records_synced;
+  coming = coming_synced;
+}

@@ -1,4 +1,5 @@
 pub mod Bases
+pub mod Ends
 pub mod Meanings
 pub mod Standing
 pub mod Syncs

@@ -1,5 +1,6 @@
 //! Laws of images, each as the contract of a function that does nothing.
 
+ghost use Rattle.rep_image.specs.Ends.{LogsEndInTheirNode};
 ghost use Rattle.rep_image.specs.Meanings.{ImagesMeanOneThing, ImagesStandForOrders};
 ghost use Rattle.rep_image.specs.Standing.{ImagesMeanWhatStands};
 ghost use Rattle.rep_image.specs.Syncs.{TheSyncedLogIsTheFacts};
@@ -36,8 +37,14 @@ pub fn images_mean_what_stands()
     the_log_in_every_image();
 }
 
+/// Where a log's blocks are the durable items of a node, what it may hold ends where the node may end: at what is
+/// durable, or, while a gate opens, at that with the whole block.
+pub fn logs_end_in_their_node()
+    ensures { LogsEndInTheirNode }
+{}
+
 /// A sync of a log leaves it as it leaves the facts of a node whose log it is: as far with its next block, with the
-/// same next cell, and starting where it did.
+/// same next cell, and starting where it did; and where its blocks were the node's durable items they are so after it.
 pub fn the_synced_log_is_the_facts()
     ensures { TheSyncedLogIsTheFacts }
 {}

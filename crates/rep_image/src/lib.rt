@@ -5,5 +5,5 @@ mod laws;
 
 pub use laws::{
     images_mean_one_thing, images_mean_what_stands, images_stand_for_orders,
-    the_synced_log_is_the_facts,
+    logs_end_in_their_node, the_synced_log_is_the_facts,
 };
