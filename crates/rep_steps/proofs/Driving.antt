@@ -2,7 +2,6 @@
 use Rattle.std.proofs.Common.{◌≡◌, ℕ, ◌≤◌, ◌⊎◌, inl, inr, List, [], ◌∷◌, ◌++◌, append_assoc, length-append, refl, sym, ap, subst, ◌∙◌, arith}
 use Rattle.std.proofs.lemmas.List.{take-append-le}
 use Rattle.rep_types.specs.Settings.{Setting}
-use Rattle.rep_types.specs.Verdicts.{StateIsEnough}
 use Rattle.rep_types.specs.Order.{Order}
 use Rattle.rep_record.specs.Fronts.{FrontsAreDetermined}
 use Rattle.rep_disk.specs.History.{History}
@@ -16,6 +15,7 @@ use Rattle.rep_steps.specs.Orders.{IsOf, accepted}
 use Rattle.rep_steps.specs.Runs.{Runs, accepted_by}
 use Rattle.rep_steps.specs.Images.{Meaning, IsFrontAt, IsFrontOf, RunsOn}
 use Rattle.rep_steps.specs.Joining.{RunsAreJoined}
+use Rattle.rep_steps.proofs.Reaching.{OrderLaws}
 use Rattle.rep_steps.proofs.Following.{count_behind}
 use Rattle.rep_steps.proofs.Running.{runs_come}
 use Rattle.rep_steps.proofs.Fronts.{fronts_stand}
@@ -53,14 +53,14 @@ module _ (means : List ℕ → Meaning → Type 0) where
   }
 
   -- what a node's images mean stands for a front of its order
-  front_of : StateIsEnough → (L : Order) (n : Node) (d : ℕ) (image : List ℕ) → IsNode n → IsOf L n → d ≤ n.facts.durable → IsFrontAt means n image → IsFrontOf means n.facts.uuid n.facts.setting L d image
-  front_of enough L n d image h o le f = record {
+  front_of : OrderLaws → (L : Order) (n : Node) (d : ℕ) (image : List ℕ) → IsNode n → IsOf L n → d ≤ n.facts.durable → IsFrontAt means n image → IsFrontOf means n.facts.uuid n.facts.setting L d image
+  front_of laws L n d image h o le f = record {
     meaning = f.meaning;
     reads = f.reads;
     end = f.end;
     least = omega (arith, le, f.least);
-    most = omega (arith, f.front.within, count_behind enough L n h o);
-    stands = fronts_stand enough L n f.end f.meaning h o f.front;
+    most = omega (arith, f.front.within, count_behind laws L n h o);
+    stands = fronts_stand laws L n f.end f.meaning h o f.front;
   }
 
   -- a front that has more has less
@@ -96,19 +96,19 @@ moves_then one s t u (f ∷ events) (b ∷ answers) more told r q = (r.0, r.1, m
 pub run_none : (means : List ℕ → Meaning → Type 0) (h : History) (n : Node) → RunsOn means h h n [] [] n
 run_none means h n = record { runs = refl; leaves = λ L o. leaves_none h }
 
-pub run_one : StateIsEnough → (means : List ℕ → Meaning → Type 0) (old new : History) (k m : Node) (e : Event) (a : Answer) → IsNode k → Steps k e a m → LeavesOnly old new (IsFrontAt means k)
+pub run_one : OrderLaws → (means : List ℕ → Meaning → Type 0) (old new : History) (k m : Node) (e : Event) (a : Answer) → IsNode k → Steps k e a m → LeavesOnly old new (IsFrontAt means k)
     → RunsOn means old new k (e ∷ []) (a ∷ []) m
-run_one enough means old new k m e a node s l = record {
+run_one laws means old new k m e a node s l = record {
   runs = (m, s, refl);
-  leaves = λ L o. leaves_weaker old new (λ image f. front_longer means k.facts.uuid k.facts.setting L (accepted e a ++ []) k.facts.durable image (front_of means enough L k k.facts.durable image node o (omega arith) f)) l;
+  leaves = λ L o. leaves_weaker old new (λ image f. front_longer means k.facts.uuid k.facts.setting L (accepted e a ++ []) k.facts.durable image (front_of means laws L k k.facts.durable image node o (omega arith) f)) l;
 }
 
-pub run_then : StateIsEnough → FrontsAreDetermined → (means : List ℕ → Meaning → Type 0) (old mid new : History) (n k m : Node) (events : List Event) (answers : List Answer) (more : List Event) (told : List Answer)
+pub run_then : OrderLaws → FrontsAreDetermined → (means : List ℕ → Meaning → Type 0) (old mid new : History) (n k m : Node) (events : List Event) (answers : List Answer) (more : List Event) (told : List Answer)
     → IsNode n → RunsOn means old mid n events answers k → RunsOn means mid new k more told m → RunsOn means old new n (events ++ more) (answers ++ told) m
-run_then enough fronts means old mid new n k m events answers more told h r q = record {
+run_then laws fronts means old mid new n k m events answers more told h r q = record {
   runs = moves_then Steps n k m events answers more told r.runs q.runs;
   leaves = λ L o.
-      let c = runs_come enough fronts L n k events answers h o r.runs in
+      let c = runs_come laws fronts L n k events answers h o r.runs in
       let M = L ++ accepted_by events answers in
       let whole : M ++ accepted_by more told ≡ L ++ accepted_by (events ++ more) (answers ++ told) =
       append_assoc L (accepted_by events answers) (accepted_by more told) ∙ ap (λ (K : Order). L ++ K) (sym (accepted_then Steps n k events answers more told r.runs)) in
@@ -123,11 +123,11 @@ run_then enough fronts means old mid new n k m events answers more told h r q = 
 }
 
 -- with one event more
-pub run_more : StateIsEnough → FrontsAreDetermined → (means : List ℕ → Meaning → Type 0) (old mid new : History) (n k m : Node) (events : List Event) (answers : List Answer) (e : Event) (a : Answer)
+pub run_more : OrderLaws → FrontsAreDetermined → (means : List ℕ → Meaning → Type 0) (old mid new : History) (n k m : Node) (events : List Event) (answers : List Answer) (e : Event) (a : Answer)
     → IsNode n → IsNode k → RunsOn means old mid n events answers k → Steps k e a m → LeavesOnly mid new (IsFrontAt means k)
     → RunsOn means old new n (events ++ e ∷ []) (answers ++ a ∷ []) m
-run_more enough fronts means old mid new n k m events answers e a h node r s l =
-    run_then enough fronts means old mid new n k m events answers (e ∷ []) (a ∷ []) h r (run_one enough means mid new k m e a node s l)
+run_more laws fronts means old mid new n k m events answers e a h node r s l =
+    run_then laws fronts means old mid new n k m events answers (e ∷ []) (a ∷ []) h r (run_one laws means mid new k m e a node s l)
 
 -- ---- the law
 
@@ -135,12 +135,12 @@ run_more enough fronts means old mid new n k m events answers e a h node r s l =
 one_move : (s t : Standing) (e : Event) (a : Answer) → Moves s e a t → Runs Moves s (e ∷ []) (a ∷ []) t
 one_move s t e a m = (t, m, refl)
 
-pub runs_joined : StateIsEnough → FrontsAreDetermined → (means : List ℕ → Meaning → Type 0) → RunsAreJoined means
-runs_joined enough fronts means = record {
+pub runs_joined : OrderLaws → FrontsAreDetermined → (means : List ℕ → Meaning → Type 0) → RunsAreJoined means
+runs_joined laws fronts means = record {
   no_move = λ s. refl;
   one_move = one_move;
   both_moves = moves_then Moves;
   no_run = run_none means;
-  one_run = λ old new n m e a node step leaves. run_one enough means old new n m e a node step leaves;
-  both_runs = λ old mid new n k m events answers more told node first second. run_then enough fronts means old mid new n k m events answers more told node first second;
+  one_run = λ old new n m e a node step leaves. run_one laws means old new n m e a node step leaves;
+  both_runs = λ old mid new n k m events answers more told node first second. run_then laws fronts means old mid new n k m events answers more told node first second;
 }

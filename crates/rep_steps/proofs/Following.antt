@@ -11,9 +11,7 @@ use Rattle.rep_types.specs.declared.refusal.Refusal.TheVariants.{Stopped, OutOfM
 use Rattle.rep_types.specs.Replies.{reply_of}
 use Rattle.rep_types.specs.Transactions.{Transaction}
 use Rattle.rep_types.specs.Settings.{Setting}
-use Rattle.rep_types.specs.Verdicts.{StateIsEnough}
 use Rattle.rep_types.specs.Order.{Order, State, verdict, history, state, read, judge}
-use Rattle.rep_types.proofs.Histories.{length_history, history_push_judged}
 use Rattle.rep_record.specs.Fronts.{FrontsAreDetermined}
 use Rattle.rep_steps.specs.declared.event.Event.{Event}
 use Rattle.rep_steps.specs.declared.event.Event.TheVariants.{Deliver, Log, Sync, Check, Flush, Read}
@@ -23,18 +21,18 @@ use Rattle.rep_steps.specs.Standings.{Standing, IsStanding, delivered, refusal, 
 use Rattle.rep_steps.specs.Moves.{answer, opening, next_item, Fails}
 use Rattle.rep_steps.specs.Nodes.{Node, IsNode, Steps, NodesStayNodes, moved, found, passed, state_at, window_at, verdict_on, reached}
 use Rattle.rep_steps.specs.Orders.{IsOf, HoldsOf, FollowsTheOrder, accepted, answer_of}
-use Rattle.rep_steps.proofs.Reaching.{reached_is, judged_next}
+use Rattle.rep_steps.proofs.Reaching.{OrderLaws, reached_is, judged_next}
 use Rattle.rep_steps.proofs.Keeping.{node_after, waiting, passed_within}
 
 -- ---- what a node of an order holds
 
-module _ (enough : StateIsEnough) (L : Order) (n : Node) (h : IsNode n) (o : IsOf L n) where
+module _ (laws : OrderLaws) (L : Order) (n : Node) (h : IsNode n) (o : IsOf L n) where
   abbrev pub p : Setting
   p = n.facts.setting
 
   -- as many items behind the base as the order has
   pub count_behind : n.base.position + length n.items ≡ length L
-  count_behind = omega (arith, ap length o.items, length-drop n.base.position (history p L), length_history p L, o.within)
+  count_behind = omega (arith, ap length o.items, length-drop n.base.position (history p L), laws.items.as_many p L, o.within)
 
   pub count : delivered n.facts ≡ length L
   count = omega (arith, waiting n h, count_behind, h.position)
@@ -44,7 +42,7 @@ module _ (enough : StateIsEnough) (L : Order) (n : Node) (h : IsNode n) (o : IsO
   state_is k le within =
       ap (λ (S : State). reached p S (take (k - n.base.position) n.items)) o.base
       ∙ ap (λ js. reached p (state p (take n.base.position L)) (take (k - n.base.position) js)) o.items
-      ∙ reached_is enough p L n.base.position (k - n.base.position) (omega (arith, le, within)) ∙ ap (λ i. state p (take i L)) (omega (arith, le))
+      ∙ reached_is laws p L n.base.position (k - n.base.position) (omega (arith, le, within)) ∙ ap (λ i. state p (take i L)) (omega (arith, le))
 
   pub holds_of : HoldsOf L n
   holds_of = record { count = count; window = λ k le within. ap (λ (S : State). S.kept) (state_is k le within); state = state_is }
@@ -56,7 +54,7 @@ module _ (enough : StateIsEnough) (L : Order) (n : Node) (h : IsNode n) (o : IsO
   -- the verdict that it finds is the order's
   pub verdict_is : (seqno : ℕ) (w : Transaction) → verdict_on n (Deliver seqno w) ≡ verdict p (L ++ w ∷ []) (length L + 1)
   verdict_is seqno w =
-      ap (λ k. judge p k (window_at n (delivered n.facts)) w) count ∙ ap (λ (S : State). judge p (length L) S.kept w) whole_is ∙ judged_next enough p L w
+      ap (λ k. judge p k (window_at n (delivered n.facts)) w) count ∙ ap (λ (S : State). judge p (length L) S.kept w) whole_is ∙ judged_next laws p L w
 
   -- the items that aren't durable
   pub ahead_is : n.facts.ahead ≡ drop n.facts.durable (history p L)
@@ -82,8 +80,8 @@ module _ (enough : StateIsEnough) (L : Order) (n : Node) (h : IsNode n) (o : IsO
         ap (λ js. js ++ next_item n.facts w (verdict_on n (Deliver seqno w)) ∷ []) o.items
         ∙ ap (λ v. drop n.base.position (history p L) ++ made (delivered n.facts) v ∷ []) (verdict_is seqno w)
         ∙ ap (λ k. drop n.base.position (history p L) ++ made k (verdict p (L ++ w ∷ []) (length L + 1)) ∷ []) count
-        ∙ sym (drop-append-le n.base.position (history p L) (made (length L) (verdict p (L ++ w ∷ []) (length L + 1)) ∷ []) (omega (arith, o.within, length_history p L)))
-        ∙ ap (drop n.base.position) (sym (history_push_judged p L w));
+        ∙ sym (drop-append-le n.base.position (history p L) (made (length L) (verdict p (L ++ w ∷ []) (length L + 1)) ∷ []) (omega (arith, o.within, laws.items.as_many p L)))
+        ∙ ap (drop n.base.position) (sym (laws.items.one_more p L w));
   }
 
   synced_is : IsOf L (moved n Sync)
@@ -91,7 +89,7 @@ module _ (enough : StateIsEnough) (L : Order) (n : Node) (h : IsNode n) (o : IsO
       let far : n.base.position + passed n.facts ≤ length L = omega (arith, passed_within n h, count_behind) in
       let base : reached p n.base (take (passed n.facts) n.items) ≡ state p (take (n.base.position + passed n.facts) L) =
       ap (λ (S : State). reached p S (take (passed n.facts) n.items)) o.base ∙ ap (λ js. reached p (state p (take n.base.position L)) (take (passed n.facts) js)) o.items
-      ∙ reached_is enough p L n.base.position (passed n.facts) far in
+      ∙ reached_is laws p L n.base.position (passed n.facts) far in
       let at : (reached p n.base (take (passed n.facts) n.items)).position ≡ n.base.position + passed n.facts =
       ap (λ (S : State). S.position) base ∙ length-take-le (n.base.position + passed n.facts) L far in
       record {
@@ -132,9 +130,9 @@ refused_of : (L : Order) (n : Node) (e : Event) (r : Refusal) → IsNode n → I
 refused_of L n e r h o = record { node = h; order = rw (nothing_comes L e r) o; answered = inl (r, refl) }
 
 -- a step that was refused by none
-done_of : StateIsEnough → FrontsAreDetermined → (L : Order) (n : Node) (e : Event) → IsNode n → IsOf L n → refusal_here n.facts e ≡ None
+done_of : OrderLaws → FrontsAreDetermined → (L : Order) (n : Node) (e : Event) → IsNode n → IsOf L n → refusal_here n.facts e ≡ None
     → FollowsTheOrder L n e (answer n.facts e (found n e)) (moved n e)
-done_of enough fronts L n e h o none = record { node = node_after fronts n e h none; order = of_after enough L n h o e; answered = inr (answers enough L n h o e none) }
+done_of laws fronts L n e h o none = record { node = node_after fronts n e h none; order = of_after laws L n h o e; answered = inr (answers laws L n h o e none) }
 
 -- the facts of a replica that the device stopped
 abbrev pub stopped_at : ℕ → Standing → Standing
@@ -192,13 +190,13 @@ pub comes : (n m : Node) (e : Event) (a : Answer) → Steps n e a m → Comes n 
 comes n m e a s = comes_by (refusal n.facts e) n m e a refl s
 
 -- so it follows the order
-pub follows : StateIsEnough → FrontsAreDetermined → (L : Order) (n m : Node) (e : Event) (a : Answer) → IsNode n → IsOf L n → Comes n e a m → FollowsTheOrder L n e a m
-follows enough fronts L n m e a h o (Refuses r answered same) =
+pub follows : OrderLaws → FrontsAreDetermined → (L : Order) (n m : Node) (e : Event) (a : Answer) → IsNode n → IsOf L n → Comes n e a m → FollowsTheOrder L n e a m
+follows laws fronts L n m e a h o (Refuses r answered same) =
     subst (λ k. FollowsTheOrder L n e a k) (sym same) (subst (λ b. FollowsTheOrder L n e b n) (sym answered) (refused_of L n e r h o))
-follows enough fronts L n m e a h o (Stops failures answered same) =
+follows laws fronts L n m e a h o (Stops failures answered same) =
     subst (λ k. FollowsTheOrder L n e a k) (sym same) (subst (λ b. FollowsTheOrder L n e b (stopped_node failures n)) (sym answered) (stopped_of failures L n e DiskFault h o))
-follows enough fronts L n m e a h o (Does none answered same) =
-    subst (λ k. FollowsTheOrder L n e a k) (sym same) (subst (λ b. FollowsTheOrder L n e b (moved n e)) (sym answered) (done_of enough fronts L n e h o none))
+follows laws fronts L n m e a h o (Does none answered same) =
+    subst (λ k. FollowsTheOrder L n e a k) (sym same) (subst (λ b. FollowsTheOrder L n e b (moved n e)) (sym answered) (done_of laws fronts L n e h o none))
 
 -- whatever it leads to is a node
 stays : FrontsAreDetermined → (n m : Node) (e : Event) (a : Answer) → IsNode n → Comes n e a m → IsNode m

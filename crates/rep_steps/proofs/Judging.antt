@@ -4,12 +4,10 @@ use Rattle.std.proofs.Math.Seq.{take-append_seam}
 use Rattle.std.proofs.lemmas.List.{drop-append-le, drop_all, length-take-le}
 use Rattle.rep_types.specs.declared.judged.Judged.{Judged}
 use Rattle.rep_types.specs.Settings.{Setting}
-use Rattle.rep_types.specs.Verdicts.{StateIsEnough}
 use Rattle.rep_types.specs.Order.{Order, State, state, history, judge, verdict}
-use Rattle.rep_types.proofs.Histories.{length_history, history_push_judged, history_at_index, judged}
 use Rattle.rep_steps.specs.Nodes.{advanced, reached}
 use Rattle.rep_steps.specs.Images.{Meaning, StandsFor, AreJudgedFrom, write_set_of, JudgedItemsExtendTheOrder}
-use Rattle.rep_steps.proofs.Reaching.{next_judged, advanced_is, next_is, state_next}
+use Rattle.rep_steps.proofs.Reaching.{OrderLaws, judged, history_at, next_judged, advanced_is, next_is, state_next}
 use Rattle.rep_steps.proofs.Running.{behind_of, none_behind}
 
 -- ---- fronts and rests of judged items
@@ -29,7 +27,7 @@ later_judged p S (suc k) (j ∷ js) h = later_judged p (advanced p S j) k js h.2
 same_item : (j k : Judged) → j.seqno ≡ k.seqno → j.item ≡ k.item → j.verdict ≡ k.verdict → j ≡ k
 same_item j k e f g = λ i. record { seqno = e i; item = f i; verdict = g i }
 
-module _ (enough : StateIsEnough) (p : Setting) where
+module _ (laws : OrderLaws) (p : Setting) where
   -- ---- items behind an order
 
   -- the first of them is the next of the longer order
@@ -37,23 +35,23 @@ module _ (enough : StateIsEnough) (p : Setting) where
       → drop (length L) (history p (L ++ j.item ∷ [])) ≡ j ∷ []
   first_is L j e f =
       let k : Judged = record { seqno = length L + 1; item = j.item; verdict = verdict p (L ++ j.item ∷ []) (length L + 1) } in
-      let same : k ≡ j = same_item k j (sym e) refl (sym (f ∙ enough.verdicts p L j.item)) in
-      ap (drop (length L)) (history_push_judged p L j.item) ∙ drop-append-le (length L) (history p L) (k ∷ []) (omega (arith, length_history p L))
-      ∙ ap (λ js. js ++ k ∷ []) (none_behind p L) ∙ ap (λ (x : Judged). x ∷ []) same
+      let same : k ≡ j = same_item k j (sym e) refl (sym (f ∙ laws.enough.verdicts p L j.item)) in
+      ap (drop (length L)) (laws.items.one_more p L j.item) ∙ drop-append-le (length L) (history p L) (k ∷ []) (omega (arith, laws.items.as_many p L))
+      ∙ ap (λ js. js ++ k ∷ []) (none_behind laws p L) ∙ ap (λ (x : Judged). x ∷ []) same
 
   -- and the state behind it is that of the longer order
   advanced_to : (L : Order) (j : Judged) → j.seqno ≡ (state p L).position + 1 → j.verdict ≡ judge p (state p L).position (state p L).kept j.item
       → advanced p (state p L) j ≡ state p (L ++ j.item ∷ [])
   advanced_to L j e f =
-      ap (advanced p (state p L)) (same_item j (next_judged p (state p L) j.item) e refl f) ∙ advanced_is p (state p L) j.item ∙ enough.states p L j.item
+      ap (advanced p (state p L)) (same_item j (next_judged p (state p L) j.item) e refl f) ∙ advanced_is p (state p L) j.item ∙ laws.enough.states p L j.item
 
   all_are : (L : Order) (js : List Judged) → AreJudgedFrom p (state p L) js → drop (length L) (history p (L ++ map write_set_of js)) ≡ js
-  all_are L [] h = ap (λ (M : Order). drop (length L) (history p M)) (append-nil L) ∙ none_behind p L
+  all_are L [] h = ap (λ (M : Order). drop (length L) (history p M)) (append-nil L) ∙ none_behind laws p L
   all_are L (j ∷ js) h =
       let M = L ++ j.item ∷ [] in
       let rest = all_are M js (subst (λ (S : State). AreJudgedFrom p S js) (advanced_to L j h.0 h.1) h.2) in
       let whole : L ++ (j.item ∷ map write_set_of js) ≡ M ++ map write_set_of js = sym (append_assoc L (j.item ∷ []) (map write_set_of js)) in
-      ap (λ (K : Order). drop (length L) (history p K)) whole ∙ behind_of p M (map write_set_of js) (length L) (omega (arith, length-append L (j.item ∷ [])))
+      ap (λ (K : Order). drop (length L) (history p K)) whole ∙ behind_of laws p M (map write_set_of js) (length L) (omega (arith, length-append L (j.item ∷ [])))
       ∙ ap (λ ks. ks ++ drop (length M) (history p (M ++ map write_set_of js))) (first_is L j h.0 h.1) ∙ ap (λ ks. j ∷ ks) rest
 
   extend : (uuid : List ℕ) (L : Order) (js : List Judged) → AreJudgedFrom p (state p L) js
@@ -69,19 +67,19 @@ module _ (enough : StateIsEnough) (p : Setting) where
   -- ---- items of an order
 
   judged_on : (L : Order) (c left : ℕ) → c + left ≡ length L → AreJudgedFrom p (state p (take c L)) (drop c (history p L))
-  judged_on L c zero e = subst (AreJudgedFrom p (state p (take c L))) (sym (drop_all c (history p L) (omega (arith, e, length_history p L)))) tt
+  judged_on L c zero e = subst (AreJudgedFrom p (state p (take c L))) (sym (drop_all c (history p L) (omega (arith, e, laws.items.as_many p L)))) tt
   judged_on L c (suc left) e =
       let inside : c < length L = omega (arith, e) in
       let j : Judged = judged p L (c + 1) in
       let long : length (take c L) ≡ c = length-take-le c L (omega (arith, inside)) in
       let split : drop c (history p L) ≡ j ∷ drop (c + 1) (history p L) =
-      drop-cons (history p L) c j (omega (arith, inside, length_history p L)) ∙ ap (λ (k : Judged). k ∷ drop (suc c) (history p L)) (history_at_index p L c j inside)
+      drop-cons (history p L) c j (omega (arith, inside, laws.items.as_many p L)) ∙ ap (λ (k : Judged). k ∷ drop (suc c) (history p L)) (history_at laws p L c j inside)
       ∙ ap (λ k. j ∷ drop k (history p L)) (sym (add-one c)) in
-      let own = next_is enough p L c inside in
+      let own = next_is laws p L c inside in
       subst (AreJudgedFrom p (state p (take c L))) (sym split) (
         omega (arith, long),
         sym (ap (λ (k : Judged). k.verdict) own),
-        subst (λ (S : State). AreJudgedFrom p S (drop (c + 1) (history p L))) (sym (state_next enough p L c inside)) (judged_on L (c + 1) left (omega (arith, e))),
+        subst (λ (S : State). AreJudgedFrom p S (drop (c + 1) (history p L))) (sym (state_next laws p L c inside)) (judged_on L (c + 1) left (omega (arith, e))),
       )
 
   judged_of : (uuid : List ℕ) (L : Order) (b : Meaning) → StandsFor uuid p L b → AreJudgedFrom p b.base b.tail
@@ -89,5 +87,5 @@ module _ (enough : StateIsEnough) (p : Setting) where
       let c = b.base.position in
       rw (h.tail_is) (subst (λ (S : State). AreJudgedFrom p S (drop c (history p L))) (sym h.base_is) (judged_on L c (length L - c) (omega (arith, h.within))))
 
-pub judged_extend : StateIsEnough → JudgedItemsExtendTheOrder
-judged_extend enough = record { extend = λ uuid p L js h. extend enough p uuid L js h; judged = λ uuid p L b h. judged_of enough p uuid L b h }
+pub judged_extend : OrderLaws → JudgedItemsExtendTheOrder
+judged_extend laws = record { extend = λ uuid p L js h. extend laws p uuid L js h; judged = λ uuid p L b h. judged_of laws p uuid L b h }

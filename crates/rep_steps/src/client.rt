@@ -12,7 +12,7 @@ ghost use Rattle.rep_steps.specs.Images.{Meaning, IsFrontAt, RunsOn};
 use crate::answer::Answer;
 use crate::event::Event;
 use rep_record::fronts_are_determined;
-use rep_types::{Refusal, state_is_enough};
+use rep_types::{Refusal, history_by_items, state_is_enough};
 use std::alloc::Global;
 
 /// What moves by events: a replica, whatever keeps its state.
@@ -56,6 +56,7 @@ pub fn run<C: Core>(core: &mut C, alloc: Global, events: &[Event]) -> Result<Vec
     ensures refused { IfErr result (λ refusal. refusal ≡ Refusal.OutOfMemory) }
     ensures unchanged { OnErr result (core.new ≡ core.old) }
 {
+    history_by_items();
     state_is_enough();
     fronts_are_determined();
     let mut answers = Vec::with_capacity(alloc, events.len())?;

@@ -10,7 +10,7 @@ ghost use Rattle.rep_steps.specs.Judging.{JudgingGoesOn, VerdictsHaveAPlace};
 
 use crate::client::Core;
 use rep_record::fronts_are_determined;
-use rep_types::state_is_enough;
+use rep_types::{history_by_items, state_is_enough};
 
 /// A step of a node moves its facts as on any device; and facts that moved so move a node, where the step
 /// found what the node finds.
@@ -30,6 +30,7 @@ pub fn nodes_stay_nodes()
 pub fn nodes_hold_the_order()
     ensures { NodesHoldTheOrder }
 {
+    history_by_items();
     state_is_enough();
 }
 
@@ -38,6 +39,7 @@ pub fn nodes_hold_the_order()
 pub fn steps_follow_the_order()
     ensures { StepsFollowTheOrder }
 {
+    history_by_items();
     state_is_enough();
     fronts_are_determined();
 }
@@ -48,6 +50,7 @@ pub fn steps_follow_the_order()
 pub fn runs_come_to()
     ensures { RunsComeTo }
 {
+    history_by_items();
     state_is_enough();
     fronts_are_determined();
 }
@@ -57,6 +60,7 @@ pub fn runs_come_to()
 pub fn runs_answer_the_order()
     ensures { RunsAnswerTheOrder }
 {
+    history_by_items();
     state_is_enough();
     fronts_are_determined();
 }
@@ -66,6 +70,7 @@ pub fn runs_answer_the_order()
 pub fn fed_the_rest()
     ensures { FedTheRest }
 {
+    history_by_items();
     state_is_enough();
     fronts_are_determined();
 }
@@ -75,6 +80,7 @@ pub fn fed_the_rest()
 pub fn judged_items_extend_the_order()
     ensures { JudgedItemsExtendTheOrder }
 {
+    history_by_items();
     state_is_enough();
 }
 
@@ -82,6 +88,7 @@ pub fn judged_items_extend_the_order()
 pub fn fronts_stand_for_the_order()
     ensures { FrontsStandForTheOrder }
 {
+    history_by_items();
     state_is_enough();
 }
 
@@ -102,6 +109,7 @@ pub fn parts_step_as_the_whole()
 pub fn runs_are_joined<C: Core>()
     ensures { RunsAreJoined C.means }
 {
+    history_by_items();
     state_is_enough();
     fronts_are_determined();
 }

@@ -1,5 +1,5 @@
 -- The history, the rows, the window and the state in the subject's own words, by the items of the order.
-use Rattle.std.specs.Prelude.{◌≡◌, ◌≢◌, ◌↔◌, ℕ, ◌+◌, ◌-◌, ◌<◌, ◌≤◌, List, ◌∷◌, ◌++◌, length, take, slice_index_or, Contains, None}
+use Rattle.std.specs.Prelude.{◌≡◌, ◌≢◌, ◌↔◌, ℕ, ◌+◌, ◌-◌, ◌<◌, ◌≤◌, List, [], ◌∷◌, ◌++◌, length, take, slice_index_or, Contains, None}
 use Rattle.rep_types.specs.declared.key.Key.{Key}
 use Rattle.rep_types.specs.declared.value.Write.{Write}
 use Rattle.rep_types.specs.declared.judged.Judged.{Judged}
@@ -15,12 +15,18 @@ pub record IsCommitted (p : Setting) (L : Order) (n : ℕ) : Type 0 where
   pub last : n ≤ length L
   pub commit : verdict p L n ≡ Commit
 
--- The history has the items of the order, each with its seqno and its verdict: its item n is at the place n, counted from 1.
+-- The history has the items of the order, each with its seqno and its verdict: its item n is at the place n, counted from 1. The
+-- history of a front of the order is a front of it, more items give the earlier ones no other verdict, and one more item stands behind
+-- it with the verdict that the longer order gives it.
 pub record HistoryByItems : Type 0 where
   pub seqno : (before behind : Order) (w : Transaction) → item (before ++ w ∷ behind) (length before + 1) ≡ w
   pub as_many : (p : Setting) (L : Order) → length (history p L) ≡ length L
   pub items : (p : Setting) (L : Order) (n : ℕ) (d : Judged) → 1 ≤ n → n ≤ length L →
       slice_index_or (history p L) (n - 1) d ≡ record { seqno = n; item = item L n; verdict = verdict p L n }
+  pub front : (p : Setting) (L : Order) (n : ℕ) → take n (history p L) ≡ history p (take n L)
+  pub verdicts : (p : Setting) (L : Order) (k n : ℕ) → 1 ≤ n → n ≤ k → verdict p (take k L) n ≡ verdict p L n
+  pub one_more : (p : Setting) (L : Order) (w : Transaction) →
+      history p (L ++ w ∷ []) ≡ history p L ++ record { seqno = length L + 1; item = w; verdict = verdict p (L ++ w ∷ []) (length L + 1) } ∷ []
 
 -- e stands for a committed item of the order: the one with its seqno, which wrote its keys
 pub record IsEntry (p : Setting) (L : Order) (e : Entry) : Type 0 where

@@ -23,7 +23,8 @@ pub fn reads_are_serial()
 {}
 
 /// The item that `n` items stand before has the seqno `n + 1`, and the history has as many items as
-/// the order, each at its place, with its seqno and its verdict.
+/// the order, each at its place, with its seqno and its verdict; that of a front of the order is a
+/// front of it, and one more item stands behind it.
 pub fn history_by_items()
     ensures { HistoryByItems }
 {}

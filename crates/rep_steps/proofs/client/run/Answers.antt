@@ -51,7 +51,7 @@ loop-event-preserved g c =
           let after = c.step-answer.ensures.steps before.0 before.2 in
           let step = subst (λ (e : Event). Steps before.0 e answer after.0) c.copied.ensures after.1 in
           let run =
-          run_more c.state_is_enough.ensures c.fronts_are_determined.ensures g.C.Core.means (g.C.Core.history first) (g.C.Core.history old) (g.C.Core.history new) n before.0 after.0
+          run_more (record { enough = c.state_is_enough.ensures; items = c.history_by_items.ensures }) c.fronts_are_determined.ensures g.C.Core.means (g.C.Core.history first) (g.C.Core.history old) (g.C.Core.history new) n before.0 after.0
           (take i c.args.events.now) kept.items event answer (g.met.C.Core.node n first h) (g.met.C.Core.node before.0 old before.2) before.1 step (c.step-answer.ensures.leaves before.0 before.2) in
           (after.0, rw (front, items) run, after.2);
       many = omega (arith, many, c.loop-event.invariant.many);

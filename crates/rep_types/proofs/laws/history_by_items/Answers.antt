@@ -1,7 +1,7 @@
 use Rattle.std.proofs.Common.{◌≡◌, ◌+◌, ◌-◌, List, [], ◌∷◌, ◌++◌, length, get_or, refl, ap, ◌∙◌, arith}
 use Rattle.rep_types.specs.Transactions.{Transaction}
 use Rattle.rep_types.specs.Order.{Order, no_item, item}
-use Rattle.rep_types.proofs.Histories.{length_history, history_at}
+use Rattle.rep_types.proofs.Histories.{length_history, history_at, take_history, verdict_take, history_push_judged}
 use Rattle.rep_types.proofs.laws.history_by_items.Goals as goal
 
 -- what stands behind a list
@@ -16,4 +16,11 @@ item_behind before rest w =
     ap (λ k. get_or (before ++ w ∷ rest) k no_item) same ∙ behind before rest w no_item
 
 pub returns : goal.returns
-returns c = record { seqno = item_behind; as_many = length_history; items = λ p L n d first last. history_at p L n d first last }
+returns c = record {
+  seqno = item_behind;
+  as_many = length_history;
+  items = λ p L n d first last. history_at p L n d first last;
+  front = take_history;
+  verdicts = λ p L k n first last. verdict_take p L k n first last;
+  one_more = history_push_judged;
+}
