@@ -13,8 +13,8 @@ use Rattle.rep_cells.specs.Known.{Assigns}
 use Rattle.rep_log.specs.declared.phase.Phase.{Phase}
 use Rattle.rep_steps.specs.declared.event.Event.TheVariants.{Read}
 use Rattle.rep_steps.specs.declared.answer.Answer.TheVariants.{Row, Refused}
-use Rattle.rep_steps.specs.Standings.{Standing, IsStanding}
-use Rattle.rep_steps.specs.Nodes.{Node, IsNode, Steps}
+use Rattle.rep_steps.specs.Standings.{Standing}
+use Rattle.rep_steps.specs.Nodes.{Node, Steps, NodesOutlastFailures}
 use Rattle.rep_steps.specs.Orders.{IsOf, StepsFollowTheOrder}
 use Rattle.rep_steps.specs.Parts.{part_of}
 use Rattle.rep_steps.specs.Images.{IsFrontAt}
@@ -66,23 +66,6 @@ counted failures s = record s { failures = failures }
 abbrev recounted : ℕ → Node → Node
 recounted failures n = record n { facts = counted failures n.facts }
 
-standing_still : (f : ℕ) (s : Standing) → IsStanding s → IsStanding (counted f s)
-standing_still f s h = record {
-  allowed = h.allowed;
-  undefined = h.undefined;
-  based = h.based;
-  near = h.near;
-  limit = h.limit;
-  block = h.block;
-  few = h.few;
-  started = h.started;
-  room = h.room;
-  goal = h.goal;
-}
-
-node_still : (f : ℕ) (n : Node) → IsNode n → IsNode (recounted f n)
-node_still f n h = record { facts = standing_still f n.facts h.facts; position = h.position; enough = h.enough; ahead = h.ahead }
-
 front_still : (f : ℕ) (n : Node) (image : List ℕ) → IsFrontAt Means n image → IsFrontAt Means (recounted f n) image
 front_still f n image h = record { meaning = h.meaning; reads = h.reads; end = h.end; least = h.least; front = h.front }
 
@@ -93,7 +76,7 @@ upon disk e = record e { disk = disk; halted = None }
 abbrev on_disk : {D : Type 0} → D → Replica D → Replica D
 on_disk disk r = record r { engine = upon disk r.engine; stopped = false }
 
-module _ {D : Type 0} (honest : D → Type 0) (history : D → History) (failures : D → ℕ) (old new : D) (is_honest : honest old) (same : history new ≡ history old) where
+module _ {D : Type 0} (outlast : NodesOutlastFailures) (honest : D → Type 0) (history : D → History) (failures : D → ℕ) (old new : D) (is_honest : honest old) (same : history new ≡ history old) where
   stands_still : (n : Node) (e : Engine D) → Stands history n (upon new e) → Stands history (recounted (failures old) n) (upon old e)
   stands_still n e h = record {
     states = h.states;
@@ -124,7 +107,7 @@ module _ {D : Type 0} (honest : D → Type 0) (history : D → History) (failure
   engine_still n e h = record {
     is_honest = is_honest;
     facts = ap (counted (failures old)) h.facts;
-    node = node_still (failures old) n h.node;
+    node = outlast (failures old) n h.node;
     runs = λ none. stands_still n e (h.runs refl);
     images = λ image is. front_still (failures old) n image (h.images image (subst (λ (past : History). IsImage past image) (sym same) is));
   }
@@ -133,7 +116,7 @@ module _ {D : Type 0} (honest : D → Type 0) (history : D → History) (failure
   holds_still n r h = record {
     running = refl;
     facts = ap (counted (failures old)) h.facts;
-    node = node_still (failures old) n h.node;
+    node = outlast (failures old) n h.node;
     judged = h.judged;
     taken = h.taken;
     within = h.within;
@@ -154,7 +137,7 @@ module _ {D : Type 0} (honest : D → Type 0) (history : D → History) (failure
 
 -- ---- the law
 
-module _ {D : Type 0} (size failures : D → ℕ) (honest : D → Type 0) (history : D → History) (follow : StepsFollowTheOrder) where
+module _ {D : Type 0} (size failures : D → ℕ) (honest : D → Type 0) (history : D → History) (outlast : NodesOutlastFailures) (follow : StepsFollowTheOrder) where
   -- of a stopped replica it is said as of the same one that runs
   as_running : (r : Replica D) (p : Setting) (L : Order) → HasRowsOf honest history failures r p L → HasRowsOf honest history failures (running r) p L
   as_running r p L h = record { node = h.node; order = h.order; holds = h.holds; is_of = h.is_of; setting = h.setting; durable = h.durable }
@@ -170,7 +153,7 @@ module _ {D : Type 0} (size failures : D → ℕ) (honest : D → Type 0) (histo
       let was_honest : honest old = h.call.was_honest of.holds.engine.is_honest in
       let ran : HasRowsOf honest history failures (running b) p L = as_running b p L of in
       let moved : HasRowsOf honest history failures (on_disk new a) p L = subst (λ (r : Replica D). HasRowsOf honest history failures (running r) p L) h.rest ran in
-      as_stopped a p L (are_still honest history failures old new was_honest (h.same was_honest) a p L moved)
+      as_stopped a p L (are_still outlast honest history failures old new was_honest (h.same was_honest) a p L moved)
 
   -- where a row is answered, it runs
   runs : (a : Replica D) (stopped : Bool) (halted : Option Phase) → a.stopped ≡ stopped → a.engine.halted ≡ halted → ((stopped || is_some halted) ≡ true → ⊥) → running a ≡ a

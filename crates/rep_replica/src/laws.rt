@@ -11,7 +11,7 @@ use rep_disk::{Disk, moments_of_calls};
 use rep_engine::running_engines_leave_their_ends;
 use rep_image::images_mean_one_thing;
 use rep_steps::{
-    fronts_stand_for_the_order, nodes_hold_the_order, runs_answer_the_order, runs_come_to,
+    fronts_stand_for_the_order, nodes_hold_the_order, nodes_outlast_failures, runs_answer_the_order, runs_come_to,
     steps_follow_the_order,
 };
 
@@ -72,5 +72,6 @@ pub fn runs_are_joined<D: Disk>()
 pub fn reads_forget_nothing<D: Disk>()
     ensures { ReadsForgetNothing D.size D.failures D.honest D.history }
 {
+    nodes_outlast_failures();
     steps_follow_the_order();
 }

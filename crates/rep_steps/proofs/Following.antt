@@ -19,10 +19,10 @@ use Rattle.rep_steps.specs.declared.answer.Answer.{Answer}
 use Rattle.rep_steps.specs.declared.answer.Answer.TheVariants.{Gave, Synced, Row, Refused}
 use Rattle.rep_steps.specs.Standings.{Standing, IsStanding, delivered, refusal, refusal_here, read_refusal}
 use Rattle.rep_steps.specs.Moves.{answer, opening, next_item, Fails}
-use Rattle.rep_steps.specs.Nodes.{Node, IsNode, Steps, NodesStayNodes, moved, found, passed, state_at, window_at, verdict_on, reached}
+use Rattle.rep_steps.specs.Nodes.{Node, IsNode, Steps, NodesStayNodes, NodesOutlastFailures, moved, found, passed, state_at, window_at, verdict_on, reached}
 use Rattle.rep_steps.specs.Orders.{IsOf, HoldsOf, FollowsTheOrder, accepted, answer_of}
 use Rattle.rep_steps.proofs.Reaching.{OrderLaws, reached_is, judged_next}
-use Rattle.rep_steps.proofs.Keeping.{node_after, waiting, passed_within}
+use Rattle.rep_steps.proofs.Keeping.{node_after, stands_with, waiting, passed_within}
 
 -- ---- what a node of an order holds
 
@@ -138,31 +138,25 @@ done_of laws fronts L n e h o none = record { node = node_after fronts n e h non
 abbrev pub stopped_at : ℕ → Standing → Standing
 stopped_at failures s = record s { failures = failures; stopped = true }
 
-stopped_stands : (failures : ℕ) (s : Standing) → IsStanding s → IsStanding (stopped_at failures s)
-stopped_stands failures s h = record {
-  allowed = h.allowed;
-  undefined = h.undefined;
-  based = h.based;
-  near = h.near;
-  limit = h.limit;
-  block = h.block;
-  few = h.few;
-  started = h.started;
-  room = h.room;
-  goal = h.goal;
-}
-
 abbrev pub stopped_node : ℕ → Node → Node
 stopped_node failures n = record n { facts = stopped_at failures n.facts }
 
 stopped_is : (failures : ℕ) (n : Node) → IsNode n → IsNode (stopped_node failures n)
-stopped_is failures n h = record { facts = stopped_stands failures n.facts h.facts; position = h.position; enough = h.enough; ahead = h.ahead }
+stopped_is failures n h = record { facts = stands_with failures true n.facts.stage n.facts h.facts h.facts.goal; position = h.position; enough = h.enough; ahead = h.ahead }
 
 stopped_of : (failures : ℕ) (L : Order) (n : Node) (e : Event) (r : Refusal) → IsNode n → IsOf L n → FollowsTheOrder L n e (Refused r) (stopped_node failures n)
 stopped_of failures L n e r h o = record {
   node = stopped_is failures n h;
   order = rw (nothing_comes L e r) (record { within = o.within; base = o.base; items = o.items });
   answered = inl (r, refl);
+}
+
+pub outlasts : NodesOutlastFailures
+outlasts failures n h = record {
+  facts = stands_with failures n.facts.stopped n.facts.stage n.facts h.facts h.facts.goal;
+  position = h.position;
+  enough = h.enough;
+  ahead = h.ahead;
 }
 
 -- a step was refused, stopped the replica, or did what the node does

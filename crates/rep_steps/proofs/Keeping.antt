@@ -155,7 +155,23 @@ syncs s f h =
       goal = goal_synced s.base s.durable s.start s.next o (taken s.phase) s.stage h.goal;
     }
 
--- ---- the checkpoint
+-- ---- the checkpoint, and a device that fails
+
+-- how often the device failed, whether that stopped the replica, and how far a checkpoint has come decide nothing else
+pub stands_with : (failures : ℕ) (stopped : Bool) (stage : Stage) (s : Standing) → IsStanding s → HasGoal s.base s.durable s.start s.next stage
+    → IsStanding (record s { failures = failures; stopped = stopped; stage = stage })
+stands_with failures stopped stage s h goal = record {
+  allowed = h.allowed;
+  undefined = h.undefined;
+  based = h.based;
+  near = h.near;
+  limit = h.limit;
+  block = h.block;
+  few = h.few;
+  started = h.started;
+  room = h.room;
+  goal = goal;
+}
 
 goal_checked : (s : Standing) (left : List ℕ) (stage : Stage) → IsStanding s → check_refusal s stage ≡ None → HasGoal s.base s.durable s.start s.next stage → HasGoal s.base s.durable s.start s.next (checked s left stage)
 goal_checked s left Off h none g = record { above = grind (arith, nat_tests); within = omega arith; started = h.started; begun = omega arith }
@@ -163,18 +179,7 @@ goal_checked s left (Toward goal part) h none g = g
 goal_checked s left (Retiring written) h none g = tt
 
 checks : (s : Standing) (f : Found) → IsStanding s → check_refusal s s.stage ≡ None → IsStanding (after s Check f)
-checks s f h none = record {
-  allowed = h.allowed;
-  undefined = h.undefined;
-  based = h.based;
-  near = h.near;
-  limit = h.limit;
-  block = h.block;
-  few = h.few;
-  started = h.started;
-  room = h.room;
-  goal = goal_checked s f.left s.stage h none h.goal;
-}
+checks s f h none = stands_with s.failures s.stopped (checked s f.left s.stage) s h (goal_checked s f.left s.stage h none h.goal)
 
 goal_flushed : (base durable start next page : ℕ) (stage : Stage) → HasGoal base durable start next stage → HasGoal base durable start next (flushed page stage)
 goal_flushed base durable start next page Off g = tt
@@ -182,18 +187,7 @@ goal_flushed base durable start next page (Toward goal part) g = g
 goal_flushed base durable start next page (Retiring written) g = tt
 
 flushes : (s : Standing) (page : ℕ) (f : Found) → IsStanding s → IsStanding (after s (Flush page) f)
-flushes s page f h = record {
-  allowed = h.allowed;
-  undefined = h.undefined;
-  based = h.based;
-  near = h.near;
-  limit = h.limit;
-  block = h.block;
-  few = h.few;
-  started = h.started;
-  room = h.room;
-  goal = goal_flushed s.base s.durable s.start s.next page s.stage h.goal;
-}
+flushes s page f h = stands_with s.failures s.stopped (flushed page s.stage) s h (goal_flushed s.base s.durable s.start s.next page s.stage h.goal)
 
 -- ---- any event
 

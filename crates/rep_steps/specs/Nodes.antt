@@ -122,3 +122,7 @@ pub record StepsAreMoves : Type 0 where
 -- What a step of a node leads to is a node.
 abbrev pub NodesStayNodes : Type 0
 NodesStayNodes = (n m : Node) (e : Event) (a : Answer) → IsNode n → Steps n e a m → IsNode m
+
+-- A node is one however often its device failed.
+abbrev pub NodesOutlastFailures : Type 0
+NodesOutlastFailures = (failures : ℕ) (n : Node) → IsNode n → IsNode (record n { facts = record n.facts { failures = failures } })

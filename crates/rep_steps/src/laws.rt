@@ -1,6 +1,6 @@
 //! Laws of nodes, each as the contract of a function that does nothing.
 
-ghost use Rattle.rep_steps.specs.Nodes.{StepsAreMoves, NodesStayNodes};
+ghost use Rattle.rep_steps.specs.Nodes.{StepsAreMoves, NodesStayNodes, NodesOutlastFailures};
 ghost use Rattle.rep_steps.specs.Parts.{PartsStepAsTheWhole};
 ghost use Rattle.rep_steps.specs.Orders.{StepsFollowTheOrder, NodesHoldTheOrder};
 ghost use Rattle.rep_steps.specs.Runs.{RunsComeTo, RunsAnswerTheOrder, FedTheRest};
@@ -24,6 +24,11 @@ pub fn nodes_stay_nodes()
 {
     fronts_are_determined();
 }
+
+/// A node is one however often its device failed.
+pub fn nodes_outlast_failures()
+    ensures { NodesOutlastFailures }
+{}
 
 /// A node of an order holds it: as many items are delivered as it has, and the state at each position from the
 /// base on, its rows and its window, is the order's.
