@@ -14,7 +14,7 @@ use Rattle.rep_checkpoint.specs.declared.stage.Stage.TheVariants.{Off, Toward, R
 use Rattle.rep_checkpoint.specs.Standing.{spare_side}
 use Rattle.rep_checkpoint.specs.States.{StandsBeside}
 use Rattle.rep_checkpoint.specs.Laws.{TheLogIsApart, TheCheckpointIsApart}
-use Rattle.rep_checkpoint.proofs.Frames.{base_as, far_as}
+use Rattle.rep_checkpoint.proofs.Frames.{base_as, far_as, toward_as}
 
 -- what isn't the log's is as it was
 abbrev IsApart : States → States → Type 0
@@ -22,13 +22,9 @@ IsApart s t = (place : Place) → ((i : ℕ) → place ≢ Log i) → t place �
 
 beside_as : (size : ℕ) (b : SuperBody) (stage : Stage) (y : State) (s t : States) → IsApart s t → StandsBeside size b stage y s → StandsBeside size b stage y t
 beside_as size b Off y s t apart h = apart (Super (spare_side b)) (λ i e. absurd cc) ∙ h
-beside_as size b (Toward next part) y s t apart h = record {
-  follows = h.follows;
-  position = h.position;
-  entries = h.entries;
-  far = far_as part (spare_side b) next y s t (apart (Window (spare_side b)) (λ i e. absurd cc)) (λ number slot there. apart (Page number slot) (λ i e. absurd cc)) h.far;
-  cell = apart (Super (spare_side b)) (λ i e. absurd cc) ∙ h.cell;
-}
+beside_as size b (Toward next part) y s t apart h = toward_as part part h
+    (far_as part (spare_side b) next y s t (apart (Window (spare_side b)) (λ i e. absurd cc)) (λ number slot there. apart (Page number slot) (λ i e. absurd cc)) h.far)
+    (apart (Super (spare_side b)) (λ i e. absurd cc) ∙ h.cell)
 beside_as size b (Retiring written) y s t apart h = record { before = h.before; is_super = h.is_super; lesser = h.lesser; cell = apart (Super (spare_side b)) (λ i e. absurd cc) ∙ h.cell }
 
 pub log_apart : TheLogIsApart

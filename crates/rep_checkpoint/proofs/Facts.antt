@@ -35,38 +35,22 @@ refused_is facts Off on = absurd (on refl)
 refused_is facts (Toward next part) on = refl
 refused_is facts (Retiring written) on = refl
 
-synced_is : (b : SuperBody) (stage : Stage) → stage_in (synced_in (record { base = b; stage = stage }) stage).stage ≡ synced_stage (stage_in stage)
-synced_is b Off = refl
-synced_is b (Toward next Flushing) = refl
-synced_is b (Toward next Saving) = refl
-synced_is b (Toward next Ready) = refl
-synced_is b (Toward next SuperFilling) = refl
-synced_is b (Toward next SuperFilled) = refl
-synced_is b (Toward next SuperOpening) = refl
-synced_is b (Retiring false) = refl
-synced_is b (Retiring true) = refl
+-- what a sync makes of the stage, of the base's position and of its first cell
+record SyncedAlike (b : SuperBody) (stage : Stage) : Type 0 where
+  stage_is : stage_in (synced_in (record { base = b; stage = stage }) stage).stage ≡ synced_stage (stage_in stage)
+  base_is : (synced_in (record { base = b; stage = stage }) stage).base.position ≡ base_after b.position (stage_in stage)
+  start_is : (synced_in (record { base = b; stage = stage }) stage).base.start ≡ start_after b.start (stage_in stage)
 
-base_is : (b : SuperBody) (stage : Stage) → (synced_in (record { base = b; stage = stage }) stage).base.position ≡ base_after b.position (stage_in stage)
-base_is b Off = refl
-base_is b (Toward next Flushing) = refl
-base_is b (Toward next Saving) = refl
-base_is b (Toward next Ready) = refl
-base_is b (Toward next SuperFilling) = refl
-base_is b (Toward next SuperFilled) = refl
-base_is b (Toward next SuperOpening) = refl
-base_is b (Retiring false) = refl
-base_is b (Retiring true) = refl
-
-start_is : (b : SuperBody) (stage : Stage) → (synced_in (record { base = b; stage = stage }) stage).base.start ≡ start_after b.start (stage_in stage)
-start_is b Off = refl
-start_is b (Toward next Flushing) = refl
-start_is b (Toward next Saving) = refl
-start_is b (Toward next Ready) = refl
-start_is b (Toward next SuperFilling) = refl
-start_is b (Toward next SuperFilled) = refl
-start_is b (Toward next SuperOpening) = refl
-start_is b (Retiring false) = refl
-start_is b (Retiring true) = refl
+synced_alike : (b : SuperBody) (stage : Stage) → SyncedAlike b stage
+synced_alike b Off = record { stage_is = refl; base_is = refl; start_is = refl }
+synced_alike b (Toward next Flushing) = record { stage_is = refl; base_is = refl; start_is = refl }
+synced_alike b (Toward next Saving) = record { stage_is = refl; base_is = refl; start_is = refl }
+synced_alike b (Toward next Ready) = record { stage_is = refl; base_is = refl; start_is = refl }
+synced_alike b (Toward next SuperFilling) = record { stage_is = refl; base_is = refl; start_is = refl }
+synced_alike b (Toward next SuperFilled) = record { stage_is = refl; base_is = refl; start_is = refl }
+synced_alike b (Toward next SuperOpening) = record { stage_is = refl; base_is = refl; start_is = refl }
+synced_alike b (Retiring false) = record { stage_is = refl; base_is = refl; start_is = refl }
+synced_alike b (Retiring true) = record { stage_is = refl; base_is = refl; start_is = refl }
 
 pub facts : TheStageIsTheFacts
 facts = record {
@@ -74,7 +58,7 @@ facts = record {
   flushed = λ c page. flushed_is page c.stage;
   gone_on = λ s left c on. gone_is s left c.stage on;
   refused = λ s c on. refused_is s c.stage on;
-  synced = λ c. synced_is c.base c.stage;
-  base = λ c. base_is c.base c.stage;
-  start = λ c. start_is c.base c.stage;
+  synced = λ c. (synced_alike c.base c.stage).stage_is;
+  base = λ c. (synced_alike c.base c.stage).base_is;
+  start = λ c. (synced_alike c.base c.stage).start_is;
 }

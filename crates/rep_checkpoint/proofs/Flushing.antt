@@ -28,7 +28,7 @@ use Rattle.rep_checkpoint.specs.States.{CheckpointIs, IsBase, IsFlushing, IsTowa
 use Rattle.rep_checkpoint.specs.Calls.{FlushesAsSpelled, Flushes}
 use Rattle.rep_checkpoint.specs.Pages.{IsPageAt, PutsIn, MovesPage}
 use Rattle.rep_checkpoint.proofs.Pages.{not_left, was_left}
-use Rattle.rep_checkpoint.proofs.Frames.{page_number, slot_in, spare_apart, base_as, written_as}
+use Rattle.rep_checkpoint.proofs.Frames.{page_number, slot_in, spare_apart, base_as, written_as, toward_as}
 use Rattle.rep_checkpoint.proofs.GoingOn.{here}
 
 -- ---- on any device
@@ -97,13 +97,7 @@ module _ (size : ℕ) (b : SuperBody) (next : Next) (x y : State) (s t : States)
   }
 
   pub toward_stays : IsToward b next Flushing y t
-  toward_stays = record {
-    follows = toward.follows;
-    position = toward.position;
-    entries = toward.entries;
-    far = flushing_stays;
-    cell = elsewhere _ (λ e. absurd cc) ∙ toward.cell;
-  }
+  toward_stays = toward_as Flushing Flushing toward flushing_stays (elsewhere _ (λ e. absurd cc) ∙ toward.cell)
 
   module _ (body : List ℕ) (there : t (Page page (spare_slot (state_of_page b page))) ≡ Pending body) (is : IsPageAt b.params.rows page next.super.position y.content body) where
     page_of : IsPageOf next.super page y.content body

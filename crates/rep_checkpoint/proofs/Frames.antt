@@ -12,6 +12,7 @@ use Rattle.rep_layout.specs.declared.place.Slot.TheVariants.{First, Second}
 use Rattle.rep_layout.specs.declared.place.Place.{Place}
 use Rattle.rep_layout.specs.declared.place.Place.TheVariants.{Super, Window, Log, Page}
 use Rattle.rep_layout.specs.Places.{side_of, TurnsAreTaken}
+use Rattle.rep_layout.specs.Supers.{super_bytes}
 use Rattle.rep_cells.specs.States.{State as StateOf, States}
 use Rattle.rep_pages.specs.Slots.{state_of_page, spare_slot}
 use Rattle.rep_image.specs.Bases.{other, HaveContent}
@@ -19,7 +20,7 @@ use Rattle.rep_checkpoint.specs.declared.stage.Part.{Part}
 use Rattle.rep_checkpoint.specs.declared.stage.Part.TheVariants.{Flushing, Saving, Ready, SuperFilling, SuperFilled, SuperOpening}
 use Rattle.rep_checkpoint.specs.Next.{Next}
 use Rattle.rep_checkpoint.specs.Standing.{spare_side}
-use Rattle.rep_checkpoint.specs.States.{IsBase, IsFlushing, IsSaving, IsSaved, IsFar, IsWritten}
+use Rattle.rep_checkpoint.specs.States.{IsBase, IsFlushing, IsSaving, IsSaved, IsFar, IsToward, IsWritten, cell_in}
 
 -- ---- places that differ
 
@@ -123,3 +124,7 @@ far_as Ready side next y s t window pages h = saved_as window pages h
 far_as SuperFilling side next y s t window pages h = saved_as window pages h
 far_as SuperFilled side next y s t window pages h = saved_as window pages h
 far_as SuperOpening side next y s t window pages h = saved_as window pages h
+
+-- the next base comes as far as its window, its pages and its superblock's cell do
+pub toward_as : {base : SuperBody} {next : Next} {y : State} {s t : States} (part to : Part) → IsToward base next part y s → IsFar to (spare_side base) next y t → t (Super (spare_side base)) ≡ cell_in to (super_bytes next.super) → IsToward base next to y t
+toward_as part to h far cell = record { follows = h.follows; position = h.position; entries = h.entries; far = far; cell = cell }

@@ -23,7 +23,7 @@ use Rattle.rep_checkpoint.specs.Standing.{Standing, spare_side, stage_in}
 use Rattle.rep_checkpoint.specs.Moves.{next_refusal_at, unless_other, next_refusal, gone_in, gone_on, is_layout}
 use Rattle.rep_checkpoint.specs.States.{CheckpointIs, IsBase, IsFlushing, IsSaving}
 use Rattle.rep_checkpoint.specs.Calls.{next_place, next_step, next_offset, next_bytes, GoesOn}
-use Rattle.rep_checkpoint.proofs.Frames.{super_apart, window_apart, PagesStay, base_as, written_as, saved_as}
+use Rattle.rep_checkpoint.proofs.Frames.{super_apart, window_apart, PagesStay, base_as, written_as, saved_as, toward_as}
 
 -- ---- in the states
 
@@ -60,35 +60,23 @@ gone : (size : ℕ) (b : SuperBody) (stage : Stage) (x y : State) (s t : States)
 gone size b Off x y s t due is moves = absurd cc
 gone size b (Toward next Flushing) x y s t due is moves = record {
   base = window_base is.base _ moves;
-  beside = record {
-    follows = is.beside.follows;
-    position = is.beside.position;
-    entries = is.beside.entries;
-    far = all_flushed next y s t (spare_side b) (none_left next due) (λ number slot there. moves.elsewhere _ (λ e. absurd cc)) moves.there is.beside.far;
-    cell = moves.elsewhere _ (λ e. absurd cc) ∙ is.beside.cell;
-  };
+  beside = toward_as Flushing Saving is.beside
+      (all_flushed next y s t (spare_side b) (none_left next due) (λ number slot there. moves.elsewhere _ (λ e. absurd cc)) moves.there is.beside.far)
+      (moves.elsewhere _ (λ e. absurd cc) ∙ is.beside.cell);
 }
 gone size b (Toward next Saving) x y s t due is moves = absurd cc
 gone size b (Toward next Ready) x y s t due is moves = record {
   base = super_base is.base _ moves;
-  beside = record {
-    follows = is.beside.follows;
-    position = is.beside.position;
-    entries = is.beside.entries;
-    far = saved_as (moves.elsewhere _ (λ e. absurd cc)) (λ number slot there. moves.elsewhere _ (λ e. absurd cc)) is.beside.far;
-    cell = moves.there ∙ ap (filling (super_bytes next.super)) is.beside.cell;
-  };
+  beside = toward_as Ready SuperFilling is.beside
+      (saved_as (moves.elsewhere _ (λ e. absurd cc)) (λ number slot there. moves.elsewhere _ (λ e. absurd cc)) is.beside.far)
+      (moves.there ∙ ap (filling (super_bytes next.super)) is.beside.cell);
 }
 gone size b (Toward next SuperFilling) x y s t due is moves = absurd cc
 gone size b (Toward next SuperFilled) x y s t due is moves = record {
   base = super_base is.base _ moves;
-  beside = record {
-    follows = is.beside.follows;
-    position = is.beside.position;
-    entries = is.beside.entries;
-    far = saved_as (moves.elsewhere _ (λ e. absurd cc)) (λ number slot there. moves.elsewhere _ (λ e. absurd cc)) is.beside.far;
-    cell = moves.there ∙ ap opening is.beside.cell;
-  };
+  beside = toward_as SuperFilled SuperOpening is.beside
+      (saved_as (moves.elsewhere _ (λ e. absurd cc)) (λ number slot there. moves.elsewhere _ (λ e. absurd cc)) is.beside.far)
+      (moves.there ∙ ap opening is.beside.cell);
 }
 gone size b (Toward next SuperOpening) x y s t due is moves = absurd cc
 gone size b (Retiring false) x y s t due is moves = record {

@@ -6,18 +6,20 @@ use Rattle.rep_layout.specs.declared.super_body.SuperBody.{SuperBody}
 use Rattle.rep_layout.specs.declared.place.Side.{Side}
 use Rattle.rep_layout.specs.declared.place.Place.TheVariants.{Super, Window}
 use Rattle.rep_layout.specs.Places.{side_of, layout_of, need_of, TurnsAreTaken}
+use Rattle.rep_layout.specs.Supers.{super_bytes}
 use Rattle.rep_layout.specs.Windows.{window, window_bytes, IsWindowBody}
 use Rattle.rep_cells.specs.States.{State as StateOf, States, Stable, synced, Syncs}
 use Rattle.rep_image.specs.Bases.{other, IsSuperAt}
+use Rattle.rep_checkpoint.specs.declared.stage.Part.{Part}
 use Rattle.rep_checkpoint.specs.declared.stage.Part.TheVariants.{Flushing, Saving, Ready, SuperFilling, SuperFilled, SuperOpening}
 use Rattle.rep_checkpoint.specs.declared.stage.Stage.{Stage}
 use Rattle.rep_checkpoint.specs.declared.stage.Stage.TheVariants.{Off, Toward, Retiring}
 use Rattle.rep_checkpoint.specs.Next.{Next}
 use Rattle.rep_checkpoint.specs.Standing.{Standing, spare_side, IsCheckpoint}
 use Rattle.rep_checkpoint.specs.Moves.{after_sync, synced_in}
-use Rattle.rep_checkpoint.specs.States.{IsBase, IsWritten, IsFlushing, IsSaving, IsSaved, IsToward, CheckpointIs}
+use Rattle.rep_checkpoint.specs.States.{IsBase, IsWritten, IsFlushing, IsSaving, IsSaved, IsToward, IsFar, cell_in, CheckpointIs}
 use Rattle.rep_checkpoint.specs.Calls.{synced_base, SyncsTo}
-use Rattle.rep_checkpoint.proofs.Frames.{other_again, next_side, content_as}
+use Rattle.rep_checkpoint.proofs.Frames.{other_again, next_side, content_as, toward_as}
 
 -- ---- what is written is stable
 
@@ -78,59 +80,22 @@ module _ (turns : TurnsAreTaken) (size : ℕ) (b : SuperBody) (next : Next) (x y
 
 -- ---- a sync
 
+-- it brings the next base so far
+toward_synced : (size : ℕ) (b : SuperBody) (next : Next) (part to : Part) (x y : State) (s t : States) → Syncs s t → CheckpointIs size (record { base = b; stage = Toward next part }) x y s
+    → synced (cell_in part (super_bytes next.super)) ≡ cell_in to (super_bytes next.super) → IsFar to (spare_side b) next y t → CheckpointIs size (record { base = b; stage = Toward next to }) x y t
+toward_synced size b next part to x y s t syncs is cell far = record {
+  base = base_synced size b x s t syncs is.base;
+  beside = toward_as part to is.beside far (syncs _ ∙ ap synced is.beside.cell ∙ cell);
+}
+
 synced_to : TurnsAreTaken → (size : ℕ) (b : SuperBody) (stage : Stage) (x y : State) (s t : States) → Syncs s t → CheckpointIs size (record { base = b; stage = stage }) x y s
     → CheckpointIs size (synced_in (record { base = b; stage = stage }) stage) (synced_base (record { base = b; stage = stage }) x y) y t
 synced_to turns size b Off x y s t syncs is = record { base = base_synced size b x s t syncs is.base; beside = syncs _ ∙ ap synced is.beside }
-synced_to turns size b (Toward next Flushing) x y s t syncs is = record {
-  base = base_synced size b x s t syncs is.base;
-  beside = record {
-    follows = is.beside.follows;
-    position = is.beside.position;
-    entries = is.beside.entries;
-    far = flushing_synced next y s t syncs is.beside.far;
-    cell = syncs _ ∙ ap synced is.beside.cell;
-  };
-}
-synced_to turns size b (Toward next Saving) x y s t syncs is = record {
-  base = base_synced size b x s t syncs is.base;
-  beside = record {
-    follows = is.beside.follows;
-    position = is.beside.position;
-    entries = is.beside.entries;
-    far = saving_synced (spare_side b) next y s t syncs is.beside.far;
-    cell = syncs _ ∙ ap synced is.beside.cell;
-  };
-}
-synced_to turns size b (Toward next Ready) x y s t syncs is = record {
-  base = base_synced size b x s t syncs is.base;
-  beside = record {
-    follows = is.beside.follows;
-    position = is.beside.position;
-    entries = is.beside.entries;
-    far = saved_synced (spare_side b) next y s t syncs is.beside.far;
-    cell = syncs _ ∙ ap synced is.beside.cell;
-  };
-}
-synced_to turns size b (Toward next SuperFilling) x y s t syncs is = record {
-  base = base_synced size b x s t syncs is.base;
-  beside = record {
-    follows = is.beside.follows;
-    position = is.beside.position;
-    entries = is.beside.entries;
-    far = saved_synced (spare_side b) next y s t syncs is.beside.far;
-    cell = syncs _ ∙ ap synced is.beside.cell;
-  };
-}
-synced_to turns size b (Toward next SuperFilled) x y s t syncs is = record {
-  base = base_synced size b x s t syncs is.base;
-  beside = record {
-    follows = is.beside.follows;
-    position = is.beside.position;
-    entries = is.beside.entries;
-    far = saved_synced (spare_side b) next y s t syncs is.beside.far;
-    cell = syncs _ ∙ ap synced is.beside.cell;
-  };
-}
+synced_to turns size b (Toward next Flushing) x y s t syncs is = toward_synced size b next Flushing Flushing x y s t syncs is refl (flushing_synced next y s t syncs is.beside.far)
+synced_to turns size b (Toward next Saving) x y s t syncs is = toward_synced size b next Saving Ready x y s t syncs is refl (saving_synced (spare_side b) next y s t syncs is.beside.far)
+synced_to turns size b (Toward next Ready) x y s t syncs is = toward_synced size b next Ready Ready x y s t syncs is refl (saved_synced (spare_side b) next y s t syncs is.beside.far)
+synced_to turns size b (Toward next SuperFilling) x y s t syncs is = toward_synced size b next SuperFilling SuperFilled x y s t syncs is refl (saved_synced (spare_side b) next y s t syncs is.beside.far)
+synced_to turns size b (Toward next SuperFilled) x y s t syncs is = toward_synced size b next SuperFilled SuperFilled x y s t syncs is refl (saved_synced (spare_side b) next y s t syncs is.beside.far)
 synced_to turns size b (Toward next SuperOpening) x y s t syncs is = record {
   base = risen turns size b next x y s is.base is.beside t syncs;
   beside = record {

@@ -1,5 +1,5 @@
 -- How a base that stands still lies on a device, beside its log, and what every image then means.
-use Rattle.std.specs.Prelude.{◌≡◌, ℕ, ◌+◌, ◌-◌, List, [], length, Option}
+use Rattle.std.specs.Prelude.{◌≡◌, ℕ, ◌+◌, List, [], length, Option}
 use Rattle.rep_types.specs.declared.judged.Judged.{Judged}
 use Rattle.rep_types.specs.Entries.{Entry}
 use Rattle.rep_layout.specs.declared.super_body.SuperBody.{SuperBody}
