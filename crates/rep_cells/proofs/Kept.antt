@@ -6,7 +6,7 @@ use Rattle.rep_layout.specs.declared.place.Layout.{Layout}
 use Rattle.rep_layout.specs.declared.place.Place.{Place}
 use Rattle.rep_layout.specs.Places.{body_len, gate_len, offset_of, gate_of, end_of, need_of}
 use Rattle.rep_cells.specs.Readings.{IsPlace, is_open, reading_of}
-use Rattle.rep_cells.specs.States.{State, States, Unknown, Shutting, Closed, Filling, Filled, Opening, Opened, Closing, Pending, Stable, Allows, Shows, IsSure, synced}
+use Rattle.rep_cells.specs.States.{State, States, Unknown, Shutting, Closed, Filling, Filled, Opening, Opened, Closing, Pending, Stable, Allows, Shows, IsSure, closing, synced}
 use Rattle.rep_cells.specs.Known.{GateStays, BodyStays, Known, IsReadable, Assigns}
 use Rattle.rep_cells.proofs.Ranges.{closed_reads, open_reads, maybe_reads, open_without_gate, gate_image, body_image, Apart, gate_stays_apart, gate_is_apart, body_stays_apart, body_is_apart}
 
@@ -137,3 +137,15 @@ synced_again (Opened body) = refl
 synced_again (Closing body) = refl
 synced_again (Pending body) = refl
 synced_again (Stable body) = refl
+
+pub synced_closes : (state : State) → synced (closing state) ≡ Closed
+synced_closes Unknown = refl
+synced_closes Shutting = refl
+synced_closes Closed = refl
+synced_closes (Filling body) = refl
+synced_closes (Filled body) = refl
+synced_closes (Opening body) = refl
+synced_closes (Opened body) = refl
+synced_closes (Closing body) = refl
+synced_closes (Pending body) = refl
+synced_closes (Stable body) = refl

@@ -7,7 +7,7 @@ use Rattle.rep_layout.specs.declared.place.Layout.{Layout}
 use Rattle.rep_layout.specs.declared.place.Place.{Place}
 use Rattle.rep_layout.specs.Places.{need_of}
 use Rattle.rep_cells.specs.Readings.{IsPlace, body_of, reading_of}
-use Rattle.rep_cells.specs.States.{State, States, Filled, Allows, Allowed, Shows, synced, Moves}
+use Rattle.rep_cells.specs.States.{State, States, Filled, Allows, Allowed, Shows, synced, Moves, Closed, closing}
 use Rattle.rep_cells.specs.Known.{Assigns, found}
 use Rattle.rep_cells.specs.Calls.{Reaches}
 
@@ -36,7 +36,9 @@ StatesMove = (s : States) (place : Place) (step : State → State) → (t : Stat
 abbrev pub FoundStatesStand : Type 0
 FoundStatesStand = (l : Layout) (h : History) → need_of l ≤ length (stable h) → pending h ≡ [] → Assigns l h (found l (seen h))
 
--- A sync adds nothing to what a place may read as, and a second one changes nothing.
+-- A sync adds nothing to what a place may read as, and a second one changes nothing. Behind a closed gate that was written it leaves
+-- the cell closed, whatever was known of it.
 pub record SyncsNarrow : Type 0 where
   pub narrows : (state : State) (reading : Option (List ℕ)) → Allows (synced state) reading → Allows state reading
   pub again : (state : State) → synced (synced state) ≡ synced state
+  pub closes : (state : State) → synced (closing state) ≡ Closed

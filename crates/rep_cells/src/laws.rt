@@ -35,7 +35,8 @@ pub fn found_states_stand()
     ensures { FoundStatesStand }
 {}
 
-/// A sync adds nothing to what a place may read as, and a second one changes nothing.
+/// A sync adds nothing to what a place may read as, and a second one changes nothing. Behind a closed
+/// gate that was written it leaves the cell closed, whatever was known of it.
 pub fn syncs_narrow()
     ensures { SyncsNarrow }
 {}

@@ -1,5 +1,5 @@
 -- Calls on one cell, one after another.
-use Rattle.std.proofs.Common.{◌≡◌, ◌⊎◌, ℕ, ◌≤◌, inl, inr, List, Option, None, Some, Result, Ok, Err, refl, sym, ap, subst, ◌∙◌, arith}
+use Rattle.std.proofs.Common.{◌≡◌, ◌⊎◌, ℕ, inl, inr, List, Option, None, Some, Result, Ok, Err, refl, sym, ap, subst, ◌∙◌, arith}
 use Rattle.std.specs.Prelude.{OnOk, IsErr}
 use Rattle.std.proofs.lemmas.Bool.{false≢true}
 use Rattle.std.proofs.lemmas.Result.{on_ok_weaker}
@@ -7,8 +7,8 @@ use Rattle.rep_disk.specs.History.{History, IsImage}
 use Rattle.rep_disk.specs.Moments.{LeavesOnly}
 use Rattle.rep_layout.specs.declared.place.Layout.{Layout}
 use Rattle.rep_layout.specs.declared.place.Place.{Place}
-use Rattle.rep_cells.specs.Readings.{IsPlace, Reading, reading_of}
-use Rattle.rep_cells.specs.States.{State, States, Opening, Opened, Closing, Allows, Allowed, synced}
+use Rattle.rep_cells.specs.Readings.{IsPlace, reading_of}
+use Rattle.rep_cells.specs.States.{State, States, Opening, Opened, Closing, Allows, synced}
 use Rattle.rep_cells.specs.Known.{Assigns}
 use Rattle.rep_cells.specs.Calls.{Reaches, Stepped, Settled}
 use Rattle.rep_cells_uses.specs.Publishing.{ReadsAsOneOf, Publishes}

@@ -13,7 +13,7 @@ ghost use Rattle.rep_cells.specs.States.{States, Closed, Opened};
 ghost use Rattle.rep_cells.specs.Known.{Assigns, found};
 ghost use Rattle.rep_cells_uses.specs.Publishing.{Publishes, IsCleared};
 
-use rep_cells::{Cells, found_states_stand};
+use rep_cells::{Cells, found_states_stand, syncs_narrow};
 use rep_disk::{Disk, DiskFault};
 use rep_layout::Place;
 
@@ -56,6 +56,7 @@ pub fn clear<D: Disk>(cells: &mut Cells<D>, stale: Place) -> Result<(), DiskFaul
     ensures fault { IsErr result → Rises (D.failures (disk_of cells.old)) (D.failures (disk_of cells.new)) }
     ensures cleared { D.honest (disk_of cells.old) → (s : States) → Assigns (layout_of cells.old) (D.history (disk_of cells.old)) s → OnOk result (IsCleared (layout_of cells.old) (D.history (disk_of cells.new)) s stale) }
 {
+    syncs_narrow();
     cells.close_gate(stale)?;
     cells.sync()
 }

@@ -4,43 +4,31 @@ use Rattle.std.proofs.lemmas.Bool.{cases_lt}
 use Rattle.rep_layout.specs.declared.place.Side.{Side}
 use Rattle.rep_layout.specs.declared.place.Side.TheVariants.{A, B}
 use Rattle.rep_layout.specs.declared.place.Place.TheVariants.{Super, Window, Log}
-use Rattle.rep_cells.specs.States.{State, States, Unknown, Shutting, Closed, Filling, Filled, Opening, Opened, Closing, Pending, Stable, closing, filling, opening, writing, synced, Moves, Syncs}
+use Rattle.rep_cells.specs.States.{State, States, Closed, Filling, Pending, closing, filling, opening, writing, synced, Moves, Syncs}
+use Rattle.rep_cells.specs.Laws.{SyncsNarrow}
 use Rattle.rep_recover.specs.Formatting.{WillClose, AreClosed, HasFirst}
-
--- whatever was known of a cell, once its closed gate is written it is closed from the next sync on
-will_close : (state : State) → synced (closing state) ≡ Closed
-will_close Unknown = refl
-will_close Shutting = refl
-will_close Closed = refl
-will_close (Filling body) = refl
-will_close (Filled body) = refl
-will_close (Opening body) = refl
-will_close (Opened body) = refl
-will_close (Closing body) = refl
-will_close (Pending body) = refl
-will_close (Stable body) = refl
 
 -- ---- all gates are closed
 
 abbrev pub FirstWillClose : States → Type 0
 FirstWillClose s = synced (s (Super A)) ≡ Closed
 
-pub first_closed : (s t : States) → Unit {0} → Moves s t (Super A) closing → FirstWillClose t
-first_closed s t h moves = ap synced moves.there ∙ will_close (s (Super A))
+pub first_closed : SyncsNarrow → (s t : States) → Unit {0} → Moves s t (Super A) closing → FirstWillClose t
+first_closed syncs s t h moves = ap synced moves.there ∙ syncs.closes (s (Super A))
 
-pub second_closed : (s t : States) → FirstWillClose s → Moves s t (Super B) closing → WillClose 0 t
-second_closed s t h moves = record { supers = each; log = λ i lt. absurd (omega (arith, lt)) }
+pub second_closed : SyncsNarrow → (s t : States) → FirstWillClose s → Moves s t (Super B) closing → WillClose 0 t
+second_closed syncs s t h moves = record { supers = each; log = λ i lt. absurd (omega (arith, lt)) }
   where
     each : (side : Side) → synced (t (Super side)) ≡ Closed
     each A = ap synced (moves.elsewhere (Super A) (λ e. cc)) ∙ h
-    each B = ap synced moves.there ∙ will_close (s (Super B))
+    each B = ap synced moves.there ∙ syncs.closes (s (Super B))
 
-pub cell_closed : (n : ℕ) (s t : States) → WillClose n s → Moves s t (Log n) closing → WillClose (n + 1) t
-cell_closed n s t h moves = record {
+pub cell_closed : SyncsNarrow → (n : ℕ) (s t : States) → WillClose n s → Moves s t (Log n) closing → WillClose (n + 1) t
+cell_closed syncs n s t h moves = record {
   supers = λ side. ap synced (moves.elsewhere (Super side) (λ e. cc)) ∙ h.supers side;
   log = λ i lt. elim (cases_lt i n) [
     | inl less ↦ ap synced (moves.elsewhere (Log i) (λ e. (let same : i ≡ n = cc in omega (arith, same, less)))) ∙ h.log i less
-    | inr le ↦ (let same : i ≡ n = omega (arith, lt, le) in ap (λ (k : ℕ). synced (t (Log k))) same ∙ ap synced moves.there ∙ will_close (s (Log n)))
+    | inr le ↦ (let same : i ≡ n = omega (arith, lt, le) in ap (λ (k : ℕ). synced (t (Log k))) same ∙ ap synced moves.there ∙ syncs.closes (s (Log n)))
   ];
 }
 

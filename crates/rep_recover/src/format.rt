@@ -14,7 +14,7 @@ ghost use Rattle.rep_recover.specs.Going.{Goes, StaysFrom, pages_at};
 ghost use Rattle.rep_recover.specs.Formatting.{uuid_of, first_super, ImagesStandFor, WillClose, AreClosed, HasFirst};
 
 use arrayvec::ArrayVec;
-use rep_cells::{Cells, images_read_as_allowed, refusal_of};
+use rep_cells::{Cells, images_read_as_allowed, refusal_of, syncs_narrow};
 use rep_disk::{Disk, DiskFault};
 use rep_forms::put_bytes;
 use rep_image::images_mean_what_stands;
@@ -57,6 +57,7 @@ fn close_supers<D: Disk>(cells: &mut Cells<D>) -> Result<(), DiskFault>
     ensures layout { layout_of cells.new ≡ layout_of cells.old }
     ensures goes { Goes D.size D.failures D.honest D.history (layout_of cells.old) (λ _. Unit {0}) (WillClose 0) (disk_of cells.old) (disk_of cells.new) result }
 {
+    syncs_narrow();
     cells.close_gate(Place::Super(Side::A))?;
     cells.close_gate(Place::Super(Side::B))
 }
@@ -66,6 +67,7 @@ fn close_log<D: Disk>(cells: &mut Cells<D>) -> Result<(), DiskFault>
     ensures layout { layout_of cells.new ≡ layout_of cells.old }
     ensures goes { Goes D.size D.failures D.honest D.history (layout_of cells.old) (WillClose 0) (WillClose (layout_of cells.old).cells) (disk_of cells.old) (disk_of cells.new) result }
 {
+    syncs_narrow();
     let layout = cells.layout();
     for cell in 0..layout.cells {
         cells.close_gate(Place::Log(cell))?;

@@ -17,7 +17,7 @@ use Rattle.rep_steps.specs.declared.event.Event.{Event}
 use Rattle.rep_steps.specs.declared.event.Event.TheVariants.{Deliver, Log, Sync, Check, Flush, Read}
 use Rattle.rep_steps.specs.declared.answer.Answer.{Answer}
 use Rattle.rep_steps.specs.declared.answer.Answer.TheVariants.{Gave, Synced, Row, Refused}
-use Rattle.rep_steps.specs.Standings.{Standing, IsStanding, delivered, refusal, refusal_here, read_refusal}
+use Rattle.rep_steps.specs.Standings.{Standing, delivered, refusal, refusal_here, read_refusal}
 use Rattle.rep_steps.specs.Moves.{answer, opening, next_item, Fails}
 use Rattle.rep_steps.specs.Nodes.{Node, IsNode, Steps, NodesStayNodes, NodesOutlastFailures, moved, found, passed, state_at, window_at, verdict_on, reached}
 use Rattle.rep_steps.specs.Orders.{IsOf, HoldsOf, FollowsTheOrder, accepted, answer_of}

@@ -1,24 +1,11 @@
-use Rattle.std.proofs.Common.{◌≡◌, refl, ap, subst, ◌∙◌}
+use Rattle.std.proofs.Common.{ap, subst, ◌∙◌}
 use Rattle.std.proofs.lemmas.Result.{on_ok_weaker}
 use Rattle.rep_disk.specs.History.{History}
 use Rattle.rep_layout.specs.declared.place.Layout.{Layout}
-use Rattle.rep_cells.specs.States.{State, Unknown, Shutting, Closed, Filling, Filled, Opening, Opened, Closing, Pending, Stable, closing, synced}
+use Rattle.rep_cells.specs.States.{synced}
 use Rattle.rep_cells.specs.Known.{Assigns}
 use Rattle.rep_cells.specs.Calls.{Settled}
 use Rattle.rep_cells_uses.proofs.clear.Goals as goal
-
--- a closed gate that is stable, whatever was there
-closes : (state : State) → synced (closing state) ≡ Closed
-closes Unknown = refl
-closes Shutting = refl
-closes Closed = refl
-closes (Filling body) = refl
-closes (Filled body) = refl
-closes (Opening body) = refl
-closes (Opened body) = refl
-closes (Closing body) = refl
-closes (Pending body) = refl
-closes (Stable body) = refl
 
 pub returns-clause-cleared : goal.returns-clause-cleared
 returns-clause-cleared g c = λ honest s is.
@@ -32,6 +19,6 @@ returns-clause-cleared g c = λ honest s is.
     on_ok_weaker c.sync.result (λ assigns. record {
       states = settled.after;
       assigns = assigns;
-      there = settled.syncs c.args.stale ∙ (ap synced shut.moves.there ∙ closes (s c.args.stale));
+      there = settled.syncs c.args.stale ∙ (ap synced shut.moves.there ∙ c.syncs_narrow.ensures.closes (s c.args.stale));
       elsewhere = λ q other. settled.syncs q ∙ ap synced (shut.moves.elsewhere q other);
     }) settled.reaches.ok

@@ -3,7 +3,7 @@ use Rattle.rep_disk.specs.History.{History}
 use Rattle.rep_layout.specs.declared.place.Layout.{Layout}
 use Rattle.rep_layout.specs.declared.place.Place.{Place}
 use Rattle.rep_cells.specs.Readings.{IsPlace}
-use Rattle.rep_cells.specs.States.{States, Closed, Filling, Filled, Opening, Opened, filling, opening}
+use Rattle.rep_cells.specs.States.{States, Closed, Filling, Filled, Opening, filling, opening}
 use Rattle.rep_cells.specs.Known.{Assigns}
 use Rattle.rep_cells_uses.proofs.Stages.{Stage, AtRest, Went, Steps, Settles, nothing_or_this, begins, went_on, went_stable, publishes, stops}
 use Rattle.rep_cells_uses.proofs.publish.Goals as goal

@@ -25,7 +25,7 @@ loop-cell-preserved g c =
     let e = c.in_ok-close_gate.ensures in
     let n : ℕ = c.loop-cell.cell in
     let one = goes_by g.D.Disk.size g.D.Disk.failures g.D.Disk.honest g.D.Disk.history m (WillClose n) (WillClose (n + 1)) (Log n) closing (gate_of m (Log n)) (gate 0) (disk_of c.loop-cell.cells) (disk_of c.close_gate.new.self) _ e.call e.written
-    (omega (arith, c.loop-cell-test.true, inv.lap, ap (λ (k : Layout). k.cells) inv.layout)) e.states (cell_closed n) in
+    (omega (arith, c.loop-cell-test.true, inv.lap, ap (λ (k : Layout). k.cells) inv.layout)) e.states (cell_closed c.syncs_narrow.ensures n) in
     record {
       layout = e.layout ∙ inv.layout;
       lap = inv.lap;
@@ -40,6 +40,6 @@ returns-in_err-close_gate-clause-goes g c =
     let e = c.in_err-close_gate.ensures in
     let n : ℕ = c.loop-cell.cell in
     let one = goes_by g.D.Disk.size g.D.Disk.failures g.D.Disk.honest g.D.Disk.history m (WillClose n) (WillClose (n + 1)) (Log n) closing (gate_of m (Log n)) (gate 0) (disk_of c.loop-cell.cells) (disk_of c.close_gate.new.self) _ e.call e.written
-    (omega (arith, c.loop-cell-test.true, inv.lap, ap (λ (k : Layout). k.cells) inv.layout)) e.states (cell_closed n) in
+    (omega (arith, c.loop-cell-test.true, inv.lap, ap (λ (k : Layout). k.cells) inv.layout)) e.states (cell_closed c.syncs_narrow.ensures n) in
     let all = goes_on g.D.Disk.size g.D.Disk.failures g.D.Disk.honest g.D.Disk.history l (WillClose 0) (WillClose n) (WillClose (n + 1)) m (disk_of c.args.cells.now) (disk_of c.loop-cell.cells) (disk_of c.close_gate.new.self) _ _ inv.layout inv.goes one in
     goes_wrong g.D.Disk.size g.D.Disk.failures g.D.Disk.honest g.D.Disk.history l (WillClose 0) (WillClose (n + 1)) (WillClose l.cells) (disk_of c.args.cells.now) (disk_of c.close_gate.new.self) _ c.from_residual.result refl c.from_residual.ensures.0 all
