@@ -10,7 +10,6 @@ use Rattle.rep_disk.specs.History.{History}
 use Rattle.rep_log.specs.Standing.{due_of}
 use Rattle.rep_steps.specs.declared.event.Event.{Event}
 use Rattle.rep_steps.specs.declared.event.Event.TheVariants.{Deliver, Log, Sync, Check, Flush, Read}
-use Rattle.rep_steps.specs.declared.answer.Answer.{Answer}
 use Rattle.rep_steps.specs.declared.answer.Answer.TheVariants.{Wrote, Refused}
 use Rattle.rep_steps.specs.Standings.{Standing, refusal}
 use Rattle.rep_steps.specs.Moves.{Moves, Fails, MeetsCorruption}

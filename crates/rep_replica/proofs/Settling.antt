@@ -234,27 +234,13 @@ pub record Goes (s t : Standing) : Type 0 where
   pub rests : s.phase ≡ Resting → Rests s t
 
 module _ (s t : Standing) (f : Found) (runs : s.stopped ≡ false) where
-  check_goes : (stage : Stage) → s.stage ≡ stage → t ≡ after s Check f → left_of (checked s f.left stage) < left_of stage → start_of s.start (checked s f.left stage) ≡ start_of s.start stage → Goes s t
-  check_goes stage is e less start =
-      let stage_is : t.stage ≡ checked s f.left stage = ap (λ (x : Standing). x.stage) e ∙ ap (checked s f.left) is in
+  -- a step that moves the stage alone, and comes nearer to the end
+  stage_goes : (to : Stage → Stage) (stage : Stage) → s.stage ≡ stage → t ≡ record s { stage = to s.stage } → left_of (to stage) < left_of stage → start_of s.start (to stage) ≡ start_of s.start stage → Goes s t
+  stage_goes to stage is e less start =
+      let stage_is : t.stage ≡ to stage = ap (λ (x : Standing). x.stage) e ∙ ap to is in
       record {
         running = ap (λ (x : Standing). x.stopped) e ∙ runs;
-        less = subst (λ (x : Stage). left_of x < left_of s.stage) (sym stage_is) (subst (λ (x : Stage). left_of (checked s f.left stage) < left_of x) (sym is) less);
-        rests = λ rests. record {
-          phase = ap (λ (x : Standing). x.phase) e ∙ rests;
-          ahead = ap (λ (x : Standing). x.ahead) e;
-          setting = ap (λ (x : Standing). x.setting) e;
-          next = ap (λ (x : Standing). x.next) e;
-          start = ap (λ (x : Standing). start_of x.start t.stage) e ∙ ap (start_of s.start) stage_is ∙ start ∙ ap (start_of s.start) (sym is);
-        };
-      }
-
-  flush_goes : (page : ℕ) (stage : Stage) → s.stage ≡ stage → t ≡ after s (Flush page) f → left_of (flushed page stage) < left_of stage → start_of s.start (flushed page stage) ≡ start_of s.start stage → Goes s t
-  flush_goes page stage is e less start =
-      let stage_is : t.stage ≡ flushed page stage = ap (λ (x : Standing). x.stage) e ∙ ap (flushed page) is in
-      record {
-        running = ap (λ (x : Standing). x.stopped) e ∙ runs;
-        less = subst (λ (x : Stage). left_of x < left_of s.stage) (sym stage_is) (subst (λ (x : Stage). left_of (flushed page stage) < left_of x) (sym is) less);
+        less = subst (λ (x : Stage). left_of x < left_of s.stage) (sym stage_is) (subst (λ (x : Stage). left_of (to stage) < left_of x) (sym is) less);
         rests = λ rests. record {
           phase = ap (λ (x : Standing). x.phase) e ∙ rests;
           ahead = ap (λ (x : Standing). x.ahead) e;
@@ -281,18 +267,18 @@ module _ (s t : Standing) (f : Found) (runs : s.stopped ≡ false) where
       }
 
   goes_part : (goal : Goal) (part : Part) → s.stage ≡ Toward goal part → t ≡ after s (step_of_part part) f → Goes s t
-  goes_part goal (Flushing []) is e = check_goes (Toward goal (Flushing [])) is e (omega arith) refl
-  goes_part goal (Flushing (page ∷ left)) is e = flush_goes page (Toward goal (Flushing (page ∷ left))) is e (fewer page left) refl
+  goes_part goal (Flushing []) is e = stage_goes (checked s f.left) (Toward goal (Flushing [])) is e (omega arith) refl
+  goes_part goal (Flushing (page ∷ left)) is e = stage_goes (flushed page) (Toward goal (Flushing (page ∷ left))) is e (fewer page left) refl
   goes_part goal Saving is e = sync_goes (Toward goal Saving) is e (omega arith) refl
-  goes_part goal Ready is e = check_goes (Toward goal Ready) is e (omega arith) refl
+  goes_part goal Ready is e = stage_goes (checked s f.left) (Toward goal Ready) is e (omega arith) refl
   goes_part goal SuperFilling is e = sync_goes (Toward goal SuperFilling) is e (omega arith) refl
-  goes_part goal SuperFilled is e = check_goes (Toward goal SuperFilled) is e (omega arith) refl
+  goes_part goal SuperFilled is e = stage_goes (checked s f.left) (Toward goal SuperFilled) is e (omega arith) refl
   goes_part goal SuperOpening is e = sync_goes (Toward goal SuperOpening) is e (omega arith) refl
 
   goes_by : (stage : Stage) (event : Event) → s.stage ≡ stage → step_of stage ≡ Some event → t ≡ after s event f → Goes s t
   goes_by Off event is due e = absurd (let never : None ≡ Some event = due in cc)
   goes_by (Toward goal part) event is due e = goes_part goal part is (e ∙ ap (λ (x : Event). after s x f) (sym (same_Some (step_of_part part) event due)))
-  goes_by (Retiring false) event is due e = check_goes (Retiring false) is (e ∙ ap (λ (x : Event). after s x f) (sym (same_Some Check event due))) (omega arith) refl
+  goes_by (Retiring false) event is due e = stage_goes (checked s f.left) (Retiring false) is (e ∙ ap (λ (x : Event). after s x f) (sym (same_Some Check event due))) (omega arith) refl
   goes_by (Retiring true) event is due e = sync_goes (Retiring true) is (e ∙ ap (λ (x : Event). after s x f) (sym (same_Some Sync event due))) (omega arith) refl
 
 pub step_goes : (s t : Standing) (e : Event) (a : Answer) → s.stopped ≡ false → step_of s.stage ≡ Some e → Moves s e a t → outcome_of a ≡ Ok tt → Goes s t

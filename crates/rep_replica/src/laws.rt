@@ -11,8 +11,8 @@ use rep_disk::{Disk, moments_of_calls};
 use rep_engine::running_engines_leave_their_ends;
 use rep_image::images_mean_one_thing;
 use rep_steps::{
-    fronts_stand_for_the_order, nodes_hold_the_order, nodes_outlast_failures, runs_answer_the_order, runs_come_to,
-    steps_follow_the_order,
+    fronts_stand_for_the_order, nodes_hold_the_order, nodes_outlast_failures,
+    runs_answer_the_order, runs_come_to, steps_follow_the_order,
 };
 
 /// A replica is opened on a device, runs events, and is stopped at any moment, within a call or between

@@ -211,31 +211,11 @@ known_row t key row lasts e =
 got_parts : (key k : Key) (answer : Result (Option (List ℕ)) Refusal) (row : Option (List ℕ)) → Got key answer ≡ Got k (Ok row) → (key ≡ k) × (answer ≡ Ok row)
 got_parts key k answer row e = (cc, cc)
 
--- a get whose answer was known
-step_known : (p : Setting) (L : Order) (t : Progress) (key : Key) (answer : Result (Option (List ℕ)) Refusal) → t.ended ≡ false → known t key ≡ Some answer → Stepped p L t (Got key answer) t
-step_known p L t key answer lasts e = record {
-  source = refl;
-  trx = refl;
-  snapshot = refl;
-  ended = refl;
-  writes = λ k. refl;
-  once = λ k old. old;
-  kept = λ k has. has;
-  from = λ k has. inl has;
-  read_now = λ k row is none.
-      let parts = got_parts key k answer row is in
-      let own = known_row t key row lasts (e ∙ ap Some parts.1) in
-      absurd (let q : None ≡ Some own.0 = sym none ∙ ap (write_of t.writes) (sym parts.0) ∙ own.1.0 in cc);
-  own = λ k row write is has.
-      let parts = got_parts key k answer row is in
-      let own = known_row t key row lasts (e ∙ ap Some parts.1) in
-      let same : own.0 ≡ write = (let q : Some own.0 ≡ Some write = sym own.1.0 ∙ ap (write_of t.writes) parts.0 ∙ has in cc) in
-      own.1.1 ∙ ap (λ (w : Write). w.value) same;
-}
-
--- a call that no row is answered and that writes nothing
-step_nothing : (p : Setting) (L : Order) (t : Progress) (call : Call) → done (call ∷ []) ≡ [] → ((key : Key) (row : Option (List ℕ)) → call ≡ Got key (Ok row) → ⊥) → Stepped p L t call t
-step_nothing p L t call none unanswered = record {
+-- a call that leaves the progress as it is
+step_still : (p : Setting) (L : Order) (t : Progress) (call : Call) → done (call ∷ []) ≡ []
+    → ((key : Key) (row : Option (List ℕ)) → call ≡ Got key (Ok row) → write_of t.writes key ≡ None → Contains t.reads key × (row ≡ read p L key t.snapshot))
+    → ((key : Key) (row : Option (List ℕ)) (write : Write) → call ≡ Got key (Ok row) → write_of t.writes key ≡ Some write → row ≡ write.value) → Stepped p L t call t
+step_still p L t call none read_now own = record {
   source = refl;
   trx = refl;
   snapshot = refl;
@@ -244,9 +224,24 @@ step_nothing p L t call none unanswered = record {
   once = λ k old. old;
   kept = λ k has. has;
   from = λ k has. inl has;
-  read_now = λ k row is free. absurd (unanswered k row is);
-  own = λ k row write is has. absurd (unanswered k row is);
+  read_now = read_now;
+  own = own;
 }
+
+-- a get whose answer was known
+step_known : (p : Setting) (L : Order) (t : Progress) (key : Key) (answer : Result (Option (List ℕ)) Refusal) → t.ended ≡ false → known t key ≡ Some answer → Stepped p L t (Got key answer) t
+step_known p L t key answer lasts e = step_still p L t (Got key answer) refl (λ k row is none.
+    let parts = got_parts key k answer row is in
+    let own = known_row t key row lasts (e ∙ ap Some parts.1) in
+    absurd (let q : None ≡ Some own.0 = sym none ∙ ap (write_of t.writes) (sym parts.0) ∙ own.1.0 in cc)) (λ k row write is has.
+    let parts = got_parts key k answer row is in
+    let own = known_row t key row lasts (e ∙ ap Some parts.1) in
+    let same : own.0 ≡ write = (let q : Some own.0 ≡ Some write = sym own.1.0 ∙ ap (write_of t.writes) parts.0 ∙ has in cc) in
+    own.1.1 ∙ ap (λ (w : Write). w.value) same)
+
+-- a call that no row is answered and that writes nothing
+step_nothing : (p : Setting) (L : Order) (t : Progress) (call : Call) → done (call ∷ []) ≡ [] → ((key : Key) (row : Option (List ℕ)) → call ≡ Got key (Ok row) → ⊥) → Stepped p L t call t
+step_nothing p L t call none unanswered = step_still p L t call none (λ k row is free. absurd (unanswered k row is)) (λ k row write is has. absurd (unanswered k row is))
 
 -- a get that rows refused, and a write that was refused
 step_refused : (p : Setting) (L : Order) (t : Progress) (key : Key) (r : Refusal) → Stepped p L t (Got key (Err r)) t

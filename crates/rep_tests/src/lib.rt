@@ -18,6 +18,8 @@ mod plain;
 #[cfg(test)]
 mod record;
 #[cfg(test)]
+mod rows;
+#[cfg(test)]
 mod saved;
 #[cfg(test)]
 mod types;

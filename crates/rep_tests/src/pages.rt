@@ -1,10 +1,11 @@
 //! Pages: each byte of the form that may not be another, the slots, and what a page is at a position.
 
 use crate::bytes::{exchanged, has_parts};
+use crate::rows::{add, delete, put};
 use arrayvec::ArrayVec;
 use rep_layout::{PAGE_BODY, PageState, Slot, SuperBody};
 use rep_pages::{Page, slot_of, spare_of};
-use rep_types::{Key, Params, Part, Refusal, Schema, Value, Write, WriteSet};
+use rep_types::{Key, Params, Part, Refusal, Schema};
 use rep_versions::Versions;
 use std::alloc::Global;
 use std::process::Abort;
@@ -22,28 +23,10 @@ fn key(row: u32) -> Key {
     Key { table: 1, row }
 }
 
-fn put(row: u32, bytes: &[u8]) -> Result<Write, Refusal> {
-    Ok(Write {
-        key: key(row),
-        value: Some(Value::new(bytes)?),
-    })
-}
-
-fn delete(row: u32) -> Write {
-    Write {
-        key: key(row),
-        value: None,
-    }
-}
-
-fn add(versions: &mut Versions, seqno: u64, writes: &[Write]) -> Result<(), Refusal> {
-    versions.add(seqno, &WriteSet::new(1, 1, 0, &[], writes)?)
-}
-
 /// At seqno 3 the rows 126 and 129 are put, at 5 row 126 is deleted and row 125 put.
 fn add_two(versions: &mut Versions) -> Result<(), Refusal> {
-    add(versions, 3, &[put(126, b"ab")?, put(129, b"")?])?;
-    add(versions, 5, &[put(125, b"c")?, delete(126)])
+    add(versions, 3, &[put(key(126), b"ab")?, put(key(129), b"")?])?;
+    add(versions, 5, &[put(key(125), b"c")?, delete(key(126))])
 }
 
 /// The versions of those two items.
@@ -282,7 +265,7 @@ fn a_page_that_there_is_not_has_no_bytes(rt: HostRuntime) -> Result<(), Fail> {
 /// Page 4 of a longer table, with a value in the row that the shorter one does not have.
 fn longer_page(alloc: Global, longer: &Schema) -> Result<Page, Refusal> {
     let mut versions = Versions::new(alloc);
-    add(&mut versions, 1, &[put(130, b"")?])?;
+    add(&mut versions, 1, &[put(key(130), b"")?])?;
     Ok(Page::absent(4).image(longer, &versions, 1))
 }
 

@@ -1,6 +1,7 @@
 //! Versions of rows: what a row is at each snapshot, what goes, and the pages with a change.
 
-use rep_types::{Key, Refusal, Schema, Value, Write, WriteSet};
+use crate::rows::{add, delete, put};
+use rep_types::{Key, Refusal, Schema};
 use rep_versions::{At, Versions};
 use std::alloc::Global;
 use std::process::Abort;
@@ -10,30 +11,11 @@ fn key(row: u32) -> Key {
     Key { table: 0, row }
 }
 
-fn put(row: u32, bytes: &[u8]) -> Result<Write, Refusal> {
-    Ok(Write {
-        key: key(row),
-        value: Some(Value::new(bytes)?),
-    })
-}
-
-fn delete(row: u32) -> Write {
-    Write {
-        key: key(row),
-        value: None,
-    }
-}
-
-/// Adds the versions of an item of these writes.
-fn add(versions: &mut Versions, seqno: u64, writes: &[Write]) -> Result<(), Refusal> {
-    versions.add(seqno, &WriteSet::new(1, 1, 0, &[], writes)?)
-}
-
 /// Row 5 is put at seqno 2 and at 9 and deleted at 6; row 7 is put at 2; row 130 is deleted at 6.
 fn add_three(versions: &mut Versions) -> Result<(), Refusal> {
-    add(versions, 2, &[put(5, b"two")?, put(7, b"")?])?;
-    add(versions, 6, &[delete(5), delete(130)])?;
-    add(versions, 9, &[put(5, b"nine")?])
+    add(versions, 2, &[put(key(5), b"two")?, put(key(7), b"")?])?;
+    add(versions, 6, &[delete(key(5)), delete(key(130))])?;
+    add(versions, 9, &[put(key(5), b"nine")?])
 }
 
 /// The versions of those three items.
@@ -142,7 +124,7 @@ fn has_changed(
 fn changed_pages_are_those_of_the_versions_between(rt: HostRuntime) -> Result<(), Fail> {
     let mut versions = three(rt.alloc())?;
     // the first and the last row of page 1, and a row that the schema does not have
-    let writes = [delete(63), put(125, b"1")?, put(131, b"1")?];
+    let writes = [delete(key(63)), put(key(125), b"1")?, put(key(131), b"1")?];
     add(&mut versions, 10, &writes)?;
     has_changed(&rt, &versions, &Schema::new(&[131])?)?;
     Ok(())
