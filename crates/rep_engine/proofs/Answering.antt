@@ -1,14 +1,29 @@
 -- What a call answered, from what was found out of it.
-use Rattle.std.proofs.Common.{◌≡◌, true, false, Option, None, Some, Result, Ok, Err, OnOk, refl}
+use Rattle.std.proofs.Common.{◌≡◌, true, false, List, Option, None, Some, Result, Ok, Err, OnOk, refl, sym, ap, ◌∙◌}
 use Rattle.std.specs.Prelude.{is_some}
 use Rattle.std.specs.Result.{is_err}
 use Rattle.rep_types.specs.declared.refusal.Refusal.{Refusal}
+use Rattle.rep_types.specs.declared.judged.Judged.{Judged}
+use Rattle.rep_cells.specs.declared.cells.Cells.{Cells}
+use Rattle.rep_cells.specs.Device.{disk_of, layout_of}
+use Rattle.rep_versions.specs.Versions.{Kept}
 use Rattle.rep_log.specs.declared.phase.Phase.{Phase}
+use Rattle.rep_log.specs.Standing.{Standing as Log}
+use Rattle.rep_checkpoint.specs.Standing.{Standing as Checkpoint}
+use Rattle.rep_engine.specs.Engines.{Engine}
 use Rattle.rep_engine.proofs.Logs.{halted_after}
+
+-- the engine of these parts, as it is inside of a call
+abbrev pub inside : {D : Type 0} {g : _} → Cells D g → Checkpoint → Log → Kept → List Judged → Option Phase → Engine D
+inside cells checkpoint log kept block halted = record { disk = disk_of cells; layout = layout_of cells; checkpoint = checkpoint; log = log; kept = kept; block = block; halted = halted }
 
 pub none_of : {T : Type 0} (o : Option T) → false ≡ is_some o → o ≡ None
 none_of None e = refl
 none_of (Some x) e = absurd cc
+
+-- the engine before a call that was not refused for it runs
+pub runs_of : {D : Type 0} {within old : Engine D} → within ≡ old → false ≡ is_some within.halted → old.halted ≡ None
+runs_of {D} {within} is still = sym (ap (λ (e : Engine D). e.halted) is) ∙ none_of within.halted still
 
 -- what is so anyway is so where it was done
 pub on_ok : {T : Type 0} (result : Result T Refusal) (P : Type 0) → P → OnOk result P

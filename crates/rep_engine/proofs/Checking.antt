@@ -17,7 +17,6 @@ use Rattle.rep_layout.specs.declared.place.Layout.{Layout}
 use Rattle.rep_layout.specs.Places.{layout_of}
 use Rattle.rep_cert.specs.Holdings.{Holding, window_of}
 use Rattle.rep_cells.specs.Known.{Assigns}
-use Rattle.rep_log.specs.declared.phase.Phase.{Phase}
 use Rattle.rep_log.specs.Standing.{Standing as Log}
 use Rattle.rep_log.specs.Tail.{records_of}
 use Rattle.rep_log.specs.Moves.{fault_of}
@@ -44,11 +43,13 @@ use Rattle.rep_checkpoint.specs.Calls.{Begins, IsRefused, GoesOn, AreAt, AreBehi
 use Rattle.rep_checkpoint.specs.Laws.{TheStageIsTheFacts, TheCheckpointIsApart}
 use Rattle.rep_checkpoint.specs.Nodes.{IsLedTo, StandsAs, LeadsTo, VersionsLeadToTheState, NodesLeaveTheirFronts}
 use Rattle.rep_engine.specs.Engines.{Engine, IsEngine, HasItemsBehind, facts_of, durable_of}
-use Rattle.rep_engine.specs.Holding.{Stands, Holds}
+use Rattle.rep_engine.specs.Holding.{Stands, Holds, wrote}
 use Rattle.rep_engine.specs.Reading.{halted_by}
 use Rattle.rep_engine.specs.Checking.{HasBegun}
 use Rattle.rep_engine.proofs.Steps.{done_moves, fault_moves, refused_steps, hungry_steps, done_steps, fault_steps, halted_node, leaves_weaker}
-use Rattle.rep_engine.proofs.Standing.{same_front, fronts_of, nil_bytes}
+use Rattle.rep_engine.proofs.Going.{with_stage, stage_or_same}
+use Rattle.rep_engine.proofs.Logs.{rises_by}
+use Rattle.rep_engine.proofs.Standing.{same_front, fronts_of, nil_bytes, stands_at_stage}
 
 -- the next base of a stage
 abbrev pub next_in : Next → Stage → Next
@@ -61,25 +62,8 @@ next_in none (Retiring written) = none
 -- what is so of an engine stays so
 pub engine_begun : (l : Layout) (c : Checkpoint) (log : Log) (kept : _) (block : List Judged) (position : ℕ) (entries : _) (left : List ℕ) → IsEngine l c log kept block → IsCheckpoint (begun c position log.next entries left) → position ≡ durable_of log → c.base.position < position
     → IsEngine l (begun c position log.next entries left) log kept block
-engine_begun l c log kept block position entries left h is at later = record {
-  checkpoint = is;
-  layout = h.layout;
-  cells = h.cells;
-  start = h.start;
-  behind = h.behind;
-  begun = h.begun;
-  room = h.room;
-  items = h.items;
-  goal = record { above = later; within = omega (arith, at); started = h.begun; begun = omega arith };
-  behind_goal = omega (arith, at, h.behind);
-  follow = h.follow;
-  fits = h.fits;
-  few = h.few;
-  whole = h.whole;
-  limit = h.limit;
-  undefined = h.undefined;
-  within = h.within;
-}
+engine_begun l c log kept block position entries left h is at later =
+    with_stage l c log kept block h (Toward (next_of c.base position log.next entries left) Flushing) is (record { above = later; within = omega (arith, at); started = h.begun; begun = omega arith }) (omega (arith, at, h.behind))
 
 -- and it can begin
 pub can_begin : WindowsGoOn → (l : Layout) (c : Checkpoint) (log : Log) (kept : _) (block : List Judged) (entries : List Entry) → IsEngine l c log kept block → c.stage ≡ Off → c.base.position < durable_of log → log.next < log.seqno → IsWindowAt c.base.params (durable_of log) entries
@@ -163,7 +147,7 @@ module _ {D : Type 0} (failures : D → ℕ) (old : Engine D) (entries : List En
     abbrev goal : State
     goal = reached n.facts.setting n.base (take past n.items)
 
-    led : IsLedTo (moved n Check) old.log there.blocks next.super goal
+    led : IsLedTo n old.log there.blocks next.super goal
     led = record {
       past = past;
       position = sym at;
@@ -183,23 +167,11 @@ module _ {D : Type 0} (failures : D → ℕ) (old : Engine D) (entries : List En
 
     stands_so : StandsAs (moved n Check) (length (stable (history old.disk))) d old.log there.blocks there.sealed there.states
     stands_so =
-        let h = there.stands in record {
-          uuid = h.uuid;
-          setting = h.setting;
-          goal = goal;
-          checkpoint =
-              begins (length (stable (history old.disk))) there.states n.base goal h.goal h.checkpoint
-              (subst (λ i. AreBehind i old.kept) at_base leads.behind) goal_at goal_kept
-              (subst (λ (p : Setting). AreAt p.rows old.kept (durable_of old.log) n.base.content goal.content) h.setting (subst (λ i. AreAt n.facts.setting.rows old.kept i n.base.content goal.content) at leads.rows));
-          toward = λ other part e. subst (λ (k : Next). IsLedTo (moved n Check) old.log there.blocks k.super goal) (ap (next_in next) e) led;
-          start = h.start;
-          log_is = h.log_is;
-          phase = h.phase;
-          durable = h.durable;
-          coming = h.coming;
-          judged = h.judged;
-          undefined = h.undefined;
-        }
+        stands_at_stage n (moved n Check).facts.stage (length (stable (history old.disk))) old.checkpoint d.stage old.log there.blocks there.sealed there.states there.states goal there.stands
+        (begins (length (stable (history old.disk))) there.states n.base goal there.stands.goal there.stands.checkpoint
+        (subst (λ i. AreBehind i old.kept) at_base leads.behind) goal_at goal_kept
+        (subst (λ (p : Setting). AreAt p.rows old.kept (durable_of old.log) n.base.content goal.content) there.stands.setting (subst (λ i. AreAt n.facts.setting.rows old.kept i n.base.content goal.content) at leads.rows)))
+        (λ other part e. subst (λ (k : Next). IsLedTo n old.log there.blocks k.super goal) (ap (next_in next) e) led) there.stands.log_is
 
     pub begun_holds : (m : Node) × Steps n Check (Began (durable_of old.log)) m × Holds honest history failures m new
     begun_holds = (
@@ -225,59 +197,20 @@ module _ {D : Type 0} (failures : D → ℕ) (old : Engine D) (entries : List En
 -- ---- a checkpoint goes on
 
 -- its goal stays
-same_goal : (base durable start up : ℕ) (stage : Stage) → HasGoal base durable start up (stage_in stage) → HasGoal base durable start up (stage_in (gone_in stage))
-same_goal base durable start up Off h = tt
-same_goal base durable start up (Toward to part) h = record { above = h.above; within = h.within; started = h.started; begun = h.begun }
-same_goal base durable start up (Retiring written) h = tt
-
-same_behind : (log : _) (stage : Stage) → HasItemsBehind (stage_in stage) log → HasItemsBehind (stage_in (gone_in stage)) log
-same_behind log Off h = tt
-same_behind log (Toward to part) h = h
-same_behind log (Retiring written) h = tt
-
-pub engine_gone : (l : Layout) (c d : Checkpoint) (log : Log) (kept : _) (block : List Judged) → IsEngine l c log kept block → IsCheckpoint d → d ≡ gone_on c → IsEngine l d log kept block
-engine_gone l c d log kept block h is same = subst (λ (k : Checkpoint). IsEngine l k log kept block) (sym same) (record {
-  checkpoint = subst IsCheckpoint same is;
-  layout = h.layout;
-  cells = h.cells;
-  start = h.start;
-  behind = h.behind;
-  begun = h.begun;
-  room = h.room;
-  items = h.items;
-  goal = same_goal c.base.position (durable_of log) log.start log.next c.stage h.goal;
-  behind_goal = same_behind log c.stage h.behind_goal;
-  follow = h.follow;
-  fits = h.fits;
-  few = h.few;
-  whole = h.whole;
-  limit = h.limit;
-  undefined = h.undefined;
-  within = h.within;
-})
+same_goal : (base durable : ℕ) (log : Log) (stage : Stage) → HasGoal base durable log.start log.next (stage_in stage) → HasItemsBehind (stage_in stage) log → HasGoal base durable log.start log.next (stage_in (gone_in stage)) × HasItemsBehind (stage_in (gone_in stage)) log
+same_goal base durable log Off h behind = (tt, tt)
+same_goal base durable log (Toward to part) h behind = (record { above = h.above; within = h.within; started = h.started; begun = h.begun }, behind)
+same_goal base durable log (Retiring written) h behind = (tt, tt)
 
 -- it goes on, or stands as it did
 went_by : {D : Type 0} (honest : D → Type 0) (history : D → History) (l : Layout) (c d : Checkpoint) (old disk : D) (result : Result (Unit {0}) Refusal) → GoesOn honest history l c d old disk result → (d ≡ c) ⊎ (d ≡ gone_on c)
 went_by honest history l c d old disk (Ok x) h = inr h.done
 went_by honest history l c d old disk (Err e) h = inl h.fault.1
 
-went : {D : Type 0} (honest : D → Type 0) (history : D → History) (l : Layout) (c d : Checkpoint) (old disk : D) (result : Result (Unit {0}) Refusal) (o : Option Refusal)
-    → IfSome o (λ e. IsRefused e c d old disk result) → (o ≡ None → GoesOn honest history l c d old disk result) → (d ≡ c) ⊎ (d ≡ gone_on c)
-went honest history l c d old disk result None refused goes = went_by honest history l c d old disk result (goes refl)
-went honest history l c d old disk result (Some e) refused goes = inl refused.checkpoint
-
 pub engine_went : {D : Type 0} (honest : D → Type 0) (history : D → History) (l : Layout) (c d : Checkpoint) (log : Log) (kept : _) (block : List Judged) (old disk : D) (result : Result (Unit {0}) Refusal)
     → IsEngine l c log kept block → IsCheckpoint d → IfSome (next_refusal l c) (λ e. IsRefused e c d old disk result) → (next_refusal l c ≡ None → GoesOn honest history l c d old disk result) → IsEngine l d log kept block
-engine_went honest history l c d log kept block old disk result h is refused goes = elim (went honest history l c d old disk result (next_refusal l c) refused goes) [
-  | inl same ↦ subst (λ (k : Checkpoint). IsEngine l k log kept block) (sym same) h
-  | inr on ↦ engine_gone l c d log kept block h is on
-]
-
--- what is due, by the facts
-
--- nothing where the checkpoint waits for a page or a sync
-pub waits : (laws : TheStageIsTheFacts) (s : Standing) (c : Checkpoint) → s.stage ≡ stage_of c → (c.stage ≢ Off) → next_refusal_at (stage_of c) ≡ Some NotDue → check_refusal s s.stage ≡ Some NotDue
-waits laws s c at not some = ap (check_refusal s) at ∙ sym (laws.refused s c not) ∙ some
+engine_went honest history l c d log kept block old disk result h is refused goes =
+    stage_or_same l c d (gone_in c.stage) log kept block old disk result (next_refusal l c) h is (same_goal c.base.position (durable_of log) log c.stage h.goal h.behind_goal) refused (λ none. went_by honest history l c d old disk result (goes none))
 
 -- whose answer it is
 wrote_by : (s : Standing) (stage : Stage) → stage ≢ Off → check_answer s (stage_in stage) ≡ Wrote
@@ -296,141 +229,9 @@ gone_toward Off to part e = absurd cc
 gone_toward (Toward old before) to part e = (before, ap (λ (k : Next). Toward k before) (ap (next_in old) e))
 gone_toward (Retiring written) to part e = absurd cc
 
-module _ {D : Type 0} (honest : D → Type 0) (history : D → History) (size failures : D → ℕ) (sized : (disk : D) → honest disk → length (stable (history disk)) ≡ size disk) (laws : TheStageIsTheFacts)
-    (old : Engine D) (dk : D) (d : Checkpoint) (hl : Option Phase) (result : Result (Unit {0}) Refusal) (h : IsEngine old.layout old.checkpoint old.log old.kept old.block) (runs : old.halted ≡ None) (under : old.checkpoint.stage ≢ Off)
-    (none : next_refusal_at (stage_of old.checkpoint) ≡ None) (call : IsCall size failures honest old.disk dk (fault_of result)) (halted : hl ≡ halted_by old.log.phase result)
-    (goes : GoesOn honest history old.layout old.checkpoint d old.disk dk result) where
-  abbrev was : Standing
-  was = facts_of failures old
-
-  abbrev to : Engine D
-  to = record old { disk = dk; checkpoint = d; halted = hl }
-
-  abbrev c : Checkpoint
-  c = old.checkpoint
-
-  check_none : refusal_here was Check ≡ None
-  check_none = sym (laws.refused was c under) ∙ none
-
-  facts_gone : (f : Found) → d ≡ gone_on c → failures dk ≡ failures old.disk → hl ≡ None → facts_of failures to ≡ after was Check f
-  facts_gone f same rose still =
-      let moved_on : facts_of failures to ≡ record was { stage = stage_of (gone_on c) } = rw same (rw rose (rw still (rw runs refl))) in
-      moved_on ∙ ap (λ (stage : StageOf). record was { stage = stage }) (laws.gone_on was f.left c under)
-
-  -- on any device
-  pub gone_moves : d ≡ gone_on c → failures dk ≡ failures old.disk → hl ≡ None → Moves was Check Wrote (facts_of failures to)
-  gone_moves same rose still =
-      let f : Found = record { verdict = Commit; stale = false; left = []; row = None } in
-      subst (λ (a : Answer). Moves was Check a (facts_of failures to)) (wrote_by was c.stage under) (done_moves was Check f (facts_of failures to) (ap is_some runs) check_none (facts_gone f same rose still))
-
-  pub gone_fault : d ≡ c → Rises (failures old.disk) (failures dk) → hl ≡ Some old.log.phase → Moves was Check (Refused DiskFault) (facts_of failures to)
-  gone_fault same rises still = fault_moves was Check (facts_of failures to) (ap is_some runs) check_none (device_by c.stage under) rises (rw same (rw still (rw runs refl)))
-
-  -- at a node
-  module _ (n : Node) (holds : Holds honest history failures n old) (nodes : NodesStayNodes) (law : NodesLeaveTheirFronts) (apart : TheCheckpointIsApart) where
-    pub there_on : Stands history n old
-    there_on = holds.runs runs
-
-    abbrev l : Layout
-    l = layout_of c.base.params
-
-    abbrev long : ℕ
-    long = length (stable (history old.disk))
-
-    abbrev m : Node
-    m = moved n Check
-
-    pub moving : CheckpointSteps long l (history old.disk) (history dk) there_on.states (gone_on c) (gone_on c) n.base there_on.stands.goal result
-    moving =
-        let on : GoesOn honest history l c d old.disk dk result = subst (λ (k : Layout). GoesOn honest history k c d old.disk dk result) h.layout goes in
-        on.steps holds.is_honest long there_on.states n.base there_on.stands.goal (subst (λ (k : Layout). Assigns k (history old.disk) there_on.states) h.layout there_on.assigns) there_on.stands.checkpoint
-
-    stands_gone : StandsAs m long (gone_on c) old.log there_on.blocks there_on.sealed moving.states
-    stands_gone =
-        let k = there_on.stands in record {
-          uuid = k.uuid;
-          setting = k.setting;
-          goal = k.goal;
-          checkpoint = moving.during_is;
-          toward = λ other part e. let before = gone_toward c.stage other part e in let led = k.toward other before.0 before.1 in record {
-            past = led.past;
-            position = led.position;
-            within = led.within;
-            state = led.state;
-            cells = led.cells;
-            start = led.start;
-            few = led.few;
-            records = led.records;
-          };
-          start = k.start;
-          log_is = apart l old.log (c.base.position + 1) there_on.blocks there_on.sealed there_on.states moving.states moving.elsewhere k.log_is;
-          phase = k.phase;
-          durable = k.durable;
-          coming = k.coming;
-          judged = k.judged;
-          undefined = k.undefined;
-        }
-
-    stopped_not : n.facts.stopped ≡ false
-    stopped_not = ap (λ (t : Standing). t.stopped) holds.facts ∙ ap is_some runs
-
-    none_here : refusal_here n.facts Check ≡ None
-    none_here = ap (λ (t : Standing). refusal_here t Check) holds.facts ∙ check_none
-
-    steps_gone : Steps n Check Wrote m
-    steps_gone =
-        subst (λ (a : Answer). Steps n Check a m) (ap (check_answer n.facts) (ap (λ (t : Standing). t.stage) holds.facts) ∙ wrote_by n.facts c.stage under) (done_steps n Check stopped_not none_here)
-
-    steps_halt : Rises (failures old.disk) (failures dk) → Steps n Check (Refused DiskFault) (halted_node (failures dk) n)
-    steps_halt rises =
-        fault_steps n Check (failures dk) stopped_not none_here (ap (λ stage. not (is_none_under_way stage)) (ap (λ (t : Standing). t.stage) holds.facts) ∙ device_by c.stage under) (subst (λ k. Rises k (failures dk)) (sym (ap (λ (t : Standing). t.failures) holds.facts)) rises)
-
-    long_stays : length (stable (history dk)) ≡ long
-    long_stays = sized dk (call.stays_honest holds.is_honest) ∙ call.same_size ∙ sym (sized old.disk holds.is_honest)
-
-    images_gone : (image : List ℕ) → IsImage (history dk) image → IsFrontAt Means m image
-    images_gone = fronts_of law m (history dk) long (gone_on c) old.log there_on.blocks there_on.sealed moving.states (nodes n m Check Wrote holds.node steps_gone) stands_gone long_stays moving.reaches.images
-
-    pub gone_leaves : LeavesOnly (history old.disk) (history dk) (IsFrontAt Means n)
-    gone_leaves = leaves_weaker (history old.disk) (history dk) (λ image here. same_front m n image refl refl refl refl refl (images_gone image here)) moving.reaches.moments
-
-    pub gone_holds : Assigns l (history dk) moving.states → d ≡ gone_on c → failures dk ≡ failures old.disk → hl ≡ None → (m : Node) × Steps n Check Wrote m × Holds honest history failures m to
-    gone_holds assigns same rose still = (
-      m,
-      steps_gone,
-      record {
-        is_honest = call.stays_honest holds.is_honest;
-        facts = ap (λ (t : Standing). after t Check (found n Check)) holds.facts ∙ sym (facts_gone (found n Check) same rose still);
-        node = nodes n m Check Wrote holds.node steps_gone;
-        runs = λ on. record {
-          states = moving.states;
-          assigns = subst (λ (k : Layout). Assigns k (history dk) moving.states) (sym h.layout) assigns;
-          blocks = there_on.blocks;
-          sealed = there_on.sealed;
-          stands = subst (λ (k : Checkpoint). StandsAs m (length (stable (history dk))) k old.log there_on.blocks there_on.sealed moving.states) (sym same) (subst (λ i. StandsAs m i (gone_on c) old.log there_on.blocks there_on.sealed moving.states) (sym long_stays) stands_gone);
-          versions = there_on.versions;
-          gates = there_on.gates;
-        };
-        images = images_gone;
-      },
-    )
-
-    pub gone_halts : d ≡ c → Rises (failures old.disk) (failures dk) → hl ≡ Some old.log.phase → (m : Node) × Steps n Check (Refused DiskFault) m × Holds honest history failures m to
-    gone_halts same rises still = (
-      halted_node (failures dk) n,
-      steps_halt rises,
-      record {
-        is_honest = call.stays_honest holds.is_honest;
-        facts = rw holds.facts (rw same (rw still (rw runs refl)));
-        node = nodes n (halted_node (failures dk) n) Check (Refused DiskFault) holds.node (steps_halt rises);
-        runs = λ on. let never : Some old.log.phase ≡ None = sym still ∙ on in absurd cc;
-        images = λ image here. same_front m (halted_node (failures dk) n) image refl refl refl refl refl (images_gone image here);
-      },
-    )
-
 -- ---- what is due, as the engine asks it
 
-pub begin_due : (stage : Stage) → Begin ≡ due_in stage → stage ≡ Off
+begin_due : (stage : Stage) → Begin ≡ due_in stage → stage ≡ Off
 begin_due Off e = refl
 begin_due (Toward to Flushing) e = by to.left e
   where
@@ -445,8 +246,11 @@ begin_due (Toward to SuperOpening) e = absurd cc
 begin_due (Retiring false) e = absurd cc
 begin_due (Retiring true) e = absurd cc
 
+pub begins_off : {D : Type 0} {within old : Engine D} → within ≡ old → Begin ≡ due_in within.checkpoint.stage → old.checkpoint.stage ≡ Off
+begins_off {D} {within} is due = sym (ap (λ (e : Engine D). e.checkpoint.stage) is) ∙ begin_due within.checkpoint.stage due
+
 -- a write is due
-pub next_due : (stage : Stage) → GoOn ≡ due_in stage → (stage ≢ Off) × (next_refusal_at (stage_in stage) ≡ None)
+next_due : (stage : Stage) → GoOn ≡ due_in stage → (stage ≢ Off) × (next_refusal_at (stage_in stage) ≡ None)
 next_due Off e = absurd cc
 next_due (Toward to Flushing) e = by to.left refl e
   where
@@ -460,6 +264,177 @@ next_due (Toward to SuperFilled) e = ((λ off. absurd cc), refl)
 next_due (Toward to SuperOpening) e = absurd cc
 next_due (Retiring false) e = ((λ off. absurd cc), refl)
 next_due (Retiring true) e = absurd cc
+
+-- on the places of its parameters
+own_layout : (l : Layout) → is_layout l l ≡ true
+own_layout l = grind (arith, nat_tests)
+
+pub here : (l : Layout) (c : Checkpoint) (o : Option Refusal) → l ≡ layout_of c.base.params → unless_other l c o ≡ o
+here l c o same = ap (λ b. if b then o else Some NotDue) (ap (is_layout l) (sym same) ∙ own_layout l)
+
+-- What a checkpoint that goes on did, on any device.
+pub record IsGone {D : Type 0} (honest : D → Type 0) (history : D → History) (size failures : D → ℕ) (old new : Engine D) (result : Result (Unit {0}) Refusal) : Type 0 where
+  pub engine : IsEngine old.layout old.checkpoint old.log old.kept old.block
+  pub runs : old.halted ≡ None
+  pub due : GoOn ≡ due_in old.checkpoint.stage
+  pub rest : new ≡ record old { disk = new.disk; checkpoint = new.checkpoint; halted = new.halted }
+  pub call : IsCall size failures honest old.disk new.disk (fault_of result)
+  pub halted : new.halted ≡ halted_by old.log.phase result
+  pub goes : next_refusal old.layout old.checkpoint ≡ None → GoesOn honest history old.layout old.checkpoint new.checkpoint old.disk new.disk result
+
+pub gone : {D : Type 0} {honest : D → Type 0} {history : D → History} {size failures : D → ℕ} {within old new : Engine D} {result : Result (Unit {0}) Refusal} → within ≡ old → IsEngine within.layout within.checkpoint within.log within.kept within.block → old.halted ≡ None
+    → GoOn ≡ due_in within.checkpoint.stage → new ≡ record old { disk = new.disk; checkpoint = new.checkpoint; halted = new.halted } → IsCall size failures honest old.disk new.disk (fault_of result) → new.halted ≡ halted_by old.log.phase result
+    → (next_refusal old.layout old.checkpoint ≡ None → GoesOn honest history old.layout old.checkpoint new.checkpoint old.disk new.disk result) → IsGone honest history size failures old new result
+gone {D} is engine runs due rest call halted goes = record {
+  engine = subst (λ (e : Engine D). IsEngine e.layout e.checkpoint e.log e.kept e.block) is engine;
+  runs = runs;
+  due = subst (λ (e : Engine D). GoOn ≡ due_in e.checkpoint.stage) is due;
+  rest = rest;
+  call = call;
+  halted = halted;
+  goes = goes;
+}
+
+module _ {D : Type 0} (honest : D → Type 0) (history : D → History) (size failures : D → ℕ) (sized : (disk : D) → honest disk → length (stable (history disk)) ≡ size disk) (laws : TheStageIsTheFacts)
+    (old new : Engine D) (result : Result (Unit {0}) Refusal) (w : IsGone honest history size failures old new result) where
+  abbrev was : Standing
+  was = facts_of failures old
+
+  abbrev c : Checkpoint
+  c = old.checkpoint
+
+  abbrev to : Engine D
+  to = record old { disk = new.disk; checkpoint = new.checkpoint; halted = new.halted }
+
+  under : c.stage ≢ Off
+  under = (next_due c.stage w.due).0
+
+  goes : GoesOn honest history old.layout c new.checkpoint old.disk new.disk result
+  goes = w.goes (here old.layout c (next_refusal_at (stage_of c)) w.engine.layout ∙ (next_due c.stage w.due).1)
+
+  check_none : refusal_here was Check ≡ None
+  check_none = sym (laws.refused was c under) ∙ (next_due c.stage w.due).1
+
+  facts_gone : (f : Found) → new.checkpoint ≡ gone_on c → failures new.disk ≡ failures old.disk → new.halted ≡ None → facts_of failures to ≡ after was Check f
+  facts_gone f same rose still =
+      let moved_on : facts_of failures to ≡ record was { stage = stage_of (gone_on c) } = rw same (rw rose (rw still (rw w.runs refl))) in
+      moved_on ∙ ap (λ (stage : StageOf). record was { stage = stage }) (laws.gone_on was f.left c under)
+
+  -- on any device
+  gone_moves : new.checkpoint ≡ gone_on c → failures new.disk ≡ failures old.disk → new.halted ≡ None → Moves was Check Wrote (facts_of failures to)
+  gone_moves same rose still =
+      let f : Found = record { verdict = Commit; stale = false; left = []; row = None } in
+      subst (λ (a : Answer). Moves was Check a (facts_of failures to)) (wrote_by was c.stage under) (done_moves was Check f (facts_of failures to) (ap is_some w.runs) check_none (facts_gone f same rose still))
+
+  gone_fault : new.checkpoint ≡ c → Rises (failures old.disk) (failures new.disk) → new.halted ≡ Some old.log.phase → Moves was Check (Refused DiskFault) (facts_of failures to)
+  gone_fault same rises still = fault_moves was Check (facts_of failures to) (ap is_some w.runs) check_none (device_by c.stage under) rises (rw same (rw still (rw w.runs refl)))
+
+  -- at a node
+  module _ (n : Node) (holds : Holds honest history failures n old) (nodes : NodesStayNodes) (law : NodesLeaveTheirFronts) (apart : TheCheckpointIsApart) where
+    there_on : Stands history n old
+    there_on = holds.runs w.runs
+
+    abbrev l : Layout
+    l = layout_of c.base.params
+
+    abbrev long : ℕ
+    long = length (stable (history old.disk))
+
+    abbrev m : Node
+    m = moved n Check
+
+    moving : CheckpointSteps long l (history old.disk) (history new.disk) there_on.states (gone_on c) (gone_on c) n.base there_on.stands.goal result
+    moving =
+        let on : GoesOn honest history l c new.checkpoint old.disk new.disk result = subst (λ (k : Layout). GoesOn honest history k c new.checkpoint old.disk new.disk result) w.engine.layout goes in
+        on.steps holds.is_honest long there_on.states n.base there_on.stands.goal (subst (λ (k : Layout). Assigns k (history old.disk) there_on.states) w.engine.layout there_on.assigns) there_on.stands.checkpoint
+
+    stands_gone : StandsAs m long (gone_on c) old.log there_on.blocks there_on.sealed moving.states
+    stands_gone =
+        let k = there_on.stands in
+        stands_at_stage n m.facts.stage long c (gone_in c.stage) old.log there_on.blocks there_on.sealed there_on.states moving.states k.goal k moving.during_is
+        (λ other part e. let before = gone_toward c.stage other part e in k.toward other before.0 before.1)
+        (apart l old.log (c.base.position + 1) there_on.blocks there_on.sealed there_on.states moving.states moving.elsewhere k.log_is)
+
+    stopped_not : n.facts.stopped ≡ false
+    stopped_not = ap (λ (t : Standing). t.stopped) holds.facts ∙ ap is_some w.runs
+
+    none_here : refusal_here n.facts Check ≡ None
+    none_here = ap (λ (t : Standing). refusal_here t Check) holds.facts ∙ check_none
+
+    steps_gone : Steps n Check Wrote m
+    steps_gone =
+        subst (λ (a : Answer). Steps n Check a m) (ap (check_answer n.facts) (ap (λ (t : Standing). t.stage) holds.facts) ∙ wrote_by n.facts c.stage under) (done_steps n Check stopped_not none_here)
+
+    steps_halt : Rises (failures old.disk) (failures new.disk) → Steps n Check (Refused DiskFault) (halted_node (failures new.disk) n)
+    steps_halt rises =
+        fault_steps n Check (failures new.disk) stopped_not none_here (ap (λ stage. not (is_none_under_way stage)) (ap (λ (t : Standing). t.stage) holds.facts) ∙ device_by c.stage under) (subst (λ k. Rises k (failures new.disk)) (sym (ap (λ (t : Standing). t.failures) holds.facts)) rises)
+
+    long_stays : length (stable (history new.disk)) ≡ long
+    long_stays = sized new.disk (w.call.stays_honest holds.is_honest) ∙ w.call.same_size ∙ sym (sized old.disk holds.is_honest)
+
+    images_gone : (image : List ℕ) → IsImage (history new.disk) image → IsFrontAt Means m image
+    images_gone = fronts_of law m (history new.disk) long (gone_on c) old.log there_on.blocks there_on.sealed moving.states (nodes n m Check Wrote holds.node steps_gone) stands_gone long_stays moving.reaches.images
+
+    pub gone_leaves : LeavesOnly (history old.disk) (history new.disk) (IsFrontAt Means n)
+    gone_leaves = leaves_weaker (history old.disk) (history new.disk) (λ image here. same_front m n image refl refl refl refl refl (images_gone image here)) moving.reaches.moments
+
+    gone_holds : Assigns l (history new.disk) moving.states → new.checkpoint ≡ gone_on c → failures new.disk ≡ failures old.disk → new.halted ≡ None → (m : Node) × Steps n Check Wrote m × Holds honest history failures m to
+    gone_holds assigns same rose still = (
+      m,
+      steps_gone,
+      record {
+        is_honest = w.call.stays_honest holds.is_honest;
+        facts = ap (λ (t : Standing). after t Check (found n Check)) holds.facts ∙ sym (facts_gone (found n Check) same rose still);
+        node = nodes n m Check Wrote holds.node steps_gone;
+        runs = λ on. record {
+          states = moving.states;
+          assigns = subst (λ (k : Layout). Assigns k (history new.disk) moving.states) (sym w.engine.layout) assigns;
+          blocks = there_on.blocks;
+          sealed = there_on.sealed;
+          stands = subst (λ (k : Checkpoint). StandsAs m (length (stable (history new.disk))) k old.log there_on.blocks there_on.sealed moving.states) (sym same) (subst (λ i. StandsAs m i (gone_on c) old.log there_on.blocks there_on.sealed moving.states) (sym long_stays) stands_gone);
+          versions = there_on.versions;
+          gates = there_on.gates;
+        };
+        images = images_gone;
+      },
+    )
+
+    gone_halts : new.checkpoint ≡ c → Rises (failures old.disk) (failures new.disk) → new.halted ≡ Some old.log.phase → (m : Node) × Steps n Check (Refused DiskFault) m × Holds honest history failures m to
+    gone_halts same rises still = (
+      halted_node (failures new.disk) n,
+      steps_halt rises,
+      record {
+        is_honest = w.call.stays_honest holds.is_honest;
+        facts = rw holds.facts (rw same (rw still (rw w.runs refl)));
+        node = nodes n (halted_node (failures new.disk) n) Check (Refused DiskFault) holds.node (steps_halt rises);
+        runs = λ on. let never : Some old.log.phase ≡ None = sym still ∙ on in absurd cc;
+        images = λ image here. same_front m (halted_node (failures new.disk) n) image refl refl refl refl refl (images_gone image here);
+      },
+    )
+
+-- what it answers and where it leads, by how it came out
+pub check_moves : {D : Type 0} (honest : D → Type 0) (history : D → History) (size failures : D → ℕ) (sized : (disk : D) → honest disk → length (stable (history disk)) ≡ size disk) (laws : TheStageIsTheFacts) (old new : Engine D) (result : Result (Unit {0}) Refusal)
+    → IsGone honest history size failures old new result → Moves (facts_of failures old) Check (wrote result) (facts_of failures new)
+check_moves honest history size failures sized laws old new (Ok x) w =
+    subst (λ e. Moves (facts_of failures old) Check Wrote (facts_of failures e)) (sym w.rest)
+    (gone_moves honest history size failures sized laws old new (Ok x) w (goes honest history size failures sized laws old new (Ok x) w).done (w.call.no_cause refl) w.halted)
+check_moves honest history size failures sized laws old new (Err e) w =
+    let fault = (goes honest history size failures sized laws old new (Err e) w).fault in
+    subst (λ (r : Refusal). Moves (facts_of failures old) Check (Refused r) (facts_of failures new)) (sym fault.0)
+    (subst (λ e. Moves (facts_of failures old) Check (Refused DiskFault) (facts_of failures e)) (sym w.rest)
+    (gone_fault honest history size failures sized laws old new (Err e) w fault.1 (rises_by (Unit {0}) e fault.0 w.call) (w.halted ∙ ap (λ (r : Refusal). halted_by {T = Unit {0}} old.log.phase (Err r)) fault.0)))
+
+pub check_holds : {D : Type 0} (honest : D → Type 0) (history : D → History) (size failures : D → ℕ) (sized : (disk : D) → honest disk → length (stable (history disk)) ≡ size disk) (laws : TheStageIsTheFacts) (old new : Engine D) (result : Result (Unit {0}) Refusal)
+    → IsGone honest history size failures old new result → (n : Node) → Holds honest history failures n old → NodesStayNodes → NodesLeaveTheirFronts → TheCheckpointIsApart → (m : Node) × Steps n Check (wrote result) m × Holds honest history failures m new
+check_holds honest history size failures sized laws old new (Ok x) w n holds nodes law apart =
+    let on = moving honest history size failures sized laws old new (Ok x) w n holds nodes law apart in
+    subst (λ e. (m : Node) × Steps n Check Wrote m × Holds honest history failures m e) (sym w.rest)
+    (gone_holds honest history size failures sized laws old new (Ok x) w n holds nodes law apart on.reaches.ok (goes honest history size failures sized laws old new (Ok x) w).done (w.call.no_cause refl) w.halted)
+check_holds honest history size failures sized laws old new (Err e) w n holds nodes law apart =
+    let fault = (goes honest history size failures sized laws old new (Err e) w).fault in
+    subst (λ (r : Refusal). (m : Node) × Steps n Check (Refused r) m × Holds honest history failures m new) (sym fault.0)
+    (subst (λ e. (m : Node) × Steps n Check (Refused DiskFault) m × Holds honest history failures m e) (sym w.rest)
+    (gone_halts honest history size failures sized laws old new (Err e) w n holds nodes law apart fault.1 (rises_by (Unit {0}) e fault.0 w.call) (w.halted ∙ ap (λ (r : Refusal). halted_by {T = Unit {0}} old.log.phase (Err r)) fault.0)))
 
 -- ---- how a beginning comes out
 
@@ -523,13 +498,6 @@ waiting (Toward to SuperFilled) not_begin not_next = absurd (not_next refl)
 waiting (Toward to SuperOpening) not_begin not_next = ((λ off. absurd cc), refl)
 waiting (Retiring false) not_begin not_next = absurd (not_next refl)
 waiting (Retiring true) not_begin not_next = ((λ off. absurd cc), refl)
-
--- on the places of its parameters
-own_layout : (l : Layout) → is_layout l l ≡ true
-own_layout l = grind (arith, nat_tests)
-
-pub here : (l : Layout) (c : Checkpoint) (o : Option Refusal) → l ≡ layout_of c.base.params → unless_other l c o ≡ o
-here l c o same = ap (λ b. if b then o else Some NotDue) (ap (is_layout l) (sym same) ∙ own_layout l)
 
 pub waits_steps : {D : Type 0} (honest : D → Type 0) (history : D → History) (failures : D → ℕ) (laws : TheStageIsTheFacts) (old : Engine D) (n : Node) → Holds honest history failures n old → old.halted ≡ None
     → ((due_in old.checkpoint.stage ≡ Begin) → ⊥) → ((due_in old.checkpoint.stage ≡ GoOn) → ⊥) → Steps n Check (Refused NotDue) n

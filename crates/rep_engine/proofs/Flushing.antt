@@ -47,57 +47,25 @@ use Rattle.rep_engine.specs.Holding.{Stands, Holds, wrote}
 use Rattle.rep_engine.specs.Reading.{halted_by}
 use Rattle.rep_engine.proofs.Steps.{refused_moves, done_moves, fault_moves, corrupt_moves, refused_steps, done_steps, fault_steps, halted_node, leaves_weaker}
 use Rattle.rep_engine.proofs.Refusing.{refused_after, checkpoint_stays, stays_stopped}
-use Rattle.rep_engine.proofs.Standing.{same_front, fronts_of}
+use Rattle.rep_engine.proofs.Going.{stage_or_same}
+use Rattle.rep_engine.proofs.Standing.{same_front, fronts_of, stands_at_stage}
 use Rattle.rep_engine.proofs.Checking.{here, next_in}
 
 -- its goal stays
-same_goal : (base durable start up page : ℕ) (stage : Stage) → HasGoal base durable start up (stage_in stage) → HasGoal base durable start up (stage_in (flushed_in page stage))
-same_goal base durable start up page Off h = tt
-same_goal base durable start up page (Toward to part) h = record { above = h.above; within = h.within; started = h.started; begun = h.begun }
-same_goal base durable start up page (Retiring written) h = tt
-
-same_behind : (log : _) (page : ℕ) (stage : Stage) → HasItemsBehind (stage_in stage) log → HasItemsBehind (stage_in (flushed_in page stage)) log
-same_behind log page Off h = tt
-same_behind log page (Toward to part) h = h
-same_behind log page (Retiring written) h = tt
-
-engine_flushed : (l : Layout) (c d : Checkpoint) (log : Log) (kept : _) (block : List Judged) (page : ℕ) → IsEngine l c log kept block → IsCheckpoint d → d ≡ flushed page c → IsEngine l d log kept block
-engine_flushed l c d log kept block page h is same = subst (λ (k : Checkpoint). IsEngine l k log kept block) (sym same) (record {
-  checkpoint = subst IsCheckpoint same is;
-  layout = h.layout;
-  cells = h.cells;
-  start = h.start;
-  behind = h.behind;
-  begun = h.begun;
-  room = h.room;
-  items = h.items;
-  goal = same_goal c.base.position (durable_of log) log.start log.next page c.stage h.goal;
-  behind_goal = same_behind log page c.stage h.behind_goal;
-  follow = h.follow;
-  fits = h.fits;
-  few = h.few;
-  whole = h.whole;
-  limit = h.limit;
-  undefined = h.undefined;
-  within = h.within;
-})
+same_goal : (base durable page : ℕ) (log : Log) (stage : Stage) → HasGoal base durable log.start log.next (stage_in stage) → HasItemsBehind (stage_in stage) log → HasGoal base durable log.start log.next (stage_in (flushed_in page stage)) × HasItemsBehind (stage_in (flushed_in page stage)) log
+same_goal base durable page log Off goal behind = (tt, tt)
+same_goal base durable page log (Toward to part) goal behind = (record { above = goal.above; within = goal.within; started = goal.started; begun = goal.begun }, behind)
+same_goal base durable page log (Retiring written) goal behind = (tt, tt)
 
 -- the page is no longer left, or the checkpoint stands as it did
 went_by : {D : Type 0} (honest : D → Type 0) (history : D → History) (l : Layout) (kept : _) (page : ℕ) (c d : Checkpoint) (old disk : D) (result : Result (Unit {0}) Refusal) → Flushes honest history l kept page c d old disk result → (d ≡ c) ⊎ (d ≡ flushed page c)
 went_by honest history l kept page c d old disk (Ok x) h = inr h.done
 went_by honest history l kept page c d old disk (Err e) h = inl h.fault.1
 
-went : {D : Type 0} (honest : D → Type 0) (history : D → History) (l : Layout) (kept : _) (page : ℕ) (c d : Checkpoint) (old disk : D) (result : Result (Unit {0}) Refusal) (o : Option Refusal)
-    → IfSome o (λ e. IsRefused e c d old disk result) → (o ≡ None → Flushes honest history l kept page c d old disk result) → (d ≡ c) ⊎ (d ≡ flushed page c)
-went honest history l kept page c d old disk result None refused flushes = went_by honest history l kept page c d old disk result (flushes refl)
-went honest history l kept page c d old disk result (Some e) refused flushes = inl refused.checkpoint
-
 pub engine_went : {D : Type 0} (honest : D → Type 0) (history : D → History) (l : Layout) (c d : Checkpoint) (log : Log) (kept : _) (block : List Judged) (page : ℕ) (old disk : D) (result : Result (Unit {0}) Refusal)
     → IsEngine l c log kept block → IsCheckpoint d → IfSome (flush_refusal l c page) (λ e. IsRefused e c d old disk result) → (flush_refusal l c page ≡ None → Flushes honest history l kept page c d old disk result) → IsEngine l d log kept block
-engine_went honest history l c d log kept block page old disk result h is refused flushes = elim (went honest history l kept page c d old disk result (flush_refusal l c page) refused flushes) [
-  | inl same ↦ subst (λ (k : Checkpoint). IsEngine l k log kept block) (sym same) h
-  | inr on ↦ engine_flushed l c d log kept block page h is on
-]
+engine_went honest history l c d log kept block page old disk result h is refused flushes =
+    stage_or_same l c d (flushed_in page c.stage) log kept block old disk result (flush_refusal l c page) h is (same_goal c.base.position (durable_of log) page log c.stage h.goal h.behind_goal) refused (λ none. went_by honest history l kept page c d old disk result (flushes none))
 
 -- ---- a page that is left
 
@@ -160,14 +128,29 @@ module _ {D : Type 0} (honest : D → Type 0) (history : D → History) (size fa
   facts_same : old.halted ≡ None → d ≡ c → failures dk ≡ failures old.disk → hl ≡ None → facts_of failures to ≡ was
   facts_same runs same rose still = rw same (rw rose (rw still (rw runs refl)))
 
+  -- what it did where it was left
+  left_flushes : (result : Result (Unit {0}) Refusal) → IsFlushed honest history size failures old dk d hl page result → flush_refusal_at (stage_of c) page ≡ None → Flushes honest history old.layout old.kept page c d old.disk dk result
+  left_flushes result h none = h.flushes (here old.layout c (flush_refusal_at (stage_of c) page) h.engine.layout ∙ none)
+
+  -- and where it wasn't: nothing
+  nothing_done : (result : Result (Unit {0}) Refusal) → IsFlushed honest history size failures old dk d hl page result → (r : Refusal) → r ≡ NotDue → flush_refusal_at (stage_of c) page ≡ Some r → (result ≡ Err r) × (to ≡ old)
+  nothing_done result h r not_due some =
+      let at = here old.layout c (flush_refusal_at (stage_of c) page) h.engine.layout ∙ some in
+      let refused : IsRefused r c d old.disk dk result = subst (λ (o : Option Refusal). IfSome o (λ e. IsRefused e c d old.disk dk result)) at h.refused in
+      let still : hl ≡ None = h.halted ∙ ap (halted_by old.log.phase) (refused.refused ∙ ap Err not_due) in (
+        refused.refused,
+        ap (λ (o : Option Phase). record old { disk = dk; checkpoint = d; halted = o }) (still ∙ sym h.runs)
+            ∙ ap (λ (k : Checkpoint). record old { disk = dk; checkpoint = k }) refused.checkpoint ∙ ap (λ (x : D). record old { disk = x }) refused.disk,
+      )
+
   -- on any device, where it was left
   left_moves : (result : Result (Unit {0}) Refusal) → IsFlushed honest history size failures old dk d hl page result → flush_refusal_at (stage_of c) page ≡ None → Moves was (Flush page) (wrote result) (facts_of failures to)
   left_moves (Ok x) h none =
       let f : Found = record { verdict = Commit; stale = false; left = []; row = None } in
-      let goes = h.flushes (here old.layout c (flush_refusal_at (stage_of c) page) h.engine.layout ∙ none) in
+      let goes = left_flushes (Ok x) h none in
       done_moves was (Flush page) f (facts_of failures to) (ap is_some h.runs) none (facts_flushed f h.runs goes.done (h.call.no_cause refl) h.halted)
   left_moves (Err e) h none =
-      let goes = h.flushes (here old.layout c (flush_refusal_at (stage_of c) page) h.engine.layout ∙ none) in
+      let goes = left_flushes (Err e) h none in
       elim goes.fault.0 [
         | inl fault ↦
             let call = subst (λ (r : Refusal). IsCall size failures honest old.disk dk (fault_of {T = Unit {0}} (Err r))) fault h.call in
@@ -184,20 +167,11 @@ module _ {D : Type 0} (honest : D → Type 0) (history : D → History) (size fa
   -- and where it wasn't
   other_moves : (result : Result (Unit {0}) Refusal) → IsFlushed honest history size failures old dk d hl page result → (r : Refusal) → r ≡ NotDue → flush_refusal_at (stage_of c) page ≡ Some r → Moves was (Flush page) (wrote result) (facts_of failures to)
   other_moves result h r not_due some =
-      let at = here old.layout c (flush_refusal_at (stage_of c) page) h.engine.layout ∙ some in
-      let refused : IsRefused r c d old.disk dk result = subst (λ (o : Option Refusal). IfSome o (λ e. IsRefused e c d old.disk dk result)) at h.refused in
-      let still : hl ≡ None = h.halted ∙ ap (halted_by old.log.phase) (refused.refused ∙ ap Err not_due) in
-      let same : facts_of failures to ≡ was = facts_same h.runs refused.checkpoint (ap failures refused.disk) still in
-      subst (λ (a : _). Moves was (Flush page) a (facts_of failures to)) (ap wrote (sym refused.refused))
-      (subst (Moves was (Flush page) (Refused r)) (sym same) (refused_moves was (Flush page) r (ap is_some h.runs) some))
+      let nothing = nothing_done result h r not_due some in
+      subst (λ (a : _). Moves was (Flush page) a (facts_of failures to)) (ap wrote (sym nothing.0))
+      (subst (λ (e : Engine D). Moves was (Flush page) (Refused r) (facts_of failures e)) (sym nothing.1) (refused_moves was (Flush page) r (ap is_some h.runs) some))
 
   -- ---- what a refusal leaves
-
-  went_back : (result : Result (Unit {0}) Refusal) (r : Refusal) → r ≡ NotDue → old.halted ≡ None → hl ≡ halted_by old.log.phase result → IsRefused r c d old.disk dk result → to ≡ old
-  went_back result r not_due runs halted refused =
-      let still : hl ≡ None = halted ∙ ap (halted_by old.log.phase) (refused.refused ∙ ap Err not_due) in
-      ap (λ (o : Option Phase). record old { disk = dk; checkpoint = d; halted = o }) (still ∙ sym runs)
-      ∙ ap (λ (k : Checkpoint). record old { disk = dk; checkpoint = k }) refused.checkpoint ∙ ap (λ (x : D). record old { disk = x }) refused.disk
 
   abbrev Left : Refusal → Type 0
   Left e = (e ≡ DiskFault) ⊎ (((e ≡ Corrupt Pages) × (to ≡ record old { disk = dk })) ⊎ (to ≡ old))
@@ -205,14 +179,11 @@ module _ {D : Type 0} (honest : D → Type 0) (history : D → History) (size fa
   left_due : (result : Result (Unit {0}) Refusal) → IsFlushed honest history size failures old dk d hl page result → flush_refusal_at (stage_of c) page ≡ None → IfErr result Left
   left_due (Ok x) h none = tt
   left_due (Err e) h none =
-      let goes = h.flushes (here old.layout c (flush_refusal_at (stage_of c) page) h.engine.layout ∙ none) in
+      let goes = left_flushes (Err e) h none in
       refused_after {T = Unit {0}} old to (Err e) h.runs (checkpoint_stays {T = Unit {0}} old to (Err e) refl h.halted h.unchanged) goes.fault.0
 
   left_other : (result : Result (Unit {0}) Refusal) → IsFlushed honest history size failures old dk d hl page result → (r : Refusal) → r ≡ NotDue → flush_refusal_at (stage_of c) page ≡ Some r → IfErr result Left
-  left_other result h r not_due some =
-      let at = here old.layout c (flush_refusal_at (stage_of c) page) h.engine.layout ∙ some in
-      let refused : IsRefused r c d old.disk dk result = subst (λ (o : Option Refusal). IfSome o (λ e. IsRefused e c d old.disk dk result)) at h.refused in
-      subst (λ (a : Result (Unit {0}) Refusal). IfErr a Left) (sym refused.refused) (inr (inr (went_back result r not_due h.runs h.halted refused)))
+  left_other result h r not_due some = let nothing = nothing_done result h r not_due some in subst (λ (a : Result (Unit {0}) Refusal). IfErr a Left) (sym nothing.0) (inr (inr nothing.1))
 
   -- ---- what the bytes say
 
@@ -220,13 +191,11 @@ module _ {D : Type 0} (honest : D → Type 0) (history : D → History) (size fa
   Spelled result = honest old.disk → IsPageReadable old.layout (history old.disk) c.base page → FlushesAsSpelled old.layout c.base old.kept (position_in c.stage) page (history old.disk) (history dk) result
 
   spelled_due : (result : Result (Unit {0}) Refusal) → IsFlushed honest history size failures old dk d hl page result → flush_refusal_at (stage_of c) page ≡ None → Spelled result
-  spelled_due result h none = (h.flushes (here old.layout c (flush_refusal_at (stage_of c) page) h.engine.layout ∙ none)).spelled
+  spelled_due result h none = (left_flushes result h none).spelled
 
   spelled_other : (result : Result (Unit {0}) Refusal) → IsFlushed honest history size failures old dk d hl page result → (r : Refusal) → r ≡ NotDue → flush_refusal_at (stage_of c) page ≡ Some r → Spelled result
   spelled_other result h r not_due some =
-      let at = here old.layout c (flush_refusal_at (stage_of c) page) h.engine.layout ∙ some in
-      let refused : IsRefused r c d old.disk dk result = subst (λ (o : Option Refusal). IfSome o (λ e. IsRefused e c d old.disk dk result)) at h.refused in
-      subst Spelled (sym refused.refused) (λ is_honest readable. refused_spelled old.layout c.base old.kept (position_in c.stage) page (history old.disk) (history dk) r (λ corrupt. let never = sym not_due ∙ corrupt in absurd cc))
+      subst Spelled (sym (nothing_done result h r not_due some).0) (λ is_honest readable. refused_spelled old.layout c.base old.kept (position_in c.stage) page (history old.disk) (history dk) r (λ corrupt. let never = sym not_due ∙ corrupt in absurd cc))
 
   -- ---- at a node
 
@@ -241,14 +210,10 @@ module _ {D : Type 0} (honest : D → Type 0) (history : D → History) (size fa
     other_holds : (result : Result (Unit {0}) Refusal) → IsFlushed honest history size failures old dk d hl page result → (r : Refusal) → r ≡ NotDue → flush_refusal_at (stage_of c) page ≡ Some r
         → (m : Node) × Steps n (Flush page) (wrote result) m × Holds honest history failures m to
     other_holds result h r not_due some =
-        let at = here old.layout c (flush_refusal_at (stage_of c) page) h.engine.layout ∙ some in
-        let refused : IsRefused r c d old.disk dk result = subst (λ (o : Option Refusal). IfSome o (λ e. IsRefused e c d old.disk dk result)) at h.refused in
-        let still : hl ≡ None = h.halted ∙ ap (halted_by old.log.phase) (refused.refused ∙ ap Err not_due) in
-        let back : old ≡ to =
-        ap (λ (x : D). record old { disk = x }) (sym refused.disk) ∙ ap (λ (k : Checkpoint). record old { disk = dk; checkpoint = k }) (sym refused.checkpoint) ∙ ap (λ (o : Option Phase). record old { disk = dk; checkpoint = d; halted = o }) (h.runs ∙ sym still) in (
+        let nothing = nothing_done result h r not_due some in (
           n,
-          subst (λ (a : _). Steps n (Flush page) a n) (ap wrote (sym refused.refused)) (refused_steps n (Flush page) r (stopped_not h.runs) (at_node ∙ some)),
-          subst (λ (e : Engine D). Holds honest history failures n e) back holds,
+          subst (λ (a : _). Steps n (Flush page) a n) (ap wrote (sym nothing.0)) (refused_steps n (Flush page) r (stopped_not h.runs) (at_node ∙ some)),
+          subst (λ (e : Engine D). Holds honest history failures n e) (sym nothing.1) holds,
         )
 
     module _ (nodes : NodesStayNodes) (law : NodesLeaveTheirFronts) (apart : TheCheckpointIsApart) (lead : VersionsLeadToTheState) (result : Result (Unit {0}) Refusal) (h : IsFlushed honest history size failures old dk d hl page result)
@@ -266,7 +231,7 @@ module _ {D : Type 0} (honest : D → Type 0) (history : D → History) (size fa
       m = moved n (Flush page)
 
       goes : Flushes honest history l old.kept page c d old.disk dk result
-      goes = subst (λ (k : Layout). Flushes honest history k old.kept page c d old.disk dk result) h.engine.layout (h.flushes (here old.layout c (flush_refusal_at (stage_of c) page) h.engine.layout ∙ none))
+      goes = subst (λ (k : Layout). Flushes honest history k old.kept page c d old.disk dk result) h.engine.layout (left_flushes result h none)
 
       toward_goal : (next : Next) × (c.stage ≡ Toward next Flushing)
       toward_goal = flushing page c.stage none
@@ -288,20 +253,8 @@ module _ {D : Type 0} (honest : D → Type 0) (history : D → History) (size fa
       -- during the call, and where it failed, it stands as it did
       stands_during : StandsAs n long c old.log there.blocks there.sealed moving.states
       stands_during =
-          let k = there.stands in record {
-            uuid = k.uuid;
-            setting = k.setting;
-            goal = k.goal;
-            checkpoint = moving.during_is;
-            toward = k.toward;
-            start = k.start;
-            log_is = apart l old.log (c.base.position + 1) there.blocks there.sealed there.states moving.states moving.elsewhere k.log_is;
-            phase = k.phase;
-            durable = k.durable;
-            coming = k.coming;
-            judged = k.judged;
-            undefined = k.undefined;
-          }
+          stands_at_stage n n.facts.stage long c c.stage old.log there.blocks there.sealed there.states moving.states there.stands.goal there.stands moving.during_is there.stands.toward
+          (apart l old.log (c.base.position + 1) there.blocks there.sealed there.states moving.states moving.elsewhere there.stands.log_is)
 
       long_stays : length (stable (history dk)) ≡ long
       long_stays = sized dk (h.call.stays_honest holds.is_honest) ∙ h.call.same_size ∙ sym (sized old.disk holds.is_honest)
@@ -333,24 +286,11 @@ module _ {D : Type 0} (honest : D → Type 0) (history : D → History) (size fa
             blocks = there.blocks;
             sealed = there.sealed;
             stands = subst (λ (k : Checkpoint). StandsAs m (length (stable (history dk))) k old.log there.blocks there.sealed moving.states) (sym same)
-                (subst (λ i. StandsAs m i (flushed page c) old.log there.blocks there.sealed moving.states) (sym long_stays) (record {
-                  uuid = stands_during.uuid;
-                  setting = stands_during.setting;
-                  goal = there.stands.goal;
-                  checkpoint = is;
-                  toward = λ other part e.
-                      let before = flushed_toward page c.stage other part e in
-                      let old_led = there.stands.toward before.0 part before.1 in
-                      subst (λ b. IsLedTo m old.log there.blocks b there.stands.goal) (sym before.2)
-                      (record { past = old_led.past; position = old_led.position; within = old_led.within; state = old_led.state; cells = old_led.cells; start = old_led.start; few = old_led.few; records = old_led.records });
-                  start = stands_during.start;
-                  log_is = stands_during.log_is;
-                  phase = stands_during.phase;
-                  durable = stands_during.durable;
-                  coming = stands_during.coming;
-                  judged = stands_during.judged;
-                  undefined = stands_during.undefined;
-                }));
+                (subst (λ i. StandsAs m i (flushed page c) old.log there.blocks there.sealed moving.states) (sym long_stays)
+                (stands_at_stage n m.facts.stage long c (flushed_in page c.stage) old.log there.blocks there.sealed moving.states moving.states there.stands.goal stands_during is
+                (λ other part e.
+                let before = flushed_toward page c.stage other part e in
+                subst (λ b. IsLedTo n old.log there.blocks b there.stands.goal) (sym before.2) (there.stands.toward before.0 part before.1)) stands_during.log_is));
             versions = there.versions;
             gates = there.gates;
           };
@@ -421,9 +361,8 @@ module _ {D : Type 0} (honest : D → Type 0) (history : D → History) (size fa
     leaves_by : (o : Option Refusal) → flush_refusal_at (stage_of old.checkpoint) page ≡ o → LeavesOnly (history old.disk) (history dk) (IsFrontAt Means n)
     leaves_by None none = left_leaves honest history size failures sized laws old dk d hl page n holds nodes law apart lead result h none
     leaves_by (Some r) some =
-        let at = here old.layout old.checkpoint (flush_refusal_at (stage_of old.checkpoint) page) h.engine.layout ∙ some in
-        let refused : IsRefused r old.checkpoint d old.disk dk result = subst (λ (o : Option Refusal). IfSome o (λ e. IsRefused e old.checkpoint d old.disk dk result)) at h.refused in
-        subst (λ x. LeavesOnly (history old.disk) (history x) (IsFrontAt Means n)) (sym refused.disk) (record { later = omega arith; since = λ t image le since. inl since })
+        let nothing = nothing_done honest history size failures sized laws old dk d hl page result h r (only_not_due page old.checkpoint.stage r some) some in
+        subst (λ (e : Engine D). LeavesOnly (history old.disk) (history e.disk) (IsFrontAt Means n)) (sym nothing.1) (record { later = omega arith; since = λ t image le since. inl since })
 
     pub flush_leaves : LeavesOnly (history old.disk) (history dk) (IsFrontAt Means n)
     flush_leaves = leaves_by (flush_refusal_at (stage_of old.checkpoint) page) refl

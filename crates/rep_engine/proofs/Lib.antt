@@ -1,6 +1,6 @@
 pub mod Steps
 pub mod Due
-pub mod Items
+pub mod Going
 pub mod Logging
 pub mod Standing
 pub mod Logs

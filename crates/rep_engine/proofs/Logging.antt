@@ -12,9 +12,8 @@ use Rattle.rep_log.specs.Standing.{Standing as Log, stands_at, index_of, due_in,
 use Rattle.rep_steps.specs.declared.event.Event.TheVariants.{Log as to_log}
 use Rattle.rep_steps.specs.Standings.{gathered, log_refusal, underway}
 use Rattle.rep_steps.specs.Moves.{Found, after, logged}
-use Rattle.rep_checkpoint.specs.Standing.{stage_of}
 use Rattle.rep_engine.specs.Engines.{Engine, IsEngine, IsWhole, facts_of}
-use Rattle.rep_engine.proofs.Items.{behind_more}
+use Rattle.rep_engine.proofs.Going.{with_log}
 use Rattle.rep_engine.specs.Writing.{IsWrite, written_in, coming_in}
 
 -- whether the next block's cell is live, and whether it stands open
@@ -118,25 +117,7 @@ module _ {D : Type 0} (failures : D → ℕ) (e : Engine D) (h : IsEngine e.layo
   pub engine_logged : (stale : Bool) → log_refusal (facts_of failures e) e.log.phase ≡ None → IsEngine e.layout e.checkpoint (at_phase (logged (length e.block) stale e.log.phase) e.log) e.kept e.block
   engine_logged stale none =
       let on = goes stale e.log.phase refl none in
-      record {
-        checkpoint = h.checkpoint;
-        layout = h.layout;
-        cells = h.cells;
-        start = h.start;
-        behind = h.behind;
-        begun = h.begun;
-        room = on.room;
-        items = h.items;
-        goal = h.goal;
-        behind_goal = behind_more (stage_of e.checkpoint) e.log (at_phase (logged (length e.block) stale e.log.phase) e.log) (omega arith) h.behind_goal;
-        follow = h.follow;
-        fits = h.fits;
-        few = h.few;
-        whole = on.whole;
-        limit = h.limit;
-        undefined = h.undefined;
-        within = h.within;
-      }
+      with_log e.layout e.checkpoint e.log e.kept e.block h (at_phase (logged (length e.block) stale e.log.phase) e.log) refl refl refl refl on.room on.whole
 
 -- the facts after it
 pub facts_logged : {D : Type 0} (failures : D → ℕ) (e new : Engine D) (f : Found) → e.halted ≡ None → new.halted ≡ None → gathered (facts_of failures e) ≡ length e.block → failures new.disk ≡ failures e.disk

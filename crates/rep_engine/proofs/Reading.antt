@@ -53,8 +53,8 @@ read_page b s content number slot bytes have is shown =
     subst (IsPageOf b number content) (sym same) page.2
 
 -- where the row lies
-pub place_of : (rows : List ℕ) (key : Key) (place : RowPlace) → (if has_row rows key then Some (row_place rows key) else None) ≡ Some place → IsRow rows key × (place ≡ row_place rows key)
-place_of rows key place is = by (has_row rows key) refl is
+pub place_of : {schema : List ℕ} {found : Option RowPlace} (rows : List ℕ) (key : Key) (place : RowPlace) → schema ≡ rows → found ≡ (if has_row schema key then Some (row_place schema key) else None) → found ≡ Some place → IsRow rows key × (place ≡ row_place rows key)
+place_of rows key place same found is = by (has_row rows key) refl (subst (λ (schema : List ℕ). (if has_row schema key then Some (row_place schema key) else None) ≡ Some place) same (sym found ∙ is))
   where
     by : (b : Bool) → has_row rows key ≡ b → (if b then Some (row_place rows key) else None) ≡ Some place → IsRow rows key × (place ≡ row_place rows key)
     by true has e = (grind (arith, nat_tests), cc)

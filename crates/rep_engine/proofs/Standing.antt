@@ -17,10 +17,14 @@ use Rattle.rep_log.specs.declared.phase.Phase.{Phase}
 use Rattle.rep_log.specs.declared.phase.Phase.TheVariants.{Opening}
 use Rattle.rep_log.specs.Standing.{Standing as Log, LogIs}
 use Rattle.rep_log.specs.Laws.{MayHold}
-use Rattle.rep_steps.specs.Standings.{underway}
+use Rattle.rep_steps.specs.Standings.{Stage as StageOf, underway}
 use Rattle.rep_steps.specs.Nodes.{Node, IsNode, reached}
 use Rattle.rep_steps.specs.Images.{AreJudgedFrom, IsFrontAt}
 use Rattle.rep_image.specs.Meanings.{Means}
+use Rattle.rep_checkpoint.specs.declared.stage.Part.{Part}
+use Rattle.rep_checkpoint.specs.declared.stage.Stage.{Stage}
+use Rattle.rep_checkpoint.specs.declared.stage.Stage.TheVariants.{Toward}
+use Rattle.rep_checkpoint.specs.Next.{Next}
 use Rattle.rep_checkpoint.specs.Standing.{Standing as Checkpoint}
 use Rattle.rep_checkpoint.specs.States.{CheckpointIs}
 use Rattle.rep_checkpoint.specs.Laws.{TheLogIsApart}
@@ -100,6 +104,35 @@ stands_on apart n m size c log next blocks sealed coming s t h on start beside i
   coming = coming_is;
   judged = judged;
   undefined = undefined;
+}
+
+-- ---- what stays where the checkpoint is at another stage
+
+-- the node with another stage
+abbrev pub at_stage : StageOf → Node → Node
+at_stage stage n = record n { facts = record n.facts { stage = stage } }
+
+-- what led to a base leads there
+led_at_stage : (n : Node) (stage : StageOf) (log : Log) (blocks : List (List Judged)) (b : SuperBody) (x : State) → IsLedTo n log blocks b x → IsLedTo (at_stage stage n) log blocks b x
+led_at_stage n stage log blocks b x led = record { past = led.past; position = led.position; within = led.within; state = led.state; cells = led.cells; start = led.start; few = led.few; records = led.records }
+
+-- The node stands where it stood, at that stage of its checkpoint.
+pub stands_at_stage : (n : Node) (stage : StageOf) (size : ℕ) (c : Checkpoint) (next : Stage) (log : Log) (blocks : List (List Judged)) (sealed : List Judged) (s t : States) (goal : State) → StandsAs n size c log blocks sealed s
+    → CheckpointIs size (record c { stage = next }) n.base goal t → ((to : Next) (part : Part) → next ≡ Toward to part → IsLedTo n log blocks to.super goal) → LogIs (layout_of c.base.params) log (c.base.position + 1) blocks sealed t
+    → StandsAs (at_stage stage n) size (record c { stage = next }) log blocks sealed t
+stands_at_stage n stage size c next log blocks sealed s t goal stands checkpoint toward is = record {
+  uuid = stands.uuid;
+  setting = stands.setting;
+  goal = goal;
+  checkpoint = checkpoint;
+  toward = λ to part e. led_at_stage n stage log blocks to.super goal (toward to part e);
+  start = stands.start;
+  log_is = is;
+  phase = stands.phase;
+  durable = stands.durable;
+  coming = stands.coming;
+  judged = stands.judged;
+  undefined = stands.undefined;
 }
 
 -- ---- without a cluster nothing is held

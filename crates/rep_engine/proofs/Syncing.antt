@@ -17,7 +17,7 @@ use Rattle.rep_log.specs.Moves.{synced_in, after_sync, durable_by, started}
 use Rattle.rep_steps.specs.declared.event.Event.TheVariants.{Sync}
 use Rattle.rep_steps.specs.Standings.{Stage, Off, Toward, Retiring, Standing, HasGoal, Flushing as To_flush, Saving as To_save, Ready as To_fill, SuperFilling as To_filling, SuperFilled as To_open, SuperOpening as To_opening}
 use Rattle.rep_steps.specs.Moves.{Found, after, opening, taken, synced_phase, start_after}
-use Rattle.rep_engine.proofs.Items.{behind_more}
+use Rattle.rep_engine.proofs.Going.{behind_more, further, with_stage, with_log}
 use Rattle.rep_image.specs.Syncs.{TheSyncedLogIsTheFacts}
 use Rattle.rep_checkpoint.specs.declared.stage.Part.TheVariants.{Flushing, Saving, Ready, SuperFilling, SuperFilled, SuperOpening}
 use Rattle.rep_checkpoint.specs.declared.stage.Stage.{Stage as Stages}
@@ -52,40 +52,12 @@ some_synced log block some = some_by log.phase block some
 
 -- ---- what is so of an engine goes on being so
 
--- a goal within what is durable stays within more
-further : (base : ℕ) {durable more start begun next later : ℕ} → (stage : Stage) → durable ≤ more → start ≡ begun → next ≤ later → HasGoal base durable start next stage → HasGoal base more begun later stage
-further base Off up same on h = tt
-further base (Toward goal part) up same on h = record { above = h.above; within = omega (arith, h.within, up); started = omega (arith, h.started, same); begun = omega (arith, h.begun, on) }
-further base (Retiring written) up same on h = tt
-
 module _ (l : Layout) (c : Checkpoint) (log : Log) (kept : Kept) (block : List Judged) (h : IsEngine l c log kept block) where
-  -- where no block becomes durable
-  stays : (next : Log) → next.cells ≡ log.cells → next.start ≡ log.start → next.seqno ≡ log.seqno → next.next ≡ log.next → next.next + busy next.phase ≤ log.start + log.cells → IsWhole next.phase block → IsEngine l c next kept block
-  stays next cells start seqno number room whole = record {
-    checkpoint = h.checkpoint;
-    layout = h.layout;
-    cells = cells ∙ h.cells;
-    start = start ∙ h.start;
-    behind = omega (arith, h.behind, seqno);
-    begun = omega (arith, h.begun, start, number);
-    room = omega (arith, room, start, cells);
-    goal = further c.base.position (stage_of c) (omega (arith, seqno)) (sym start) (omega (arith, number)) h.goal;
-    items = omega (arith, h.items, start, seqno, number);
-    behind_goal = behind_more (stage_of c) log next (omega (arith, seqno, number)) h.behind_goal;
-    follow = rw seqno h.follow;
-    fits = h.fits;
-    few = h.few;
-    whole = whole;
-    limit = omega (arith, h.limit, seqno);
-    undefined = λ nil. (seqno ∙ (h.undefined nil).0, (h.undefined nil).1);
-    within = rw seqno h.within;
-  }
-
   synced_by : (phase : Phase) → log.phase ≡ phase → IsWhole phase block → log.next + busy phase ≤ log.start + log.cells → IsEngine l c (synced_in log phase) kept (left_of phase block)
-  synced_by Resting e whole room = stays log refl refl refl refl h.room h.whole
-  synced_by Closing e whole room = stays (synced_in log Closing) refl refl refl refl (omega (arith, room)) tt
-  synced_by (Filling n) e whole room = stays (synced_in log (Filling n)) refl refl refl refl room (record { all = whole.all; some = whole.some })
-  synced_by (Filled n) e whole room = stays log refl refl refl refl h.room h.whole
+  synced_by Resting e whole room = h
+  synced_by Closing e whole room = with_log l c log kept block h (synced_in log Closing) refl refl refl refl (omega (arith, room)) tt
+  synced_by (Filling n) e whole room = with_log l c log kept block h (synced_in log (Filling n)) refl refl refl refl room (record { all = whole.all; some = whole.some })
+  synced_by (Filled n) e whole room = h
   synced_by (Opening n) e whole room = record {
     checkpoint = h.checkpoint;
     layout = h.layout;
@@ -135,25 +107,7 @@ module _ (l : Layout) (b : SuperBody) (log : Log) (kept after : Kept) (block : L
   -- the base stays, with the log as it was
   keeps : (stage next : Stages) → IsEngine l (at stage) log kept block → IsCheckpoint (at next) → HasGoal b.position (durable_of log) log.start log.next (stage_of (at next)) → HasItemsBehind (stage_of (at next)) log → after ≡ kept → IsEngine l (at next) (started b.start log) after block
   keeps stage next h is goal behind same =
-      subst (λ (k : Log). IsEngine l (at next) k after block) (sym (started_same log b.start (sym h.start) h.begun)) (subst (λ (k : Kept). IsEngine l (at next) log k block) (sym same) (record {
-        checkpoint = is;
-        layout = h.layout;
-        cells = h.cells;
-        start = h.start;
-        behind = h.behind;
-        begun = h.begun;
-        room = h.room;
-        items = h.items;
-        goal = goal;
-        behind_goal = behind;
-        follow = h.follow;
-        fits = h.fits;
-        few = h.few;
-        whole = h.whole;
-        limit = h.limit;
-        undefined = h.undefined;
-        within = h.within;
-      }))
+      subst (λ (k : Log). IsEngine l (at next) k after block) (sym (started_same log b.start (sym h.start) h.begun)) (subst (λ (k : Kept). IsEngine l (at next) log k block) (sym same) (with_stage l (at stage) log kept block h next is goal behind))
 
   raised_by : (stage : Stages) → IsEngine l (at stage) log kept block → IsCheckpoint (checkpoint_after (at stage)) → PrunesIf (is_opening stage) (checkpoint_after (at stage)).base.position kept after
       → IsEngine l (checkpoint_after (at stage)) (started (checkpoint_after (at stage)).base.start log) after block

@@ -1,8 +1,5 @@
-use Rattle.std.proofs.Common.{◌≡◌, ◌∙◌, None, Some, sym, ap, subst}
-use Rattle.std.specs.Prelude.{if◌then◌else◌}
-use Rattle.rep_types.specs.Settings.{has_row}
+use Rattle.std.proofs.Common.{◌≡◌, ◌∙◌, sym, ap, subst}
 use Rattle.rep_layout.specs.declared.rows.RowPlace.{RowPlace}
-use Rattle.rep_layout.specs.Rows.{row_place}
 use Rattle.rep_pages.specs.declared.page.Page.{Page}
 use Rattle.rep_pages.specs.Pages.{IsPageBody}
 use Rattle.rep_pages.specs.Rows.{row_at}
@@ -28,9 +25,9 @@ returns-in-Ok-clause-read g c = λ honest s content assigns have.
     (λ sure. if_ok c.read_area.result _ c.if-is_err.ensures.negation (c.read_area.ensures.shown honest s assigns sure)) in
     let body = subst (λ rows. IsPageBody rows page.page c.read_area.new.room) (sym c.schema-schema.ensures) page.is_page in
     let same : c.in-Ok.page ≡ page.page = let ok = c.in-Ok.ensures.only page.page body page.is_it page.earlier in cc in
-    let there = place_of b.params.rows c.args.key c.in-Some.place (subst (λ rows. (if has_row rows c.args.key then Some (row_place rows c.args.key) else None) ≡ Some c.in-Some.place) c.schema.ensures (sym c.page_of.ensures ∙ c.in-Some.is)) in (
-      c.row_in.ensures ∙ ap (λ (x : Page). row_at x.rows c.in-Some.place.index) same ∙ ap (λ (x : RowPlace). row_at page.page.rows x.index) there.1
-          ∙ sym (page.rows c.args.key there.0 (sym (ap (λ (x : RowPlace). x.page) there.1))),
+    let is = place_of c.args.superblock.now.params.rows c.args.key c.in-Some.place c.schema.ensures c.page_of.ensures c.in-Some.is in (
+      c.row_in.ensures ∙ ap (λ (x : Page). row_at x.rows c.in-Some.place.index) same ∙ ap (λ (x : RowPlace). row_at page.page.rows x.index) is.1
+          ∙ sym (page.rows c.args.key is.0 (sym (ap (λ (x : RowPlace). x.page) is.1))),
       λ e. absurd cc,
     )
 
@@ -38,14 +35,13 @@ returns-in-Ok-clause-read g c = λ honest s content assigns have.
 
 pub returns-in_default-slot_of-clause-spelled : goal.returns-in_default-slot_of-clause-spelled
 returns-in_default-slot_of-clause-spelled g c = λ honest readable.
-    let b = c.args.superblock.now in
-    let is = place_of b.params.rows c.args.key c.in-Some.place (subst (λ rows. (if has_row rows c.args.key then Some (row_place rows c.args.key) else None) ≡ Some c.in-Some.place) c.schema.ensures (sym c.page_of.ensures ∙ c.in-Some.is)) in
-    row_nowhere _ b c.args.key c.in-Some.place is.1 (λ slot at. c.in_default-slot_of.not-In slot (c.slot_of.ensures ∙ at))
+    let is = place_of c.args.superblock.now.params.rows c.args.key c.in-Some.place c.schema.ensures c.page_of.ensures c.in-Some.is in
+    row_nowhere _ c.args.superblock.now c.args.key c.in-Some.place is.1 (λ slot at. c.in_default-slot_of.not-In slot (c.slot_of.ensures ∙ at))
 
 pub returns-in-Err-clause-spelled : goal.returns-in-Err-clause-spelled
 returns-in-Err-clause-spelled g c = λ honest readable.
     let b = c.args.superblock.now in
-    let is = place_of b.params.rows c.args.key c.in-Some.place (subst (λ rows. (if has_row rows c.args.key then Some (row_place rows c.args.key) else None) ≡ Some c.in-Some.place) c.schema.ensures (sym c.page_of.ensures ∙ c.in-Some.is)) in
+    let is = place_of c.args.superblock.now.params.rows c.args.key c.in-Some.place c.schema.ensures c.page_of.ensures c.in-Some.is in
     let slot_is = sym c.slot_of.ensures ∙ c.in-In.is in
     let shown = if_ok c.read_area.result _ c.if-is_err.ensures.negation (c.read_area.ensures.read honest (subst (λ (p : RowPlace). IsPageReadable (layout_of c.args.cells.now) (g.D.Disk.history (disk_of c.args.cells.now)) b p.page) (sym is.1) readable c.in-In.slot slot_is)) in
     row_corrupt _ b c.args.key c.in-Some.place c.in-In.slot c.read_area.new.room is.0 is.1 slot_is (sym shown) c.in-Err.refusal
@@ -55,7 +51,7 @@ returns-in-Err-clause-spelled g c = λ honest readable.
 pub returns-in-Ok-clause-spelled : goal.returns-in-Ok-clause-spelled
 returns-in-Ok-clause-spelled g c = λ honest readable.
     let b = c.args.superblock.now in
-    let is = place_of b.params.rows c.args.key c.in-Some.place (subst (λ rows. (if has_row rows c.args.key then Some (row_place rows c.args.key) else None) ≡ Some c.in-Some.place) c.schema.ensures (sym c.page_of.ensures ∙ c.in-Some.is)) in
+    let is = place_of c.args.superblock.now.params.rows c.args.key c.in-Some.place c.schema.ensures c.page_of.ensures c.in-Some.is in
     let slot_is = sym c.slot_of.ensures ∙ c.in-In.is in
     let shown = if_ok c.read_area.result _ c.if-is_err.ensures.negation (c.read_area.ensures.read honest (subst (λ (p : RowPlace). IsPageReadable (layout_of c.args.cells.now) (g.D.Disk.history (disk_of c.args.cells.now)) b p.page) (sym is.1) readable c.in-In.slot slot_is)) in
     let found = c.in-Ok.ensures.found in

@@ -1,4 +1,4 @@
-use Rattle.std.proofs.Common.{◌≡◌, ◌⊎◌, ℕ, Some, IfErr, refl, sym, ap, subst, ◌∙◌, arith}
+use Rattle.std.proofs.Common.{◌≡◌, ◌⊎◌, ℕ, Some, IfErr, refl, sym, subst, arith}
 use Rattle.rep_types.specs.declared.refusal.Refusal.TheVariants.{DiskFault, Corrupt, NotDue, Stopped}
 use Rattle.rep_types.specs.declared.refusal.Part.TheVariants.{Pages}
 use Rattle.rep_steps.specs.declared.event.Event.TheVariants.{Flush as to_flush}
@@ -10,7 +10,7 @@ use Rattle.rep_checkpoint.specs.Moves.{position_in}
 use Rattle.rep_checkpoint.specs.Calls.{IsPageReadable, FlushesAsSpelled}
 use Rattle.rep_engine.specs.Engines.{Engine, IsEngine, facts_of}
 use Rattle.rep_engine.specs.Holding.{Holds, wrote}
-use Rattle.rep_engine.proofs.Answering.{none_of}
+use Rattle.rep_engine.proofs.Answering.{runs_of}
 use Rattle.rep_engine.proofs.Flushing.{IsFlushed, flush_moves, flush_holds, flush_leaves, flush_left, flush_stops, flush_spelled, refused_spelled, far_steps}
 use Rattle.rep_engine.proofs.engine.Engine.flush.Goals as goal
 use Rattle.rep_engine.proofs.engine.Engine.flush.Goals.{After-flush_page}
@@ -18,7 +18,7 @@ use Rattle.rep_engine.proofs.engine.Engine.flush.Goals.{After-flush_page}
 flushed_out : (g : _) (c : After-flush_page g) → IsFlushed g.D.Disk.honest g.D.Disk.history g.D.Disk.size g.D.Disk.failures c.args.self.now c.flush_page.new.self.disk c.flush_page.new.self.checkpoint c.flush_page.new.self.halted c.in-Ok.page c.flush_page.result
 flushed_out g c = record {
   engine = subst (λ (e : Engine g.row.D.Denot). IsEngine e.layout e.checkpoint e.log e.kept e.block) c.self.view_is c.self.invariant.0;
-  runs = sym (ap (λ (e : Engine g.row.D.Denot). e.halted) c.self.view_is) ∙ none_of c.self.inside.halted c.if-is_some.ensures;
+  runs = runs_of c.self.view_is c.if-is_some.ensures;
   call = c.flush_page.ensures.call;
   halted = c.flush_page.ensures.halted;
   refused = c.flush_page.ensures.refused;
@@ -43,7 +43,7 @@ returns-in-Ok-clause-leaves g c = λ n holds. flush_leaves g.D.Disk.honest g.D.D
 pub returns-in-Err-clause-steps : goal.returns-in-Err-clause-steps
 returns-in-Err-clause-steps g c = λ n holds.
     let old : Engine g.row.D.Denot = c.args.self.now in
-    let runs = sym (ap (λ (e : Engine g.row.D.Denot). e.halted) c.self.view_is) ∙ none_of c.self.inside.halted c.if-is_some.ensures in
+    let runs = runs_of c.self.view_is c.if-is_some.ensures in
     let checkpoint = subst (λ (e : Engine g.row.D.Denot). IsCheckpoint e.checkpoint) c.self.view_is c.self.invariant.0.checkpoint in
     (n, far_steps g.D.Disk.honest g.D.Disk.history g.D.Disk.failures c.row_places_are_told.ensures old c.args.page n holds runs checkpoint (omega (arith, c.in-Err.ensures)), holds)
 

@@ -1,43 +1,39 @@
 use Rattle.std.specs.Prelude.{length, OnOk}
-use Rattle.std.proofs.Common.{◌≡◌, List, Option, None, Some, refl, sym, ap, subst, ◌∙◌}
+use Rattle.std.proofs.Common.{◌≡◌, Option, None, Some, refl, sym, ap, subst, ◌∙◌}
 use Rattle.rep_disk.specs.Moments.{LeavesOnly}
-use Rattle.rep_types.specs.declared.judged.Judged.{Judged}
-use Rattle.rep_checkpoint.specs.Standing.{Standing as Checkpoint}
-use Rattle.rep_versions.specs.Versions.{Kept}
-use Rattle.rep_cells.specs.declared.cells.Cells.{Cells}
 use Rattle.rep_log.specs.declared.phase.Phase.{Phase}
-use Rattle.rep_log.specs.Standing.{Standing as Log, due_of}
-use Rattle.rep_cells.specs.Device.{disk_of, layout_of}
+use Rattle.rep_log.specs.Standing.{due_of}
+use Rattle.rep_cells.specs.Device.{disk_of}
 use Rattle.rep_steps.specs.declared.event.Event.TheVariants.{Log as to_log}
 use Rattle.rep_steps.specs.Standings.{log_refusal}
 use Rattle.rep_steps.specs.Moves.{Moves}
+use Rattle.rep_steps.specs.Nodes.{Node, Steps}
 use Rattle.rep_steps.specs.Images.{IsFrontAt}
 use Rattle.rep_image.specs.Meanings.{Means}
 use Rattle.rep_engine.specs.Engines.{Engine, facts_of}
 use Rattle.rep_engine.specs.Writing.{written_in}
 use Rattle.rep_engine.specs.Holding.{Holds, wrote}
 use Rattle.rep_engine.proofs.Steps.{refused_log}
-use Rattle.rep_engine.proofs.Answering.{none_of, on_ok, halted_err, halted_ok}
-use Rattle.rep_engine.proofs.Logs.{IsLogged, logged_moves, logged_steps, logged_leaves}
+use Rattle.rep_engine.proofs.Answering.{inside, none_of, runs_of, on_ok, halted_err, halted_ok}
+use Rattle.rep_engine.proofs.Logs.{IsLogged, halted_after, logged_moves, logged_steps, logged_leaves}
 use Rattle.rep_engine.proofs.engine.Engine.log.Goals as goal
-
--- the engine before the call, as it is inside
-abbrev inside : {D : Type 0} {g : _} → Cells D g → Checkpoint → Log → Kept → List Judged → Option Phase → Engine D
-inside cells checkpoint log kept block halted = record { disk = disk_of cells; layout = layout_of cells; checkpoint = checkpoint; log = log; kept = kept; block = block; halted = halted }
+use Rattle.rep_engine.proofs.engine.Engine.log.Goals.{After-write_next-written}
 
 pub returns-in-Some-clause-steps : goal.returns-in-Some-clause-steps
 returns-in-Some-clause-steps g c = λ n holds.
     let old : Engine g.row.D.Denot = c.args.self.now in
-    let runs : old.halted ≡ None = sym (ap (λ (e : Engine g.row.D.Denot). e.halted) c.self.view_is) ∙ none_of c.self.inside.halted c.if-is_some.ensures in
+    let runs : old.halted ≡ None = runs_of c.self.view_is c.if-is_some.ensures in
     let some : log_refusal (facts_of g.D.Disk.failures old) old.log.phase ≡ Some c.in-Some.refusal = sym c.log_refusal.ensures ∙ c.in-Some.is in
     (n, refused_log g.D.Disk.honest g.D.Disk.history g.D.Disk.failures old n holds runs c.in-Some.refusal some, holds)
 
--- ---- where the device failed
+-- ---- what a write did, whether the device failed or not
 
-failed : (g : _) (c : goal.After-self-1 g) → IsLogged g.D.Disk.honest g.D.Disk.history g.D.Disk.size g.D.Disk.failures
-    (inside c.self.inside.cells c.self.inside.checkpoint c.self.inside.log c.self.inside.versions c.self.inside.block c.self.inside.halted)
-    (inside c.write_next-written.new.cells c.self.inside.checkpoint c.write_next-written.new.log c.self.inside.versions c.self.inside.block (Some c.phase-before.result)) c.write_next-written.result
-failed g c = record {
+abbrev after : (g : _) (c : After-write_next-written g) → Option Phase → Engine g.row.D.Denot
+after g c halted = inside c.write_next-written.new.cells c.self.inside.checkpoint c.write_next-written.new.log c.self.inside.versions c.self.inside.block halted
+
+written : (g : _) (c : After-write_next-written g) (halted : Option Phase) → halted ≡ halted_after c.write_next-written.result c.self.inside.log.phase
+    → IsLogged g.D.Disk.honest g.D.Disk.history g.D.Disk.size g.D.Disk.failures (inside c.self.inside.cells c.self.inside.checkpoint c.self.inside.log c.self.inside.versions c.self.inside.block c.self.inside.halted) (after g c halted) c.write_next-written.result
+written g c halted is = record {
   engine = c.self.invariant.0;
   runs = none_of c.self.inside.halted c.if-is_some.ensures;
   none = subst (λ (e : Engine g.row.D.Denot). log_refusal (facts_of g.D.Disk.failures e) e.log.phase ≡ None) (sym c.self.view_is) (sym c.log_refusal.ensures ∙ c.in_default.is);
@@ -47,54 +43,49 @@ failed g c = record {
   same_checkpoint = refl;
   same_kept = refl;
   same_block = refl;
-  halted = ap Some c.phase-before.ensures ∙ halted_err c.write_next-written.result c.self.inside.log.phase c.if-is_err.ensures.value;
+  halted = is;
 }
 
-pub returns-then-is_err-clause-steps : goal.returns-then-is_err-clause-steps
-returns-then-is_err-clause-steps g c = λ n holds.
-    logged_steps g.D.Disk.honest g.D.Disk.history g.D.Disk.size g.D.Disk.failures _ _ g.met.D.Disk.sized c.nodes_stay_nodes.ensures c.nodes_leave_their_fronts.ensures c.the_log_is_apart.ensures c.write_next-written.result (failed g c) n
+steps : (g : _) (c : After-write_next-written g) (halted : Option Phase) → halted ≡ halted_after c.write_next-written.result c.self.inside.log.phase → (n : Node) → Holds g.D.Disk.honest g.D.Disk.history g.D.Disk.failures n c.args.self.now
+    → (m : Node) × Steps n to_log (wrote c.write_next-written.result) m × Holds g.D.Disk.honest g.D.Disk.history g.D.Disk.failures m (after g c halted)
+steps g c halted is n holds =
+    logged_steps g.D.Disk.honest g.D.Disk.history g.D.Disk.size g.D.Disk.failures _ _ g.met.D.Disk.sized c.nodes_stay_nodes.ensures c.nodes_leave_their_fronts.ensures c.the_log_is_apart.ensures c.write_next-written.result (written g c halted is) n
     (subst (λ (e : Engine g.row.D.Denot). Holds g.D.Disk.honest g.D.Disk.history g.D.Disk.failures n e) (sym c.self.view_is) holds)
 
-pub returns-then-is_err-clause-leaves : goal.returns-then-is_err-clause-leaves
-returns-then-is_err-clause-leaves g c = λ n holds.
+leaves : (g : _) (c : After-write_next-written g) (halted : Option Phase) → halted ≡ halted_after c.write_next-written.result c.self.inside.log.phase → (n : Node) → Holds g.D.Disk.honest g.D.Disk.history g.D.Disk.failures n c.args.self.now
+    → LeavesOnly (g.D.Disk.history c.args.self.now.disk) (g.D.Disk.history (disk_of c.write_next-written.new.cells)) (IsFrontAt Means n)
+leaves g c halted is n holds =
     subst (λ (e : Engine g.row.D.Denot). LeavesOnly (g.D.Disk.history e.disk) (g.D.Disk.history (disk_of c.write_next-written.new.cells)) (IsFrontAt Means n)) c.self.view_is
-    (logged_leaves g.D.Disk.honest g.D.Disk.history g.D.Disk.size g.D.Disk.failures _ _ g.met.D.Disk.sized c.nodes_stay_nodes.ensures c.nodes_leave_their_fronts.ensures c.the_log_is_apart.ensures c.write_next-written.result (failed g c) n
+    (logged_leaves g.D.Disk.honest g.D.Disk.history g.D.Disk.size g.D.Disk.failures _ _ g.met.D.Disk.sized c.nodes_stay_nodes.ensures c.nodes_leave_their_fronts.ensures c.the_log_is_apart.ensures c.write_next-written.result (written g c halted is) n
     (subst (λ (e : Engine g.row.D.Denot). Holds g.D.Disk.honest g.D.Disk.history g.D.Disk.failures n e) (sym c.self.view_is) holds))
+
+-- ---- where the device failed
+
+failed : (g : _) (c : goal.After-self-1 g) → Some c.phase-before.result ≡ halted_after c.write_next-written.result c.self.inside.log.phase
+failed g c = ap Some c.phase-before.ensures ∙ halted_err c.write_next-written.result c.self.inside.log.phase c.if-is_err.ensures.value
+
+pub returns-then-is_err-clause-steps : goal.returns-then-is_err-clause-steps
+returns-then-is_err-clause-steps g c = λ n holds. steps g (goal.at.returns-then-is_err-clause-steps g c).After-write_next-written _ (failed g c) n holds
+
+pub returns-then-is_err-clause-leaves : goal.returns-then-is_err-clause-leaves
+returns-then-is_err-clause-leaves g c = λ n holds. leaves g (goal.at.returns-then-is_err-clause-leaves g c).After-write_next-written _ (failed g c) n holds
 
 -- ---- where it was done
 
-done : (g : _) (c : goal.Else-is_err g) → IsLogged g.D.Disk.honest g.D.Disk.history g.D.Disk.size g.D.Disk.failures
-    (inside c.self.inside.cells c.self.inside.checkpoint c.self.inside.log c.self.inside.versions c.self.inside.block c.self.inside.halted)
-    (inside c.write_next-written.new.cells c.self.inside.checkpoint c.write_next-written.new.log c.self.inside.versions c.self.inside.block c.self.inside.halted) c.write_next-written.result
-done g c = record {
-  engine = c.self.invariant.0;
-  runs = none_of c.self.inside.halted c.if-is_some.ensures;
-  none = subst (λ (e : Engine g.row.D.Denot). log_refusal (facts_of g.D.Disk.failures e) e.log.phase ≡ None) (sym c.self.view_is) (sym c.log_refusal.ensures ∙ c.in_default.is);
-  call = c.write_next-written.ensures.call;
-  writes = c.write_next-written.ensures.written;
-  layout = c.write_next-written.ensures.layout;
-  same_checkpoint = refl;
-  same_kept = refl;
-  same_block = refl;
-  halted = none_of c.self.inside.halted c.if-is_some.ensures ∙ halted_ok c.write_next-written.result c.self.inside.log.phase c.if-is_err.ensures.value;
-}
+done : (g : _) (c : goal.Else-is_err g) → c.self.inside.halted ≡ halted_after c.write_next-written.result c.self.inside.log.phase
+done g c = none_of c.self.inside.halted c.if-is_some.ensures ∙ halted_ok c.write_next-written.result c.self.inside.log.phase c.if-is_err.ensures.value
 
 pub returns-else-is_err-clause-moves : goal.returns-else-is_err-clause-moves
 returns-else-is_err-clause-moves g c =
-    subst (λ (e : Engine g.row.D.Denot). Moves (facts_of g.D.Disk.failures e) to_log (wrote c.write_next-written.result)
-    (facts_of g.D.Disk.failures (inside c.write_next-written.new.cells c.self.inside.checkpoint c.write_next-written.new.log c.self.inside.versions c.self.inside.block c.self.inside.halted))) c.self.view_is
-    (logged_moves g.D.Disk.honest g.D.Disk.history g.D.Disk.size g.D.Disk.failures _ _ c.write_next-written.result c.if-is_err.ensures.value (done g c))
+    let at = (goal.at.returns-else-is_err-clause-moves g c).After-write_next-written in
+    subst (λ (e : Engine g.row.D.Denot). Moves (facts_of g.D.Disk.failures e) to_log (wrote c.write_next-written.result) (facts_of g.D.Disk.failures (after g at c.self.inside.halted))) c.self.view_is
+    (logged_moves g.D.Disk.honest g.D.Disk.history g.D.Disk.size g.D.Disk.failures _ _ c.write_next-written.result c.if-is_err.ensures.value (written g at c.self.inside.halted (done g c)))
 
 pub returns-else-is_err-clause-steps : goal.returns-else-is_err-clause-steps
-returns-else-is_err-clause-steps g c = λ n holds.
-    logged_steps g.D.Disk.honest g.D.Disk.history g.D.Disk.size g.D.Disk.failures _ _ g.met.D.Disk.sized c.nodes_stay_nodes.ensures c.nodes_leave_their_fronts.ensures c.the_log_is_apart.ensures c.write_next-written.result (done g c) n
-    (subst (λ (e : Engine g.row.D.Denot). Holds g.D.Disk.honest g.D.Disk.history g.D.Disk.failures n e) (sym c.self.view_is) holds)
+returns-else-is_err-clause-steps g c = λ n holds. steps g (goal.at.returns-else-is_err-clause-steps g c).After-write_next-written _ (done g c) n holds
 
 pub returns-else-is_err-clause-leaves : goal.returns-else-is_err-clause-leaves
-returns-else-is_err-clause-leaves g c = λ n holds.
-    subst (λ (e : Engine g.row.D.Denot). LeavesOnly (g.D.Disk.history e.disk) (g.D.Disk.history (disk_of c.write_next-written.new.cells)) (IsFrontAt Means n)) c.self.view_is
-    (logged_leaves g.D.Disk.honest g.D.Disk.history g.D.Disk.size g.D.Disk.failures _ _ g.met.D.Disk.sized c.nodes_stay_nodes.ensures c.nodes_leave_their_fronts.ensures c.the_log_is_apart.ensures c.write_next-written.result (done g c) n
-    (subst (λ (e : Engine g.row.D.Denot). Holds g.D.Disk.honest g.D.Disk.history g.D.Disk.failures n e) (sym c.self.view_is) holds))
+returns-else-is_err-clause-leaves g c = λ n holds. leaves g (goal.at.returns-else-is_err-clause-leaves g c).After-write_next-written _ (done g c) n holds
 
 pub returns-else-is_err-clause-log : goal.returns-else-is_err-clause-log
 returns-else-is_err-clause-log g c =

@@ -1,15 +1,11 @@
-use Rattle.std.proofs.Common.{◌≡◌, List, Option, Some, Ok, Err, refl, sym, ap, subst, ◌∙◌}
+use Rattle.std.proofs.Common.{◌≡◌, Some, Ok, Err, refl, sym, ap, subst, ◌∙◌}
 use Rattle.rep_disk.specs.Moments.{LeavesOnly}
 use Rattle.rep_disk.specs.Calls.{IsCall}
 use Rattle.rep_cells.specs.Calls.{Settles}
-use Rattle.rep_types.specs.declared.judged.Judged.{Judged}
 use Rattle.rep_types.specs.declared.refusal.Refusal.TheVariants.{DiskFault}
 use Rattle.rep_checkpoint.specs.Standing.{Standing as Checkpoint}
 use Rattle.rep_versions.specs.Versions.{Kept}
 use Rattle.rep_cells.specs.Device.{disk_of, layout_of}
-use Rattle.rep_cells.specs.declared.cells.Cells.{Cells}
-use Rattle.rep_log.specs.declared.phase.Phase.{Phase}
-use Rattle.rep_log.specs.Standing.{Standing as Log}
 use Rattle.rep_log.specs.Moves.{after_sync, started}
 use Rattle.rep_checkpoint.specs.Moves.{after_sync as checkpoint_after, is_opening}
 use Rattle.rep_checkpoint.specs.Calls.{SyncsTo}
@@ -21,12 +17,9 @@ use Rattle.rep_steps.specs.Images.{IsFrontAt}
 use Rattle.rep_image.specs.Meanings.{Means}
 use Rattle.rep_engine.specs.Engines.{Engine, facts_of}
 use Rattle.rep_engine.specs.Holding.{Holds}
-use Rattle.rep_engine.proofs.Answering.{none_of}
+use Rattle.rep_engine.proofs.Answering.{inside, none_of}
 use Rattle.rep_engine.proofs.Syncs.{IsSynced, GoesOn, synced_moves, sync_leaves, sync_halts, sync_holds}
 use Rattle.rep_engine.proofs.engine.Engine.sync.Goals as goal
-
-abbrev inside : {D : Type 0} {g : _} → Cells D g → Checkpoint → Log → Kept → List Judged → Option Phase → Engine D
-inside cells checkpoint log kept block halted = record { disk = disk_of cells; layout = layout_of cells; checkpoint = checkpoint; log = log; kept = kept; block = block; halted = halted }
 
 -- ---- where the device failed
 
