@@ -6,7 +6,7 @@ use mathlib.Core.Logic.{dite}
 use native.Mathlib.Decide.{ℕ_discrete}
 use lib.ListN.{get_elem?}
 use lib.Seq.{set-get_or}
-use Rattle.atomic_table.specs.Table.{State, Me, Act, step, keeps, takes, gives, chain, carried_after, homes_after, Valid, Allows}
+use Rattle.atomic_table.specs.Table.{Act, step, keeps, takes, gives, chain, carried_after, homes_after, Valid, Allows}
 use Rattle.atomic_table.proofs.Lists.{set_here, set_else, set_again}
 use Rattle.rep_ordered.specs.declared.view.GivenUp.{GivenUp}
 use Rattle.rep_ordered.specs.declared.view.Hold.{Hold}

@@ -14,7 +14,7 @@ use Rattle.rep_ordered.specs.declared.view.Mind.{Mind}
 use Rattle.rep_ordered.specs.declared.view.View.{View}
 use Rattle.rep_ordered.specs.declared.rule.Opening.{Opening}
 use Rattle.rep_ordered.specs.Counts.{times, total, gave}
-use Rattle.rep_ordered.specs.Views.{Placed, held_at, floor_at, count_of, drew, on, halted_of}
+use Rattle.rep_ordered.specs.Views.{Placed, held_at, count_of, drew, on, halted_of}
 use Rattle.rep_ordered.specs.Rule.{Figures, HoldIsRight, Kept, first_of}
 use Rattle.rep_ordered.specs.Ends.{Closed, ClosedAt}
 use Rattle.rep_ordered.proofs.Sums.{every_at, every_map, total_only, get_or_there, within_list}

@@ -7,7 +7,7 @@ use native.Mathlib.Decide.{ℕ_discrete}
 use lib.ListN.{get_elem?}
 use lib.Seq.{set-get_or}
 use prog.Atomic.{either}
-use Rattle.atomic_table.specs.Table.{State, Me, step, keeps, takes, stepped, Allows, carried_after}
+use Rattle.atomic_table.specs.Table.{Me, step, keeps, takes, stepped, Allows, carried_after}
 use Rattle.atomic_table.proofs.Lists.{set_here, set_else, set_again}
 use Rattle.rep_ordered.specs.declared.view.Hold.{Hold}
 use Rattle.rep_ordered.specs.declared.view.Mind.{Mind}

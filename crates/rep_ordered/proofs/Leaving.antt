@@ -7,7 +7,7 @@ use mathlib.Core.Logic.{dite}
 use native.Mathlib.Decide.{ℕ_discrete}
 use lib.ListN.{get_elem?}
 use lib.Bits.{or_block, or_comm}
-use Rattle.atomic_table.specs.Table.{State, Me, step, gives, rest, put_back, Allows}
+use Rattle.atomic_table.specs.Table.{Me, step, gives, rest, put_back, Allows}
 use Rattle.atomic_table.proofs.Lists.{at_set, set_here, set_else}
 use Rattle.rep_ordered.specs.declared.view.GivenUp.{GivenUp}
 use Rattle.rep_ordered.specs.declared.view.Hold.{Hold}
@@ -93,6 +93,27 @@ module _ {V E : Type 0} (law : List E → Type 0) (at_home : ℕ → ℕ → ℕ
     pub common : 0 < names j → Names v (common_of x)
     pub covered : j ≡ 1 → Covers durable_of common_of x
     pub lives : Lives v
+
+  -- the same where nothing joins the history, and the turn stays at its number
+  pub departs_silently : (j g : ℕ) (up : ℕ → ℕ) (x : V) (v : View V E) → Holds v j → (let w : ℕ = word_at j v.held in w / 4 ≤ 2 ^ 60 + 1 → busy w ≡ 1 → (up w / 4 ≡ w / 4) × (busy (up w) ≡ 0) × (gave (up w) ≡ g)) → g ≤ v.halted → at_home j (word_at j v.held / 4) g v.seen v.durable x
+      → (j ≡ 1 → floor_at j v.held ≤ durable_of x) → (0 < names j → Names v (common_of x)) → (j ≡ 1 → Covers durable_of common_of x) → Lives v → Departing j (word_at j v.held / 4) g up None x v
+  departs_silently j g up x v holds moves halted meets floor common covered lives = record {
+    holds = holds;
+    moves = moves;
+    forth = omega arith;
+    ticket = λ _. omega arith;
+    side = λ _. refl;
+    counted = λ _. omega arith;
+    kept = λ _. refl;
+    mine = λ some_more. absurd (omega arith);
+    halted = halted;
+    legal = λ some_more. absurd (omega arith);
+    meets = meets;
+    floor = floor;
+    common = common;
+    covered = covered;
+    lives = lives;
+  }
 
 module _ {V E : Type 0} (law : List E → Type 0) (at_home : ℕ → ℕ → ℕ → List E → ℕ → V → Type 0) (durable_of common_of : V → ℕ) (grows : (station number given durable later : ℕ) (history more : List E) (x : V) → at_home station number given history durable x → durable ≤ later → at_home station number given (history ++ more) later x) where
   abbrev Rule : Opening V → Moment V E → Type 0

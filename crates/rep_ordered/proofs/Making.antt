@@ -10,7 +10,7 @@ use Rattle.rep_ordered.specs.Counts.{gave}
 use Rattle.rep_ordered.specs.Views.{Every, names, opened, second_of, untold}
 use Rattle.rep_ordered.specs.Rule.{Figures, Knows, Kept, first_of}
 use Rattle.rep_ordered.specs.Ends.{AllCover, AllMeet, AllName}
-use Rattle.rep_ordered.proofs.Owning.{placed_none}
+use Rattle.rep_ordered.proofs.Owning.{knows_nothing}
 
 later_word : (a b w : ℕ) (ws : List ℕ) (j : ℕ) → get_elem? (a ∷ b ∷ ws) (j + 2) ≡ some w → get_elem? ws j ≡ some w
 later_word a b w ws j e = let up : j + 2 ≡ suc (suc j) = omega arith in sym (ap (get_elem? (a ∷ b ∷ ws)) up) ∙ e
@@ -89,25 +89,7 @@ module _ {V E : Type 0} (law : List E → Type 0) (at_home : ℕ → ℕ → ℕ
           gone = omega arith;
           home = λ _. let x = at_values values j (omega arith) in let m = meet j x.0 x.1 in record { value = x.0; there = x.2; keeps = subst (λ (z : ℕ × ℕ). at_home j z.0 z.1 [] k.durable x.0) (λ i. (turn i, free i)) m.0; backed = backs durable_of common_of k.durable values j x.0 x.1; covers = covered j x.0 x.1; common = all_share durable_of common_of values named j x.0 x.1 };
         };
-        each_seat = λ i v e. subst (Knows k f (k.start ∷ k.durable ∷ replicate n (4 * k.start)) (map some (map Some values))) (alone _ v i e).1 record {
-          starts = refl;
-          wholes = refl;
-          firsts = refl;
-          begins = ([], refl);
-          told = ([], refl);
-          lasts = omega arith;
-          stops = omega arith;
-          stays = λ _. omega arith;
-          below = omega arith;
-          named = omega arith;
-          exact = λ holds. absurd (omega arith);
-          reached = λ j w _. omega arith;
-          holds = tt;
-          lives = λ held _. absurd (omega arith);
-          gone = tt;
-          placed = placed_none k.start [];
-          idle = λ _ _. refl;
-        };
+        each_seat = λ i v e. subst (Knows k f (k.start ∷ k.durable ∷ replicate n (4 * k.start)) (map some (map Some values))) (alone _ v i e).1 (knows_nothing k f _ _ k.start k.whole (first_of k) k.whole k.durable (second_of durable_of k.durable (first_of k)) (second_of common_of 0 (first_of k)) refl refl refl (omega arith) (omega arith) (omega arith));
         known = record { seat = 0; mind = untold (opened durable_of common_of k.start k.whole (first_of k) k.durable); there = refl; lives = λ some_number. omega arith; knows = omega arith };
         lone = λ _. refl;
         lawful = lawful;

@@ -1,8 +1,11 @@
 -- A seat's own entries stand in the history, however it grows.
 use Rattle.std.proofs.Common.{◌≡◌, ◌≢◌, ℕ, zero, suc, ◌+◌, ◌<◌, ◌≤◌, Option, Some, None, List, [], ◌∷◌, ◌++◌, length, sym, refl, ap, ◌∙◌, arith, length-append, append_assoc}
+use mathlib.Core.Option as maybe
+use Rattle.rep_ordered.specs.declared.rule.Opening.{Opening}
 use Rattle.rep_ordered.specs.declared.view.Joined.{Joined}
 use Rattle.rep_ordered.specs.Counts.{one, times}
-use Rattle.rep_ordered.specs.Views.{StartsWith, OwnEntry, Placed, joined_at, joining}
+use Rattle.rep_ordered.specs.Views.{StartsWith, OwnEntry, Placed, joined_at, joining, untold}
+use Rattle.rep_ordered.specs.Rule.{Figures, Knows, first_of}
 use Rattle.rep_ordered.proofs.Sums.{total_append, total_snoc, one_equal, every_map, every_append}
 
 pub append_nil : {A : Type 0} (l : List A) → l ++ [] ≡ l
@@ -91,3 +94,27 @@ module _ {E : Type 0} where
       go : (x t : ℕ) → t ≡ times x own → 0 < times x (own ++ other) → joined_at x (os ++ ps) ≡ 0 → start + length history ≤ x
       go x zero e drawn none_joined = let s = total_append (one x) own other in let j = joined_append x os ps in q.others x (omega arith) (omega arith)
       go x (suc t) e drawn none_joined = let j = joined_append x os ps in p.others x (omega arith) (omega arith)
+
+module _ {V E : Type 0} where
+  -- a seat that has seen, drawn and held nothing knows no more than these numbers
+  pub knows_nothing : (k : Opening V) (f : Figures E) (words : List ℕ) (homes : List (maybe.Option (Option V))) (start whole : ℕ) (first : List V) (allowance durable backed common : ℕ) → start ≡ k.start → whole ≡ k.whole → first ≡ first_of k → durable ≤ f.durable → backed ≤ f.backed → common ≤ f.common
+      → Knows k f words homes (untold (record { start = start; whole = whole; first = first; allowance = allowance; seen = []; own = []; joined = []; durable = durable; halted = 0; backed = backed; common = common; reached = []; held = []; given_up = [] }))
+  knows_nothing k f words homes start whole first allowance durable backed common starts wholes firsts lasts below named = record {
+    starts = starts;
+    wholes = wholes;
+    firsts = firsts;
+    begins = (f.history, refl);
+    told = (f.history, refl);
+    lasts = lasts;
+    stops = omega arith;
+    stays = λ halted. absurd (omega arith);
+    below = below;
+    named = named;
+    exact = λ holds. absurd (omega arith);
+    reached = λ j w _. omega arith;
+    holds = tt;
+    lives = λ held _. absurd (omega arith);
+    gone = tt;
+    placed = placed_none k.start f.history;
+    idle = λ _ _. refl;
+  }

@@ -1,14 +1,14 @@
 -- What holds of a seat between two calls.
-use Rattle.std.proofs.Common.{◌≡◌, ℕ, zero, suc, ◌+◌, ◌*◌, ◌^◌, ◌<◌, ◌≤◌, Option, Some, None, List, [], ◌∷◌, ◌++◌, map, sym, refl, ap, ◌∙◌, subst, arith, length-append, append_assoc}
+use Rattle.std.proofs.Common.{◌≡◌, ℕ, zero, suc, ◌+◌, ◌*◌, ◌^◌, ◌<◌, ◌≤◌, Option, Some, None, List, [], ◌∷◌, ◌++◌, length, map, sym, refl, ap, ◌∙◌, subst, arith, length-append, append_assoc}
 use Rattle.atomic_table.specs.Table.{Me}
 use Rattle.rep_ordered.specs.declared.view.Hold.{Hold}
 use Rattle.rep_ordered.specs.declared.view.Mind.{Mind}
 use Rattle.rep_ordered.specs.declared.view.View.{View}
 use Rattle.rep_ordered.specs.Counts.{one, times}
-use Rattle.rep_ordered.specs.Views.{abandoned_with, Every, HasAll, StartsWith, Later, Lives, hold, reach, held_at, reached_at, backed_after, common_after, both, with_number, knowing, except, without}
+use Rattle.rep_ordered.specs.Views.{Every, HasAll, Holds, StartsWith, Later, Sees, Lives, hold, reach, held_at, reached_at, backed_after, common_after, both, with_number, knowing, except}
 use Rattle.rep_ordered.specs.Steps.{Learns, Entered, Plain, Apart}
 use Rattle.atomic_table.specs.Table.{rest}
-use Rattle.rep_ordered.specs.Seats.{empty_slot, IsSeated}
+use Rattle.rep_ordered.specs.Seats.{empty_slot, IsSeated, Place}
 use Rattle.rep_ordered.proofs.Sums.{total_append, total_snoc, one_equal, every_except}
 use Rattle.rep_ordered.proofs.Owning.{append_nil}
 
@@ -62,6 +62,17 @@ pub front_is : {V : Type 0} (l : List (ℕ × V)) (i j : ℕ) (a : V) (cs : List
 front_is l i j a cs same is = is ∙ (λ k. (same k, a) ∷ ap rest (sym is) k)
 
 module _ {V E : Type 0} where
+  -- what a place says of a station that is held, it says inside as well
+  pub holds_inside : (p q : Place V E) (j : ℕ) → p ≡ q → Holds q.view j → Holds p.view j
+  holds_inside p q j is held = subst (λ (z : Place V E). Holds z.view j) (sym is) held
+
+  -- who has learnt something inside has learnt it as clauses see the seat
+  pub place_later : (law : List E → Type 0) (told : List E) (p q : Place V E) (w : View V E) → p ≡ q → Learns law told p.view w → Later q.view w
+  place_later law told p q w is learns = subst (λ (z : Place V E). Later z.view w) is (later law told p.view w learns)
+
+  pub place_sees : (law : List V → List E → Type 0) (told : List E) (p q : Place V E) (w : View V E) → p ≡ q → Learns (law p.view.first) told p.view w → Sees (law q.view.first) w
+  place_sees law told p q w is learns = subst (λ (z : Place V E). Sees (law z.view.first) w) is learns.sees
+
   pub learnt : (law : List E → Type 0) (n m : ℕ) (me me' : Me (Option V) (Mind V E)) → m ≡ n → Lives me.0.view → me.1 ≡ map empty_slot me.0.view.held → Every (λ (h : Hold). h.station < n) me.0.view.held → Small me.0.view.own → Learns law me.0.told me.0.view me'.0.view → Plain me me' → IsSeated m me'
   learnt law n m me me' size lives slots inside small learns plain = let is = learns.same in record {
     told = plain.0;
@@ -105,34 +116,18 @@ module _ {V E : Type 0} where
           go zero e = let s = total_append (one x) a b in q x (omega arith)
           go (suc t) e = p x (omega arith)
 
-  -- a seat that no longer holds a station stays in its place
-  has_parted : (a b : ℕ) (me m1 m2 : Me (Option V) (Mind V E)) (j : ℕ) (x : Option V) (w : View V E) → b ≡ a → IsSeated a me → m1 ≡ (me.0, (j, x) ∷ map empty_slot (except j me.0.view.held))
-      → m2.0.view ≡ w → w.held ≡ except j me.0.view.held → Lives w → Small w.own → m2.0.told ≡ m1.0.told → m2.1 ≡ rest m1.1 → IsSeated b m2
-  has_parted a b me m1 m2 j x w size seated put now holds lives small told gave =
-      let held : m2.0.view.held ≡ except j me.0.view.held = ap (λ (z : View V E). z.held) now ∙ holds in
-      record {
+  -- a seat that has put its value into a station's slot and left the station, whatever else it made of its view, stays in its place
+  pub parted : (a b : ℕ) (me m1 m2 : Me (Option V) (Mind V E)) (i j : ℕ) (x : Option V) (w : View V E) → b ≡ a → i ≡ j → IsSeated a me → m1 ≡ (me.0, (j, x) ∷ map empty_slot (except j me.0.view.held)) → m2.0.view ≡ w
+      → (w.held ≡ except i m1.0.view.held) × (w.own ≡ m1.0.view.own) × (w.allowance ≡ m1.0.view.allowance) × (w.whole ≡ m1.0.view.whole) → m2.0.told ≡ m1.0.told → m2.1 ≡ rest m1.1 → IsSeated b m2
+  parted a b me m1 m2 i j x w size place seated put now same told gave =
+      let before = ap (λ z. z.0.view) put in let held : m2.0.view.held ≡ except j me.0.view.held = ap (λ (z : View V E). z.held) now ∙ (same.0 ∙ (λ k. except (place k) (before k).held)) in
+      let own : w.own ≡ me.0.view.own = same.1 ∙ ap (λ (z : View V E). z.own) before in record {
         told = told ∙ (ap (λ z. z.0.told) put ∙ seated.told);
-        lives = subst Lives (sym now) lives;
+        lives = subst Lives (sym now) (λ some_number. let l = ap (λ (xs : List ℕ). length xs) own in let p = same.2 ∙ ap (λ (z : View V E). z.allowance) before in let q = same.3 ∙ ap (λ (z : View V E). z.whole) before in let c = seated.lives (omega arith) in omega arith);
         slots = gave ∙ (ap (λ z. rest z.1) put ∙ ap (map empty_slot) (sym held));
         inside = inside_of a b (except j me.0.view.held) m2.0.view.held size held (every_except (λ (h : Hold). h.station < a) j me.0.view.held seated.inside);
-        small = subst (λ (z : View V E). Small z.own) (sym now) small;
+        small = subst (λ (z : View V E). Small z.own) (sym now) (subst Small (sym own) seated.small);
       }
-
-  -- the station was left
-  pub departed : (a b : ℕ) (me m1 m2 : Me (Option V) (Mind V E)) (i j n n' d d' c c' : ℕ) (entry entry' : Option E) (x : Option V) (v : View V E) → b ≡ a → i ≡ j → entry' ≡ entry → d' ≡ d → c' ≡ c → n' ≡ n → me.0.view ≡ v → IsSeated a me
-      → m1 ≡ (me.0, (j, x) ∷ map empty_slot (except j me.0.view.held)) → m2.0.view ≡ without entry' i n' d' c' m1.0.view → m2.0.told ≡ m1.0.told → m2.1 ≡ rest m1.1 → IsSeated b m2 × (m2.0.view ≡ without entry j n d c v)
-  departed a b me m1 m2 i j n n' d d' c c' entry entry' x v size place joins durable common number is seated put left told gave =
-      let before : m1.0.view ≡ v = ap (λ z. z.0.view) put ∙ is in
-      let now : m2.0.view ≡ without entry j n d c v = left ∙ (λ k. without (joins k) (place k) (number k) (durable k) (common k) (before k)) in
-      (has_parted a b me m1 m2 j x (without entry j n d c v) size seated put now (ap (λ (z : View V E). except j z.held) (sym is)) (subst Lives is seated.lives) (subst (λ (z : View V E). Small z.own) is seated.small) told gave, now)
-
-  -- the same where it was given up
-  pub given_away : (a b : ℕ) (me m1 m2 : Me (Option V) (Mind V E)) (i j n n' d d' c c' : ℕ) (xs xs' : List V) (x : Option V) (v : View V E) → b ≡ a → i ≡ j → xs' ≡ xs → d' ≡ d → c' ≡ c → n' ≡ n → me.0.view ≡ v → IsSeated a me
-      → m1 ≡ (me.0, (j, x) ∷ map empty_slot (except j me.0.view.held)) → m2.0.view ≡ abandoned_with i xs' (without None i n' d' c' m1.0.view) → m2.0.told ≡ m1.0.told → m2.1 ≡ rest m1.1 → IsSeated b m2 × (m2.0.view ≡ abandoned_with j xs (without None j n d c v))
-  given_away a b me m1 m2 i j n n' d d' c c' xs xs' x v size place joins durable common number is seated put left told gave =
-      let before : m1.0.view ≡ v = ap (λ z. z.0.view) put ∙ is in
-      let now : m2.0.view ≡ abandoned_with j xs (without None j n d c v) = left ∙ (λ k. abandoned_with (place k) (joins k) (without None (place k) (number k) (durable k) (common k) (before k))) in
-      (has_parted a b me m1 m2 j x (abandoned_with j xs (without None j n d c v)) size seated put now (ap (λ (z : View V E). except j z.held) (sym is)) (subst Lives is seated.lives) (subst (λ (z : View V E). Small z.own) is seated.small) told gave, now)
 
 module _ {V E : Type 0} (law : List E → Type 0) (at_home : ℕ → ℕ → ℕ → List E → ℕ → V → Type 0) (durable_of common_of : V → ℕ) where
   -- the station was entered, and its slot read

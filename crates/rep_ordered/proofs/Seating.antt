@@ -13,13 +13,22 @@ use Rattle.rep_ordered.specs.declared.view.View.{View}
 use Rattle.rep_ordered.specs.declared.rule.Opening.{Opening}
 use Rattle.rep_ordered.specs.Counts.{one}
 use Rattle.rep_ordered.specs.Views.{held_at, allowance_of, count_of, drew, on, halted_of, spent, giving, given, both, untold}
-use Rattle.rep_ordered.specs.Rule.{Figures, Knows, Station, Kept}
+use Rattle.rep_ordered.specs.Rule.{Figures, Known, Knows, Station, Kept}
 use Rattle.rep_ordered.proofs.Sums.{total_append, total_snoc, total_at, total_set, total_two, every_append, every_map, below_length, reached_both}
-use Rattle.rep_ordered.proofs.Owning.{placed_none, placed_both}
+use Rattle.rep_ordered.proofs.Owning.{knows_nothing, placed_none, placed_both}
 
 -- the greater of two that know of the halt and the durable number
 stays_both : (durable a b c d : ℕ) → (0 < a → durable ≤ c) → (0 < b → durable ≤ d) → 0 < max a b → durable ≤ max c d
 stays_both durable a b c d p q some_halt = dite (ℕ_discrete a 0) (λ none. let t = q (omega arith) in omega arith) (λ some. let t = p (omega arith) in omega arith)
+
+module _ {V E : Type 0} where
+  -- the one that knew the whole history goes on as this one, which has seen and was told as much, and may still act
+  known_by : (k : Opening V) (f : Figures E) (views : List (Mind V E)) (id : ℕ) (b o u : Mind V E) → get_elem? views id ≡ some b → o ≡ u → (0 < k.whole → 0 < o.view.allowance + length o.view.own) → length f.history ≤ max (length o.view.seen) (length o.told)
+      → length u.told ≤ max (length b.view.seen) (length b.told) → length u.view.seen ≤ max (length b.view.seen) (length b.told) → (0 < u.view.allowance + length u.view.own → 0 < b.view.allowance + length b.view.own) → Known k f views
+  known_by k f views id b o u there is lives knows told seen count =
+      let p : length o.view.seen ≡ length u.view.seen = ap (λ (z : Mind V E). length z.view.seen) is in let q : length o.told ≡ length u.told = ap (λ (z : Mind V E). length z.told) is in
+      let c : o.view.allowance + length o.view.own ≡ u.view.allowance + length u.view.own = ap (λ (z : Mind V E). z.view.allowance + length z.view.own) is in
+      record { seat = id; mind = b; there = there; lives = λ some_number. let g = lives some_number in count (omega arith); knows = omega arith }
 
 module _ {V E : Type 0} (law : List E → Type 0) (at_home : ℕ → ℕ → ℕ → List E → ℕ → V → Type 0) (durable_of common_of : V → ℕ) where
   abbrev Rule : Opening V → State (Option V) (Mind V E) → Type 0
@@ -82,14 +91,7 @@ module _ {V E : Type 0} (law : List E → Type 0) (at_home : ℕ → ℕ → ℕ
               idle = λ _ none_left. absurd (omega arith);
             }) (at_snoc vs right u i e);
         known = let o = r.known in dite (ℕ_discrete o.seat id)
-            (λ same. let is : o.mind ≡ m = maybe.some-injective o.mind m (sym o.there ∙ (ap (get_elem? s.views) same ∙ at)) in
-            let a : length o.mind.view.seen ≡ length v.seen = ap (λ (z : Mind V E). length z.view.seen) is in let b : length o.mind.told ≡ length m.told = ap (λ (z : Mind V E). length z.told) is in let n = o.knows in record {
-              seat = id;
-              mind = left;
-              there = at_longer vs (right ∷ []) id left (set_here s.views id left (below_length s.views id m at));
-              lives = λ _. omega arith;
-              knows = omega arith;
-            })
+            (λ same. known_by k f _ id left o.mind m (at_longer vs (right ∷ []) id left (set_here s.views id left (below_length s.views id m at))) (maybe.some-injective o.mind m (sym o.there ∙ (ap (get_elem? s.views) same ∙ at))) o.lives o.knows (omega arith) (omega arith) (λ some_number. omega arith))
             (λ other. record {
               seat = o.seat;
               mind = o.mind;
@@ -118,25 +120,7 @@ module _ {V E : Type 0} (law : List E → Type 0) (at_home : ℕ → ℕ → ℕ
         };
         each_station = λ j y e. let o = r.each_station j y e in let p = total_set (on j) s.views id m b at in let q = total_set (on j) vs other n z there' in let free : on j n ≡ 0 = ap (held_at j) nothing in recounted o (omega arith);
         each_seat = λ i u e. ⊎_elim
-            (λ (t : (i ≡ other) × (z ≡ u)). subst (Knows k f s.words s.homes) t.1 record {
-              starts = omega arith;
-              wholes = omega arith;
-              firsts = sym firsts ∙ kv.firsts;
-              begins = (f.history, refl);
-              told = (f.history, refl);
-              lasts = omega arith;
-              stops = omega arith;
-              stays = λ halted. absurd (omega arith);
-              below = omega arith;
-              named = omega arith;
-              exact = λ holds. absurd (omega arith);
-              reached = λ j y _. omega arith;
-              holds = tt;
-              lives = λ held _. absurd (omega arith);
-              gone = tt;
-              placed = placed_none k.start f.history;
-              idle = λ _ _. refl;
-            })
+            (λ (t : (i ≡ other) × (z ≡ u)). subst (Knows k f s.words s.homes) t.1 (knows_nothing k f s.words s.homes start whole first 0 0 0 0 (omega arith) (omega arith) (sym firsts ∙ kv.firsts) (omega arith) (omega arith) (omega arith)))
             (λ (t : (i ≢ other) × (get_elem? vs i ≡ some u)). ⊎_elim
             (λ (q : (i ≡ id) × (b ≡ u)). subst (Knows k f s.words s.homes) q.1 record {
               starts = kv.starts;
@@ -161,25 +145,9 @@ module _ {V E : Type 0} (law : List E → Type 0) (at_home : ℕ → ℕ → ℕ
             (at_set vs other i z u e);
         known = let o = r.known in let l : length (v.own ++ w.own) ≡ length v.own + length w.own = length-append v.own w.own in let n' = o.knows in
             let empty : length m.told ≡ 0 = ap length told_none in let other_empty : length n.told ≡ 0 = ap length other_told_none in dite (ℕ_discrete o.seat id)
-            (λ same. let is : o.mind ≡ m = maybe.some-injective o.mind m (sym o.there ∙ (ap (get_elem? s.views) same ∙ at)) in
-            let p : length o.mind.view.seen ≡ length v.seen = ap (λ (u : Mind V E). length u.view.seen) is in let q : length o.mind.told ≡ length m.told = ap (λ (u : Mind V E). length u.told) is in
-            let c : o.mind.view.allowance + length o.mind.view.own ≡ v.allowance + length v.own = ap (λ (u : Mind V E). u.view.allowance + length u.view.own) is in record {
-              seat = id;
-              mind = b;
-              there = mine_after;
-              lives = λ some_number. let g = o.lives some_number in omega arith;
-              knows = omega arith;
-            })
+            (λ same. known_by k f _ id b o.mind m mine_after (maybe.some-injective o.mind m (sym o.there ∙ (ap (get_elem? s.views) same ∙ at))) o.lives n' (omega arith) (omega arith) (λ some_number. omega arith))
             (λ not_me. dite (ℕ_discrete o.seat other)
-            (λ same. let is : o.mind ≡ n = maybe.some-injective o.mind n (sym o.there ∙ (ap (get_elem? s.views) same ∙ there)) in
-            let p : length o.mind.view.seen ≡ length w.seen = ap (λ (u : Mind V E). length u.view.seen) is in let q : length o.mind.told ≡ length n.told = ap (λ (u : Mind V E). length u.told) is in
-            let c : o.mind.view.allowance + length o.mind.view.own ≡ w.allowance + length w.own = ap (λ (u : Mind V E). u.view.allowance + length u.view.own) is in record {
-              seat = id;
-              mind = b;
-              there = mine_after;
-              lives = λ some_number. let g = o.lives some_number in omega arith;
-              knows = omega arith;
-            })
+            (λ same. known_by k f _ id b o.mind n mine_after (maybe.some-injective o.mind n (sym o.there ∙ (ap (get_elem? s.views) same ∙ there))) o.lives n' (omega arith) (omega arith) (λ some_number. omega arith))
             (λ not_other. record {
               seat = o.seat;
               mind = o.mind;

@@ -1,5 +1,5 @@
 -- Sums over lists, and lists read by `get_elem?`.
-use Rattle.std.proofs.Common.{◌≡◌, ◌≢◌, ℕ, zero, suc, ◌+◌, ◌^◌, ◌<◌, ◌≤◌, eqb, max, min, Option, Some, None, List, [], ◌∷◌, ◌++◌, length, get_or, set, if◌then◌else◌, sym, refl, ap, subst, arith, eq-eqb, ne_eqb}
+use Rattle.std.proofs.Common.{◌≡◌, ◌≢◌, ℕ, zero, suc, ◌+◌, ◌^◌, ◌<◌, ◌≤◌, eqb, max, min, Some, None, List, [], ◌∷◌, ◌++◌, length, get_or, set, if◌then◌else◌, sym, refl, ap, subst, arith, eq-eqb, ne_eqb}
 use Rattle.std.specs.Prelude.{slice_get}
 use mathlib.Core.Option.{some, some-injective, some-ne-none}
 use mathlib.Core.Logic.{dite}

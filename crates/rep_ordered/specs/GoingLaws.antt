@@ -1,5 +1,5 @@
 -- The laws of what calls make of a seat, for the proofs of clients.
-use Rattle.std.proofs.Common.{◌≡◌, ℕ, zero, suc, ◌+◌, ◌-◌, ◌*◌, ◌<◌, ◌≤◌, max, eqb, Option, Some, None, List, [], ◌∷◌, ◌++◌, length, if◌then◌else◌, eq-eqb, sym, refl, ap, ◌∙◌, subst, arith, length-append, append_assoc}
+use Rattle.std.proofs.Common.{◌≡◌, ℕ, zero, suc, ◌+◌, ◌*◌, ◌<◌, ◌≤◌, max, eqb, Option, Some, None, List, [], ◌∷◌, ◌++◌, length, if◌then◌else◌, eq-eqb, sym, refl, ap, ◌∙◌, subst, arith, length-append, append_assoc}
 use Rattle.rep_ordered.specs.declared.view.Hold.{Hold}
 use Rattle.rep_ordered.specs.declared.view.Reached.{Reached}
 use Rattle.rep_ordered.specs.declared.view.View.{View}
@@ -70,56 +70,24 @@ module _ {V E : Type 0} where
     reached = λ j. let p = a.reached j in let q = b.reached j in omega arith;
   }
 
+  -- a call that leaves the first number, the last, the first values and the count of numbers as they were
+  goes_by : (v w u : View V E) → w ≡ u → (u.start ≡ v.start) × (u.whole ≡ v.whole) × (u.first ≡ v.first) × (u.allowance + length u.own ≡ v.allowance + length v.own) → StartsWith u.seen v.seen → v.durable ≤ u.durable → v.halted ≤ u.halted → ((j : ℕ) → reached_at j v.reached ≤ reached_at j u.reached) → Goes v w
+  goes_by v w u is same seen durable halted reached = subst (Goes v) (sym is) record { start = same.0; whole = same.1; first = same.2; kept = same.3; seen = seen; durable = durable; halted = halted; reached = reached }
+
   pub goes_later : (v w : View V E) → Later v w → Goes v w
-  goes_later v w l = let is = l.same in record {
-    start = ap (λ (z : View V E). z.start) is;
-    whole = ap (λ (z : View V E). z.whole) is;
-    first = ap (λ (z : View V E). z.first) is;
-    kept = ap (λ (z : View V E). z.allowance + length z.own) is;
-    seen = l.seen;
-    durable = l.durable;
-    halted = l.halted;
-    reached = λ j. let e = ap (λ (z : View V E). reached_at j z.reached) is in omega arith;
-  }
+  goes_later v w l = goes_by v w _ l.same (refl, refl, refl, refl) l.seen l.durable l.halted (λ j. omega arith)
 
   pub goes_claimed : (v w : View V E) (number : ℕ) → w ≡ with_number number v → 0 < v.allowance → Goes v w
-  goes_claimed v w number is some_left = record {
-    start = ap (λ (z : View V E). z.start) is;
-    whole = ap (λ (z : View V E). z.whole) is;
-    first = ap (λ (z : View V E). z.first) is;
-    kept = ap (λ (z : View V E). z.allowance + length z.own) is ∙ counted;
-    seen = subst (λ (z : View V E). StartsWith z.seen v.seen) (sym is) (begins_same v.seen);
-    durable = let e = ap (λ (z : View V E). z.durable) is in omega arith;
-    halted = let e = ap (λ (z : View V E). z.halted) is in omega arith;
-    reached = λ j. let e = ap (λ (z : View V E). reached_at j z.reached) is in omega arith;
-  }
+  goes_claimed v w number is some_left = goes_by v w _ is (refl, refl, refl, counted) (begins_same v.seen) (omega arith) (omega arith) (λ j. omega arith)
     where
       counted : (with_number number v).allowance + length (v.own ++ number ∷ []) ≡ v.allowance + length v.own
       counted = omega (arith, length-append v.own (number ∷ []))
 
   pub goes_left : (j n d c : ℕ) (entry : Option E) (v w : View V E) → w ≡ without entry j n d c v → Goes v w
-  goes_left j n d c entry v w is = record {
-    start = ap (λ (z : View V E). z.start) is;
-    whole = ap (λ (z : View V E). z.whole) is;
-    first = ap (λ (z : View V E). z.first) is;
-    kept = ap (λ (z : View V E). z.allowance + length z.own) is;
-    seen = subst (λ (z : View V E). StartsWith z.seen v.seen) (sym is) (begins_grown v.seen entry);
-    durable = let e = ap (λ (z : View V E). z.durable) is in omega arith;
-    halted = let e = ap (λ (z : View V E). z.halted) is in omega arith;
-    reached = λ i. reached_up i j n v.reached w.reached (ap (λ (z : View V E). z.reached) is);
-  }
+  goes_left j n d c entry v w is = goes_by v w _ is (refl, refl, refl, refl) (begins_grown v.seen entry) (omega arith) (omega arith) (λ i. reached_up i j n v.reached _ refl)
 
   pub goes_gave_up : (j n d c : ℕ) (y : V) (v w : View V E) → w ≡ abandoned j y (without None j n d c v) → Goes v w
-  goes_gave_up j n d c y v w is = record {
-    start = ap (λ (z : View V E). z.start) is;
-    whole = ap (λ (z : View V E). z.whole) is;
-    first = ap (λ (z : View V E). z.first) is;
-    kept = ap (λ (z : View V E). z.allowance + length z.own) is;
-    seen = subst (λ (z : View V E). StartsWith z.seen v.seen) (sym is) (begins_same v.seen);
-    durable = let e = ap (λ (z : View V E). z.durable) is in omega arith;
-    halted = let e = ap (λ (z : View V E). z.halted) is in omega arith;
-    reached = λ i. reached_up i j n v.reached w.reached (ap (λ (z : View V E). z.reached) is);
-  }
+  goes_gave_up j n d c y v w is = goes_by v w _ is (refl, refl, refl, refl) (begins_same v.seen) (omega arith) (omega arith) (λ i. reached_up i j n v.reached _ refl)
 
   -- ---- the same of a seat that holds nothing at the end
 
@@ -183,16 +151,7 @@ module _ {V E : Type 0} (law : List E → Type 0) where
 
 module _ {V E : Type 0} (law : List E → Type 0) (at_home : ℕ → ℕ → ℕ → List E → ℕ → V → Type 0) (durable_of common_of : V → ℕ) where
   pub goes_entered : (j number kind : ℕ) (v w : View V E) (x : V) → Entered law at_home durable_of common_of j number kind v w x → Goes v w
-  goes_entered j number kind v w x e = let is = e.view in record {
-    start = ap (λ (z : View V E). z.start) is;
-    whole = ap (λ (z : View V E). z.whole) is;
-    first = ap (λ (z : View V E). z.first) is;
-    kept = ap (λ (z : View V E). z.allowance + length z.own) is;
-    seen = e.seen;
-    durable = e.durable;
-    halted = e.halted;
-    reached = λ i. reached_up i j number v.reached w.reached (ap (λ (z : View V E). z.reached) is);
-  }
+  goes_entered j number kind v w x e = goes_by v w _ e.view (refl, refl, refl, refl) e.seen e.durable e.halted (λ i. reached_up i j number v.reached _ refl)
 
   held_through : (j number kind : ℕ) (v w l : View V E) (x : V) → Entered law at_home durable_of common_of j number kind v w x → Later w l → except j l.held ≡ v.held
   held_through j number kind v w l x e later = ap (λ (z : View V E). except j z.held) later.same ∙ (ap (λ (z : View V E). except j z.held) e.view ∙ except_top j (4 * number + kind) (durable_of x) v.held)

@@ -28,5 +28,9 @@ pub record IsSeated {V E : Type 0} (stations : ℕ) (me : Me (Option V) (Mind V 
 abbrev pub stations_of : TableId → ℕ
 stations_of lock = lock.slots
 
+-- a seat of this lock, which has so many stations, that holds none of them
+abbrev pub IsFree : {V E : Type 0} → TableId → ℕ → Place V E → Type 0
+IsFree lock stations seat = (seat.lock ≡ lock) × (stations_of lock ≡ stations) × (seat.view.held ≡ [])
+
 abbrev pub seat_of : {V E : Type 0} → TableId → View V E → Place V E
 seat_of lock view = record { lock = lock; view = view }

@@ -26,6 +26,7 @@ impl<V: Keeps<E>, E> OrderedLock<V, E> {
     /// already.
     ///
     /// It takes no memory and does not wait.
+    #[tactic(auto, using(crate::proofs::Places::place_later, crate::proofs::Places::place_sees))]
     pub fn front(&self, seat: &mut Seat<V, E>) -> Front
         requires { seat.old.lock ≡ self.now }
         ensures lock { seat.new.lock ≡ seat.old.lock }
@@ -51,6 +52,7 @@ impl<V: Keeps<E>, E> OrderedLock<V, E> {
     /// The seat saw this number durable at the value of station 1, when it entered or left it.
     ///
     /// It takes no memory and does not wait.
+    #[tactic(auto, using(crate::proofs::Places::place_later, crate::proofs::Places::place_sees))]
     pub fn raise(&self, seat: &mut Seat<V, E>, durable: u64)
         requires lock { seat.old.lock ≡ self.now }
         requires saw { durable ≤ seat.old.view.backed }
@@ -71,6 +73,7 @@ impl<V: Keeps<E>, E> OrderedLock<V, E> {
     /// station may leave it, or give it up.
     ///
     /// It takes no memory and does not wait.
+    #[tactic(auto, using(crate::proofs::Places::place_later, crate::proofs::Places::place_sees))]
     pub fn halt(&self, seat: &mut Seat<V, E>)
         requires { seat.old.lock ≡ self.now }
         ensures lock { seat.new.lock ≡ seat.old.lock }

@@ -1,5 +1,5 @@
 -- Batches of items, one item longer, and what a history has in which nothing else joined.
-use Rattle.std.proofs.Common.{◌≡◌, ℕ, zero, suc, ◌+◌, ◌-◌, ◌^◌, ◌<◌, ◌≤◌, ◌⊎◌, List, [], ◌∷◌, ◌++◌, map, length, get_or, take, Result, Ok, Err, OnOk, IfErr, ⊎_elim, sym, refl, ap, ◌∙◌, subst, arith, length-append, append_assoc}
+use Rattle.std.proofs.Common.{◌≡◌, ℕ, zero, suc, ◌+◌, ◌-◌, ◌^◌, ◌<◌, ◌≤◌, List, [], ◌∷◌, ◌++◌, map, length, get_or, take, Result, Ok, Err, OnOk, IfErr, ⊎_elim, sym, refl, ap, ◌∙◌, subst, arith, length-append, append_assoc}
 use mathlib.Core.Logic.{dite}
 use native.Mathlib.Decide.{ℕ_discrete}
 use Rattle.rep_types.specs.declared.refusal.Refusal.{Refusal}

@@ -2,6 +2,7 @@
 use Rattle.std.proofs.Common.{◌≡◌, ℕ, zero, suc, ◌+◌, ◌-◌, ◌^◌, ◌<◌, ◌≤◌, Option, Some, None, List, [], ◌∷◌, ◌++◌, map, length, get_or, take, sym, refl, ap, ◌∙◌, subst, arith}
 use mathlib.Core.Logic.{dite}
 use native.Mathlib.Decide.{ℕ_discrete}
+use Rattle.std.proofs.lemmas.Option.{same_Some}
 use Rattle.rep_ordered.specs.declared.view.View.{View}
 use Rattle.rep_ordered.specs.Counts.{times, once_below}
 use Rattle.rep_ordered.specs.Views.{Later, StartsWith, held_at, reached_at}
@@ -20,7 +21,7 @@ use Rattle.rep_ordered_node.proofs.Lists.{shorter, whole_front, items_long}
 -- the two parts may lie at home at the start
 pub starts : (c : Certifier) (e : Engine) (number durable : ℕ) → Quiet e → Follows e.log.items c → number ≡ length e.log.items + 1 → durable ≡ length e.log.items
     → let values : List Home = AtFirst c ∷ AtSecond e ∷ [] in AllMeet (Legal (order_of values)) (AtHome values) durable_in (λ _. 2 ^ 60) number durable values
-starts c e number durable q f here synced zero x is = subst (λ (h : Home). AtHome (AtFirst c ∷ AtSecond e ∷ []) 0 number 0 [] durable h × (◌≡◌ {A = ℕ} 0 1 → durable ≤ durable_in h)) (same_found (AtFirst c) x is) (
+starts c e number durable q f here synced zero x is = subst (λ (h : Home). AtHome (AtFirst c ∷ AtSecond e ∷ []) 0 number 0 [] durable h × (◌≡◌ {A = ℕ} 0 1 → durable ≤ durable_in h)) (same_Some _ _ is) (
   (
     refl,
     record {
@@ -35,14 +36,7 @@ starts c e number durable q f here synced zero x is = subst (λ (h : Home). AtHo
   ),
   λ (one : ◌≡◌ {A = ℕ} 0 1). absurd (omega arith),
 )
-  where
-    same_found : (h x : Home) → Some h ≡ Some x → h ≡ x
-    same_found h x is = ap (λ (o : Option Home). value_or h o) is
-      where
-        value_or : Home → Option Home → Home
-        value_or d None = d
-        value_or d (Some y) = y
-starts c e number durable q f here synced (suc zero) x is = subst (λ (h : Home). AtHome (AtFirst c ∷ AtSecond e ∷ []) 1 number 0 [] durable h × (◌≡◌ {A = ℕ} 1 1 → durable ≤ durable_in h)) (same_found (AtSecond e) x is) (
+starts c e number durable q f here synced (suc zero) x is = subst (λ (h : Home). AtHome (AtFirst c ∷ AtSecond e ∷ []) 1 number 0 [] durable h × (◌≡◌ {A = ℕ} 1 1 → durable ≤ durable_in h)) (same_Some _ _ is) (
   (
     refl,
     record {
@@ -56,13 +50,6 @@ starts c e number durable q f here synced (suc zero) x is = subst (λ (h : Home)
   ),
   λ (_ : ◌≡◌ {A = ℕ} 1 1). let d = q.durable in omega arith,
 )
-  where
-    same_found : (h x : Home) → Some h ≡ Some x → h ≡ x
-    same_found h x is = ap (λ (o : Option Home). value_or h o) is
-      where
-        value_or : Home → Option Home → Home
-        value_or d None = d
-        value_or d (Some y) = y
 starts c e number durable q f here synced (suc (suc j)) x is = absurd (let d : None ≡ Some x = is in cc)
 
 -- at station 0 lies the certifier, at station 1 the engine

@@ -1,5 +1,5 @@
 -- Orders and histories, one item longer.
-use Rattle.std.proofs.Common.{◌≡◌, ℕ, suc, ◌+◌, ◌<◌, ◌≤◌, max, List, [], ◌∷◌, ◌++◌, map, length, sym, refl, ap, ◌∙◌, subst, arith, length-append, append_assoc}
+use Rattle.std.proofs.Common.{◌≡◌, ℕ, suc, ◌≤◌, max, List, [], ◌∷◌, ◌++◌, map, length, sym, refl, ap, ◌∙◌, subst, arith, length-append, append_assoc}
 use Rattle.rep_ordered.specs.Views.{StartsWith}
 use Rattle.rep_ordered.specs.GoingLaws.{append_nil}
 use Rattle.rep_ordered_node.specs.declared.done.Done.{Done}

@@ -1,20 +1,24 @@
 -- What a seat of a node has done.
-use Rattle.std.specs.Prelude.{◌≡◌, ℕ, ◌+◌, ◌<◌, ◌≤◌, ◌⊎◌, IsFalse, List, [], ◌∷◌, ◌++◌, length, map}
+use Rattle.std.specs.Prelude.{◌≡◌, ℕ, ◌+◌, ◌≤◌, ◌⊎◌, IsFalse, List, [], ◌∷◌, ◌++◌, length, map}
 use Rattle.rep_ordered.specs.declared.view.Joined.{Joined}
 use Rattle.rep_ordered.specs.declared.view.View.{View}
 use Rattle.rep_ordered.specs.Counts.{times, once_below}
-use Rattle.rep_ordered.specs.Views.{StartsWith}
-use Rattle.rep_ordered.specs.Going.{AllPassed}
+use Rattle.rep_ordered.specs.Views.{StartsWith, Sees}
+use Rattle.rep_ordered.specs.Going.{AllPassed, Went}
 use Rattle.rep_ordered_node.specs.declared.certifier.Certifier.{Certifier}
 use Rattle.rep_ordered_node.specs.declared.done.Done.{Done}
 use Rattle.rep_ordered_node.specs.declared.engine.Engine.{Engine}
 use Rattle.rep_ordered_node.specs.declared.home.Home.{Home}
-use Rattle.rep_ordered_node.specs.Judging.{highest, item_of, commits_of}
+use Rattle.rep_ordered_node.specs.Judging.{Legal, highest, item_of, commits_of}
 use Rattle.rep_ordered_node.specs.Homes.{order_of, commits_first}
 
 -- the numbers begin behind the order that the node was started from
 abbrev pub IsSeat : View Home Done → Type 0
 IsSeat v = v.start ≡ length (order_of v.first) + 1
+
+-- the seat went on, sees a lawful history, and neither drew a number nor let anything join the history
+abbrev pub WentIdle : View Home Done → View Home Done → Type 0
+WentIdle v w = Went v w × (w.own ≡ v.own) × (w.joined ≡ v.joined) × Sees (Legal (order_of v.first)) w
 
 -- each number that the seat drew has passed the engine
 abbrev pub Passed : View Home Done → Type 0

@@ -1,11 +1,11 @@
 //! What makes items durable, and who waits for that.
 
-ghost use Rattle.std.specs.Prelude.{◌≡◌, ◌≤◌, [], IfOk, IfErr};
+ghost use Rattle.std.specs.Prelude.{◌≡◌, ◌≤◌, IfOk, IfErr};
 ghost use Rattle.rep_ordered.specs.Views.{Later, Sees};
-ghost use Rattle.rep_ordered.specs.Seats.{stations_of};
-ghost use Rattle.rep_ordered.specs.Going.{Went};
+ghost use Rattle.rep_ordered.specs.Seats.{IsFree};
 ghost use Rattle.rep_ordered_node.specs.Homes.{order_of};
 ghost use Rattle.rep_ordered_node.specs.Judging.{Legal};
+ghost use Rattle.rep_ordered_node.specs.Seats.{WentIdle};
 
 use crate::done::Done;
 use crate::home::Home;
@@ -53,12 +53,9 @@ pub fn keep_once<R: Wait>(
     lock: &OrderedLock<Home, Done>,
     seat: &mut Seat<Home, Done>,
 ) -> Result<u64, Refusal>
-    requires lock { (seat.old.lock ≡ lock.now) × (stations_of lock.now ≡ 2) }
-    requires free { seat.old.view.held ≡ [] }
+    requires free { IsFree lock.now 2 seat.old }
     ensures lock { seat.new.lock ≡ seat.old.lock }
-    ensures went { Went seat.old.view seat.new.view }
-    ensures own { (seat.new.view.own ≡ seat.old.view.own) × (seat.new.view.joined ≡ seat.old.view.joined) }
-    ensures sees { Sees (Legal (order_of seat.old.view.first)) seat.new.view }
+    ensures idle { WentIdle seat.old.view seat.new.view }
     ensures durable { IfOk result (λ durable. durable ≡ seat.new.view.durable) }
     ensures stopped { IfErr result (λ refusal. (refusal ≡ Refusal.Stopped) × (seat.new.view.halted ≡ 1)) }
 {
@@ -88,12 +85,9 @@ pub fn keep<R: Wait>(
     seat: &mut Seat<Home, Done>,
     upto: u64,
 ) -> Result<u64, Refusal>
-    requires lock { (seat.old.lock ≡ lock.now) × (stations_of lock.now ≡ 2) }
-    requires free { seat.old.view.held ≡ [] }
+    requires free { IsFree lock.now 2 seat.old }
     ensures lock { seat.new.lock ≡ seat.old.lock }
-    ensures went { Went seat.old.view seat.new.view }
-    ensures own { (seat.new.view.own ≡ seat.old.view.own) × (seat.new.view.joined ≡ seat.old.view.joined) }
-    ensures sees { Sees (Legal (order_of seat.old.view.first)) seat.new.view }
+    ensures idle { WentIdle seat.old.view seat.new.view }
     ensures durable { IfOk result (λ durable. (upto ≤ durable) × (durable ≡ seat.new.view.durable)) }
     ensures stopped { IfErr result (λ refusal. (refusal ≡ Refusal.Stopped) × (seat.new.view.halted ≡ 1)) }
 {

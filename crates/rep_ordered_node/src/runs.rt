@@ -3,7 +3,7 @@
 ghost use Rattle.std.specs.Prelude.{◌≡◌, ◌+◌, ◌<◌, ◌≤◌, [], ◌++◌, length, IfOk, IfErr, OnOk, IsFalse};
 ghost use Rattle.std.specs.Thread.{IsSync};
 ghost use Rattle.rep_ordered.specs.Views.{StartsWith};
-ghost use Rattle.rep_ordered.specs.Seats.{stations_of};
+ghost use Rattle.rep_ordered.specs.Seats.{IsFree};
 ghost use Rattle.rep_ordered.specs.Going.{Went};
 ghost use Rattle.rep_ordered_node.specs.Batches.{AllKept, SomeJoined};
 ghost use Rattle.rep_ordered_node.specs.Seats.{Follows, Passed, IsSeat, Quiet, PassedOrStopped};
@@ -32,9 +32,8 @@ pub fn submit_all<R: Wait>(
     seat: &mut Seat<Home, Done>,
     items: &[u64],
 ) -> Result<(), Refusal>
-    requires lock { (seat.old.lock ≡ lock.now) × (stations_of lock.now ≡ 2) }
     requires seat { IsSeat seat.old.view }
-    requires free { seat.old.view.held ≡ [] }
+    requires free { IsFree lock.now 2 seat.old }
     requires allowance { length items.now ≤ seat.old.view.allowance }
     requires passed { PassedOrStopped seat.old.view }
     ensures lock { seat.new.lock ≡ seat.old.lock }
@@ -79,14 +78,14 @@ pub fn run_by_two<R: Threads + Wait + Sync>(
     let (mut keeper, submitter) = join(
         rt,
         move || -> Seat<Home, Done>
-            requires { IsSync R.row × (keeper.lock ≡ shared.now) × (stations_of shared.now ≡ 2) × IsSeat keeper.view × (keeper.view.held ≡ []) × (keeper.view.own ≡ []) × (keeper.view.joined ≡ []) }
+            requires { IsSync R.row × IsFree shared.now 2 keeper × IsSeat keeper.view × (keeper.view.own ≡ []) × (keeper.view.joined ≡ []) }
             ensures { (result.lock ≡ keeper.lock) × Went keeper.view result.view × (result.view.own ≡ []) × (result.view.joined ≡ []) }
         {
             let _kept = keep(rt, shared, &mut keeper, last);
             keeper
         },
         move || -> Seat<Home, Done>
-            requires { IsSync R.row × (submitter.lock ≡ shared.now) × (stations_of shared.now ≡ 2) × IsSeat submitter.view × (submitter.view.held ≡ []) × (length items.now ≤ submitter.view.allowance) × PassedOrStopped submitter.view }
+            requires { IsSync R.row × IsFree shared.now 2 submitter × IsSeat submitter.view × (length items.now ≤ submitter.view.allowance) × PassedOrStopped submitter.view }
             ensures { (result.lock ≡ submitter.lock) × Went submitter.view result.view × PassedOrStopped result.view × SomeJoined items.entry.now submitter.view result.view × (result.view.halted ≡ 0 → AllKept items.entry.now submitter.view result.view) }
         {
             let _submitted = submit_all(rt, shared, &mut submitter, items);

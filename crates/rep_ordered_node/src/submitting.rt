@@ -1,10 +1,10 @@
 //! The way of an item: it is numbered, judged, queued, and waited for.
 
-ghost use Rattle.std.specs.Prelude.{◌≡◌, ℕ, ◌+◌, ◌<◌, ◌≤◌, [], ◌∷◌, length, IfOk, IfErr, OnOk, List};
+ghost use Rattle.std.specs.Prelude.{◌≡◌, ℕ, ◌+◌, ◌<◌, ◌≤◌, ◌∷◌, length, IfOk, IfErr, OnOk, List};
 ghost use Rattle.rep_ordered.specs.declared.view.Joined.{Joined};
 ghost use Rattle.rep_ordered.specs.Counts.{times};
 ghost use Rattle.rep_ordered.specs.Views.{OwnEntry, Sees, reached_at};
-ghost use Rattle.rep_ordered.specs.Seats.{stations_of};
+ghost use Rattle.rep_ordered.specs.Seats.{IsFree};
 ghost use Rattle.rep_ordered.specs.Going.{Went};
 ghost use Rattle.rep_ordered_node.specs.Homes.{order_of};
 ghost use Rattle.rep_ordered_node.specs.Judging.{Legal};
@@ -26,9 +26,8 @@ fn certify<R: Wait>(
     ticket: u64,
     item: u64,
 ) -> Result<Done, Refusal>
-    requires lock { (seat.old.lock ≡ lock.now) × (stations_of lock.now ≡ 2) }
     requires seat { IsSeat seat.old.view }
-    requires free { seat.old.view.held ≡ [] }
+    requires free { IsFree lock.now 2 seat.old }
     requires ticket { 0 < times ticket seat.old.view.own }
     requires room { ticket ≤ seat.old.view.durable + MAX_AHEAD }
     ensures lock { seat.new.lock ≡ seat.old.lock }
@@ -63,9 +62,8 @@ fn queue<R: Wait>(
     seat: &mut Seat<Home, Done>,
     done: Done,
 ) -> Result<(), Refusal>
-    requires lock { (seat.old.lock ≡ lock.now) × (stations_of lock.now ≡ 2) }
     requires seat { IsSeat seat.old.view }
-    requires free { seat.old.view.held ≡ [] }
+    requires free { IsFree lock.now 2 seat.old }
     requires ticket { 0 < times done.seqno seat.old.view.own }
     requires judged { (others : List (Joined Done)) × (seat.old.view.joined ≡ own_entry done ∷ others) }
     ensures lock { seat.new.lock ≡ seat.old.lock }
@@ -99,9 +97,8 @@ pub fn submit<R: Wait>(
     seat: &mut Seat<Home, Done>,
     item: u64,
 ) -> Result<Done, Refusal>
-    requires lock { (seat.old.lock ≡ lock.now) × (stations_of lock.now ≡ 2) }
     requires seat { IsSeat seat.old.view }
-    requires free { seat.old.view.held ≡ [] }
+    requires free { IsFree lock.now 2 seat.old }
     requires allowance { 0 < seat.old.view.allowance }
     ensures lock { seat.new.lock ≡ seat.old.lock }
     ensures went { Went seat.old.view seat.new.view }

@@ -13,7 +13,7 @@ use crate::rule::Again;
 use left_right::Absorb;
 use logbook::Seen;
 use rep_types::{Key, Refusal};
-use rep_versions::{At, Versions};
+use rep_versions::Versions;
 use std::alloc::AllocError;
 
 /// What a reader knows of a publisher: with what it was started, and a history that was seen.
@@ -109,21 +109,7 @@ impl<A> Shelf<A> {
     pub(crate) fn look_up(&self, key: Key, snapshot: u64) -> Result<Peek, Refusal>
         ensures { Answers self.now.front self.now.oldest (version_at self.now.kept key) snapshot result }
     {
-        if self.front < snapshot {
-            return Err(Refusal::NotYet {
-                durable: self.front,
-            });
-        }
-        if snapshot < self.oldest {
-            return Err(Refusal::TooOld {
-                oldest: self.oldest,
-            });
-        }
-        match self.kept.at(key, snapshot) {
-            At::Found(value) => Ok(Peek::Value(value.copied())),
-            At::Deleted => Ok(Peek::Absent),
-            At::Below => Ok(Peek::Cold),
-        }
+        Peek::among(&self.kept, self.front, self.oldest, key, snapshot)
     }
 }
 

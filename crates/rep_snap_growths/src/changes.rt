@@ -60,60 +60,76 @@ fn judged(answer: &Result<(), Refusal>, before: &Seen, after: &Seen, expected: &
     }
 }
 
-/// Publishes a pair that puts its seqno into its row.
-fn put<R: Wait>(
-    rt: &R,
+/// A publisher with a reader beside it.
+struct Beside {
     steady: Steady,
     reader: Reader<Free>,
-    seqno: u64,
-) -> (Steady, Reader<Free>, Done) {
-    let (reader, before) = look(reader, seqno);
-    let Ok(value) = Value::new(&seqno.to_be_bytes()) else {
-        return (steady, reader, Done::Wrong);
-    };
-    let expected = Seen {
-        front: seqno,
-        row: Ok(Peek::Value(value.copied())),
-    };
-    let (steady, answer) = steady.put(rt, seqno, row_of(seqno), Some(value));
-    let (reader, after) = look(reader, seqno);
-    (steady, reader, judged(&answer, &before, &after, &expected))
 }
 
-/// Prunes to a position that is 100 below the front. A peek below it is then refused, and where the prune
-/// was refused it finds what it found.
-fn prune<R: Wait>(
-    rt: &R,
-    steady: Steady,
-    reader: Reader<Free>,
-    front: u64,
-) -> (Steady, Reader<Free>, Done) {
-    let position = front.saturating_sub(100);
-    let (reader, before) = look(reader, front);
-    let (reader, there) = reader.peek(row_of(position), position.saturating_sub(1));
-    let (steady, answer) = steady.prune(rt, position);
-    let (reader, after) = look(reader, front);
-    let (reader, below) = reader.peek(row_of(position), position.saturating_sub(1));
-    let right = match answer {
-        Ok(()) if 0 < position => below == Err(Refusal::TooOld { oldest: position }),
-        _ => below == there,
-    };
-    let done = judged(&answer, &before, &after, &before);
-    (steady, reader, if right { done } else { Done::Wrong })
-}
-
-/// The change of a seqno: its pair, and behind each fiftieth a prune.
-fn change<R: Wait>(
-    rt: &R,
-    steady: Steady,
-    reader: Reader<Free>,
-    seqno: u64,
-) -> (Steady, Reader<Free>, Done) {
-    let (steady, reader, done) = put(rt, steady, reader, seqno);
-    if done != Done::Made || seqno % 50 != 0 {
-        return (steady, reader, done);
+impl Beside {
+    /// Publishes a pair that puts its seqno into its row.
+    fn put<R: Wait>(self, rt: &R, seqno: u64) -> (Beside, Done) {
+        let Beside { steady, reader } = self;
+        let (reader, before) = look(reader, seqno);
+        let Ok(value) = Value::new(&seqno.to_be_bytes()) else {
+            return (Beside { steady, reader }, Done::Wrong);
+        };
+        let expected = Seen {
+            front: seqno,
+            row: Ok(Peek::Value(value.copied())),
+        };
+        let (steady, answer) = steady.put(rt, seqno, row_of(seqno), Some(value));
+        let (reader, after) = look(reader, seqno);
+        let done = judged(&answer, &before, &after, &expected);
+        (Beside { steady, reader }, done)
     }
-    prune(rt, steady, reader, seqno)
+
+    /// Prunes to a position that is 100 below the front. A peek below it is then refused, and where the
+    /// prune was refused it finds what it found.
+    fn prune<R: Wait>(self, rt: &R, front: u64) -> (Beside, Done) {
+        let Beside { steady, reader } = self;
+        let position = front.saturating_sub(100);
+        let (reader, before) = look(reader, front);
+        let (reader, there) = reader.peek(row_of(position), position.saturating_sub(1));
+        let (steady, answer) = steady.prune(rt, position);
+        let (reader, after) = look(reader, front);
+        let (reader, below) = reader.peek(row_of(position), position.saturating_sub(1));
+        let right = match answer {
+            Ok(()) if 0 < position => below == Err(Refusal::TooOld { oldest: position }),
+            _ => below == there,
+        };
+        let done = judged(&answer, &before, &after, &before);
+        (
+            Beside { steady, reader },
+            if right { done } else { Done::Wrong },
+        )
+    }
+
+    /// The change of a seqno: its pair, and behind each fiftieth a prune.
+    fn change<R: Wait>(self, rt: &R, seqno: u64) -> (Beside, Done) {
+        let (beside, done) = self.put(rt, seqno);
+        if done != Done::Made || seqno % 50 != 0 {
+            return (beside, done);
+        }
+        beside.prune(rt, seqno)
+    }
+
+    /// A prune of nothing, which is the first to ask for memory, and then all changes, up to the first
+    /// that is not made.
+    fn changes<R: Wait>(self, rt: &R) -> (Beside, Done, u64) {
+        let (mut beside, first) = self.prune(rt, 0);
+        if first != Done::Made {
+            return (beside, first, 0);
+        }
+        for seqno in 1..PAIRS + 1 {
+            let (later, done) = beside.change(rt, seqno);
+            beside = later;
+            if done != Done::Made {
+                return (beside, done, seqno);
+            }
+        }
+        (beside, Done::Made, PAIRS)
+    }
 }
 
 /// How many rows have a version at the front.
@@ -128,28 +144,6 @@ fn rows_found(reader: Reader<Free>) -> (Reader<Free>, u64) {
         }
     }
     (reader, found)
-}
-
-/// A prune of nothing, which is the first to ask for memory, and then all changes, up to the first that is
-/// not made.
-fn changes<R: Wait>(
-    rt: &R,
-    steady: Steady,
-    reader: Reader<Free>,
-) -> (Steady, Reader<Free>, Done, u64) {
-    let (mut steady, mut reader, first) = prune(rt, steady, reader, 0);
-    if first != Done::Made {
-        return (steady, reader, first, 0);
-    }
-    for seqno in 1..PAIRS + 1 {
-        let (later, looked, done) = change(rt, steady, reader, seqno);
-        steady = later;
-        reader = looked;
-        if done != Done::Made {
-            return (steady, reader, done, seqno);
-        }
-    }
-    (steady, reader, Done::Made, PAIRS)
 }
 
 /// Starts a publisher, again where there was no memory.
@@ -170,25 +164,22 @@ pub(crate) fn attempt<R: Wait>(rt: &R, alloc: Global) -> Result<Came, Refusal> {
             return Err(refusal);
         }
     };
-    let (steady, reader, done, seqno) = changes(rt, steady, reader);
-    let came = match done {
+    let (beside, done, seqno) = Beside { steady, reader }.changes(rt);
+    let Beside { steady, reader } = beside;
+    let (steady, came) = match done {
         Done::Made => {
             let (_reader, found) = rows_found(reader);
-            (
-                steady,
-                Came::Through {
-                    front: seqno,
-                    found,
-                },
-            )
+            let front = seqno;
+            (steady, Came::Through { front, found })
         }
         Done::Refused => {
-            let (steady, _reader, again) = put(rt, steady, reader, seqno.saturating_add(1));
+            let (beside, again) = Beside { steady, reader }.put(rt, seqno.saturating_add(1));
+            let Beside { steady, reader: _ } = beside;
             let refused = again == Done::Refused;
             (steady, if refused { Came::Refused } else { Came::Wrong })
         }
         Done::Wrong => (steady, Came::Wrong),
     };
-    came.0.close(rt);
-    Ok(came.1)
+    steady.close(rt);
+    Ok(came)
 }

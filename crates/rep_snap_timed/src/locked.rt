@@ -4,7 +4,7 @@ use crate::threads::{AT_FIRST, Ended, KEPT, LAST, LOOKS, joined, right, row_of, 
 use arrayvec::ArrayVec;
 use rep_snap::Peek;
 use rep_types::{Key, MAX_WRITES, Refusal, Write};
-use rep_versions::{At, Versions};
+use rep_versions::Versions;
 use std::alloc::Global;
 use std::sync::{Arc, Mutex, Wait};
 use std::thread::{JoinHandle, Threads, spawn};
@@ -35,21 +35,7 @@ impl Table {
     }
 
     fn at(&self, key: Key, snapshot: u64) -> Result<Peek, Refusal> {
-        if self.front < snapshot {
-            return Err(Refusal::NotYet {
-                durable: self.front,
-            });
-        }
-        if snapshot < self.oldest {
-            return Err(Refusal::TooOld {
-                oldest: self.oldest,
-            });
-        }
-        match self.versions.at(key, snapshot) {
-            At::Found(value) => Ok(Peek::Value(value.copied())),
-            At::Deleted => Ok(Peek::Absent),
-            At::Below => Ok(Peek::Cold),
-        }
+        Peek::among(&self.versions, self.front, self.oldest, key, snapshot)
     }
 }
 
@@ -97,11 +83,8 @@ fn started<R: Threads + Wait + Copy + Send + 'static>(
     times: u64,
     ended: &Ended,
 ) -> Option<JoinHandle<u64>> {
-    if !is_one {
-        return None;
-    }
     let table = Arc::try_clone(table).ok()?;
-    let ended = ended.again().ok()?;
+    let ended = ended.for_reader(is_one)?;
     let mine = *rt;
     spawn(rt, move || watch(&mine, &table, times, &ended)).ok()
 }
@@ -126,8 +109,7 @@ pub(crate) fn beside<R: Threads + Wait + Copy + Send + 'static>(
     let third = started(rt, &table, 2 < readers, times, &ended);
     let fourth = started(rt, &table, 3 < readers, times, &ended);
     let done = add_many(rt, &table, AT_FIRST, LAST, &ended, readers);
-    let early = joined(rt, first).saturating_add(joined(rt, second));
-    let late = joined(rt, third).saturating_add(joined(rt, fourth));
+    let all = joined(rt, [first, second, third, fourth]);
     done?;
-    Ok(early.saturating_add(late))
+    Ok(all)
 }

@@ -64,11 +64,8 @@ fn started<R: Threads>(
     times: u64,
     ended: &Ended,
 ) -> Option<JoinHandle<u64>> {
-    if !is_one {
-        return None;
-    }
+    let ended = ended.for_reader(is_one)?;
     let reader = steady.reader().ok()?;
-    let ended = ended.again().ok()?;
     spawn(rt, move || watch(reader, times, &ended)).ok()
 }
 
@@ -87,10 +84,9 @@ pub(crate) fn beside<R: Threads + Wait>(
     let third = started(rt, &mut steady, 2 < readers, times, &ended);
     let fourth = started(rt, &mut steady, 3 < readers, times, &ended);
     let (steady, done) = publish_many(rt, steady, AT_FIRST, LAST, &ended, readers);
-    let early = joined(rt, first).saturating_add(joined(rt, second));
-    let late = joined(rt, third).saturating_add(joined(rt, fourth));
+    let all = joined(rt, [first, second, third, fourth]);
     steady.close(rt);
     begun?;
     done?;
-    Ok(early.saturating_add(late))
+    Ok(all)
 }

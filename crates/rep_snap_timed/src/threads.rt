@@ -58,10 +58,13 @@ impl Ended {
         })
     }
 
-    pub(crate) fn again(&self) -> Result<Ended, AllocError> {
-        Ok(Ended {
-            count: Arc::try_clone(&self.count)?,
-        })
+    /// The same count for a reader in a thread of its own, where there is to be one.
+    pub(crate) fn for_reader(&self, is_one: bool) -> Option<Ended> {
+        if !is_one {
+            return None;
+        }
+        let count = Arc::try_clone(&self.count).ok()?;
+        Some(Ended { count })
     }
 
     pub(crate) fn one_more(&self) {
@@ -73,10 +76,13 @@ impl Ended {
     }
 }
 
-/// Waits for a reader, and says how many of its look-ups were right: none where it was not started.
-pub(crate) fn joined<R: Threads>(rt: &R, child: Option<JoinHandle<u64>>) -> u64 {
-    match child {
-        Some(child) => child.join(rt),
-        None => 0,
+/// Waits for the readers that were started, and says how many of their look-ups were right.
+pub(crate) fn joined<R: Threads>(rt: &R, readers: [Option<JoinHandle<u64>>; 4]) -> u64 {
+    let mut all = 0u64;
+    for reader in readers {
+        if let Some(child) = reader {
+            all = all.saturating_add(child.join(rt));
+        }
     }
+    all
 }

@@ -1,11 +1,11 @@
-use Rattle.std.proofs.Common.{◌≡◌, ℕ, ◌<◌, List, get_or, take, refl, arith, ◌∙◌, subst}
+use Rattle.std.proofs.Common.{ℕ, List, get_or, take, refl, arith, ◌∙◌, subst}
 use Rattle.rep_ordered.specs.GoingLaws.{went_same, went_on}
 use Rattle.rep_ordered_node.specs.Batches.{AllKept}
 use Rattle.rep_ordered_node.proofs.Batching.{joined_stopped, kept_joined, kept_next, kept_none, take_all, take_next}
 use Rattle.rep_ordered_node.proofs.runs.submit_all.Goals as goal
 
 pub loop-item-init : goal.loop-item-init
-loop-item-init g c = (refl, went_same _ c.requires.free, omega arith, c.requires.passed, kept_none _)
+loop-item-init g c = (refl, went_same _ c.requires.free.2, omega arith, c.requires.passed, kept_none _)
 
 pub loop-item-preserved : goal.loop-item-preserved
 loop-item-preserved g c = let inv = c.loop-item.invariant in let drawn = c.submit.ensures.drawn in let own = inv.2 in let i : ℕ = c.loop-item.item-index in let items : List ℕ = c.args.items.now in let receipt = c.in_ok-submit.ensures.receipt in let went = c.submit.ensures.went in (

@@ -1,17 +1,16 @@
-use Rattle.std.proofs.Common.{rules, ◌≡◌, ◌+◌, ◌-◌, ◌%◌, ◌^◌, ◌<◌, Some, arith, sym, refl, ap, ◌∙◌, subst}
+use Rattle.std.proofs.Common.{rules, ◌≡◌, ◌+◌, ◌-◌, ◌%◌, ◌^◌, Some, arith, refl, ap, ◌∙◌, subst}
 use Rattle.atomic_table.specs.Seated.{TableId}
 use Rattle.rep_ordered.specs.declared.view.View.{View}
-use Rattle.rep_ordered.specs.Views.{Lives, turn_of, word_at, held_at}
+use Rattle.rep_ordered.specs.Views.{Lives, turn_of, word_at}
 use Rattle.rep_ordered.specs.Seats.{Place}
 use Rattle.rep_ordered.specs.declared.turns.TheConstants.{TO_NEXT}
 use Rattle.rep_ordered.proofs.Sums.{held_with}
 use Rattle.rep_ordered.proofs.Leaving.{leaves, entries_one, entries_none, first_with}
-use Rattle.rep_ordered.proofs.Places.{front_is, departed}
+use Rattle.rep_ordered.proofs.Places.{front_is, holds_inside, parted}
 use Rattle.rep_ordered.proofs.lock.OrderedLock.leave_as.Goals as goal
 
 pub put_back-requires-clause-holds : goal.put_back-requires-clause-holds
-put_back-requires-clause-holds g c = let kind : word_at c.args.station c.args.seat.now.view.held % 4 ≡ 1 = c.requires.turn in
-    subst (λ (z : View g.row.V.Denot g.row.E.Denot). 0 < held_at c.args.station z.held) (sym (ap (λ (z : Place g.row.V.Denot g.row.E.Denot). z.view) c.seat.view_is)) (held_with c.args.station c.args.seat.now.view.held (omega arith))
+put_back-requires-clause-holds g c = let kind : word_at c.args.station c.args.seat.now.view.held % 4 ≡ 1 = c.requires.turn in holds_inside _ _ c.args.station c.seat.view_is (held_with c.args.station c.args.seat.now.view.held (omega arith))
 
 pub fetch_add-requires : goal.fetch_add-requires
 fetch_add-requires g c = let v : View g.row.V.Denot g.row.E.Denot = c.args.seat.now.view in let is = ap (λ (z : Place g.row.V.Denot g.row.E.Denot). z.view) c.seat.view_is in let kind : word_at c.args.station c.args.seat.now.view.held % 4 ≡ 1 = c.requires.turn in let held = held_with c.args.station c.args.seat.now.view.held (omega arith) in
@@ -41,6 +40,5 @@ fetch_add-requires g c = let v : View g.row.V.Denot g.row.E.Denot = c.args.seat.
     )
 
 pub invariant_of-seat : goal.invariant_of-seat
-invariant_of-seat g c = let v : View g.row.V.Denot g.row.E.Denot = c.args.seat.now.view in let is = ap (λ (z : Place g.row.V.Denot g.row.E.Denot). z.view) c.seat.view_is in let left = c.fetch_add.ensures.2 in
-    (departed _ _ c.seat.inside.seat.me c.put_back.new.seat.me c.fetch_add.new.seat.me ((c.args.station + 2) - 2) c.args.station (turn_of c.args.station v + 1) _ (g.V.Keeps.durable_of c.args.value) _ (g.V.Keeps.common_of c.args.value) _ c.args.entry.now _ _ v (ap (λ (z : TableId). z.slots) (c.fetch_add.ensures.0 ∙ c.put_back.ensures.table)) (omega arith)
-    c.requires.pick.0 c.requires.pick.1 c.requires.pick.2 c.requires.pick.3 is c.seat.invariant c.put_back.ensures.put left.0 left.1 left.2).0
+invariant_of-seat g c = let left = c.fetch_add.ensures.2 in
+    parted _ _ c.seat.inside.seat.me c.put_back.new.seat.me c.fetch_add.new.seat.me ((c.args.station + 2) - 2) c.args.station _ _ (ap (λ (z : TableId). z.slots) (c.fetch_add.ensures.0 ∙ c.put_back.ensures.table)) (omega arith) c.seat.invariant c.put_back.ensures.put left.0 (refl, refl, refl, refl) left.1 left.2

@@ -1,10 +1,8 @@
-use Rattle.std.proofs.Common.{rules, arith, ap, subst}
+use Rattle.std.proofs.Common.{rules, arith, ap}
 use Rattle.atomic_table.specs.Seated.{TableId}
-use Rattle.rep_ordered.specs.declared.view.View.{View}
-use Rattle.rep_ordered.specs.Views.{Later, Sees}
 use Rattle.rep_ordered.specs.Seats.{Place}
 use Rattle.rep_ordered.proofs.Drawing.{raises}
-use Rattle.rep_ordered.proofs.Places.{still_seated, later}
+use Rattle.rep_ordered.proofs.Places.{still_seated}
 use Rattle.rep_ordered.proofs.lock.OrderedLock.raise.Goals as goal
 
 pub fetch_max-requires : goal.fetch_max-requires
@@ -12,9 +10,3 @@ fetch_max-requires g c = let same = ap (λ (z : Place g.row.V.Denot g.row.E.Deno
 
 pub invariant_of-seat : goal.invariant_of-seat
 invariant_of-seat g c = let t = c.fetch_max.ensures.2 in still_seated _ _ _ _ _ (ap (λ (z : TableId). z.slots) c.fetch_max.ensures.0) c.seat.invariant t.0.0 t.0.1
-
-pub returns-clause-later : goal.returns-clause-later
-returns-clause-later g c = let t = c.fetch_max.ensures.2 in subst (λ (z : View g.row.V.Denot g.row.E.Denot). Later z c.fetch_max.new.seat.me.0.view) (ap (λ (z : Place g.row.V.Denot g.row.E.Denot). z.view) c.seat.view_is) (later _ _ _ _ t.0.0)
-
-pub returns-clause-sees : goal.returns-clause-sees
-returns-clause-sees g c = let t = c.fetch_max.ensures.2 in subst (λ (z : View g.row.V.Denot g.row.E.Denot). Sees (g.V.Keeps.legal z.first) c.fetch_max.new.seat.me.0.view) (ap (λ (z : Place g.row.V.Denot g.row.E.Denot). z.view) c.seat.view_is) t.0.0.sees

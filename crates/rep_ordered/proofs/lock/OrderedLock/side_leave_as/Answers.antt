@@ -1,17 +1,16 @@
-use Rattle.std.proofs.Common.{rules, ◌≡◌, ◌+◌, ◌-◌, ◌%◌, ◌^◌, ◌<◌, Some, None, arith, sym, refl, ap, ◌∙◌, subst}
+use Rattle.std.proofs.Common.{rules, ◌≡◌, ◌+◌, ◌-◌, ◌%◌, ◌^◌, Some, None, arith, refl, ap, ◌∙◌, subst}
 use Rattle.atomic_table.specs.Seated.{TableId}
 use Rattle.rep_ordered.specs.declared.view.View.{View}
-use Rattle.rep_ordered.specs.Views.{Lives, turn_of, word_at, held_at}
+use Rattle.rep_ordered.specs.Views.{Lives, turn_of, word_at}
 use Rattle.rep_ordered.specs.Seats.{Place}
 use Rattle.rep_ordered.specs.declared.turns.TheConstants.{TO_FREE}
 use Rattle.rep_ordered.proofs.Sums.{held_with}
-use Rattle.rep_ordered.proofs.Leaving.{leaves}
-use Rattle.rep_ordered.proofs.Places.{front_is, departed}
+use Rattle.rep_ordered.proofs.Leaving.{leaves, departs_silently}
+use Rattle.rep_ordered.proofs.Places.{front_is, holds_inside, parted}
 use Rattle.rep_ordered.proofs.lock.OrderedLock.side_leave_as.Goals as goal
 
 pub put_back-requires-clause-holds : goal.put_back-requires-clause-holds
-put_back-requires-clause-holds g c = let kind : word_at c.args.station c.args.seat.now.view.held % 4 ≡ 2 = c.requires.side in
-    subst (λ (z : View g.row.V.Denot g.row.E.Denot). 0 < held_at c.args.station z.held) (sym (ap (λ (z : Place g.row.V.Denot g.row.E.Denot). z.view) c.seat.view_is)) (held_with c.args.station c.args.seat.now.view.held (omega arith))
+put_back-requires-clause-holds g c = let kind : word_at c.args.station c.args.seat.now.view.held % 4 ≡ 2 = c.requires.side in holds_inside _ _ c.args.station c.seat.view_is (held_with c.args.station c.args.seat.now.view.held (omega arith))
 
 pub fetch_sub-requires : goal.fetch_sub-requires
 fetch_sub-requires g c = let v : View g.row.V.Denot g.row.E.Denot = c.args.seat.now.view in let is = ap (λ (z : Place g.row.V.Denot g.row.E.Denot). z.view) c.seat.view_is in let kind : word_at c.args.station c.args.seat.now.view.held % 4 ≡ 2 = c.requires.side in let held = held_with c.args.station c.args.seat.now.view.held (omega arith) in
@@ -20,27 +19,10 @@ fetch_sub-requires g c = let v : View g.row.V.Denot g.row.E.Denot = c.args.seat.
       search rules,
       omega arith,
       leaves g.V.Keeps.legal g.V.Keeps.at_home g.V.Keeps.durable_of g.V.Keeps.common_of g.V.Keeps.grows _ _ _ _ _ (turn_of c.args.station v) _ 0 _ _ TO_FREE (λ y. (y + (2 ^ 64 - TO_FREE)) % 2 ^ 64) None _ c.args.value v c.requires.pick.0 c.requires.pick.1 c.requires.pick.2 c.requires.pick.3 (ap (λ z. z.0.view) put ∙ is)
-          record {
-            holds = held;
-            moves = (λ low taken. (omega arith, omega arith, omega arith));
-            forth = omega arith;
-            ticket = (λ _. omega arith);
-            side = (λ _. refl);
-            counted = (λ _. omega arith);
-            kept = (λ _. refl);
-            mine = (λ some_more. absurd (omega arith));
-            halted = omega arith;
-            legal = (λ some_more. absurd (omega arith));
-            meets = c.requires.value;
-            floor = c.requires.floor;
-            common = c.requires.common;
-            covered = (λ one. let a = c.requires.covered one in omega arith);
-            lives = subst Lives is c.seat.invariant.lives;
-          }
+          (departs_silently (g.V.Keeps.legal v.first) (g.V.Keeps.at_home v.first) g.V.Keeps.durable_of g.V.Keeps.common_of c.args.station 0 _ c.args.value v held (λ low taken. (omega arith, omega arith, omega arith)) (omega arith) c.requires.value c.requires.floor c.requires.common (λ one. let a = c.requires.covered one in omega arith) (subst Lives is c.seat.invariant.lives))
           (omega arith) (front_is _ _ _ (Some c.args.value) _ refl (ap (λ z. z.1) put)),
     )
 
 pub invariant_of-seat : goal.invariant_of-seat
-invariant_of-seat g c = let v : View g.row.V.Denot g.row.E.Denot = c.args.seat.now.view in let is = ap (λ (z : Place g.row.V.Denot g.row.E.Denot). z.view) c.seat.view_is in let left = c.fetch_sub.ensures.2 in
-    (departed _ _ c.seat.inside.seat.me c.put_back.new.seat.me c.fetch_sub.new.seat.me ((c.args.station + 2) - 2) c.args.station (turn_of c.args.station v) _ (g.V.Keeps.durable_of c.args.value) _ (g.V.Keeps.common_of c.args.value) _ None _ _ v (ap (λ (z : TableId). z.slots) (c.fetch_sub.ensures.0 ∙ c.put_back.ensures.table)) (omega arith)
-    c.requires.pick.0 c.requires.pick.1 c.requires.pick.2 c.requires.pick.3 is c.seat.invariant c.put_back.ensures.put left.0 left.1 left.2).0
+invariant_of-seat g c = let left = c.fetch_sub.ensures.2 in
+    parted _ _ c.seat.inside.seat.me c.put_back.new.seat.me c.fetch_sub.new.seat.me ((c.args.station + 2) - 2) c.args.station _ _ (ap (λ (z : TableId). z.slots) (c.fetch_sub.ensures.0 ∙ c.put_back.ensures.table)) (omega arith) c.seat.invariant c.put_back.ensures.put left.0 (refl, refl, refl, refl) left.1 left.2
