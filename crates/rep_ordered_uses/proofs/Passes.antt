@@ -1,14 +1,15 @@
 -- Lists of tickets, one ticket later.
-use Rattle.std.proofs.Common.{◌≡◌, ℕ, zero, suc, ◌+◌, ◌-◌, ◌*◌, ◌/◌, ◌^◌, ◌<◌, ◌≤◌, List, [], ◌∷◌, ◌++◌, length, get_or, take, sym, refl, ap, ◌∙◌, subst, arith, length-append, mul-le-mul_right}
+use Rattle.std.proofs.Common.{◌≡◌, ℕ, zero, suc, ◌+◌, ◌-◌, ◌*◌, ◌/◌, ◌^◌, ◌<◌, ◌≤◌, max, eqb, List, [], ◌∷◌, ◌++◌, length, get_or, take, sym, refl, ap, ◌∙◌, subst, arith, length-append, mul-le-mul_right, if◌then◌else◌}
 use Rattle.std.specs.Prelude.{slice_get, Option, None, Some, Result, Ok, Err, OnOk, IsSomeAnd, All}
 use Rattle.std.proofs.lemmas.Option.{same_Some, slice_get-get_or}
 use Rattle.rep_ordered_uses.specs.declared.notes.Note.{Note}
 use Rattle.rep_ordered.specs.Ends.{Closed}
 use Rattle.std.specs.Result.{result_and}
 use Rattle.std.proofs.Math.Nat.{add-mul}
+use Rattle.rep_ordered.specs.declared.view.Reached.{Reached}
 use Rattle.rep_ordered.specs.declared.view.View.{View}
+use Rattle.rep_ordered.specs.Counts.{times}
 use Rattle.rep_ordered.specs.Views.{StartsWith, held_at, reached_at, reach}
-use Rattle.rep_ordered.specs.Going.{Went}
 use Rattle.rep_ordered.specs.GoingLaws.{append_nil, passed_more, passed_joined}
 use Rattle.rep_ordered_uses.specs.Passing.{Anything, HavePassed, numbers, AllDone}
 
@@ -92,26 +93,14 @@ closed_lists tickets durable_of start count v (x ∷ y ∷ []) closed two free d
     let pl : length (tickets p.value) ≡ count = omega arith in let ql : length (tickets q.value) ≡ count = omega arith in
     (p.value, q.value, (λ i. p.is i ∷ q.is i ∷ []), p.keeps.all ∙ ap (numbers start) pl, q.keeps.all ∙ ap (numbers start) ql)
 
-product_some : (a b : ℕ) → 0 < a → 0 < b → 0 < a * b
-product_some a b p q = let l : 1 * b ≤ a * b = mul-le-mul_right b p in omega arith
-
--- what it is closed with once as many threads have passed with as many tickets
-pub passed_lists : {V A X : Type 0} (tickets : V → List ℕ) (durable_of : V → ℕ) (start threads count : ℕ) (u v : View V ℕ) (values : List (Option V)) (passed : Result A X) (ok : A) → Closed Anything (λ _ number _ history _ x. HavePassed start number history (tickets x)) durable_of (λ _. 0) v values
-    → length values ≡ 2 → Went u v → u.start ≡ start → length u.own ≡ 0 → passed ≡ Ok ok → OnOk passed (AllDone v) → OnOk passed (length v.own ≡ length u.own + threads * count) → (0 < threads) × (0 < count)
-    → (a : V) × (b : V) × (values ≡ Some a ∷ Some b ∷ []) × (tickets a ≡ numbers start (threads * count)) × (tickets b ≡ numbers start (threads * count))
-passed_lists tickets durable_of start threads count u v values passed ok closed two went first none_drawn was done drawn some = let all : ℕ = threads * count in
-    let drawn_all : length v.own ≡ all = subst (λ r. OnOk r (length v.own ≡ length u.own + all)) was drawn ∙ (let z : length u.own + all ≡ all = omega arith in z) in
-    closed_lists tickets durable_of start all v values closed two went.free (subst (λ r. OnOk r (AllDone v)) was done) (went.goes.start ∙ first) drawn_all (product_some threads count some.0 some.1)
-
--- what two lists of two have in common
-pub same_two : {A : Type 0} (items : List (Option A)) (a b c d : A) → items ≡ Some a ∷ Some b ∷ [] → items ≡ Some c ∷ Some d ∷ [] → (c ≡ a) × (d ≡ b)
-same_two items a b c d first second = let is = sym second ∙ first in (same_Some c a (ap (λ l. get_or l 0 (Some a)) is), same_Some d b (ap (λ l. get_or l 1 (Some a)) is))
-
 -- the last two of a list of two
 pub popped : {A : Type 0} (items left : List A) (a b : A) (n m : ℕ) (r s : Option A) → items ≡ a ∷ b ∷ [] → n ≡ length items → m ≡ length left → ((d : A) → 0 < n → r ≡ Some (get_or items (n - 1) d)) → left ≡ take (n - 1) items → ((d : A) → 0 < m → s ≡ Some (get_or left (m - 1) d))
     → (r ≡ Some b) × (s ≡ Some a)
 popped items left a b n m r s two n_is m_is first rest second = let n_two : n ≡ 2 = n_is ∙ ap length two in let left_is : left ≡ a ∷ [] = rest ∙ (λ i. take (n_two i - 1) (two i)) in let m_one : m ≡ 1 = m_is ∙ ap length left_is in
     (first a (omega arith) ∙ (λ i. Some (get_or (two i) (n_two i - 1) a)), second a (omega arith) ∙ (λ i. Some (get_or (left_is i) (m_one i - 1) a)))
+
+pub product_some : (a b : ℕ) → 0 < a → 0 < b → 0 < a * b
+product_some a b p q = let l : 1 * b ≤ a * b = mul-le-mul_right b p in omega arith
 
 pub popped_last : {A : Type 0} (items : List A) (a b : A) (n : ℕ) (r : Option A) → items ≡ a ∷ b ∷ [] → n ≡ length items → ((d : A) → 0 < n → r ≡ Some (get_or items (n - 1) d)) → r ≡ Some b
 popped_last items a b n r two n_is first = let n_two : n ≡ 2 = n_is ∙ ap length two in first a (omega arith) ∙ (λ i. Some (get_or (two i) (n_two i - 1) a))

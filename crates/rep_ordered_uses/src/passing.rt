@@ -1,6 +1,6 @@
 //! Threads that pass both stations.
 
-ghost use Rattle.std.specs.Prelude.{◌≡◌, ◌+◌, ◌*◌, ◌-◌, ◌^◌, ◌<◌, ◌≤◌, [], ◌∷◌, ◌++◌, length, IfOk, IfErr, OnOk, Some, ◌⊎◌};
+ghost use Rattle.std.specs.Prelude.{◌≡◌, ◌+◌, ◌*◌, ◌-◌, ◌^◌, ◌<◌, ◌≤◌, [], ◌∷◌, ◌++◌, length, IfOk, IfErr, OnOk, ◌⊎◌};
 ghost use Rattle.std.specs.Thread.{IsSync};
 ghost use Rattle.rep_ordered.specs.Views.{opened};
 ghost use Rattle.rep_ordered.specs.Seats.{seat_of, stations_of};
@@ -171,17 +171,6 @@ pub fn lock_of_lists<const START: u64>(
     )
 }
 
-/// The two values that a lock of two stations was closed with.
-fn both<V: Drop>(values: Vec<Option<V>>) -> (V, V)
-    requires { (first : V) × (second : V) × (values.items ≡ Some first ∷ Some second ∷ []) }
-    ensures { values.items ≡ Some result.0 ∷ Some result.1 ∷ [] }
-{
-    let mut values = values;
-    let second = values.pop().flatten().unwrap();
-    let first = values.pop().flatten().unwrap();
-    (first, second)
-}
-
 /// The tickets that have passed each station, in their order, once each of as many threads has passed
 /// with as many.
 pub fn tickets_by<const START: u64, R: Threads + Wait + Sync>(
@@ -197,8 +186,9 @@ pub fn tickets_by<const START: u64, R: Threads + Wait + Sync>(
 {
     let (lock, seat) = lock_of_lists::<START>(alloc)?;
     let (seat, passed) = pass_by(rt, &lock, seat, threads, count);
-    let values = lock.close(seat);
+    let mut values = lock.close(seat);
     passed?;
-    let (first, second) = both(values);
+    let second = values.pop().flatten().unwrap();
+    let first = values.pop().flatten().unwrap();
     Ok((first.tickets, second.tickets))
 }
