@@ -1,6 +1,6 @@
-//! Refusals and GTIDs as texts, against texts that were written by hand.
+//! Refusals and GTIDs as texts, against texts that were written by hand; and sizes of windows.
 
-use rep_types::{Gtid, Part, Refusal};
+use rep_types::{Gtid, Part, Refusal, Window, WindowSize};
 use std::alloc::{AllocError, Global};
 use std::process::Abort;
 use std::test::Fail;
@@ -133,4 +133,49 @@ fn an_undefined_gtid_has_the_seqno_of_minus_one(rt: HostRuntime) -> Result<(), F
     assert_eq!(rt; text.as_str(), "00000000-0000-0000-0000-000000000000:-1");
     assert!(rt; Gtid::new(Uuid::nil(), -2).is_none());
     Ok(())
+}
+
+/// The number of seqnos that the window of this size spans.
+fn size_of(seqnos: u64) -> Result<u64, Refusal> {
+    Ok(WindowSize::new(seqnos)?.get())
+}
+
+/// Sizes of windows, and what is made of them.
+const SIZES: [(u64, Result<u64, Refusal>); 5] = [
+    (0, Err(Refusal::BadParams)),
+    (1, Ok(1)),
+    (256, Ok(256)),
+    (257, Err(Refusal::BadParams)),
+    (u64::MAX, Err(Refusal::BadParams)),
+];
+
+#[test]
+fn windows_have_sizes_from_1_to_256(rt: HostRuntime) {
+    for (seqnos, size) in SIZES {
+        assert_eq!(rt; (seqnos, size_of(seqnos)), (seqnos, size));
+    }
+}
+
+/// The floor of a fixed window of this size at the position.
+fn floor_of(alloc: Global, seqnos: u64, position: u64) -> Result<u64, Refusal> {
+    let size = WindowSize::new(seqnos)?;
+    Ok(Window::fixed(size, position, Vec::new(alloc)).floor())
+}
+
+/// Sizes, positions and floors of fixed windows.
+const FLOORS: [(u64, u64, u64); 6] = [
+    (4, 0, 1),
+    (4, 4, 1),
+    (4, 5, 2),
+    (1, 7, 7),
+    (256, 256, 1),
+    (256, u64::MAX, u64::MAX - 255),
+];
+
+#[test]
+fn fixed_windows_reach_back_by_their_size(rt: HostRuntime) {
+    for (seqnos, position, floor) in FLOORS {
+        let found = floor_of(rt.alloc(), seqnos, position);
+        assert_eq!(rt; (seqnos, position, found), (seqnos, position, Ok(floor)));
+    }
 }

@@ -13,3 +13,4 @@ pub mod RowsByItems
 pub mod Tests
 pub mod Digits
 pub mod Gtids
+pub mod Reaches

@@ -1,12 +1,18 @@
--- The history, the rows, the window and the state in the subject's own words, by the items of the order.
-use Rattle.std.specs.Prelude.{◌≡◌, ◌≢◌, ◌↔◌, ℕ, ◌+◌, ◌-◌, ◌<◌, ◌≤◌, List, [], ◌∷◌, ◌++◌, length, take, slice_index_or, Contains, None}
+-- The history, the rows, the window and the state in the subject's own words, by the items of the order; and how far back its window
+-- reaches.
+use Rattle.std.specs.Prelude.{◌≡◌, ◌≢◌, ◌↔◌, ℕ, ◌+◌, ◌-◌, ◌<◌, ◌≤◌, List, [], ◌∷◌, ◌++◌, length, take, slice_index_or, max, Contains, None}
 use Rattle.rep_types.specs.declared.key.Key.{Key}
 use Rattle.rep_types.specs.declared.value.Write.{Write}
+use Rattle.rep_types.specs.declared.item.Item.{Item}
+use Rattle.rep_types.specs.declared.item.Item.TheVariants.{SetWindow as OfSetWindow}
+use Rattle.rep_types.specs.declared.item.SetWindow.{SetWindow}
 use Rattle.rep_types.specs.declared.judged.Judged.{Judged}
 use Rattle.rep_types.specs.declared.verdict.Verdict.TheVariants.{Commit}
 use Rattle.rep_types.specs.Transactions.{Transaction, written}
 use Rattle.rep_types.specs.Settings.{Setting}
 use Rattle.rep_types.specs.Entries.{Entry}
+use Rattle.rep_types.specs.Items.{AreWriteSets}
+use Rattle.rep_types.specs.Reaches.{size, floor, reach, reach_after}
 use Rattle.rep_types.specs.Order.{Order, item, verdict, history, entries, effects, rows, read, window, state}
 
 -- the order has an item n, and it committed
@@ -72,3 +78,27 @@ pub record StateByParts : Type 0 where
   pub position : (p : Setting) (L : Order) → (state p L).position ≡ length L
   pub content : (p : Setting) (L : Order) (key : Key) → (state p L).content key ≡ rows p L key
   pub kept : (p : Setting) (L : Order) → (state p L).kept ≡ window p L
+
+-- The size of the window is the one that the last change of it set, and that of the parameters where no item changes it.
+pub record SizeByItems : Type 0 where
+  pub first : (p : Setting) (L : List Item) → AreWriteSets L → size p L ≡ p.window
+  pub last : (p : Setting) (L M : List Item) (c : SetWindow) → AreWriteSets M → size p (L ++ OfSetWindow c ∷ M) ≡ c.size
+
+-- The floor never falls, and is 1 at first. After each item it is at least the least seqno that the size at that item spans there,
+-- and it is the least number that does so. Where no item changes the size, it is the least seqno that this size spans, 1 or more.
+pub record FloorByItems : Type 0 where
+  pub rises : (p : Setting) (L : List Item) (m n : ℕ) → m ≤ n → floor p L m ≤ floor p L n
+  pub first : (p : Setting) (L : List Item) (n : ℕ) → 1 ≤ floor p L n
+  pub spans : (p : Setting) (L : List Item) (m n : ℕ) → 1 ≤ m → m ≤ n → m + 1 ≤ floor p L n + size p (take m L)
+  pub least : (p : Setting) (L : List Item) (n bound : ℕ) → 1 ≤ bound → ((m : ℕ) → 1 ≤ m → m ≤ n → m + 1 ≤ bound + size p (take m L)) →
+      floor p L n ≤ bound
+  pub fixed : (p : Setting) (L : List Item) (n : ℕ) → AreWriteSets L → floor p L n ≡ max 1 (n + 1 - p.window)
+
+-- The reach of an order is its size and its floor, and goes on from itself as the order does. The floor at a position is that of the
+-- order up to there, whatever items come behind.
+pub record ReachByItems : Type 0 where
+  pub has_size : (p : Setting) (L : List Item) → (reach p L).size ≡ size p L
+  pub has_floor : (p : Setting) (L : List Item) → (reach p L).floor ≡ floor p L (length L)
+  pub front : (p : Setting) (L : List Item) (k n : ℕ) → n ≤ k → floor p (take k L) n ≡ floor p L n
+  pub first : (p : Setting) → reach p [] ≡ record { size = p.window; floor = 1 }
+  pub one_more : (p : Setting) (L : List Item) (i : Item) → reach p (L ++ i ∷ []) ≡ reach_after (reach p L) (length L + 1) i

@@ -3,6 +3,9 @@ pub mod Refusals
 pub mod Transactions
 pub mod Settings
 pub mod Entries
+pub mod Windows
+pub mod Items
+pub mod Reaches
 pub mod Order
 pub mod Verdicts
 pub mod ByItems

@@ -2,7 +2,7 @@
 //! its proof, and calling the function brings it to the caller.
 
 ghost use Rattle.rep_types.specs.Verdicts.{VerdictsAreDetermined, StateIsEnough, ReadsAreSerial};
-ghost use Rattle.rep_types.specs.ByItems.{HistoryByItems, WindowByItems, RowsByItems, ReadsByItems, StateByParts};
+ghost use Rattle.rep_types.specs.ByItems.{HistoryByItems, WindowByItems, RowsByItems, ReadsByItems, StateByParts, SizeByItems, FloorByItems, ReachByItems};
 
 /// The verdicts of an order are the one assignment in which each item has the verdict that its
 /// definition by pairs says: a conflict names the greatest committed item that meets it.
@@ -49,4 +49,23 @@ pub fn reads_by_items()
 /// A state is how many items came, the rows after them, and the window.
 pub fn state_by_parts()
     ensures { StateByParts }
+{}
+
+/// The size of the window after some items is the one that the last change of it set, or that of the
+/// parameters where none of them changes it.
+pub fn size_by_items()
+    ensures { SizeByItems }
+{}
+
+/// The floor is 1 at first and never falls: it is the least number from 1 on that is at no position
+/// below what the size at that position spans. Where no item changes the size, it is what that size
+/// spans at the position itself.
+pub fn floor_by_items()
+    ensures { FloorByItems }
+{}
+
+/// How far back the window reaches after one more item is told by how far it reached before, and by
+/// the item.
+pub fn reach_by_items()
+    ensures { ReachByItems }
 {}

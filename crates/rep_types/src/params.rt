@@ -8,6 +8,7 @@ use crate::key::Key;
 use crate::limits::{MAX_CELLS, MAX_PAGES, MAX_TABLES, MAX_WINDOW, MIN_CELLS, ROWS_PER_PAGE};
 use crate::refusal::Refusal;
 use crate::value::Write;
+use crate::window::WindowSize;
 use crate::write_set::WriteSet;
 use arrayvec::ArrayVec;
 use std::marker::Model;
@@ -175,6 +176,16 @@ impl Params {
         ensures limits { IsTrue (is_setting self.now) }
     {
         self.window
+    }
+
+    /// The size of the window until an item changes it.
+    pub fn window_size(&self) -> WindowSize
+        ensures { result ≡ self.now.window }
+    {
+        match WindowSize::new(u64::from(self.window())) {
+            Ok(size) => size,
+            Err(_) => unreachable!(),
+        }
     }
 
     /// How many cells the log has.
