@@ -12,7 +12,7 @@ PEEKS := crates/rep_snap_timed/out/rep_snap_timed
 
 .PHONY: run build test check edits gate-time bench toolchain
 
-# Judges the sample order within a minute: compiled, with checks at run time, and not proved yet.
+# Judges the sample order within a minute: what judges is compiled, with checks at run time, and not proved yet.
 run: toolchain
 	@scripts/try judge < examples/first-order.txt
 
