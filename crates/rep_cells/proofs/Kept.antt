@@ -128,24 +128,8 @@ synced_narrows (Stable body) r is = is
 
 pub synced_again : (state : State) → synced (synced state) ≡ synced state
 synced_again Unknown = refl
-synced_again Shutting = refl
-synced_again Closed = refl
-synced_again (Filling body) = refl
-synced_again (Filled body) = refl
-synced_again (Opening body) = refl
-synced_again (Opened body) = refl
-synced_again (Closing body) = refl
-synced_again (Pending body) = refl
-synced_again (Stable body) = refl
+synced_again _ = refl
 
 pub synced_closes : (state : State) → synced (closing state) ≡ Closed
 synced_closes Unknown = refl
-synced_closes Shutting = refl
-synced_closes Closed = refl
-synced_closes (Filling body) = refl
-synced_closes (Filled body) = refl
-synced_closes (Opening body) = refl
-synced_closes (Opened body) = refl
-synced_closes (Closing body) = refl
-synced_closes (Pending body) = refl
-synced_closes (Stable body) = refl
+synced_closes _ = refl

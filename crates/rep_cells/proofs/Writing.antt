@@ -1,5 +1,5 @@
 -- What a write in a place comes to.
-use Rattle.std.proofs.Common.{◌≡◌, ℕ, ◌+◌, ◌<◌, ◌≤◌, ◌⊎◌, inl, inr, true, false, List, length, Result, Ok, Err, refl, sym, ap, subst, ◌∙◌, arith}
+use Rattle.std.proofs.Common.{◌≡◌, ℕ, ◌+◌, ◌<◌, ◌≤◌, ◌⊎◌, inl, inr, Bool, true, false, eqb, List, length, Result, Ok, Err, refl, sym, ap, subst, ◌∙◌, arith}
 use Rattle.std.specs.Prelude.{replicate, OnOk, OnErr}
 use Rattle.std.proofs.lemmas.List.{length-replicate}
 use Rattle.rep_disk.specs.History.{History, Wrote, Spoiled, stable, IsImage}
@@ -12,7 +12,7 @@ use Rattle.rep_layout.specs.Places.{body_len, gate_len, offset_of, gate_of, end_
 use Rattle.rep_layout.proofs.PlacesApart.{lie_apart, lies_inside}
 use Rattle.rep_cells.specs.Readings.{IsPlace, IsCell, IsArea, reading_of}
 use Rattle.rep_cells.specs.States.{State, States, Unknown, Shutting, Closed, Filling, Filled, Opening, Opened, Closing, Pending, Stable, IsSure, Allowed, Moves, filling, opening, closing, writing}
-use Rattle.rep_cells.specs.Known.{GateIs, BodyIs, Known, Assigns}
+use Rattle.rep_cells.specs.Known.{GateIs, BodyIs, BodyStays, Known, Assigns}
 use Rattle.rep_cells.specs.Calls.{gate, Writes, Loses, Stepped}
 use Rattle.rep_cells.proofs.Ranges.{Apart, gate_stays_apart, gate_is_apart, body_stays_apart, body_written, gate_written}
 use Rattle.rep_cells.proofs.Kept.{Kept, known_kept, kept_allows, known_elsewhere, Stands, stands, assigned, stands_elsewhere, stands_spoiled}
@@ -54,59 +54,27 @@ fill_kept l h place body junk state size is =
     by_cases apart (Pending b) k = tt
     by_cases apart (Stable b) k = tt
 
--- a gate lies apart from its body
-gate_apart : (l : Layout) (place : Place) (n : ℕ) → Apart (gate_of l place) n (offset_of l place) (body_len place)
-gate_apart l place n = inr (omega arith)
+-- a write of a gate leaves the body behind it
+body_behind : (l : Layout) (h : History) (place : Place) (body bytes : List ℕ) → BodyStays l h place body → BodyStays l (Wrote (gate_of l place) bytes h) place body
+body_behind l h place body bytes is = body_stays_apart l h place body (gate_of l place) bytes (inr (omega arith)) is
 
--- a write of an open gate
-pub open_known : (l : Layout) (h : History) (place : Place) (others : List ℕ) (state : State) → GateIs l (Wrote (gate_of l place) others h) place true → Known l h place state → Known l (Wrote (gate_of l place) others h) place (opening state)
-open_known l h place others Unknown new k = tt
-open_known l h place others Shutting new k = tt
-open_known l h place others Closed new k = tt
-open_known l h place others (Filling b) new k = tt
-open_known l h place others (Filled b) new k = (new, body_stays_apart l h place b (gate_of l place) others (gate_apart l place (length others)) k.1)
-open_known l h place others (Opening b) new k = (new, body_stays_apart l h place b (gate_of l place) others (gate_apart l place (length others)) k.1)
-open_known l h place others (Opened b) new k = (new, body_stays_apart l h place b (gate_of l place) others (gate_apart l place (length others)) k.1)
-open_known l h place others (Closing b) new k = (new, body_stays_apart l h place b (gate_of l place) others (gate_apart l place (length others)) k.1)
-open_known l h place others (Pending b) new k = tt
-open_known l h place others (Stable b) new k = tt
+-- what a write of a gate makes of a cell: one state over a body that is stable, and another over the rest
+abbrev gated : (List ℕ → State) → State → State → State
+gated over other (Filled body) = over body
+gated over other (Opening body) = over body
+gated over other (Opened body) = over body
+gated over other (Closing body) = over body
+gated over other _ = other
 
-pub open_kept : (l : Layout) (h : History) (place : Place) (junk : List ℕ) (state : State) → Known l h place state → Kept l (Wrote (gate_of l place) junk h) place (opening state)
-open_kept l h place junk Unknown k = tt
-open_kept l h place junk Shutting k = tt
-open_kept l h place junk Closed k = tt
-open_kept l h place junk (Filling b) k = tt
-open_kept l h place junk (Filled b) k = body_stays_apart l h place b (gate_of l place) junk (gate_apart l place (length junk)) k.1
-open_kept l h place junk (Opening b) k = body_stays_apart l h place b (gate_of l place) junk (gate_apart l place (length junk)) k.1
-open_kept l h place junk (Opened b) k = body_stays_apart l h place b (gate_of l place) junk (gate_apart l place (length junk)) k.1
-open_kept l h place junk (Closing b) k = body_stays_apart l h place b (gate_of l place) junk (gate_apart l place (length junk)) k.1
-open_kept l h place junk (Pending b) k = tt
-open_kept l h place junk (Stable b) k = tt
-
--- a write of a closed gate
-pub close_known : (l : Layout) (h : History) (place : Place) (others : List ℕ) (state : State) → GateIs l (Wrote (gate_of l place) others h) place false → Known l h place state → Known l (Wrote (gate_of l place) others h) place (closing state)
-close_known l h place others Unknown new k = new
-close_known l h place others Shutting new k = new
-close_known l h place others Closed new k = new
-close_known l h place others (Filling b) new k = new
-close_known l h place others (Filled b) new k = (new, body_stays_apart l h place b (gate_of l place) others (gate_apart l place (length others)) k.1)
-close_known l h place others (Opening b) new k = (new, body_stays_apart l h place b (gate_of l place) others (gate_apart l place (length others)) k.1)
-close_known l h place others (Opened b) new k = (new, body_stays_apart l h place b (gate_of l place) others (gate_apart l place (length others)) k.1)
-close_known l h place others (Closing b) new k = (new, body_stays_apart l h place b (gate_of l place) others (gate_apart l place (length others)) k.1)
-close_known l h place others (Pending b) new k = new
-close_known l h place others (Stable b) new k = new
-
-pub close_kept : (l : Layout) (h : History) (place : Place) (junk : List ℕ) (state : State) → Known l h place state → Kept l (Wrote (gate_of l place) junk h) place (closing state)
-close_kept l h place junk Unknown k = tt
-close_kept l h place junk Shutting k = tt
-close_kept l h place junk Closed k = tt
-close_kept l h place junk (Filling b) k = tt
-close_kept l h place junk (Filled b) k = body_stays_apart l h place b (gate_of l place) junk (gate_apart l place (length junk)) k.1
-close_kept l h place junk (Opening b) k = body_stays_apart l h place b (gate_of l place) junk (gate_apart l place (length junk)) k.1
-close_kept l h place junk (Opened b) k = body_stays_apart l h place b (gate_of l place) junk (gate_apart l place (length junk)) k.1
-close_kept l h place junk (Closing b) k = body_stays_apart l h place b (gate_of l place) junk (gate_apart l place (length junk)) k.1
-close_kept l h place junk (Pending b) k = tt
-close_kept l h place junk (Stable b) k = tt
+-- what holds behind such a write: it rests on the body alone
+gated_holds :
+    (l : Layout) (h : History) (place : Place) (bytes : List ℕ) (P : State → Type 0) (over : List ℕ → State) (other : State) → ((body : List ℕ) → BodyStays l (Wrote (gate_of l place) bytes h) place body → P (over body)) → P other
+    → (state : State) → Known l h place state → P (gated over other state)
+gated_holds l h place bytes P over other stable rest (Filled body) k = stable body (body_behind l h place body bytes k.1)
+gated_holds l h place bytes P over other stable rest (Opening body) k = stable body (body_behind l h place body bytes k.1)
+gated_holds l h place bytes P over other stable rest (Opened body) k = stable body (body_behind l h place body bytes k.1)
+gated_holds l h place bytes P over other stable rest (Closing body) k = stable body (body_behind l h place body bytes k.1)
+gated_holds l h place bytes P over other stable rest _ k = rest
 
 -- an image after a write is one after some bytes were written there
 as_written : {T E : Type 0} → (at : ℕ) (bytes : List ℕ) (h new : History) (result : Result T E) (image : List ℕ) → Writes at bytes h new result → IsImage new image → (junk : List ℕ) × (length junk ≡ length bytes) × IsImage (Wrote at junk h) image
@@ -234,20 +202,43 @@ write_area_steps l h new s place body result is area size w =
 gate_size : (first : ℕ) (place : Place) → 0 < gate_len place → length (gate first) ≡ gate_len place
 gate_size first place some = ap (λ (n : ℕ). 1 + n) (length-replicate {A = ℕ} 511 0) ∙ sym (gate_is_sector place some)
 
+-- a write of a gate whose first byte reads as open or as closed
+gate_steps :
+    {T E : Type 0} → (l : Layout) (h new : History) (s : States) (place : Place) (first : ℕ) (shows : Bool) (over : List ℕ → State) (other : State) (step : State → State) (result : Result T E) → eqb first 0xA5 ≡ shows
+    → ((state : State) → gated over other state ≡ step state) → ((g : History) → GateIs l g place shows → Known l g place other × ((body : List ℕ) → BodyStays l g place body → Known l g place (over body)))
+    → ((g : History) → Kept l g place other × ((body : List ℕ) → BodyStays l g place body → Kept l g place (over body))) → ((state : State) → IsSure (step state) → IsSure state)
+    → Assigns l h s → IsCell l place → Writes (gate_of l place) (gate first) h new result → Stepped l h new s place step result
+gate_steps l h new s place first shows over other step result reads step_is known kept sure is cell w =
+    let size = gate_size first place cell.1 in
+    let now = is.places place cell.0 in
+    let P : List ℕ → State → Type 0 = λ bytes. Known l (Wrote (gate_of l place) bytes h) place in
+    let K : List ℕ → State → Type 0 = λ bytes. Kept l (Wrote (gate_of l place) bytes h) place in
+    let says = known (Wrote (gate_of l place) (gate first) h) (gate_written l h place first (replicate 511 0) shows (end_fits l h s place is cell.0) cell.1 size reads) in
+    write_steps l h new s place (gate_of l place) (gate first) step result is cell.0 (omega arith) (omega (arith, size)) w
+    (subst (P (gate first)) (step_is (s place)) (gated_holds l h place (gate first) (P (gate first)) over other says.1 says.0 (s place) now))
+    (λ junk same. subst (K junk) (step_is (s place)) (gated_holds l h place junk (K junk) over other (kept (Wrote (gate_of l place) junk h)).1 (kept (Wrote (gate_of l place) junk h)).0 (s place) now))
+    (sure (s place))
+
+opening_is : (state : State) → gated Opening Unknown state ≡ opening state
+opening_is Unknown = refl
+opening_is _ = refl
+
+closing_is : (state : State) → gated Closing Shutting state ≡ closing state
+closing_is Unknown = refl
+closing_is _ = refl
+
 pub open_steps : {T E : Type 0} → (l : Layout) (h new : History) (s : States) (place : Place) (result : Result T E) → Assigns l h s → IsCell l place → Writes (gate_of l place) (gate 0xA5) h new result → Stepped l h new s place opening result
-open_steps l h new s place result is cell w =
-    write_steps l h new s place (gate_of l place) (gate 0xA5) opening result is cell.0 (omega arith) (omega (arith, gate_size 0xA5 place cell.1)) w
-    (open_known l h place (gate 0xA5) (s place) (gate_written l h place 0xA5 (replicate 511 0) true (end_fits l h s place is cell.0) cell.1 (gate_size 0xA5 place cell.1) refl) (is.places place cell.0))
-    (λ junk same. open_kept l h place junk (s place) (is.places place cell.0))
-    (sure_before opening (λ e. e) (λ e. e) (λ b e. e) (s place))
+open_steps l h new s place result =
+    gate_steps l h new s place 0xA5 true Opening Unknown opening result refl opening_is (λ g is. (tt, λ body stays. (is, stays))) (λ g. (tt, λ body stays. stays)) (sure_before opening (λ e. e) (λ e. e) (λ b e. e))
 
 pub close_steps : {T E : Type 0} → (l : Layout) (h new : History) (s : States) (place : Place) (result : Result T E) → Assigns l h s → IsCell l place → Writes (gate_of l place) (gate 0) h new result → Stepped l h new s place closing result
-close_steps l h new s place result is cell w =
-    write_steps l h new s place (gate_of l place) (gate 0) closing result is cell.0 (omega arith) (omega (arith, gate_size 0 place cell.1)) w
-    (close_known l h place (gate 0) (s place) (gate_written l h place 0 (replicate 511 0) false (end_fits l h s place is cell.0) cell.1 (gate_size 0 place cell.1) refl) (is.places place cell.0))
-    (λ junk same. close_kept l h place junk (s place) (is.places place cell.0))
-    (sure_before closing (λ e. e) (λ e. e) (λ b e. e) (s place))
+close_steps l h new s place result =
+    gate_steps l h new s place 0 false Closing Shutting closing result refl closing_is (λ g is. (is, λ body stays. (is, stays))) (λ g. (tt, λ body stays. stays)) (sure_before closing (λ e. e) (λ e. e) (λ b e. e))
 
 -- a gate's sector lies on the device
 pub gate_ends : (l : Layout) (place : Place) (at : ℕ) (sector : List ℕ) (first size : ℕ) → IsCell l place → need_of l ≤ size → at ≡ gate_of l place → sector ≡ gate first → at + length sector ≤ size
 gate_ends l place at sector first size cell fits where_it_is what_it_is = omega (arith, fits, where_it_is, ap length what_it_is, gate_size first place cell.1, lies_inside l place cell.0)
+
+-- a write of a gate, as the device was asked for it
+pub gate_writes : {T E : Type 0} → (l : Layout) (place : Place) (at : ℕ) (sector : List ℕ) (first : ℕ) (h new : History) (result : Result T E) → at ≡ gate_of l place → sector ≡ gate first → Writes at sector h new result → Writes (gate_of l place) (gate first) h new result
+gate_writes l place at sector first h new result where_it_is what_it_is w = subst (λ n. Writes n (gate first) h new result) where_it_is (subst (λ bytes. Writes at bytes h new result) what_it_is w)

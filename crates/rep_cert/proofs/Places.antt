@@ -11,6 +11,7 @@ use Rattle.std.proofs.lemmas.List.Sums.{sum_by-cons}
 use Rattle.std.proofs.lemmas.List.Elements.{All-cons, All-nil}
 use Rattle.rep_types.specs.declared.key.Key.{Key}
 use Rattle.rep_types.specs.Keys.{key_eq}
+use Rattle.rep_types.specs.Entries.{Entry}
 use Rattle.rep_types.specs.Settings.{has_row, IsRow}
 use Rattle.rep_types.proofs.Touches.{key_eq-true, key_eq_refl}
 use Rattle.rep_types.specs.declared.value.Write.{Write}
@@ -207,3 +208,10 @@ pub HasPlace-key : (rows : List ℕ) (old self : LastWriters) (key : Key) → Is
 HasPlace-key rows old self key laid same size has =
     HasPlace-row rows self.starts.items self.seqnos.items key
     (IsLaidOut-same rows old.starts.items old.seqnos.items self.starts.items self.seqnos.items (ap (λ (v : ArrayVec ℕ). v.items) same) size laid) (ltb-true _ _ has)
+
+-- These last writers are those others after committed items in any order: each row of the schema has the latest of them.
+pub record Raised (rows : List ℕ) (old self : LastWriters) (entries : List Entry) : Type 0 where
+  pub starts : self.starts ≡ old.starts
+  pub former : self.former ≡ old.former
+  pub size : length self.seqnos.items ≡ length old.seqnos.items
+  pub raised : (key : Key) → IsRow rows key → writer self.starts.items self.seqnos.items key ≡ max (writer old.starts.items old.seqnos.items key) (last_writer key entries)

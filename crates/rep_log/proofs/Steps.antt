@@ -48,22 +48,20 @@ moved :
     → busy phase ≡ 1 → LogIs l log first blocks sealed s → log.next + 1 ≤ log.start + l.cells
     → IsDue phase l (log.next % l.cells) log.next log.seqno coming (step (s (log_of l log.next)))
     → (stepped : Stepped l old new s (log_of l log.next) step result) → LogIs l (record log { phase = phase }) first blocks coming stepped.after
-moved turns l old new s log phase first blocks sealed coming step result writes is room due stepped =
-    let there : log_of l log.next ≡ Log (log.next % l.cells) = log_is l log.next is.some in
-    record {
-      cells = is.cells;
-      some = is.some;
-      known = is.known;
-      starts = is.starts;
-      limit = is.limit;
-      live = stand_moved (StandsOpen s l) (StandsOpen stepped.after l) log.start first blocks
-          (λ m body from to stands. stepped.moves.elsewhere (log_of l m) (turns.apart l m log.next (omega (arith, to, is.next)) (omega (arith, room, from))) ∙ stands) is.live;
-      next = is.next;
-      seqno = is.seqno;
-      room = omega (arith, writes, room);
-      rest = λ i lt other. subst (AtRest (stands_at log i) l i log.next) (sym (stepped.moves.elsewhere (Log i) (other_cell l i log.next is.some (other writes)))) (is.rest i lt (λ b. other writes));
-      due = subst (IsDue phase l (log.next % l.cells) log.next log.seqno coming) (sym stepped.moves.there) due;
-    }
+moved turns l old new s log phase first blocks sealed coming step result writes is room due stepped = record {
+  cells = is.cells;
+  some = is.some;
+  known = is.known;
+  starts = is.starts;
+  limit = is.limit;
+  live = stand_moved (StandsOpen s l) (StandsOpen stepped.after l) log.start first blocks
+      (λ m body from to stands. stepped.moves.elsewhere (log_of l m) (turns.apart l m log.next (omega (arith, to, is.next)) (omega (arith, room, from))) ∙ stands) is.live;
+  next = is.next;
+  seqno = is.seqno;
+  room = omega (arith, writes, room);
+  rest = λ i lt other. subst (AtRest (stands_at log i) l i log.next) (sym (stepped.moves.elsewhere (Log i) (other_cell l i log.next is.some (other writes)))) (is.rest i lt (λ b. other writes));
+  due = subst (IsDue phase l (log.next % l.cells) log.next log.seqno coming) (sym stepped.moves.there) due;
+}
 
 pub step_is :
     {D : Type 0} → TurnsAreTaken → (honest : D → Type 0) (history : D → History) (l : Layout) (log : Standing) (phase : Phase) (coming : List Judged → List Judged) (at : ℕ) (bytes : List ℕ) (old new : D)
@@ -112,17 +110,11 @@ seal_tests false false e = (refl, refl)
 
 recycle_at : (log : Standing) (phase : Phase) → unless_recycle (due_in log phase) ≡ None → (phase ≡ Resting) × (unless_recycle (due_at_rest log) ≡ None)
 recycle_at log Resting e = (refl, e)
-recycle_at log is_closing e = absurd cc
-recycle_at log (is_filling n) e = absurd cc
-recycle_at log (is_filled n) e = absurd cc
-recycle_at log (is_opening n) e = absurd cc
+recycle_at log _ e = absurd cc
 
 seal_at : (log : Standing) (phase : Phase) → unless_seal (due_in log phase) ≡ None → (phase ≡ Resting) × (unless_seal (due_at_rest log) ≡ None)
 seal_at log Resting e = (refl, e)
-seal_at log is_closing e = absurd cc
-seal_at log (is_filling n) e = absurd cc
-seal_at log (is_filled n) e = absurd cc
-seal_at log (is_opening n) e = absurd cc
+seal_at log _ e = absurd cc
 
 gate_at : (log : Standing) (phase : Phase) → unless_gate (due_in log phase) ≡ None → (n : ℕ) × (phase ≡ is_filled n)
 gate_at log Resting e = absurd (not_at_rest _ _ e)
@@ -131,10 +123,8 @@ gate_at log Resting e = absurd (not_at_rest _ _ e)
     not_at_rest true stands f = absurd cc
     not_at_rest false true f = absurd cc
     not_at_rest false false f = absurd cc
-gate_at log is_closing e = absurd cc
-gate_at log (is_filling n) e = absurd cc
 gate_at log (is_filled n) e = (n, refl)
-gate_at log (is_opening n) e = absurd cc
+gate_at log _ e = absurd cc
 
 pub recycle_free : (l : Layout) (log : Standing) → recycle_refusal l log ≡ None → IsFree log true
 recycle_free l log e =

@@ -1,5 +1,5 @@
 -- What a sync makes of a log, and a later start.
-use Rattle.std.proofs.Common.{◌≡◌, ◌≢◌, ℕ, ◌+◌, ◌-◌, ◌%◌, ◌<◌, ◌≤◌, Bool, true, false, List, [], ◌∷◌, length, get_or, take, drop, refl, sym, ap, subst, ◌∙◌, arith, inl, inr, length-append, length-drop, length-set, get_or-set_same, get_or-set_other}
+use Rattle.std.proofs.Common.{◌≡◌, ◌≢◌, ℕ, ◌+◌, ◌-◌, ◌%◌, ◌<◌, ◌≤◌, Bool, true, false, List, [], ◌∷◌, ◌++◌, length, get_or, take, drop, refl, sym, ap, subst, ◌∙◌, arith, inl, inr, length-append, length-drop, length-set, get_or-set_same, get_or-set_other}
 use Rattle.std.specs.Prelude.{min, max, slice_set}
 use Rattle.std.proofs.lemmas.Bool.{cases_eq}
 use Rattle.rep_types.specs.declared.judged.Judged.{Judged}
@@ -81,6 +81,25 @@ due_at l log phase first blocks sealed s e is = subst (λ (p : Phase). IsDue p l
 same_phase : {l : Layout} {log : Standing} {phase : Phase} {first : ℕ} {blocks : List (List Judged)} {sealed : List Judged} {t : States} → log.phase ≡ phase → LogIs l (record log { phase = phase }) first blocks sealed t → LogIs l log first blocks sealed t
 same_phase {l} {log} {phase} {first} {blocks} {sealed} {t} e h = subst (λ (p : Phase). LogIs l (record log { phase = p }) first blocks sealed t) (sym e) h
 
+-- the log at rest behind a sync by which the next block's cell has settled, with these blocks and this next one
+settled :
+    (l : Layout) (log : Standing) (b : Bool) (next seqno first : ℕ) (blocks after : List (List Judged)) (sealed : List Judged) (s t : States) → Syncs s t → LogIs l log first blocks sealed s → log.next ≤ next
+    → AtRest b l (log.next % l.cells) next (t (Log (log.next % l.cells))) → Stand (StandsOpen t l) log.start first after → next ≡ log.start + length after → seqno ≡ seqno_after first after → next ≤ log.start + l.cells
+    → LogIs l (record log { next = next; seqno = seqno; phase = Resting; stands = slice_set log.stands (index_of log) b }) first after sealed t
+settled l log b next seqno first blocks after sealed s t syncs is le here live next_is seqno_is room = record {
+  cells = is.cells;
+  some = is.some;
+  known = omega (arith, is.known, length-set log.stands (index_of log) b);
+  starts = is.starts;
+  limit = is.limit;
+  live = live;
+  next = next_is;
+  seqno = seqno_is;
+  room = omega (arith, room);
+  rest = λ i lt other. all_rest l log b next first blocks sealed s t syncs is le here i lt;
+  due = tt;
+}
+
 -- the log after a sync, by the phase before it
 synced_by :
     (l : Layout) (log : Standing) (phase : Phase) (first : ℕ) (blocks : List (List Judged)) (sealed : List Judged) (s t : States) → log.phase ≡ phase → Syncs s t → LogIs l log first blocks sealed s
@@ -89,19 +108,7 @@ synced_by l log Resting first blocks sealed s t e syncs is = same_phase e (stays
 synced_by l log Closing first blocks sealed s t e syncs is =
     let due = due_at l log Closing first blocks sealed s e is in
     let closed : t (Log (log.next % l.cells)) ≡ Closed = ap t (sym (log_is l log.next is.some)) ∙ syncs (log_of l log.next) ∙ ap synced due.1 in
-    record {
-      cells = is.cells;
-      some = is.some;
-      known = omega (arith, is.known, length-set log.stands (index_of log) false);
-      starts = is.starts;
-      limit = is.limit;
-      live = open_synced s t l log.start first blocks syncs is.live;
-      next = is.next;
-      seqno = is.seqno;
-      room = omega (arith, is.room);
-      rest = λ i lt other. all_rest l log false log.next first blocks sealed s t syncs is (omega arith) closed i lt;
-      due = tt;
-    }
+    settled l log false log.next log.seqno first blocks blocks sealed s t syncs is (omega arith) closed (open_synced s t l log.start first blocks syncs is.live) is.next is.seqno (omega (arith, is.room))
 synced_by l log (Filling n) first blocks sealed s t e syncs is =
     let due = due_at l log (Filling n) first blocks sealed s e is in
     stays_synced l log (Filled n) first blocks sealed s t syncs is (ap busy (sym e)) (record { state_is = syncs (log_of l log.next) ∙ ap synced due.state_is; size = due.size; block = due.block })
@@ -114,21 +121,11 @@ synced_by l log (Opening n) first blocks sealed s t e syncs is =
     let there : log_of l log.next ≡ Log (log.next % l.cells) = log_is l log.next is.some in
     let opened : t (log_of l log.next) ≡ Opened (block_bytes log.next sealed) = syncs (log_of l log.next) ∙ ap synced due.state_is in
     let number : cell_in (block_bytes log.next sealed) ≡ log.next = cell_is log.next sealed due.block.is_block in
-    record {
-      cells = is.cells;
-      some = is.some;
-      known = omega (arith, is.known, length-set log.stands (index_of log) true);
-      starts = is.starts;
-      limit = is.limit;
-      live = stand_more (StandsOpen t l) log.start first blocks sealed (open_synced s t l log.start first blocks syncs is.live)
-          (subst (λ m. StandsOpen t l m (block_bytes m sealed)) is.next opened) (subst (λ m. IsBlockFrom m (seqno_after first blocks) sealed) is.next (subst (λ m. IsBlockFrom log.next m sealed) is.seqno due.block));
-      next = omega (arith, is.next, length-append blocks (sealed ∷ []));
-      seqno = omega (arith, is.seqno, due.size, seqno_more first blocks sealed);
-      room = omega (arith, one, is.room);
-      rest = λ i lt other. all_rest l log true (log.next + 1) first blocks sealed s t syncs is (omega arith)
-          (block_bytes log.next sealed, ap t (sym there) ∙ opened, record { in_place = ap (log_of l) number ∙ there; below = omega (arith, number) }) i lt;
-      due = tt;
-    }
+    settled l log true (log.next + 1) (log.seqno + n) first blocks (blocks ++ sealed ∷ []) sealed s t syncs is (omega arith)
+    (block_bytes log.next sealed, ap t (sym there) ∙ opened, record { in_place = ap (log_of l) number ∙ there; below = omega (arith, number) })
+    (stand_more (StandsOpen t l) log.start first blocks sealed (open_synced s t l log.start first blocks syncs is.live)
+    (subst (λ m. StandsOpen t l m (block_bytes m sealed)) is.next opened) (subst (λ m. IsBlockFrom m (seqno_after first blocks) sealed) is.next (subst (λ m. IsBlockFrom log.next m sealed) is.seqno due.block)))
+    (omega (arith, is.next, length-append blocks (sealed ∷ []))) (omega (arith, is.seqno, due.size, seqno_more first blocks sealed)) (omega (arith, one, is.room))
 
 pub log_synced : (log : Standing) → SyncsLog log (after_sync log)
 log_synced log l s t first blocks sealed syncs is = synced_by l log log.phase first blocks sealed s t refl syncs is

@@ -14,7 +14,7 @@ use Rattle.rep_types.specs.Settings.{Setting, setting, is_setting, allowed}
 use Rattle.rep_record.specs.Grammar.{IsItemLine, IsParamsLine}
 use Rattle.rep_record.specs.Reading.{is_long, well_placed, limited, outcome, item_form, item_outcome, item_line, params_form, params_outcome, params_line}
 use Rattle.rep_record.specs.Drafts.{short_write, drafted, limited_draft, drafted_setting}
-use Rattle.rep_record.proofs.Parts.{item_found, item_again, params_found, params_again}
+use Rattle.rep_record.proofs.Parts.{item_means, params_mean}
 
 -- ---- what is kept of a line passes the same limits
 
@@ -115,8 +115,8 @@ allowed_same p false = tt
 
 pub item_comes : (number : ℕ) (line : List ℕ) (r : Result Transaction Refusal) → r ≡ item_line number line → Comes (IsItemLine line) (limited number) number r
 item_comes number line r e =
-    subst (Comes (IsItemLine line) (limited number) number) (sym e) (comes (limited number) number (limited_same number) (item_form line) (item_found line) (item_again line))
+    subst (Comes (IsItemLine line) (limited number) number) (sym e) (comes (limited number) number (limited_same number) (item_form line) (item_means.found line).of (item_means.again line))
 
 pub params_come : (number : ℕ) (line : List ℕ) (r : Result Setting Refusal) → r ≡ params_line number line → Comes (IsParamsLine line) allowed number r
 params_come number line r e =
-    subst (Comes (IsParamsLine line) allowed number) (sym e) (comes allowed number (λ p. allowed_same p (is_setting p)) (params_form line) (params_found line) (params_again line))
+    subst (Comes (IsParamsLine line) allowed number) (sym e) (comes allowed number (λ p. allowed_same p (is_setting p)) (params_form line) (params_mean.found line).of (params_mean.again line))

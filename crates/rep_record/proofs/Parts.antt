@@ -361,16 +361,12 @@ tail_means =
 
 -- ---- lines
 
-items_mean : Means (after (codes "item") tail_in) (After (codes "item") IsTail)
-items_mean = after_means (codes "item") tail_means
+-- what is read of the words of a line
+line_means : {A : Type 0} {f : Lines → Option A} {Says : Lines → A → Type 0} → Means f Says → Means (λ (line : List ℕ). f (words line)) (λ line. Says (words line))
+line_means m = record { found = λ line. m.found (words line); again = λ line. m.again (words line) }
 
--- what is read of an item's line is what it says
-pub item_found : (line : List ℕ) (w : Transaction) → item_form line ≡ Some w → IsItemLine line w
-item_found line w e = (items_mean.found (words line)).of w e
-
--- what an item's line says is read of it
-pub item_again : (line : List ℕ) (w : Transaction) → IsItemLine line w → item_form line ≡ Some w
-item_again line w h = items_mean.again (words line) w h
+pub item_means : Means item_form IsItemLine
+item_means = line_means (after_means (codes "item") tail_means)
 
 setting_means : Means setting_in IsSetting
 unfolding setting_in
@@ -379,13 +375,5 @@ setting_means =
     via_means (λ x. setting x.0 x.1.0 x.1.1) (λ (p : Setting). (p.window, (p.cells, p.rows))) (λ x. refl {a = x}) (λ p. refl {a = p})
     (behind_means (one_fronts n) (behind_means (one_fronts n) (more_means n) (λ rest x h. tt)) (λ rest x h. tt))
 
-params_mean : Means (after (codes "params") setting_in) (After (codes "params") IsSetting)
-params_mean = after_means (codes "params") setting_means
-
--- what is read of a params line is what it says
-pub params_found : (line : List ℕ) (p : Setting) → params_form line ≡ Some p → IsParamsLine line p
-params_found line p e = (params_mean.found (words line)).of p e
-
--- what a params line says is read of it
-pub params_again : (line : List ℕ) (p : Setting) → IsParamsLine line p → params_form line ≡ Some p
-params_again line p h = params_mean.again (words line) p h
+pub params_mean : Means params_form IsParamsLine
+params_mean = line_means (after_means (codes "params") setting_means)

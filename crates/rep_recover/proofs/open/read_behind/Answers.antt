@@ -19,6 +19,7 @@ use Rattle.rep_recover.specs.Looking.{HasBlocks, HasPages, HasBadPage}
 use Rattle.rep_recover.specs.Opening.{FailsBehind, RefusesBehind}
 use Rattle.rep_recover.proofs.Behind.{same_reading, fails_at_log, fails_judging, fails_at_pages, refuses_growing, refuses_part, refuses_items, passed_on}
 use Rattle.rep_recover.proofs.open.read_behind.Goals as goal
+use Rattle.rep_recover.proofs.open.read_behind.Goals.{After-the_log_is_told, In_ok-entries, In_ok-log, In_ok-certifier}
 
 pub judge_again-requires-clause-window : goal.judge_again-requires-clause-window
 judge_again-requires-clause-window g c =
@@ -26,103 +27,105 @@ judge_again-requires-clause-window g c =
     let form = c.in_ok-entries.ensures.form in
     subst (λ (p : Setting). IsWindowAt p b.position c.in_ok-entries.entries.items) (sym c.copied-params.ensures) (record { few = form.few; ascend = form.ascend; entries = form.entries })
 
-pub returns-in_err-log-clause-refused : goal.returns-in_err-log-clause-refused
-returns-in_err-log-clause-refused g c =
+-- ---- what has been read so far
+
+-- why nothing is made of a part, on an honest device on which nothing has failed
+abbrev Reason : (g : _) (c : After-the_log_is_told g) → Part → Type 0
+Reason g c part = g.D.Disk.honest (disk_of c.args.cells.now) → failed (g.D.Disk.history (disk_of c.args.cells.now)) ≡ [] → FailsBehind part (reading_of (layout_with c.args.superblock.now.params) (seen (g.D.Disk.history (disk_of c.args.cells.now)))) c.args.superblock.now
+
+-- the window
+has_window :
+    (g : _) (c : In_ok-entries g) → g.D.Disk.honest (disk_of c.args.cells.now) → failed (g.D.Disk.history (disk_of c.args.cells.now)) ≡ []
+    → HasWindow (reading_of (layout_with c.args.superblock.now.params) (seen (g.D.Disk.history (disk_of c.args.cells.now)))) c.args.superblock.now c.in_ok-entries.entries.items
+has_window g c honest none =
+    let h : History = g.D.Disk.history (disk_of c.args.cells.now) in
+    subst (λ (x : Reading). HasWindow x c.args.superblock.now c.in_ok-entries.entries.items) (same_reading (layout_of c.args.cells.now) (layout_with c.args.superblock.now.params) h h c.requires.layout (λ i. h)) (c.in_ok-entries.ensures.found honest none)
+
+-- the log
+finds_log :
+    (g : _) (c : In_ok-log g) → g.D.Disk.honest (disk_of c.args.cells.now) → failed (g.D.Disk.history (disk_of c.args.cells.now)) ≡ []
+    → Finds (layout_with c.args.superblock.now.params) (seen (g.D.Disk.history (disk_of c.args.cells.now))) c.args.superblock.now.start (c.args.superblock.now.position + 1) c.in_ok-log.log c.in_ok-log.items.items
+finds_log g c honest none =
     let b : SuperBody = c.args.superblock.now in
     let l : Layout = layout_with b.params in
-    let disk = disk_of c.args.cells.now in
-    let h : History = g.D.Disk.history disk in
-    let r : Reading = reading_of l (seen h) in
-    let Reason : Part → Type 0 = λ part. g.D.Disk.honest disk → failed h ≡ [] → FailsBehind part r b in
     let w = c.in_ok-entries.ensures in
-    let m : Layout = layout_of c.read_window.new.cells in
-    let later : History = g.D.Disk.history (disk_of c.read_window.new.cells) in
-    passed_on (RefusesBehind Reason) c.from_residual-in_err-log.result c.in_err-log.field-0.0 c.from_residual-in_err-log.ensures.1
-    (refuses_growing in_log _ Reason c.in_err-log.field-0.0 (λ why honest none.
     let same = w.looks.same honest in
-    let window = subst (λ (x : Reading). HasWindow x b c.in_ok-entries.entries.items) (same_reading (layout_of c.args.cells.now) l h h c.requires.layout (λ i. h)) (w.found honest none) in
-    fails_at_log r b c.in_ok-entries.entries.items window
-    (subst (λ (x : Reading). (blocks : List (List Judged)) → HasBlocks x b blocks → ⊥) (same_reading m l later h (w.layout ∙ c.requires.layout) same) (why (w.looks.call.stays_honest honest) (ap failed same ∙ none))))
+    let finds = subst (λ (x : Layout). Finds x (seen (g.D.Disk.history (disk_of c.read_window.new.cells))) b.start (b.position + 1) c.in_ok-log.log c.in_ok-log.items.items) (w.layout ∙ c.requires.layout)
+    (c.in_ok-log.ensures.found (w.looks.call.stays_honest honest) (ap failed same ∙ none)) in
+    subst (λ (x : History). Finds l (seen x) b.start (b.position + 1) c.in_ok-log.log c.in_ok-log.items.items) same finds
+
+-- the device behind both: it reads the same, and is honest and without a fault as before
+last_reading : (g : _) (c : In_ok-log g) → g.D.Disk.honest (disk_of c.args.cells.now)
+    → reading_of (layout_of c.find_log.new.cells) (seen (g.D.Disk.history (disk_of c.find_log.new.cells))) ≡ reading_of (layout_with c.args.superblock.now.params) (seen (g.D.Disk.history (disk_of c.args.cells.now)))
+last_reading g c honest =
+    let w = c.in_ok-entries.ensures in
+    let f = c.in_ok-log.ensures in
+    same_reading (layout_of c.find_log.new.cells) (layout_with c.args.superblock.now.params) (g.D.Disk.history (disk_of c.find_log.new.cells)) (g.D.Disk.history (disk_of c.args.cells.now)) (f.layout ∙ (w.layout ∙ c.requires.layout))
+    (f.looks.same (w.looks.call.stays_honest honest) ∙ w.looks.same honest)
+
+last_honest : (g : _) (c : In_ok-log g) → g.D.Disk.honest (disk_of c.args.cells.now) → g.D.Disk.honest (disk_of c.find_log.new.cells)
+last_honest g c honest = c.in_ok-log.ensures.looks.call.stays_honest (c.in_ok-entries.ensures.looks.call.stays_honest honest)
+
+last_none : (g : _) (c : In_ok-log g) → g.D.Disk.honest (disk_of c.args.cells.now) → failed (g.D.Disk.history (disk_of c.args.cells.now)) ≡ [] → failed (g.D.Disk.history (disk_of c.find_log.new.cells)) ≡ []
+last_none g c honest none = ap failed (c.in_ok-log.ensures.looks.same (c.in_ok-entries.ensures.looks.call.stays_honest honest) ∙ c.in_ok-entries.ensures.looks.same honest) ∙ none
+
+-- the items that were judged again
+has_judged : (g : _) (c : In_ok-certifier g) → HasJudged c.args.superblock.now.params (bare c.args.superblock.now.position c.in_ok-entries.entries.items) c.in_ok-log.items.items c.in_ok-certifier.certifier.current c.in_ok-certifier.versions
+has_judged g c =
+    let before = bare c.args.superblock.now.position c.in_ok-entries.entries.items in
+    subst (λ (p : Setting). HasJudged p before c.in_ok-log.items.items c.in_ok-certifier.certifier.current c.in_ok-certifier.versions) c.copied-params.ensures
+    (subst (λ (js : List Judged). HasJudged c.copied-params.result before js c.in_ok-certifier.certifier.current c.in_ok-certifier.versions) c.deref.ensures.value c.in_ok-certifier.ensures.judged)
+
+-- ---- where a part is refused
+
+pub returns-in_err-log-clause-refused : goal.returns-in_err-log-clause-refused
+returns-in_err-log-clause-refused g c =
+    let at = goal.at.returns-in_err-log-clause-refused g c in
+    let b : SuperBody = c.args.superblock.now in
+    let l : Layout = layout_with b.params in
+    let h : History = g.D.Disk.history (disk_of c.args.cells.now) in
+    let w = c.in_ok-entries.ensures in
+    let later : History = g.D.Disk.history (disk_of c.read_window.new.cells) in
+    passed_on (RefusesBehind (Reason g at.After-the_log_is_told)) c.from_residual-in_err-log.result c.in_err-log.field-0.0 c.from_residual-in_err-log.ensures.1
+    (refuses_growing in_log _ (Reason g at.After-the_log_is_told) c.in_err-log.field-0.0 (λ why honest none.
+    let same = w.looks.same honest in
+    fails_at_log (reading_of l (seen h)) b c.in_ok-entries.entries.items (has_window g at.In_ok-entries honest none)
+    (subst (λ (x : Reading). (blocks : List (List Judged)) → HasBlocks x b blocks → ⊥) (same_reading (layout_of c.read_window.new.cells) l later h (w.layout ∙ c.requires.layout) same) (why (w.looks.call.stays_honest honest) (ap failed same ∙ none))))
     c.in_err-log.ensures.refused)
 
 pub returns-in_err-certifier-clause-refused : goal.returns-in_err-certifier-clause-refused
 returns-in_err-certifier-clause-refused g c =
+    let at = goal.at.returns-in_err-certifier-clause-refused g c in
     let b : SuperBody = c.args.superblock.now in
-    let l : Layout = layout_with b.params in
-    let disk = disk_of c.args.cells.now in
-    let h : History = g.D.Disk.history disk in
-    let r : Reading = reading_of l (seen h) in
-    let Reason : Part → Type 0 = λ part. g.D.Disk.honest disk → failed h ≡ [] → FailsBehind part r b in
-    let w = c.in_ok-entries.ensures in
-    let f = c.in_ok-log.ensures in
     let entries : List Entry = c.in_ok-entries.entries.items in
     let items : List Judged = c.in_ok-log.items.items in
-    let m : Layout = layout_of c.read_window.new.cells in
-    let later : History = g.D.Disk.history (disk_of c.read_window.new.cells) in
-    passed_on (RefusesBehind Reason) c.from_residual-in_err-certifier.result c.in_err-certifier.field-0.0 c.from_residual-in_err-certifier.ensures.1
-    (refuses_items _ Reason c.in_err-certifier.field-0.0 (λ why honest none.
-    let same = w.looks.same honest in
-    let window = subst (λ (x : Reading). HasWindow x b entries) (same_reading (layout_of c.args.cells.now) l h h c.requires.layout (λ i. h)) (w.found honest none) in
-    let finds = subst (λ (x : Layout). Finds x (seen later) b.start (b.position + 1) c.in_ok-log.log items) (w.layout ∙ c.requires.layout) (f.found (w.looks.call.stays_honest honest) (ap failed same ∙ none)) in
-    let found = subst (λ (x : History). Finds l (seen x) b.start (b.position + 1) c.in_ok-log.log items) same finds in
-    fails_judging c.the_log_is_told.ensures (seen h) b c.requires.form c.in_ok-log.log items found entries window
+    passed_on (RefusesBehind (Reason g at.After-the_log_is_told)) c.from_residual-in_err-certifier.result c.in_err-certifier.field-0.0 c.from_residual-in_err-certifier.ensures.1
+    (refuses_items _ (Reason g at.After-the_log_is_told) c.in_err-certifier.field-0.0 (λ why honest none.
+    fails_judging c.the_log_is_told.ensures (seen (g.D.Disk.history (disk_of c.args.cells.now))) b c.requires.form c.in_ok-log.log items (finds_log g at.In_ok-log honest none) entries (has_window g at.In_ok-entries honest none)
     (λ judged. why (subst (λ (js : List Judged). AreJudgedFrom c.copied-params.result (bare b.position entries) js) (sym c.deref.ensures.value) (subst (λ (p : Setting). AreJudgedFrom p (bare b.position entries) items) (sym c.copied-params.ensures) judged))))
     c.in_err-certifier.ensures.refused)
 
 pub returns-in_err-read_pages-clause-refused : goal.returns-in_err-read_pages-clause-refused
 returns-in_err-read_pages-clause-refused g c =
+    let at = goal.at.returns-in_err-read_pages-clause-refused g c in
     let b : SuperBody = c.args.superblock.now in
-    let l : Layout = layout_with b.params in
-    let disk = disk_of c.args.cells.now in
-    let h : History = g.D.Disk.history disk in
-    let r : Reading = reading_of l (seen h) in
-    let Reason : Part → Type 0 = λ part. g.D.Disk.honest disk → failed h ≡ [] → FailsBehind part r b in
-    let w = c.in_ok-entries.ensures in
+    let h : History = g.D.Disk.history (disk_of c.args.cells.now) in
     let f = c.in_ok-log.ensures in
-    let j = c.in_ok-certifier.ensures in
-    let entries : List Entry = c.in_ok-entries.entries.items in
-    let items : List Judged = c.in_ok-log.items.items in
-    let later : History = g.D.Disk.history (disk_of c.read_window.new.cells) in
-    let m : Layout = layout_of c.find_log.new.cells in
-    let last : History = g.D.Disk.history (disk_of c.find_log.new.cells) in
-    let judged = subst (λ (p : Setting). HasJudged p (bare b.position entries) items c.in_ok-certifier.certifier.current c.in_ok-certifier.versions) c.copied-params.ensures
-    (subst (λ (js : List Judged). HasJudged c.copied-params.result (bare b.position entries) js c.in_ok-certifier.certifier.current c.in_ok-certifier.versions) c.deref.ensures.value j.judged) in
-    passed_on (RefusesBehind Reason) c.from_residual-in_err-read_pages.result c.in_err-read_pages.field-0.0 c.from_residual-in_err-read_pages.ensures.1
-    (refuses_part Pages _ Reason c.in_err-read_pages.field-0.0 (λ why honest none.
-    let still = w.looks.call.stays_honest honest in
-    let same = w.looks.same honest in
-    let same_last = f.looks.same still ∙ same in
-    let window = subst (λ (x : Reading). HasWindow x b entries) (same_reading (layout_of c.args.cells.now) l h h c.requires.layout (λ i. h)) (w.found honest none) in
-    let finds = subst (λ (x : Layout). Finds x (seen later) b.start (b.position + 1) c.in_ok-log.log items) (w.layout ∙ c.requires.layout) (f.found still (ap failed same ∙ none)) in
-    let found = subst (λ (x : History). Finds l (seen x) b.start (b.position + 1) c.in_ok-log.log items) same finds in
-    let bad = subst (λ (x : Reading). HasBadPage x b) (same_reading m l last h (f.layout ∙ (w.layout ∙ c.requires.layout)) same_last) (why (f.looks.call.stays_honest still) (ap failed same_last ∙ none)) in
-    fails_at_pages c.the_log_is_told.ensures (seen h) b c.requires.form c.in_ok-log.log items found f.undefined entries window c.in_ok-certifier.certifier.current c.in_ok-certifier.versions judged bad)
+    passed_on (RefusesBehind (Reason g at.After-the_log_is_told)) c.from_residual-in_err-read_pages.result c.in_err-read_pages.field-0.0 c.from_residual-in_err-read_pages.ensures.1
+    (refuses_part Pages _ (Reason g at.After-the_log_is_told) c.in_err-read_pages.field-0.0 (λ why honest none.
+    let bad = subst (λ (x : Reading). HasBadPage x b) (last_reading g at.In_ok-log honest) (why (last_honest g at.In_ok-log honest) (last_none g at.In_ok-log honest none)) in
+    fails_at_pages c.the_log_is_told.ensures (seen h) b c.requires.form c.in_ok-log.log c.in_ok-log.items.items (finds_log g at.In_ok-log honest none) f.undefined c.in_ok-entries.entries.items (has_window g at.In_ok-entries honest none) c.in_ok-certifier.certifier.current c.in_ok-certifier.versions
+    (has_judged g at.In_ok-certifier) bad)
     c.in_err-read_pages.ensures.refused)
 
 pub returns-clause-found : goal.returns-clause-found
 returns-clause-found g c = λ honest none.
-    let b : SuperBody = c.args.superblock.now in
-    let l : Layout = layout_with b.params in
-    let disk = disk_of c.args.cells.now in
-    let h : History = g.D.Disk.history disk in
-    let w = c.in_ok-entries.ensures in
-    let f = c.in_ok-log.ensures in
-    let j = c.in_ok-certifier.ensures in
-    let entries : List Entry = c.in_ok-entries.entries.items in
-    let items : List Judged = c.in_ok-log.items.items in
-    let later : History = g.D.Disk.history (disk_of c.read_window.new.cells) in
-    let m : Layout = layout_of c.find_log.new.cells in
-    let last : History = g.D.Disk.history (disk_of c.find_log.new.cells) in
-    let still = w.looks.call.stays_honest honest in
-    let same = w.looks.same honest in
-    let same_last = f.looks.same still ∙ same in
-    let finds = subst (λ (x : Layout). Finds x (seen later) b.start (b.position + 1) c.in_ok-log.log items) (w.layout ∙ c.requires.layout) (f.found still (ap failed same ∙ none)) in
+    let at = goal.at.returns-clause-found g c in
     record {
-      entries = entries;
-      window = subst (λ (x : Reading). HasWindow x b entries) (same_reading (layout_of c.args.cells.now) l h h c.requires.layout (λ i. h)) (w.found honest none);
-      finds = subst (λ (x : History). Finds l (seen x) b.start (b.position + 1) c.in_ok-log.log items) same finds;
-      undefined = f.undefined;
-      judged = subst (λ (p : Setting). HasJudged p (bare b.position entries) items c.in_ok-certifier.certifier.current c.in_ok-certifier.versions) c.copied-params.ensures
-          (subst (λ (js : List Judged). HasJudged c.copied-params.result (bare b.position entries) js c.in_ok-certifier.certifier.current c.in_ok-certifier.versions) c.deref.ensures.value j.judged);
-      pages = subst (λ (x : Reading). HasPages x b) (same_reading m l last h (f.layout ∙ (w.layout ∙ c.requires.layout)) same_last) (c.in_ok-read_pages.ensures.found (f.looks.call.stays_honest still) (ap failed same_last ∙ none));
+      entries = c.in_ok-entries.entries.items;
+      window = has_window g at.In_ok-entries honest none;
+      finds = finds_log g at.In_ok-log honest none;
+      undefined = c.in_ok-log.ensures.undefined;
+      judged = has_judged g at.In_ok-certifier;
+      pages = subst (λ (x : Reading). HasPages x c.args.superblock.now) (last_reading g at.In_ok-log honest) (c.in_ok-read_pages.ensures.found (last_honest g at.In_ok-log honest) (last_none g at.In_ok-log honest none));
     }

@@ -1,4 +1,4 @@
-use Rattle.std.proofs.Common.{◌≡◌, ℕ, ◌<◌, ◌≤◌, [], length, inl, inr, refl, sym, ap, subst, ◌∙◌, arith}
+use Rattle.std.proofs.Common.{◌≡◌, ℕ, ◌<◌, ◌≤◌, length, inl, inr, refl, sym, ap, subst, ◌∙◌, arith}
 use Rattle.std.proofs.lemmas.Bool.{cases_lt, false≢true}
 use Rattle.rep_disk.specs.History.{History, Synced, seen, stable, failed}
 use Rattle.rep_layout.specs.declared.super_body.SuperBody.{SuperBody}
@@ -11,6 +11,7 @@ use Rattle.rep_recover.specs.Looking.{Counts, HasBadSuper, HasNoSuper}
 use Rattle.rep_recover.specs.Opening.{without_log, IsOpened, Recovers}
 use Rattle.rep_recover.proofs.Opening.{opened_from, recovers_from, refused_behind, refused_supers}
 use Rattle.rep_recover.proofs.open.read_disk.Goals as goal
+use Rattle.rep_recover.proofs.open.read_disk.Goals.{After-relaid-cells}
 
 pub returns-in-Err-clause-refused : goal.returns-in-Err-clause-refused
 returns-in-Err-clause-refused g c =
@@ -54,43 +55,43 @@ returns-in-Ok-read_behind-clause-opened g c =
     let is = opened_from size b l o.log o.items.items o.certifier.current o.versions form (e.layout ∙ c.relaid-cells.ensures.layout ∙ c.new-layout.ensures) e.any in
     subst (λ x. IsOpened size x.superblock (layout_of x.cells) x.log x.items.items x.certifier.current x.versions) (sym c.opened.ensures) is
 
+-- the device once a superblock was found on it and its places are laid out: it is synced, and that superblock counts
+found :
+    (g : _) (c : After-relaid-cells g) → g.D.Disk.honest c.args.disk
+    → record {
+      still : g.D.Disk.honest (disk_of c.relaid-cells.result);
+      synced : g.D.Disk.history (disk_of c.relaid-cells.result) ≡ Synced (g.D.Disk.history c.args.disk);
+      sized : length (stable (g.D.Disk.history (disk_of c.relaid-cells.result))) ≡ g.D.Disk.size c.args.disk;
+      counts : Counts (g.D.Disk.size c.args.disk) (reading_of (layout_of c.in-Ok.cells) (seen (g.D.Disk.history c.args.disk))) c.in-Ok-find_synced.found.0 c.in-Ok-find_synced.found.1;
+    }
+found g c honest =
+    let first = c.in-Ok.ensures.disk in
+    let laid = c.relaid-cells.ensures.disk in
+    let s = c.in-Ok-find_synced.ensures in
+    let there = subst g.D.Disk.honest (sym first) honest in
+    let still = subst g.D.Disk.honest (sym laid) (s.call.stays_honest there) in
+    record {
+      still = still;
+      synced = ap g.D.Disk.history laid ∙ s.synced there ∙ ap (λ d. Synced (g.D.Disk.history d)) first;
+      sized = g.met.D.Disk.sized (disk_of c.relaid-cells.result) still ∙ ap g.D.Disk.size laid ∙ s.call.same_size ∙ ap g.D.Disk.size first;
+      counts = subst (λ d. Counts (g.D.Disk.size d) (reading_of (layout_of c.in-Ok.cells) (seen (g.D.Disk.history d))) c.in-Ok-find_synced.found.0 c.in-Ok-find_synced.found.1) first (s.found there);
+    }
+
 pub returns-in-Ok-read_behind-clause-recovers : goal.returns-in-Ok-read_behind-clause-recovers
 returns-in-Ok-read_behind-clause-recovers g c = λ honest.
     let b : SuperBody = c.in-Ok-find_synced.found.0 in
     let old : History = g.D.Disk.history c.args.disk in
-    let first = disk_of c.in-Ok.cells in
-    let laid = disk_of c.relaid-cells.result in
-    let mid : History = g.D.Disk.history laid in
-    let size : ℕ = g.D.Disk.size c.args.disk in
-    let m : Layout = layout_of c.in-Ok.cells in
-    let s = c.in-Ok-find_synced.ensures in
+    let mid : History = g.D.Disk.history (disk_of c.relaid-cells.result) in
     let e = c.in-Ok-read_behind.ensures in
     let o = c.in-Ok-read_behind.behind in
-    let there = subst g.D.Disk.honest (sym c.in-Ok.ensures.disk) honest in
-    let still = subst g.D.Disk.honest (sym c.relaid-cells.ensures.disk) (s.call.stays_honest there) in
-    let synced : mid ≡ Synced old = ap g.D.Disk.history c.relaid-cells.ensures.disk ∙ s.synced there ∙ ap (λ d. Synced (g.D.Disk.history d)) c.in-Ok.ensures.disk in
-    let none : failed mid ≡ [] = ap failed synced in
-    let sized : length (stable mid) ≡ size = g.met.D.Disk.sized laid still ∙ ap g.D.Disk.size c.relaid-cells.ensures.disk ∙ s.call.same_size ∙ ap g.D.Disk.size c.in-Ok.ensures.disk in
-    let counts = subst (λ d. Counts (g.D.Disk.size d) (reading_of m (seen (g.D.Disk.history d))) b c.in-Ok-find_synced.found.1) c.in-Ok.ensures.disk (s.found there) in
-    let is = recovers_from c.pages_are_told.ensures c.found_states_stand.ensures old mid (g.D.Disk.history (disk_of c.read_behind.new.cells)) size m b c.in-Ok-find_synced.found.1 o.log o.items.items o.certifier.current o.versions
-    synced (e.looks.same still) sized counts (e.found still none) in
+    let at = found g (goal.at.returns-in-Ok-read_behind-clause-recovers g c).After-relaid-cells honest in
+    let is = recovers_from c.pages_are_told.ensures c.found_states_stand.ensures old mid (g.D.Disk.history (disk_of c.read_behind.new.cells)) (g.D.Disk.size c.args.disk) (layout_of c.in-Ok.cells) b c.in-Ok-find_synced.found.1 o.log o.items.items o.certifier.current o.versions
+    at.synced (e.looks.same at.still) at.sized at.counts (e.found at.still (ap failed at.synced)) in
     subst (λ x. Recovers old (g.D.Disk.history (disk_of x.cells)) x.superblock x.both x.log x.items.items x.certifier.current x.versions) (sym c.opened.ensures) is
 
 pub returns-in-Err-read_behind-clause-refused : goal.returns-in-Err-read_behind-clause-refused
 returns-in-Err-read_behind-clause-refused g c =
-    let b : SuperBody = c.in-Ok-find_synced.found.0 in
-    let old : History = g.D.Disk.history c.args.disk in
-    let laid = disk_of c.relaid-cells.result in
-    let mid : History = g.D.Disk.history laid in
-    let size : ℕ = g.D.Disk.size c.args.disk in
-    let m : Layout = layout_of c.in-Ok.cells in
-    let s = c.in-Ok-find_synced.ensures in
-    let e = c.in-Err-read_behind.ensures in
-    let synced : g.D.Disk.honest c.args.disk → mid ≡ Synced old =
-    λ honest. ap g.D.Disk.history c.relaid-cells.ensures.disk ∙ s.synced (subst g.D.Disk.honest (sym c.in-Ok.ensures.disk) honest) ∙ ap (λ d. Synced (g.D.Disk.history d)) c.in-Ok.ensures.disk in
-    refused_behind (g.D.Disk.honest c.args.disk) old mid size m b _ c.in-Err-read_behind.refusal synced
-    (λ honest. g.met.D.Disk.sized laid (subst g.D.Disk.honest (sym c.relaid-cells.ensures.disk) (s.call.stays_honest (subst g.D.Disk.honest (sym c.in-Ok.ensures.disk) honest)))
-    ∙ ap g.D.Disk.size c.relaid-cells.ensures.disk ∙ s.call.same_size ∙ ap g.D.Disk.size c.in-Ok.ensures.disk)
-    (λ honest. (c.in-Ok-find_synced.found.1, subst (λ d. Counts (g.D.Disk.size d) (reading_of m (seen (g.D.Disk.history d))) b c.in-Ok-find_synced.found.1) c.in-Ok.ensures.disk (s.found (subst g.D.Disk.honest (sym c.in-Ok.ensures.disk) honest))))
-    (λ part honest why. why (subst g.D.Disk.honest (sym c.relaid-cells.ensures.disk) (s.call.stays_honest (subst g.D.Disk.honest (sym c.in-Ok.ensures.disk) honest))) (ap failed (synced honest)))
-    e.refused
+    let mid : History = g.D.Disk.history (disk_of c.relaid-cells.result) in
+    let at = found g (goal.at.returns-in-Err-read_behind-clause-refused g c).After-relaid-cells in
+    refused_behind (g.D.Disk.honest c.args.disk) (g.D.Disk.history c.args.disk) mid (g.D.Disk.size c.args.disk) (layout_of c.in-Ok.cells) c.in-Ok-find_synced.found.0 _ c.in-Err-read_behind.refusal (λ honest. (at honest).synced) (λ honest. (at honest).sized)
+    (λ honest. (c.in-Ok-find_synced.found.1, (at honest).counts)) (λ part honest why. why (at honest).still (ap failed (at honest).synced)) c.in-Err-read_behind.ensures.refused

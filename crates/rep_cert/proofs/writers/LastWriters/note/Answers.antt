@@ -10,25 +10,22 @@ use Rattle.rep_cert.specs.Writers.{HasPlace, place, is_placed, restored}
 use Rattle.rep_cert.proofs.LastWriters.{keys_more}
 use Rattle.rep_cert.proofs.Places.{HasPlace-write, noted_more, restored_more, read_at}
 use Rattle.rep_cert.proofs.writers.LastWriters.note.Goals as goal
+use Rattle.rep_cert.proofs.writers.LastWriters.note.Goals.{After-write-item}
 
-pub place-place-requires : goal.place-place-requires
-place-place-requires c =
+-- the row of the write at hand has a place
+has_place : (c : After-write-item) → HasPlace c.loop-write.self.starts.items c.loop-write.self.seqnos.items c.write-item.result.key
+has_place c =
     HasPlace-write c.args.self.now c.loop-write.self c.args.item.now.writes c.writes-write-items.result.now c.loop-write.write-index c.write-item.result c.loop-write.invariant.starts
     c.loop-write.invariant.size c.writes-write-items.ensures.writes c.requires.places c.loop-write-test.true c.write-item.is
 
+pub place-place-requires : goal.place-place-requires
+place-place-requires c = has_place (goal.at.place-place-requires c).After-write-item
+
 pub index-requires : goal.index-requires
-index-requires c =
-    let has : HasPlace c.loop-write.self.starts.items c.loop-write.self.seqnos.items c.write-item.result.key =
-    HasPlace-write c.args.self.now c.loop-write.self c.args.item.now.writes c.writes-write-items.result.now c.loop-write.write-index c.write-item.result c.loop-write.invariant.starts
-    c.loop-write.invariant.size c.writes-write-items.ensures.writes c.requires.places c.loop-write-test.true c.write-item.is in
-    omega (arith, has.row)
+index-requires c = omega (arith, (has_place (goal.at.index-requires c).After-write-item).row)
 
 pub index_mut-requires : goal.index_mut-requires
-index_mut-requires c =
-    let has : HasPlace c.loop-write.self.starts.items c.loop-write.self.seqnos.items c.write-item.result.key =
-    HasPlace-write c.args.self.now c.loop-write.self c.args.item.now.writes c.writes-write-items.result.now c.loop-write.write-index c.write-item.result c.loop-write.invariant.starts
-    c.loop-write.invariant.size c.writes-write-items.ensures.writes c.requires.places c.loop-write-test.true c.write-item.is in
-    omega (arith, has.row)
+index_mut-requires c = omega (arith, (has_place (goal.at.index_mut-requires c).After-write-item).row)
 
 pub loop-write-preserved : goal.loop-write-preserved
 loop-write-preserved c =
@@ -38,9 +35,7 @@ loop-write-preserved c =
     let i : ℕ = c.loop-write.write-index in
     let at : ℕ = c.place-place.result in
     let key : Key = c.write-item.result.key in
-    let has : HasPlace self.starts.items self.seqnos.items key =
-    HasPlace-write c.args.self.now c.loop-write.self c.args.item.now.writes c.writes-write-items.result.now c.loop-write.write-index c.write-item.result c.loop-write.invariant.starts
-    c.loop-write.invariant.size c.writes-write-items.ensures.writes c.requires.places c.loop-write-test.true c.write-item.is in
+    let has : HasPlace self.starts.items self.seqnos.items key = has_place (goal.at.loop-write-preserved c).After-write-item in
     let here : at ≡ place old.starts.items key = c.place-place.ensures ∙ ap (λ (v : ArrayVec ℕ). place v.items key) c.loop-write.invariant.starts in
     let inside : at < length self.seqnos.items = omega (arith, has.row) in
     let read : c.index.result.now ≡ get_or self.seqnos.items at 0 = read_at self.seqnos.items at c.index.result.now inside c.index.ensures in

@@ -8,22 +8,20 @@ use Rattle.rep_types.specs.Settings.{has_row, IsRow}
 use Rattle.rep_cert.specs.Writers.{IsLaidOut, HasPlace, place, writer, last_writer}
 use Rattle.rep_cert.proofs.Places.{HasPlace-row, HasPlace-key, raised_in, raised_out, read_at}
 use Rattle.rep_cert.proofs.writers.LastWriters.raise.Goals as goal
-use Rattle.rep_cert.proofs.writers.LastWriters.raise.Goals.{then-contains, else-contains}
+use Rattle.rep_cert.proofs.writers.LastWriters.raise.Goals.{Then-contains, then-contains, else-contains}
+
+-- the row of the key at hand has a place
+has_place : (c : Then-contains) → HasPlace c.loop-key.self.starts.items c.loop-key.self.seqnos.items (get_or c.keys-key-items.result.now c.loop-key.key-index (record { table = 0; row = 0 }))
+has_place c = HasPlace-key c.args.schema.now c.args.self.now c.loop-key.self _ c.requires c.loop-key.invariant.starts c.loop-key.invariant.size (sym c.contains.ensures ∙ c.if-contains.true)
 
 pub place-place-requires : goal.place-place-requires
-place-place-requires c = HasPlace-key c.args.schema.now c.args.self.now c.loop-key.self _ c.requires c.loop-key.invariant.starts c.loop-key.invariant.size (sym c.contains.ensures ∙ c.if-contains.true)
+place-place-requires c = has_place (goal.at.place-place-requires c).Then-contains
 
 pub index-requires : goal.index-requires
-index-requires c =
-    let has : HasPlace c.loop-key.self.starts.items c.loop-key.self.seqnos.items (get_or c.keys-key-items.result.now c.loop-key.key-index (record { table = 0; row = 0 })) =
-    HasPlace-key c.args.schema.now c.args.self.now c.loop-key.self _ c.requires c.loop-key.invariant.starts c.loop-key.invariant.size (sym c.contains.ensures ∙ c.if-contains.true) in
-    omega (arith, has.row)
+index-requires c = omega (arith, (has_place (goal.at.index-requires c).Then-contains).row)
 
 pub index_mut-requires : goal.index_mut-requires
-index_mut-requires c =
-    let has : HasPlace c.loop-key.self.starts.items c.loop-key.self.seqnos.items (get_or c.keys-key-items.result.now c.loop-key.key-index (record { table = 0; row = 0 })) =
-    HasPlace-key c.args.schema.now c.args.self.now c.loop-key.self _ c.requires c.loop-key.invariant.starts c.loop-key.invariant.size (sym c.contains.ensures ∙ c.if-contains.true) in
-    omega (arith, has.row)
+index_mut-requires c = omega (arith, (has_place (goal.at.index_mut-requires c).Then-contains).row)
 
 pub loop-key-preserved : goal.loop-key-preserved
 loop-key-preserved c =

@@ -1,15 +1,7 @@
-use Rattle.std.proofs.Common.{◌≡◌, max, length, take}
-use Rattle.rep_types.specs.declared.key.Key.{Key}
-use Rattle.rep_types.specs.Settings.{IsRow}
-use Rattle.rep_cert.specs.Writers.{writer, last_writer}
+use Rattle.std.proofs.Common.{take}
+use Rattle.rep_cert.proofs.Places.{Raised}
 use Rattle.rep_cert.proofs.writers.LastWriters.raise_all.Given as goal
 
 -- the rows of the entries so far were raised
 abbrev pub invariant-loop-entry : goal.invariant-loop-entry
-invariant-loop-entry l = record {
-  starts : l.self.starts ≡ l.fn.self.starts;
-  former : l.self.former ≡ l.fn.self.former;
-  size : length l.self.seqnos.items ≡ length l.fn.self.seqnos.items;
-  raised : (key : Key) → IsRow l.schema key → writer l.self.starts.items l.self.seqnos.items key ≡
-      max (writer l.fn.self.starts.items l.fn.self.seqnos.items key) (last_writer key (take l.entry-index l.entries));
-}
+invariant-loop-entry l = Raised l.schema l.fn.self l.self (take l.entry-index l.entries)
