@@ -64,8 +64,9 @@ def each_superblock(program):
     yield from refused(program, "superblock", with_item, SUPERBLOCKS)
 
 
-def limits_of_the_device(program):
-    """The most cells and the most pages open where the device has room for them, and one more of either is refused on a larger one."""
+def limits_of_the_device(_):
+    """The most cells and the most pages open where the device has room for them, and one more of either is refused on a larger one. The
+    bytes of such large disks are not summed."""
     for size, most, more in (
         (MOST_CELLS, [(34, "0400")], [(34, "0401")]),
         (MOST_PAGES, [(40, number(4_096 * 63, 4)), (88, "1000")], [(40, number(4_096 * 63 + 1, 4)), (88, "1001")]),
@@ -76,10 +77,12 @@ def limits_of_the_device(program):
         yield opens(with_puts(trial, head + most), 0)
         trial = Trial("a byte less than %d" % size)
         trial.say("disk %d 0" % (size - 1), "blank")
-        yield comes_back(program, with_puts(trial, head + most), "13 corrupt superblock")
+        with_puts(trial, head + most).say("open", "refused 13 corrupt superblock")
+        yield trial
         trial = Trial("one more than the most, with room")
         trial.say("disk %d 0" % (size + 16_384), "blank")
-        yield comes_back(program, with_puts(trial, head + more), "13 corrupt superblock")
+        with_puts(trial, head + more).say("open", "refused 13 corrupt superblock")
+        yield trial
 
 
 def undefined(program):
@@ -153,7 +156,7 @@ WINDOWS = [
 def each_window(program):
     trial = opens(with_window("a full window", BASE, *FULL), BASE, BASE, "busy")
     keys = ["key 0/%d" % row for row in range(16)]
-    trial.say("window", "window 7 8 9 10", "entry 7 1", "key 0/1", "entry 8 1", "key 0/2", "entry 9 16", *keys, "entry 10 2", "key 0/0", "key 0/125")
+    trial.say("window", "window 4", "entry 7 1", "key 0/1", "entry 8 1", "key 0/2", "entry 9 16", *keys, "entry 10 2", "key 0/0", "key 0/125")
     yield trial
     for title, *entries in WINDOWS:
         yield comes_back(program, with_window("an entry " + title, BASE, *entries), "13 corrupt window")
@@ -264,7 +267,10 @@ def each_block(program):
 
 def each_cell(program):
     """Cells are taken from the start on, and none stands open behind them but those of an earlier lap."""
-    behind = lambda title, cell, text: with_puts(with_item(title), [(CELLS + 8_192 * cell, text), (FIRST_CELL_GATE + 8_192 * cell, OPEN)])
+    first = block(0, 1, ONE)
+    behind = lambda title, cell, text: with_puts(
+        with_block(title, first), [(CELLS + 8_192 * cell, text), (FIRST_CELL_GATE + 8_192 * cell, OPEN)]
+    )
     yield opens(behind("the next block", 1, block(1, 2, record(2, [put_of(2)]))), 2)
     for title, cell, text in CELLS_BEHIND:
         yield comes_back(program, behind(title, cell, text), "13 corrupt log")

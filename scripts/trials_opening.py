@@ -78,7 +78,9 @@ def new(title, *puts):
 
 def with_puts(trial, puts):
     for at, text in puts:
-        trial.say("put %d %s" % (at, text), "put")
+        # A line of the program has at most 4,096 bytes.
+        for place in range(0, len(text), 2_000):
+            trial.say("put %d %s" % (at + place // 2, text[place : place + 2_000]), "put")
     return trial
 
 
