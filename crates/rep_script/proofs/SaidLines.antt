@@ -14,7 +14,7 @@ use Rattle.rep_types.specs.Settings.{Setting, is_setting}
 use Rattle.rep_record.specs.Lines.{without_feed, line_fault}
 use Rattle.rep_record.specs.Grammar.{IsParamsLine}
 use Rattle.rep_record.specs.Reading.{is_long, well_placed, limited, item_form, item_outcome, item_line, params_form, params_outcome, params_line}
-use Rattle.rep_record.proofs.Parts.{item_found, item_again, params_found, params_again}
+use Rattle.rep_record.proofs.Parts.{item_means, params_mean}
 use Rattle.rep_script.specs.OrderText.{IsItem}
 
 -- ---- the limits of a write set
@@ -101,7 +101,7 @@ outcome_found : (number : ℕ) (line : List ℕ) (form : Option Transaction) (w 
 outcome_found number line None w f e = absurd cc
 outcome_found number line (Some v) w f e =
     let g = limited_found number v w e in
-    rw (← g.0) (item_found line v f, g.1)
+    rw (← g.0) ((item_means.found line).of v f, g.1)
 
 -- a line that is given as an item is one
 pub item_is_said : (number : ℕ) (line : List ℕ) (w : Transaction) → item_line number line ≡ Ok w → IsItem line w
@@ -109,7 +109,7 @@ item_is_said number line w e = outcome_found number line (item_form line) w refl
 
 -- an item is given
 pub item_is_given : (number : ℕ) (line : List ℕ) (w : Transaction) → IsItem line w → item_line number line ≡ Ok w
-item_is_given number line w h = ap (item_outcome number) (item_again line w h.0) ∙ limited_again number w h.1
+item_is_given number line w h = ap (item_outcome number) (item_means.again line w h.0) ∙ limited_again number w h.1
 
 -- parameters that are given are those whose limits were looked at, and within them
 allowed_found : (p q : Setting) (b : Bool) → cond b (Ok p) (Err BadParams) ≡ Ok q → (p ≡ q) × (b ≡ true)
@@ -122,7 +122,7 @@ setting_found : (number : ℕ) (line : List ℕ) (form : Option Setting) (p : Se
 setting_found number line None p f e = absurd cc
 setting_found number line (Some q) p f e =
     let g = allowed_found q p (is_setting q) e in
-    rw (← g.0) (params_found line q f, g.1)
+    rw (← g.0) ((params_mean.found line).of q f, g.1)
 
 -- a line that is given as parameters says them, and they are within the limits
 pub params_are_said : (number : ℕ) (line : List ℕ) (p : Setting) → params_line number line ≡ Ok p → IsParamsLine line p × (is_setting p ≡ true)
@@ -130,7 +130,7 @@ params_are_said number line p e = setting_found number line (params_form line) p
 
 -- parameters within the limits are given
 pub params_are_given : (number : ℕ) (line : List ℕ) (p : Setting) → IsParamsLine line p → is_setting p ≡ true → params_line number line ≡ Ok p
-params_are_given number line p h inside = ap (params_outcome number) (params_again line p h) ∙ rw inside refl
+params_are_given number line p h inside = ap (params_outcome number) (params_mean.again line p h) ∙ rw inside refl
 
 -- the first of two tests that find no fault
 no_fault : (long past : Bool) (number : ℕ) → cond long (Some (Malformed number)) (cond past (Some StreamFault) None) ≡ None → (long ≡ false) × (past ≡ false)
