@@ -1,5 +1,5 @@
 -- The steps on the first two words, and loads.
-use Rattle.std.proofs.Common.{◌≡◌, ℕ, ◌+◌, ◌*◌, ◌/◌, ◌%◌, ◌^◌, ◌<◌, ◌≤◌, max, Option, List, [], ◌∷◌, ◌++◌, length, get_or, set, bit_or, sym, refl, ap, ◌∙◌, subst, arith, length-append, length-set}
+use Rattle.std.proofs.Common.{◌≡◌, ◌-◌, ℕ, ◌+◌, ◌*◌, ◌/◌, ◌%◌, ◌^◌, ◌<◌, ◌≤◌, max, Option, List, [], ◌∷◌, ◌++◌, length, get_or, set, bit_or, sym, refl, ap, ◌∙◌, subst, arith, length-append, length-set}
 use mathlib.Core.Option.{some, none}
 use mathlib.Core.Logic.{dite}
 use native.Mathlib.Decide.{ℕ_discrete}
@@ -19,7 +19,7 @@ use Rattle.rep_ordered.specs.Steps.{Learns, claimed, looked, fronted, raised, st
 use Rattle.rep_ordered.proofs.Shapes.{Moment, Mine}
 use Rattle.rep_ordered.proofs.Sums.{total_at, total_snoc, every_map, get_or_is, below_length}
 use Rattle.rep_ordered.proofs.Owning.{append_nil, placed_drawn}
-use Rattle.rep_ordered.proofs.Keeping.{seen_whole, knows_me, knows_still, knows_on, quiet, knows_whole, knows_halt}
+use Rattle.rep_ordered.proofs.Keeping.{seen_whole, knows_me, knows_numbers, knows_still, knows_on, quiet, knows_whole, knows_halt}
 
 pub halted_word : (durable stop : ℕ) → durable < 2 ^ 63 → stop ≤ 1 → bit_or (durable + 2 ^ 63 * stop) (2 ^ 63) ≡ durable + 2 ^ 63 * 1
 halted_word durable stop low bit =
@@ -66,25 +66,12 @@ module _ {V E : Type 0} (law : List E → Type 0) (at_home : ℕ → ℕ → ℕ
               small = sp.small;
             }
             (omega arith) (omega arith) (λ x. let e = total_snoc (one x) v.own n in omega arith) refl
-            record {
-              starts = still.starts;
-              wholes = still.wholes;
-              firsts = still.firsts;
-              begins = still.begins;
-              told = still.told;
-              lasts = still.lasts;
-              stops = still.stops;
-              stays = still.stays;
-              below = still.below;
-              named = still.named;
-              exact = still.exact;
-              reached = still.reached;
+            (knows_numbers words' s.homes m (v.allowance - 1) (v.own ++ n ∷ []) (record {
               holds = every_map _ _ v.held (λ (h : Hold) o. record { word = o.word; taken = o.taken; floor = o.floor; drawn = λ ticket. let a = o.drawn ticket in let e = total_snoc (one (h.word / 4)) v.own n in omega arith; whole = o.whole }) still.holds;
               lives = λ _ _. omega arith;
-              gone = still.gone;
               placed = placed_drawn k.start n f.history v.own v.joined (omega arith) still.placed;
               idle = λ _ none_left. absurd (omega arith);
-            }
+            }) still)
             (knows_still k f f' s.views id m m' at refl (omega arith) (omega arith) (omega arith) r.known)
             (omega arith),
         (

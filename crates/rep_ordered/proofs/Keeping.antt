@@ -9,9 +9,10 @@ use Rattle.atomic_table.proofs.Lists.{at_set, set_here, set_else}
 use Rattle.rep_ordered.specs.declared.view.GivenUp.{GivenUp}
 use Rattle.rep_ordered.specs.declared.view.Hold.{Hold}
 use Rattle.rep_ordered.specs.declared.view.Mind.{Mind}
+use Rattle.rep_ordered.specs.declared.view.View.{View}
 use Rattle.rep_ordered.specs.declared.rule.Opening.{Opening}
 use Rattle.rep_ordered.specs.Counts.{total, times, once_below}
-use Rattle.rep_ordered.specs.Views.{Every, HasAll, StartsWith, held_at, word_at, allowance_of, count_of, drew, on, halted_of}
+use Rattle.rep_ordered.specs.Views.{Every, HasAll, StartsWith, held_at, word_at, allowance_of, count_of, drew, on, halted_of, Placed}
 use Rattle.rep_ordered.specs.Rule.{Figures, Spelled, Dealt, HoldIsRight, Knows, Known, Station, Kept}
 use Rattle.rep_ordered.proofs.Shapes.{Moment, Homes}
 use Rattle.rep_ordered.proofs.Sums.{total_at, total_set, total_two, total_only, every_at, every_map, below_length}
@@ -73,6 +74,36 @@ module _ {V E : Type 0} where
         lives = known.lives;
         knows = omega arith;
       })
+
+  -- So many numbers may be drawn, and these were, by a seat with this view: they fit what it holds and what joined the history.
+  pub record Draws (k : Opening V) (f : Figures E) (words : List ℕ) (view : View V E) (allowance : ℕ) (own : List ℕ) : Type 0 where
+    pub holds : Every (HoldIsRight f words own view.seen) view.held
+    pub lives : 0 < length view.held → 0 < k.whole → 0 < allowance + length own
+    pub placed : Placed k.start f.history own view.joined
+    pub idle : 0 < k.whole → allowance + length own ≡ 0 → view.halted ≡ 0
+
+  -- what a seat knows stays so where only its numbers change
+  pub knows_numbers : {k : Opening V} {f : Figures E} (words : List ℕ) (homes : List (maybe.Option (Option V))) (m : Mind V E) (allowance : ℕ) (own : List ℕ) → Draws k f words m.view allowance own
+      → Knows k f words homes m → Knows k f words homes (record m { view = record (m.view) { allowance = allowance; own = own } })
+  knows_numbers words homes m allowance own draws known = record {
+    starts = known.starts;
+    wholes = known.wholes;
+    firsts = known.firsts;
+    begins = known.begins;
+    told = known.told;
+    lasts = known.lasts;
+    stops = known.stops;
+    stays = known.stays;
+    below = known.below;
+    named = known.named;
+    exact = known.exact;
+    reached = known.reached;
+    holds = draws.holds;
+    lives = draws.lives;
+    gone = known.gone;
+    placed = draws.placed;
+    idle = draws.idle;
+  }
 
   -- where a word changes that is none of a station's, and the figures rise, what a seat knows stays so
   pub knows_on : (k : Opening V) (f : Figures E) (next durable stop : ℕ) (words words' : List ℕ) (homes : List (maybe.Option (Option V))) (v : Mind V E) → f.durable ≤ durable → f.stop ≤ stop → (0 < f.stop → durable ≤ f.durable)

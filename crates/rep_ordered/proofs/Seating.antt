@@ -1,5 +1,5 @@
 -- Seats are split and joined.
-use Rattle.std.proofs.Common.{◌≡◌, ◌≢◌, ℕ, ◌+◌, ◌/◌, ◌<◌, ◌≤◌, max, Option, List, [], ◌∷◌, ◌++◌, length, set, ⊎_elim, sym, refl, ap, ◌∙◌, subst, arith, length-append, length-set}
+use Rattle.std.proofs.Common.{◌≡◌, ◌-◌, ◌≢◌, ℕ, ◌+◌, ◌/◌, ◌<◌, ◌≤◌, max, Option, List, [], ◌∷◌, ◌++◌, length, set, ⊎_elim, sym, refl, ap, ◌∙◌, subst, arith, length-append, length-set}
 use mathlib.Core.Option as maybe
 use mathlib.Core.Option.{some, none}
 use mathlib.Core.Logic.{dite}
@@ -14,6 +14,7 @@ use Rattle.rep_ordered.specs.declared.rule.Opening.{Opening}
 use Rattle.rep_ordered.specs.Counts.{one}
 use Rattle.rep_ordered.specs.Views.{held_at, allowance_of, count_of, drew, on, halted_of, spent, giving, given, both, untold}
 use Rattle.rep_ordered.specs.Rule.{Figures, Known, Knows, Station, Kept}
+use Rattle.rep_ordered.proofs.Keeping.{knows_numbers}
 use Rattle.rep_ordered.proofs.Sums.{total_append, total_snoc, total_at, total_set, total_two, every_append, every_map, below_length, reached_both}
 use Rattle.rep_ordered.proofs.Owning.{knows_nothing, placed_none, placed_both}
 
@@ -51,25 +52,7 @@ module _ {V E : Type 0} (law : List E → Type 0) (at_home : ℕ → ℕ → ℕ
         each_station = λ j w e. let o = r.each_station j w e in let a = total_set (on j) s.views id m left at in let b = total_snoc (on j) vs right in recounted o (omega arith);
         each_seat = λ i u e. ⊎_elim
             (λ (here : get_elem? vs i ≡ some u). ⊎_elim
-            (λ (t : (i ≡ id) × (left ≡ u)). subst (Knows k f s.words s.homes) t.1 record {
-              starts = known.starts;
-              wholes = known.wholes;
-              firsts = known.firsts;
-              begins = known.begins;
-              told = known.told;
-              lasts = known.lasts;
-              stops = known.stops;
-              stays = known.stays;
-              below = known.below;
-              named = known.named;
-              exact = known.exact;
-              reached = known.reached;
-              holds = known.holds;
-              lives = λ _ _. omega arith;
-              gone = known.gone;
-              placed = known.placed;
-              idle = λ _ none_left. absurd (omega arith);
-            })
+            (λ (t : (i ≡ id) × (left ≡ u)). subst (Knows k f s.words s.homes) t.1 (knows_numbers s.words s.homes m (v.allowance - give) v.own (record { holds = known.holds; lives = λ _ _. omega arith; placed = known.placed; idle = λ _ none_left. absurd (omega arith) }) known))
             (λ (t : (i ≢ id) × (get_elem? s.views i ≡ some u)). r.each_seat i u t.1) (at_set s.views id i left u here))
             (λ (is : right ≡ u). subst (Knows k f s.words s.homes) is record {
               starts = known.starts;

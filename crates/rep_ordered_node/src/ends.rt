@@ -87,26 +87,17 @@ pub fn start(
     )
 }
 
-/// The certifier of station 0.
-fn certifier_of(home: Home) -> Certifier
-    requires { (certifier : Certifier) × (home ≡ Home.Certifier certifier) }
-    ensures { home ≡ Home.Certifier result }
+/// The certifier of station 0 and the engine of station 1.
+fn parts_of(first: Home, second: Home) -> (Certifier, Engine)
+    requires first { (certifier : Certifier) × (first ≡ Home.Certifier certifier) }
+    requires second { (engine : Engine) × (second ≡ Home.Engine engine) }
+    ensures certifier { first ≡ Home.Certifier result.0 }
+    ensures engine { second ≡ Home.Engine result.1 }
 {
-    let Home::Certifier(certifier) = home else {
+    let (Home::Certifier(certifier), Home::Engine(engine)) = (first, second) else {
         unreachable!()
     };
-    certifier
-}
-
-/// The engine of station 1.
-fn engine_of(home: Home) -> Engine
-    requires { (engine : Engine) × (home ≡ Home.Engine engine) }
-    ensures { home ≡ Home.Engine result }
-{
-    let Home::Engine(engine) = home else {
-        unreachable!()
-    };
-    engine
+    (certifier, engine)
 }
 
 /// Closes the node by a seat to which all others were joined.
@@ -129,9 +120,10 @@ pub fn close(lock: OrderedLock<Home, Done>, mut seat: Seat<Home, Done>) -> Parts
     let mut homes = lock.close(seat);
     let second = homes.pop().flatten().unwrap();
     let first = homes.pop().flatten().unwrap();
+    let (certifier, engine) = parts_of(first, second);
     Parts {
-        certifier: certifier_of(first),
-        engine: engine_of(second),
+        certifier,
+        engine,
         stopped,
     }
 }

@@ -35,11 +35,11 @@ impl Keeps<u64> for Note {
     ghost grows = { λ _ _ _ _ _ _ _ _ _ home _. home };
 }
 
+/// A lock of notes, with a seat of it.
+type WithSeat = (OrderedLock<Note, u64>, Seat<Note, u64>);
+
 /// A lock at this position whose two notes are 0, with its first seat.
-pub fn lock_of_notes(
-    alloc: Global,
-    position: u64,
-) -> Result<(OrderedLock<Note, u64>, Seat<Note, u64>), Refusal>
+pub fn lock_of_notes(alloc: Global, position: u64) -> Result<WithSeat, Refusal>
     requires { position ≤ MAX_SEQNO }
     ensures seat { IfOk result (λ made. (made.1.lock ≡ made.0) × (stations_of made.0 ≡ 2) × (made.1.view.held ≡ [])) }
     ensures numbers { IfOk result (λ made. (made.1.view.own ≡ []) × (made.1.view.allowance ≡ made.1.view.whole)) }

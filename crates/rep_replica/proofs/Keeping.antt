@@ -16,8 +16,13 @@ use Rattle.rep_steps.specs.Standings.{Standing, delivered, refusal}
 use Rattle.rep_steps.specs.Moves.{Found, Moves, Fails, MeetsCorruption, answer, after, opening}
 use Rattle.rep_engine.specs.Accepting.{ComeNext}
 use Rattle.rep_replica.proofs.Placing.{placed_drop}
-use Rattle.rep_replica.specs.Replicas.{IsReplica}
+use Rattle.rep_replica.specs.Replicas.{Replica, IsReplica}
 use Rattle.rep_steps.specs.Judging.{JudgingGoesOn}
+
+-- ---- a call that is asked of a replica that runs
+
+pub runs_inside : {D : Type 0} {inside old : Replica D} → inside ≡ old → (old.stopped ≡ false) × (old.engine.halted ≡ None) → (inside.stopped ≡ false) × (inside.engine.halted ≡ None)
+runs_inside is runs = (ap (λ (r : Replica _). r.stopped) is ∙ runs.0, ap (λ (r : Replica _). r.engine.halted) is ∙ runs.1)
 
 -- ---- what the facts come to
 

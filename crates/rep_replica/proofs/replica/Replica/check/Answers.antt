@@ -1,4 +1,4 @@
-use Rattle.std.proofs.Common.{◌≡◌, false, refl, sym, ap, subst, ◌∙◌}
+use Rattle.std.proofs.Common.{refl, sym, ap, subst}
 use Rattle.rep_types.specs.Settings.{Setting}
 use Rattle.rep_cert.specs.Holdings.{window_of}
 use Rattle.rep_steps.specs.declared.event.Event.TheVariants.{Check}
@@ -8,7 +8,7 @@ use Rattle.rep_engine.specs.Engines.{Engine, facts_of as engine_facts, durable_o
 use Rattle.rep_engine.specs.Checking.{checked}
 use Rattle.rep_replica.specs.Replicas.{Replica}
 use Rattle.rep_replica.specs.Holding.{IsStep}
-use Rattle.rep_replica.proofs.Keeping.{check_keeps, replica_keeps}
+use Rattle.rep_replica.proofs.Keeping.{check_keeps, replica_keeps, runs_inside}
 use Rattle.rep_replica.proofs.Refusing.{left_by_checked, refused_left}
 use Rattle.rep_replica.proofs.Stepping.{as_step, check_step}
 use Rattle.rep_replica.proofs.replica.Replica.check.Goals as goal
@@ -30,18 +30,15 @@ old g c = record { engine = c.self.inside.engine; backlog = c.self.inside.backlo
 abbrev new : (g : _) (c : goal.After-checked g) → Replica g.row.D.Denot
 new g c = record { engine = c.check.new.self; backlog = c.self.inside.backlog; certifier = c.self.inside.certifier; stopped = c.self.inside.stopped }
 
-running : (g : _) (c : goal.After-checked g) → c.self.inside.stopped ≡ false
-running g c = ap (λ (r : Replica g.row.D.Denot). r.stopped) c.self.view_is ∙ c.requires.running.0
-
 pub invariant_of-self : goal.invariant_of-self
 invariant_of-self g c =
-    replica_keeps (engine_facts g.D.Disk.failures c.self.inside.engine) (engine_facts g.D.Disk.failures c.check.new.self) c.self.inside.backlog c.self.inside.certifier.current c.self.inside.stopped (running g c)
+    replica_keeps (engine_facts g.D.Disk.failures c.self.inside.engine) (engine_facts g.D.Disk.failures c.check.new.self) c.self.inside.backlog c.self.inside.certifier.current c.self.inside.stopped (runs_inside c.self.view_is c.requires.running).0
     (check_keeps (engine_facts g.D.Disk.failures c.self.inside.engine) (engine_facts g.D.Disk.failures c.check.new.self) (checked c.check.result) c.check.ensures.moves) c.self.invariant
 
 pub returns : goal.returns
 returns g c =
     let block = ap (λ (x : Engine g.row.D.Denot). x.block) c.check.ensures.rest in
-    let step = check_step g.D.Disk.honest g.D.Disk.history g.D.Disk.failures c.nodes_stay_nodes.ensures c.judging_goes_on.ensures c.parts_step_as_the_whole.ensures (old g c) (new g c) (checked c.check.result) c.check.ensures.params refl refl refl (running g c)
+    let step = check_step g.D.Disk.honest g.D.Disk.history g.D.Disk.failures c.nodes_stay_nodes.ensures c.judging_goes_on.ensures c.parts_step_as_the_whole.ensures (old g c) (new g c) (checked c.check.result) c.check.ensures.params refl refl refl (runs_inside c.self.view_is c.requires.running).0
     block c.check.ensures.moves c.check.ensures.steps c.check.ensures.leaves c.self.invariant.askable in
     subst (λ (r : Replica g.row.D.Denot). IsStep g.D.Disk.honest g.D.Disk.history g.D.Disk.failures r Check c.checked.result (new g c)) c.self.view_is
     (subst (λ (a : Answer). IsStep g.D.Disk.honest g.D.Disk.history g.D.Disk.failures (old g c) Check a (new g c)) (sym c.checked.ensures)

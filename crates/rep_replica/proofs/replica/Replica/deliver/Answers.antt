@@ -8,6 +8,7 @@ use Rattle.rep_steps.specs.declared.answer.Answer.TheVariants.{Gave}
 use Rattle.rep_steps.specs.Standings.{delivery_refusal}
 use Rattle.rep_replica.specs.Replicas.{Replica, facts_of}
 use Rattle.rep_replica.specs.Holding.{IsStep}
+use Rattle.rep_replica.proofs.Keeping.{runs_inside}
 use Rattle.rep_replica.proofs.Delivering.{replica_delivers, delivered_step}
 use Rattle.rep_replica.proofs.replica.Replica.deliver.Goals as goal
 
@@ -19,12 +20,6 @@ new g c = record { engine = c.self.inside.engine; backlog = c.push.new.self; cer
 
 abbrev item : (g : _) (c : goal.Else-is_err g) → Judged
 item g c = record { seqno = c.in-Ok.seqno; item = c.args.item; verdict = c.in-Ok.verdict }
-
-running : (g : _) (c : goal.Else-is_err g) → c.self.inside.stopped ≡ false
-running g c = ap (λ (r : Replica g.row.D.Denot). r.stopped) c.self.view_is ∙ c.requires.running.0
-
-runs : (g : _) (c : goal.Else-is_err g) → c.self.inside.engine.halted ≡ None
-runs g c = ap (λ (r : Replica g.row.D.Denot). r.engine.halted) c.self.view_is ∙ c.requires.running.1
 
 none : (g : _) (c : goal.Else-is_err g) → delivery_refusal (facts_of g.D.Disk.failures (old g c)) c.args.seqno ≡ None
 none g c = ap (λ (r : Replica g.row.D.Denot). delivery_refusal (facts_of g.D.Disk.failures r) c.args.seqno) c.self.view_is ∙ sym c.delivery_refusal.ensures ∙ c.in_default.is
@@ -41,11 +36,13 @@ pushed g c = on_ok c.push.result c.if-is_err.ensures.negation c.push.ensures.pus
 
 pub invariant_of-self : goal.invariant_of-self
 invariant_of-self g c =
-    replica_delivers g.D.Disk.honest g.D.Disk.history g.D.Disk.failures (old g c) (new g c) c.args.seqno c.args.item (item g c) (running g c) (runs g c) (none g c) c.self.invariant (item_is g c) c.in-Ok.ensures.admitted refl (pushed g c) refl c.judging_goes_on.ensures
+    let runs = runs_inside c.self.view_is c.requires.running in
+    replica_delivers g.D.Disk.honest g.D.Disk.history g.D.Disk.failures (old g c) (new g c) c.args.seqno c.args.item (item g c) runs.0 runs.1 (none g c) c.self.invariant (item_is g c) c.in-Ok.ensures.admitted refl (pushed g c) refl c.judging_goes_on.ensures
     c.verdicts_have_a_place.ensures c.certifiers_hold_windows.ensures c.writes.ensures.limits
 
 pub returns : goal.returns
 returns g c =
-    let step = delivered_step g.D.Disk.honest g.D.Disk.history g.D.Disk.failures (old g c) (new g c) c.args.seqno c.args.item (item g c) (running g c) (runs g c) (none g c) c.self.invariant (item_is g c) c.in-Ok.ensures.admitted refl (pushed g c) refl c.judging_goes_on.ensures c.nodes_stay_nodes.ensures in
+    let runs = runs_inside c.self.view_is c.requires.running in
+    let step = delivered_step g.D.Disk.honest g.D.Disk.history g.D.Disk.failures (old g c) (new g c) c.args.seqno c.args.item (item g c) runs.0 runs.1 (none g c) c.self.invariant (item_is g c) c.in-Ok.ensures.admitted refl (pushed g c) refl c.judging_goes_on.ensures c.nodes_stay_nodes.ensures in
     subst (λ (r : Replica g.row.D.Denot). IsStep g.D.Disk.honest g.D.Disk.history g.D.Disk.failures r (Deliver c.args.seqno c.args.item) (Gave c.in-Ok.verdict) (new g c)) c.self.view_is
     (subst (λ (a : Answer). IsStep g.D.Disk.honest g.D.Disk.history g.D.Disk.failures (old g c) (Deliver c.args.seqno c.args.item) a (new g c)) (ap Gave (sym c.in-Ok.ensures.verdict)) step)

@@ -1,11 +1,11 @@
-use Rattle.std.proofs.Common.{◌≡◌, false, refl, sym, ap, subst, ◌∙◌}
+use Rattle.std.proofs.Common.{refl, sym, ap, subst}
 use Rattle.rep_steps.specs.declared.event.Event.TheVariants.{Flush}
 use Rattle.rep_steps.specs.declared.answer.Answer.{Answer}
 use Rattle.rep_engine.specs.Engines.{Engine, facts_of as engine_facts}
 use Rattle.rep_engine.specs.Holding.{wrote}
 use Rattle.rep_replica.specs.Replicas.{Replica}
 use Rattle.rep_replica.specs.Holding.{IsStep}
-use Rattle.rep_replica.proofs.Keeping.{Keep, flush_keeps, replica_keeps}
+use Rattle.rep_replica.proofs.Keeping.{Keep, flush_keeps, replica_keeps, runs_inside}
 use Rattle.rep_replica.proofs.Refusing.{left_by_wrote, asked_left, flush_spells}
 use Rattle.rep_replica.proofs.Stepping.{as_step, flush_step}
 use Rattle.rep_replica.proofs.replica.Replica.flush.Goals as goal
@@ -16,20 +16,17 @@ old g c = record { engine = c.self.inside.engine; backlog = c.self.inside.backlo
 abbrev new : (g : _) (c : goal.After-wrote g) → Replica g.row.D.Denot
 new g c = record { engine = c.flush.new.self; backlog = c.self.inside.backlog; certifier = c.self.inside.certifier; stopped = c.self.inside.stopped }
 
-running : (g : _) (c : goal.After-wrote g) → c.self.inside.stopped ≡ false
-running g c = ap (λ (r : Replica g.row.D.Denot). r.stopped) c.self.view_is ∙ c.requires.running.0
-
 keeps : (g : _) (c : goal.After-wrote g) → Keep (engine_facts g.D.Disk.failures c.self.inside.engine) (engine_facts g.D.Disk.failures c.flush.new.self)
 keeps g c = flush_keeps (engine_facts g.D.Disk.failures c.self.inside.engine) (engine_facts g.D.Disk.failures c.flush.new.self) c.args.page (wrote c.flush.result) c.flush.ensures.moves
 
 pub invariant_of-self : goal.invariant_of-self
 invariant_of-self g c =
-    replica_keeps (engine_facts g.D.Disk.failures c.self.inside.engine) (engine_facts g.D.Disk.failures c.flush.new.self) c.self.inside.backlog c.self.inside.certifier.current c.self.inside.stopped (running g c) (keeps g c) c.self.invariant
+    replica_keeps (engine_facts g.D.Disk.failures c.self.inside.engine) (engine_facts g.D.Disk.failures c.flush.new.self) c.self.inside.backlog c.self.inside.certifier.current c.self.inside.stopped (runs_inside c.self.view_is c.requires.running).0 (keeps g c) c.self.invariant
 
 pub returns : goal.returns
 returns g c =
     let block = ap (λ (x : Engine g.row.D.Denot). x.block) c.flush.ensures.rest in
-    let step = flush_step g.D.Disk.honest g.D.Disk.history g.D.Disk.failures c.nodes_stay_nodes.ensures c.judging_goes_on.ensures c.parts_step_as_the_whole.ensures (old g c) (new g c) (wrote c.flush.result) (keeps g c).setting refl refl refl (running g c) c.args.page
+    let step = flush_step g.D.Disk.honest g.D.Disk.history g.D.Disk.failures c.nodes_stay_nodes.ensures c.judging_goes_on.ensures c.parts_step_as_the_whole.ensures (old g c) (new g c) (wrote c.flush.result) (keeps g c).setting refl refl refl (runs_inside c.self.view_is c.requires.running).0 c.args.page
     block (record { moves = c.flush.ensures.moves; steps = c.flush.ensures.steps; leaves = c.flush.ensures.leaves }) in
     subst (λ (r : Replica g.row.D.Denot). IsStep g.D.Disk.honest g.D.Disk.history g.D.Disk.failures r (Flush c.args.page) c.wrote.result (new g c)) c.self.view_is
     (subst (λ (a : Answer). IsStep g.D.Disk.honest g.D.Disk.history g.D.Disk.failures (old g c) (Flush c.args.page) a (new g c)) (sym c.wrote.ensures)

@@ -23,7 +23,7 @@ use Rattle.rep_engine.specs.Writing.{written_in}
 use Rattle.rep_replica.specs.Settling.{outcome_of}
 use Rattle.rep_replica.proofs.Settling.{refused_done, wrote_done}
 use Rattle.rep_replica.proofs.Widening.{running_facts}
-use Rattle.rep_replica.proofs.Keeping.{log_keeps, replica_keeps}
+use Rattle.rep_replica.proofs.Keeping.{log_keeps, replica_keeps, runs_inside}
 use Rattle.rep_replica.proofs.Gathering.{takes_as_all}
 use Rattle.rep_replica.proofs.Refusing.{log_left}
 use Rattle.rep_replica.proofs.Stepping.{IsMoved, as_step, refusal_same, refused_step, hungry_step, log_step, step_from}
@@ -50,22 +50,20 @@ rests_by s (Opening n) runs none is gathers = absurd (let never : false ≡ true
 pub returns-in-Some-clause-step : goal.returns-in-Some-clause-step
 returns-in-Some-clause-step g c =
     let r : Replica g.row.D.Denot = record { engine = c.self.inside.engine; backlog = c.self.inside.backlog; certifier = c.self.inside.certifier; stopped = c.self.inside.stopped } in
-    let running : c.self.inside.stopped ≡ false = ap (λ (x : Replica g.row.D.Denot). x.stopped) c.self.view_is ∙ c.requires.running.0 in
-    let runs : c.self.inside.engine.halted ≡ None = ap (λ (x : Replica g.row.D.Denot). x.engine.halted) c.self.view_is ∙ c.requires.running.1 in
-    let due = due_is g.D.Disk.failures c.accepted_items_are_a_front.ensures r running runs c.durable-durable.ensures.engine ∙ sym c.due.ensures ∙ c.in-Some.is in
+    let runs = runs_inside c.self.view_is c.requires.running in
+    let due = due_is g.D.Disk.failures c.accepted_items_are_a_front.ensures r runs.0 runs.1 c.durable-durable.ensures.engine ∙ sym c.due.ensures ∙ c.in-Some.is in
     subst (λ (x : Replica g.row.D.Denot). IsStep g.D.Disk.honest g.D.Disk.history g.D.Disk.failures x Log (Refused c.in-Some.refusal) x) c.self.view_is
     (refused_step g.D.Disk.honest g.D.Disk.history g.D.Disk.failures r Log c.in-Some.refusal due tt)
 
 pub returns-in-Err-clause-step : goal.returns-in-Err-clause-step
 returns-in-Err-clause-step g c =
     let r : Replica g.row.D.Denot = record { engine = c.self.inside.engine; backlog = c.self.inside.backlog; certifier = c.self.inside.certifier; stopped = c.self.inside.stopped } in
-    let running : c.self.inside.stopped ≡ false = ap (λ (x : Replica g.row.D.Denot). x.stopped) c.self.view_is ∙ c.requires.running.0 in
-    let runs : c.self.inside.engine.halted ≡ None = ap (λ (x : Replica g.row.D.Denot). x.engine.halted) c.self.view_is ∙ c.requires.running.1 in
-    let none = due_is g.D.Disk.failures c.accepted_items_are_a_front.ensures r running runs c.durable-durable.ensures.engine ∙ sym c.due.ensures ∙ c.in_default.is in
+    let runs = runs_inside c.self.view_is c.requires.running in
+    let none = due_is g.D.Disk.failures c.accepted_items_are_a_front.ensures r runs.0 runs.1 c.durable-durable.ensures.engine ∙ sym c.due.ensures ∙ c.in_default.is in
     let why = c.in-Err.ensures.refused in
     let gathers : is_gathering c.self.inside.engine.log.phase ≡ true = ap (λ (x : Replica g.row.D.Denot). is_gathering x.engine.log.phase) c.self.view_is ∙ why.1 in
-    let stopped : (facts_of g.D.Disk.failures r).stopped ≡ false = ap (λ b. b || is_some c.self.inside.engine.halted) running ∙ ap is_some runs in
-    let takes = rests_by (facts_of g.D.Disk.failures r) c.self.inside.engine.log.phase stopped none (ap (phase_at c.self.inside.engine.log.phase) runs) gathers in
+    let stopped : (facts_of g.D.Disk.failures r).stopped ≡ false = ap (λ b. b || is_some c.self.inside.engine.halted) runs.0 ∙ ap is_some runs.1 in
+    let takes = rests_by (facts_of g.D.Disk.failures r) c.self.inside.engine.log.phase stopped none (ap (phase_at c.self.inside.engine.log.phase) runs.1) gathers in
     let step = hungry_step g.D.Disk.honest g.D.Disk.history g.D.Disk.failures r Log none takes tt in
     subst (λ (x : Replica g.row.D.Denot). IsStep g.D.Disk.honest g.D.Disk.history g.D.Disk.failures c.args.self.now Log (Refused c.in-Err.refusal) x) (sym why.2)
     (subst (λ (e : Refusal). IsStep g.D.Disk.honest g.D.Disk.history g.D.Disk.failures c.args.self.now Log (Refused e) c.args.self.now) (sym why.0)

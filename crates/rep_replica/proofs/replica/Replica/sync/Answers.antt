@@ -1,4 +1,4 @@
-use Rattle.std.proofs.Common.{◌≡◌, ◌≤◌, length, None, false, refl, sym, ap, subst, ◌∙◌}
+use Rattle.std.proofs.Common.{◌≤◌, length, refl, sym, ap, subst, ◌∙◌}
 use Rattle.rep_steps.specs.declared.event.Event.TheVariants.{Sync}
 use Rattle.rep_steps.specs.declared.answer.Answer.{Answer}
 use Rattle.rep_steps.specs.Moves.{opening}
@@ -8,6 +8,7 @@ use Rattle.rep_replica.specs.Replicas.{Replica}
 use Rattle.rep_replica.specs.Holding.{IsStep}
 use Rattle.rep_log.specs.Moves.{after_sync, started}
 use Rattle.rep_replica.specs.Settling.{outcome_of}
+use Rattle.rep_replica.proofs.Keeping.{runs_inside}
 use Rattle.rep_replica.proofs.Settling.{synced_done}
 use Rattle.rep_replica.proofs.Refusing.{left_by_synced, refused_left}
 use Rattle.rep_replica.proofs.Stepping.{as_step, sync_step, opening_within}
@@ -22,11 +23,10 @@ new g c = record { engine = c.sync.new.self; backlog = c.self.inside.backlog; ce
 pub returns-clause-step : goal.returns-clause-step
 returns-clause-step g c =
     let e = c.self.inside.engine in
-    let running : c.self.inside.stopped ≡ false = ap (λ (r : Replica g.row.D.Denot). r.stopped) c.self.view_is ∙ c.requires.running.0 in
-    let runs : e.halted ≡ None = ap (λ (r : Replica g.row.D.Denot). r.engine.halted) c.self.view_is ∙ c.requires.running.1 in
+    let runs = runs_inside c.self.view_is c.requires.running in
     let params = c.sync.ensures.params in
-    let told = subst (λ phase. opening phase ≤ length e.block) (sym (ap (phase_at e.log.phase) runs)) (opening_within e.log.phase e.block c.durable-durable.ensures.engine.whole) in
-    let step = sync_step g.D.Disk.honest g.D.Disk.history g.D.Disk.failures c.nodes_stay_nodes.ensures c.judging_goes_on.ensures c.parts_step_as_the_whole.ensures (old g c) (new g c) (synced c.sync.result) params refl refl refl running told
+    let told = subst (λ phase. opening phase ≤ length e.block) (sym (ap (phase_at e.log.phase) runs.1)) (opening_within e.log.phase e.block c.durable-durable.ensures.engine.whole) in
+    let step = sync_step g.D.Disk.honest g.D.Disk.history g.D.Disk.failures c.nodes_stay_nodes.ensures c.judging_goes_on.ensures c.parts_step_as_the_whole.ensures (old g c) (new g c) (synced c.sync.result) params refl refl refl runs.0 told
     (record { moves = c.sync.ensures.moves; steps = c.sync.ensures.steps; leaves = c.sync.ensures.leaves }) in
     subst (λ (r : Replica g.row.D.Denot). IsStep g.D.Disk.honest g.D.Disk.history g.D.Disk.failures r Sync c.synced.result (new g c)) c.self.view_is
     (subst (λ (a : Answer). IsStep g.D.Disk.honest g.D.Disk.history g.D.Disk.failures (old g c) Sync a (new g c)) (sym c.synced.ensures)
