@@ -1,7 +1,7 @@
-//! Tests of the devices, of the cells on them and of the log in these: what a stop leaves, and which calls fail,
-//! against values that were written by hand. They stand in a crate of their own so that a tested crate is proved
-//! once. A library's call with much of a contract stands in one function that promises nothing, so that no test is
-//! proved beside it.
+//! Tests of the devices, of the cells on them, of the pool of pages and of the log in these: what a stop leaves, and
+//! which calls fail, against values that were written by hand. They stand in a crate of their own so that a tested
+//! crate is proved once. A library's call with much of a contract stands in one function that promises nothing, so
+//! that no test is proved beside it.
 #![tactic(auto)]
 
 #[cfg(test)]
@@ -20,3 +20,5 @@ mod log_refusals;
 mod log_scan;
 #[cfg(test)]
 mod log_stops;
+#[cfg(test)]
+mod pool;

@@ -1,0 +1,17 @@
+use Rattle.std.proofs.Common.{◌∙◌, ap, subst, sym}
+use Rattle.rep_pool.specs.Pools.{ReadsAs, IsStableAt, Agree, AreStable, found}
+use Rattle.rep_pool.proofs.Each.{not_found_then, without_each}
+use Rattle.rep_pool.proofs.pool.Pool.wrote.Goals as goal
+
+pub returns-clause-gone : goal.returns-clause-gone
+returns-clause-gone c = λ slot. ap (found c.args.number slot) c.let_go.ensures.without ∙ not_found_then c.args.number slot c.args.self.now c.let_go.ensures.once
+
+pub returns-clause-agree : goal.returns-clause-agree
+returns-clause-agree c = λ l before after each same.
+    subst (Agree l after) (sym c.let_go.ensures.without)
+    (without_each (ReadsAs l before) (ReadsAs l after) c.args.number c.args.self.now c.let_go.ensures.once each (λ other slot body away is. same other slot away ∙ is))
+
+pub returns-clause-stable : goal.returns-clause-stable
+returns-clause-stable c = λ before after each same.
+    subst (AreStable after) (sym c.let_go.ensures.without)
+    (without_each (IsStableAt before) (IsStableAt after) c.args.number c.args.self.now c.let_go.ensures.once each (λ other slot body away is. same other slot away ∙ is))
