@@ -5,6 +5,7 @@ use Rattle.std.proofs.lemmas.List.{append-nil}
 use Rattle.std.proofs.lemmas.List.Elements.{filter-append}
 use Rattle.std.proofs.lemmas.List.Folds.{list_all-append}
 use Rattle.circular_buffer.specs.Buffer.{keep_last}
+use Rattle.rep_types.specs.declared.item.Item.TheVariants.{WriteSet}
 use Rattle.rep_types.specs.declared.key.Key.{Key}
 use Rattle.rep_types.specs.Keys.{key_eq}
 use Rattle.rep_types.specs.Settings.{Setting, has_row, IsRow}
@@ -37,7 +38,7 @@ written_rows p w keys =
 
 -- the last writer of a key among the item's own entry
 own_writer : (n : ℕ) (w : Transaction) (commits : Bool) (key : Key) →
-    last_writer key (own_entry n w commits) ≡ (if commits && list_any (λ (k : Key). key_eq k key) (written w) then n else 0)
+    last_writer key (own_entry n (WriteSet w) commits) ≡ (if commits && list_any (λ (k : Key). key_eq k key) (written w) then n else 0)
 own_writer n w true key = omega arith
 own_writer n w false key = refl
 
@@ -62,15 +63,15 @@ pub Agrees_noted : (p : Setting) (made d : ℕ) (starts seqnos now : List ℕ) (
     IsLaidOut p.rows starts seqnos → made ≤ d → All (λ (e : Entry). e.seqno ≤ made) given → Ascends (made + 1) (d + 1) es → (commits ≡ true → in_schema p w ≡ true) →
     ((i : ℕ) → i < length seqnos → get_or now i 0 ≡ (if commits && is_placed starts (written w) i then d + 1 else get_or seqnos i 0)) →
     Agrees p.rows starts seqnos (level d) (given ++ es) →
-    Agrees p.rows starts now (level (d + 1)) (given ++ keep_last KEPT_ENTRIES (es ++ own_entry (d + 1) w commits))
+    Agrees p.rows starts now (level (d + 1)) (given ++ keep_last KEPT_ENTRIES (es ++ own_entry (d + 1) (WriteSet w) commits))
 Agrees_noted p made d starts seqnos now w commits given es laid start below a keys noted agrees key row =
     let low : ℕ = made + 1 in
     let high : ℕ = level (d + 1) in
-    let own : List Entry = own_entry (d + 1) w commits in
+    let own : List Entry = own_entry (d + 1) (WriteSet w) commits in
     let more : List Entry = es ++ own in
     let kept : List Entry = keep_last KEPT_ENTRIES more in
     let writes : Bool = commits && list_any (λ (k : Key). key_eq k key) (written w) in
-    let wide : Ascends low (d + 2) more = Ascends_own low d w commits es a in
+    let wide : Ascends low (d + 2) more = Ascends_own low d (WriteSet w) commits es a in
     let later : d + 2 ≤ d + 1 + 1 = omega arith in
     let all_kept : upto (d + 1) (given ++ kept) ≡ given ++ kept =
     upto_kept made (d + 1) given kept (omega arith) below
@@ -90,11 +91,11 @@ Agrees_noted p made d starts seqnos now w commits given es laid start below a ke
 -- after an item, the numbers before it agree with what is kept of the entries before it
 pub Agrees_before : (rows : List ℕ) (made d : ℕ) (starts seqnos : List ℕ) (w : Transaction) (commits : Bool) (given es : List Entry) →
     made ≤ d → All (λ (e : Entry). e.seqno ≤ made) given → Ascends (made + 1) (d + 1) es → Agrees rows starts seqnos (level d) (given ++ es) →
-    Agrees rows starts seqnos (level d) (upto d (given ++ keep_last KEPT_ENTRIES (es ++ own_entry (d + 1) w commits)))
+    Agrees rows starts seqnos (level d) (upto d (given ++ keep_last KEPT_ENTRIES (es ++ own_entry (d + 1) (WriteSet w) commits)))
 Agrees_before rows made d starts seqnos w commits given es start below a =
     let low : ℕ = level d + 1 in
-    Agrees-recent rows starts seqnos (level d) (given ++ es) (upto d (given ++ keep_last KEPT_ENTRIES (es ++ own_entry (d + 1) w commits)))
-    (sym (kept_before low d (made + 1) d w commits given es (le_refl d) (omega arith) a ∙ ap (recent low) (upto_kept made d given es start below a)))
+    Agrees-recent rows starts seqnos (level d) (given ++ es) (upto d (given ++ keep_last KEPT_ENTRIES (es ++ own_entry (d + 1) (WriteSet w) commits)))
+    (sym (kept_before low d (made + 1) d (WriteSet w) commits given es (le_refl d) (omega arith) a ∙ ap (recent low) (upto_kept made d given es start below a)))
 
 -- the entries before the last item, where those that a certifier was made with are all among them
 pub Agrees_undone : (rows : List ℕ) (made k low : ℕ) (starts seqnos : List ℕ) (given es : List Entry) → made ≤ k → All (λ (e : Entry). e.seqno ≤ made) given →
@@ -102,6 +103,10 @@ pub Agrees_undone : (rows : List ℕ) (made k low : ℕ) (starts seqnos : List �
 Agrees_undone rows made k low starts seqnos given es start below =
     subst (Agrees rows starts seqnos low)
     (filter-append (λ (e : Entry). nat_le e.seqno k) given es ∙ ap (λ (gs : List Entry). gs ++ upto k es) (upto_below made k given start below))
+
+-- what agrees above a level agrees above a higher one
+pub Agrees_rises : (rows starts seqnos : List ℕ) (low high : ℕ) (es : List Entry) → low ≤ high → Agrees rows starts seqnos low es → Agrees rows starts seqnos high es
+Agrees_rises rows starts seqnos low high es higher agrees key row = omega (arith, agrees key row)
 
 -- numbers that were raised from nothing by all entries agree with them
 pub Agrees_made : (rows starts none seqnos : List ℕ) (low : ℕ) (es : List Entry) → ((i : ℕ) → get_or none i 0 ≡ 0) →
@@ -111,5 +116,5 @@ Agrees_made rows starts none seqnos low es nothing raised key row =
     omega (arith, nothing (place starts key), raised key row)
 
 -- an item that commits names rows alone
-pub commits_rows : (h : Holding) (w : Transaction) → is_commit (verdict_of h w) ≡ true → in_schema h.setting w ≡ true
+pub commits_rows : (h : Holding) (w : Transaction) → is_commit (verdict_of h (WriteSet w)) ≡ true → in_schema h.setting w ≡ true
 commits_rows h w commits = grind arith

@@ -3,6 +3,7 @@
 
 ghost use Rattle.std.specs.Prelude.{◌≡◌, ◌+◌, ◌-◌, ◌<◌, ◌≤◌, ◌++◌, length, IfOk, IfErr};
 ghost use Rattle.circular_buffer.specs.Buffer.{buffer, keep_last};
+ghost use Rattle.rep_types.specs.declared.item.Item.TheVariants.{WriteSet as OfWriteSet};
 ghost use Rattle.rep_types.specs.Order.{is_commit, recent};
 ghost use Rattle.rep_cert.specs.Holdings.{upto};
 ghost use Rattle.rep_cert.specs.Kept.{Ascends, own_entry};
@@ -17,7 +18,7 @@ use std::alloc::Global;
 /// windows hold entries of so many last seqnos together. Undoing the last item asks for one more.
 pub const KEPT_ENTRIES: usize = MAX_WINDOW as usize + MAX_AHEAD as usize + 1;
 
-/// Keeps the entry of the item with this seqno, if it commits; the oldest entry goes where there is
+/// Keeps the entry of the write set with this seqno, if it commits; the oldest entry goes where there is
 /// no room.
 pub(crate) fn keep(
     entries: &mut HeapCircularBuffer<Entry>,
@@ -26,7 +27,7 @@ pub(crate) fn keep(
     verdict: Verdict,
 )
     requires { length entries.old.items ≤ entries.old.capacity }
-    ensures { entries.new ≡ buffer (keep_last entries.old.capacity (entries.old.items ++ own_entry seqno item.now (is_commit verdict))) entries.old.capacity }
+    ensures { entries.new ≡ buffer (keep_last entries.old.capacity (entries.old.items ++ own_entry seqno (OfWriteSet item.now) (is_commit verdict))) entries.old.capacity }
 {
     if verdict.is_commit() {
         entries.push_back(Entry::new(seqno, item.written()));

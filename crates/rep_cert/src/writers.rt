@@ -152,6 +152,15 @@ impl LastWriters {
         }
     }
 
+    /// Keeps no former writers, since the last item wrote nothing so far.
+    pub(crate) fn forget_former(&mut self)
+        ensures starts { self.new.starts ≡ self.old.starts }
+        ensures seqnos { self.new.seqnos ≡ self.old.seqnos }
+        ensures none { self.new.former.items ≡ [] }
+    {
+        self.former.clear();
+    }
+
     /// Takes note of the item with this seqno, which is behind all others: it is the last writer of each
     /// row that it writes. Their former writers are kept until the next item.
     fn note(&mut self, seqno: u64, item: &WriteSet)
@@ -182,7 +191,7 @@ impl LastWriters {
         ensures inside { All (λ former. former.place < length self.old.seqnos.items) self.new.former.items }
         ensures before { restored self.new.former.items self.new.seqnos.items ≡ self.old.seqnos.items }
     {
-        self.former.clear();
+        self.forget_former();
         if verdict.is_commit() {
             self.note(seqno, item);
         }

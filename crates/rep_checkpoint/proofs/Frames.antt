@@ -1,6 +1,8 @@
 -- Places that stay as they are.
 use Rattle.std.proofs.Common.{◌≡◌, ◌≢◌, refl, sym, ap, subst, ◌∙◌, ℕ, ◌+◌, List, Option}
 use Rattle.rep_types.specs.declared.key.Key.{Key}
+use Rattle.rep_types.specs.Entries.{Entry}
+use Rattle.rep_types.specs.Windows.{Window as WindowOf, fixed}
 use Rattle.rep_types.specs.Order.{State}
 use Rattle.rep_layout.specs.declared.super_body.SuperBody.{SuperBody}
 use Rattle.rep_layout.specs.declared.page_state.PageState.{PageState}
@@ -92,6 +94,7 @@ base_as super window pages h = record {
   opened = super ∙ h.opened;
   saved = window ∙ h.saved;
   is_window = h.is_window;
+  is_fixed = h.is_fixed;
   content = content_as (λ number slot body there e. pages number slot there ∙ e) h.content;
 }
 
@@ -124,6 +127,13 @@ far_as Ready side next y s t window pages h = saved_as window pages h
 far_as SuperFilling side next y s t window pages h = saved_as window pages h
 far_as SuperFilled side next y s t window pages h = saved_as window pages h
 far_as SuperOpening side next y s t window pages h = saved_as window pages h
+
+-- the entries of a window whose size was the same from the first item on
+pub entries_are : {v : WindowOf} {es : List Entry} (size position : ℕ) → v ≡ fixed size position es → v.entries ≡ es
+entries_are size position is = ap (λ (w : WindowOf). w.entries) is
+
+pub fixed_by : {v : WindowOf} {es : List Entry} (size position : ℕ) → v ≡ fixed size position es → v ≡ fixed size position v.entries
+fixed_by size position is = is ∙ ap (λ (fs : List Entry). fixed size position fs) (sym (ap (λ (w : WindowOf). w.entries) is))
 
 -- the next base comes as far as its window, its pages and its superblock's cell do
 pub toward_as : {base : SuperBody} {next : Next} {y : State} {s t : States} (part to : Part) → IsToward base next part y s → IsFar to (spare_side base) next y t → t (Super (spare_side base)) ≡ cell_in to (super_bytes next.super) → IsToward base next to y t

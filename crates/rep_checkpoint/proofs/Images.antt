@@ -28,7 +28,7 @@ use Rattle.rep_checkpoint.specs.Standing.{Standing, spare_side}
 use Rattle.rep_checkpoint.specs.Moves.{is_opening, found_at}
 use Rattle.rep_checkpoint.specs.States.{IsBase, IsToward, IsRetiring, StandsBeside, CheckpointIs}
 use Rattle.rep_checkpoint.specs.Laws.{HasBase, IsOneOf, TheBaseInEveryImage, TheBaseStandsStill, TheBaseIsFound}
-use Rattle.rep_checkpoint.proofs.Frames.{next_side, other_again, content_as}
+use Rattle.rep_checkpoint.proofs.Frames.{entries_are, fixed_by, next_side, other_again, content_as}
 
 -- what a place may read as whose state is this
 reads_as : (state to : StateOf) (reading : Option (List ℕ)) → state ≡ to → Allows state reading → Allows to reading
@@ -68,6 +68,7 @@ stands_still size c x y s not is = record {
   lesser = beside_lesser size c.base c.stage y s not is.beside;
   saved = is.base.saved;
   is_window = is.base.is_window;
+  is_fixed = is.base.is_fixed;
 }
 
 -- ---- a base in an image
@@ -87,7 +88,7 @@ base_in : (size : ℕ) (b : SuperBody) (x : State) (s : States) (r : Reading) �
 base_in size b x s r allowed h lesser = record {
   chosen = record { stands = reads_as _ (Opened (super_bytes b)) _ h.opened (allowed (Super (side_of b.number)) refl); is_super = h.is_super; lesser = lesser };
   position = h.position;
-  window = record { stands = reads_as _ (Stable (window_bytes (window b.number b.position x.kept))) _ h.saved (allowed (Window (side_of b.number)) refl); is_window = h.is_window };
+  window = record { stands = reads_as _ (Stable (window_bytes (window b.number b.position x.kept.entries))) _ h.saved (allowed (Window (side_of b.number)) refl); is_window = h.is_window; is_fixed = h.is_fixed };
   content = contents b x s r h.is_super.is_super allowed h.content;
 }
 
@@ -109,8 +110,9 @@ next_in turns size b next x y s r allowed base toward shows =
       };
       position = toward.position;
       window = record {
-        stands = ap (λ (d : Side). r (Window d)) side ∙ saved ∙ ap (λ entries. Some (window_bytes (window n.number n.position entries))) (sym toward.entries);
-        is_window = subst (λ entries. IsWindowBody n.params (window n.number n.position entries)) (sym toward.entries) follows.is_window;
+        stands = ap (λ (d : Side). r (Window d)) side ∙ saved ∙ ap (λ entries. Some (window_bytes (window n.number n.position entries))) (sym (entries_are n.params.window n.position toward.entries));
+        is_window = subst (λ entries. IsWindowBody n.params (window n.number n.position entries)) (sym (entries_are n.params.window n.position toward.entries)) follows.is_window;
+        is_fixed = fixed_by n.params.window n.position toward.entries;
       };
       content = contents n y s r follows.is_super (subst (λ (p : Setting). Allowed (layout_of p) s r) (sym follows.params) allowed) toward.far.content;
     }
@@ -157,6 +159,7 @@ base_found size l bytes b x h = record {
   opened = found_opened _ _ h.chosen.stands;
   saved = found_stable _ _ h.window.stands;
   is_window = h.window.is_window;
+  is_fixed = h.window.is_fixed;
   content = content_as (λ number slot body there e. found_stable _ body e) h.content;
 }
 

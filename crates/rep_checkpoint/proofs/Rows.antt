@@ -11,10 +11,13 @@ use Rattle.rep_types.specs.declared.value.Write.{Write}
 use Rattle.rep_types.specs.declared.verdict.Verdict.{Verdict}
 use Rattle.rep_types.specs.declared.verdict.Verdict.TheVariants.{Stale, Future, BadKey}
 use Rattle.rep_types.specs.Keys.{key_eq}
-use Rattle.rep_types.specs.Entries.{Entry}
+use Rattle.rep_types.specs.declared.item.Item.{Item}
+use Rattle.rep_types.specs.declared.item.Item.TheVariants.{WriteSet, SetWindow}
 use Rattle.rep_types.specs.Transactions.{Transaction, written}
 use Rattle.rep_types.specs.Settings.{Setting, has_row, IsRow}
-use Rattle.rep_types.specs.Order.{State, latest, counts, is_commit, in_schema, judge, content_after, conflict_with, greatest, seqnos_against, floor}
+use Rattle.rep_types.specs.Windows.{Window as WindowOf}
+use Rattle.rep_types.specs.Items.{writes_of}
+use Rattle.rep_types.specs.Order.{State, latest, counts, is_commit, in_schema, judge, content_after, conflict_with, greatest, seqnos_against}
 use Rattle.rep_types.proofs.Touches.{key_eq-true}
 use Rattle.rep_versions.specs.Versions.{Kept}
 use Rattle.rep_versions.specs.Following.{AreVersionsOf, VersionsFollowTheItems, made_by, effect_of, rows_after}
@@ -24,7 +27,7 @@ use Rattle.rep_checkpoint.specs.Calls.{AreAt, AreBehind}
 
 -- ---- what the items make of the rows
 
-effect_is : (content : Key → Option (List ℕ)) (j : Judged) (b : Bool) → counts j ≡ b → (if b then content_after content j.item.writes else content) ≡ content_after content (effect_of j)
+effect_is : (content : Key → Option (List ℕ)) (j : Judged) (b : Bool) → counts j ≡ b → (if b then content_after content (writes_of j.item) else content) ≡ content_after content (effect_of j)
 effect_is content j true is = rw is refl
 effect_is content j false is = rw is refl
 
@@ -45,9 +48,9 @@ passes true known stale rest e = absurd cc
 passes false true stale rest e = refl
 passes false false stale rest e = absurd cc
 
-pub commits_inside : (p : Setting) (position : ℕ) (es : List Entry) (w : Transaction) → is_commit (judge p position es w) ≡ true → in_schema p w ≡ true
-commits_inside p position es w e =
-    passes (nat_le (position + 1) w.last_seen) (in_schema p w) (nat_lt (w.last_seen + 1) (floor p position)) (conflict_with (greatest (seqnos_against w es))) e
+pub commits_inside : (p : Setting) (position : ℕ) (v : WindowOf) (w : Transaction) → is_commit (judge p position v (WriteSet w)) ≡ true → in_schema p w ≡ true
+commits_inside p position v w e =
+    passes (nat_le (position + 1) w.last_seen) (in_schema p w) (nat_lt (w.last_seen + 1) v.floor) (conflict_with (greatest (seqnos_against w v.entries))) e
 
 pub both_right : (a b : Bool) → (a && b) ≡ true → b ≡ true
 both_right true b e = e
@@ -55,6 +58,11 @@ both_right false b e = absurd cc
 
 pub writes_inside : (p : Setting) (w : Transaction) → in_schema p w ≡ true → list_all (has_row p.rows) (written w) ≡ true
 writes_inside p w e = both_right (list_all (has_row p.rows) w.reads) (list_all (has_row p.rows) (written w)) (sym (list_all-append (has_row p.rows) w.reads (written w)) ∙ e)
+
+-- what an item that commits writes are rows of the schema: a change of the window's size writes nothing
+pub commits_writes_inside : (p : Setting) (position : ℕ) (v : WindowOf) (i : Item) → is_commit (judge p position v i) ≡ true → list_all (has_row p.rows) (map (λ (write : Write). write.key) (writes_of i)) ≡ true
+commits_writes_inside p position v (WriteSet w) e = writes_inside p w (commits_inside p position v w e)
+commits_writes_inside p position v (SetWindow c) e = refl
 
 -- rows of the schema aren't this key
 pub both_left : (a b : Bool) → (a && b) ≡ true → a ≡ true
@@ -77,12 +85,12 @@ none_latest rows key out (write ∷ writes) all =
 advanced_outside : (p : Setting) (S : State) (j : Judged) (key : Key) → has_row p.rows key ≡ false → j.verdict ≡ judge p S.position S.kept j.item → (advanced p S j).content key ≡ S.content key
 advanced_outside p S j key out is = by (counts j) refl
   where
-    by : (b : Bool) → counts j ≡ b → (if b then content_after S.content j.item.writes else S.content) key ≡ S.content key
+    by : (b : Bool) → counts j ≡ b → (if b then content_after S.content (writes_of j.item) else S.content) key ≡ S.content key
     by false e = refl
     by true e =
         let commits : is_commit (judge p S.position S.kept j.item) ≡ true = ap is_commit (sym is) ∙ e in
-        let inside = writes_inside p j.item (commits_inside p S.position S.kept j.item commits) in
-        rw (none_latest p.rows key out j.item.writes inside) refl
+        let inside = commits_writes_inside p S.position S.kept j.item commits in
+        rw (none_latest p.rows key out (writes_of j.item) inside) refl
 
 reached_outside : (p : Setting) (S : State) (js : List Judged) (key : Key) → has_row p.rows key ≡ false → AreJudgedFrom p S js → (reached p S js).content key ≡ S.content key
 reached_outside p S [] key out h = refl

@@ -19,7 +19,7 @@ use Rattle.rep_checkpoint.specs.Standing.{Standing, spare_side, IsCheckpoint}
 use Rattle.rep_checkpoint.specs.Moves.{after_sync, synced_in}
 use Rattle.rep_checkpoint.specs.States.{IsBase, IsWritten, IsFlushing, IsSaving, IsSaved, IsToward, IsFar, cell_in, CheckpointIs}
 use Rattle.rep_checkpoint.specs.Calls.{synced_base, SyncsTo}
-use Rattle.rep_checkpoint.proofs.Frames.{other_again, next_side, content_as, toward_as}
+use Rattle.rep_checkpoint.proofs.Frames.{entries_are, fixed_by, other_again, next_side, content_as, toward_as}
 
 -- ---- what is written is stable
 
@@ -30,6 +30,7 @@ base_synced size b x s t syncs h = record {
   opened = syncs _ ∙ ap synced h.opened;
   saved = syncs _ ∙ ap synced h.saved;
   is_window = h.is_window;
+  is_fixed = h.is_fixed;
   content = content_as (λ number slot body there e. syncs _ ∙ ap synced e) h.content;
 }
 
@@ -73,8 +74,9 @@ module _ (turns : TurnsAreTaken) (size : ℕ) (b : SuperBody) (next : Next) (x y
     is_super = record { is_super = toward.follows.is_super; here = refl; fits = subst (λ (p : Setting). need_of (layout_of p) ≤ size) (sym toward.follows.params) base.is_super.fits };
     position = toward.position;
     opened = ap (λ (d : Side). t (Super d)) side ∙ syncs _ ∙ ap synced toward.cell;
-    saved = ap (λ (d : Side). t (Window d)) side ∙ syncs _ ∙ ap synced toward.far.window ∙ ap (λ entries. Stable (window_bytes (window n.number n.position entries))) (sym toward.entries);
-    is_window = subst (λ entries. IsWindowBody n.params (window n.number n.position entries)) (sym toward.entries) toward.follows.is_window;
+    saved = ap (λ (d : Side). t (Window d)) side ∙ syncs _ ∙ ap synced toward.far.window ∙ ap (λ entries. Stable (window_bytes (window n.number n.position entries))) (sym (entries_are n.params.window n.position toward.entries));
+    is_window = subst (λ entries. IsWindowBody n.params (window n.number n.position entries)) (sym (entries_are n.params.window n.position toward.entries)) toward.follows.is_window;
+    is_fixed = fixed_by n.params.window n.position toward.entries;
     content = content_as (λ number slot body there e. syncs _ ∙ ap synced e) toward.far.content;
   }
 

@@ -14,6 +14,7 @@ use Rattle.rep_types.specs.declared.judged.Judged.{Judged}
 use Rattle.rep_types.specs.declared.value.Write.{Write}
 use Rattle.rep_types.specs.Keys.{key_eq}
 use Rattle.rep_types.specs.Settings.{Setting, has_row, IsRow, pages_of}
+use Rattle.rep_types.specs.Items.{writes_of}
 use Rattle.rep_types.specs.Order.{State, latest, counts, is_commit, judge}
 use Rattle.rep_types.proofs.Touches.{key_eq-true, key_eq_refl}
 use Rattle.rep_types.proofs.Members.{Contains-nothing, Contains-first, Contains-behind, Contains-cons_cases, Contains-filter, Contains-from_filter}
@@ -23,7 +24,7 @@ use Rattle.rep_versions.specs.Following.{AreVersionsOf, made_by, written_at, eff
 use Rattle.rep_steps.specs.Moves.{below, is_touched, touched}
 use Rattle.rep_steps.specs.Nodes.{advanced}
 use Rattle.rep_steps.specs.Images.{AreJudgedFrom}
-use Rattle.rep_checkpoint.proofs.Rows.{commits_inside, writes_inside, both_left, both_right}
+use Rattle.rep_checkpoint.proofs.Rows.{commits_writes_inside, both_left, both_right}
 
 -- ---- lists of the same numbers that rise
 
@@ -225,8 +226,8 @@ module _ (p : Setting) where
   touched_at items i zero key page lt there some = absurd (omega (arith, lt))
   touched_at [] zero (suc past) key page lt there some = absurd cc
   touched_at [] (suc i) (suc past) key page lt there some = absurd cc
-  touched_at (j ∷ js) zero (suc past) key page lt there some = either_left (counts j && writes_to page j.item.writes) (is_touched p.rows (take past js) page) (touch_by (counts j) j.item.writes key page there some)
-  touched_at (j ∷ js) (suc i) (suc past) key page lt there some = either_right (counts j && writes_to page j.item.writes) (is_touched p.rows (take past js) page) (touched_at js i past key page (omega (arith, lt)) there some)
+  touched_at (j ∷ js) zero (suc past) key page lt there some = either_left (counts j && writes_to page (writes_of j.item)) (is_touched p.rows (take past js) page) (touch_by (counts j) (writes_of j.item) key page there some)
+  touched_at (j ∷ js) (suc i) (suc past) key page lt there some = either_right (counts j && writes_to page (writes_of j.item)) (is_touched p.rows (take past js) page) (touched_at js i past key page (omega (arith, lt)) there some)
 
   -- and the other way round
   record Change (items : List Judged) (past page : ℕ) : Type 0 where
@@ -241,13 +242,13 @@ module _ (p : Setting) where
   change_by true writes key is some = made (latest (λ (write : Write). key_eq write.key key) writes) some
   change_by false writes key is some = absurd cc
 
-  change_step : (S : State) (j : Judged) (js : List Judged) (past page : ℕ) → j.verdict ≡ judge p S.position S.kept j.item → (is_touched p.rows (take past js) page ≡ true → Change js past page) → (b : Bool) → (counts j && writes_to page j.item.writes) ≡ b
+  change_step : (S : State) (j : Judged) (js : List Judged) (past page : ℕ) → j.verdict ≡ judge p S.position S.kept j.item → (is_touched p.rows (take past js) page ≡ true → Change js past page) → (b : Bool) → (counts j && writes_to page (writes_of j.item)) ≡ b
       → (b || is_touched p.rows (take past js) page) ≡ true → Change (j ∷ js) (suc past) page
   change_step S j js past page verdict later true is touches =
-      let commits : counts j ≡ true = both_left (counts j) (writes_to page j.item.writes) is in
-      let inside = writes_inside p j.item (commits_inside p S.position S.kept j.item (ap is_commit (sym verdict) ∙ commits)) in
-      let w = wrote page j.item.writes inside (both_right (counts j) (writes_to page j.item.writes) is) in
-      record { i = 0; before = omega arith; key = w.key; row = w.row; there = w.there; some = change_by (counts j) j.item.writes w.key commits w.some }
+      let commits : counts j ≡ true = both_left (counts j) (writes_to page (writes_of j.item)) is in
+      let inside = commits_writes_inside p S.position S.kept j.item (ap is_commit (sym verdict) ∙ commits) in
+      let w = wrote page (writes_of j.item) inside (both_right (counts j) (writes_to page (writes_of j.item)) is) in
+      record { i = 0; before = omega arith; key = w.key; row = w.row; there = w.there; some = change_by (counts j) (writes_of j.item) w.key commits w.some }
   change_step S j js past page verdict later false is touches =
       let c = later touches in
       record { i = suc c.i; before = omega (arith, c.before); key = c.key; row = c.row; there = c.there; some = c.some }
@@ -256,7 +257,7 @@ module _ (p : Setting) where
   change_of S items zero page judged touches = absurd cc
   change_of S [] (suc past) page judged touches = absurd cc
   change_of S (j ∷ js) (suc past) page judged touches =
-      change_step S j js past page judged.1 (λ later. change_of (advanced p S j) js past page judged.2 later) (counts j && writes_to page j.item.writes) refl touches
+      change_step S j js past page judged.1 (λ later. change_of (advanced p S j) js past page judged.2 later) (counts j && writes_to page (writes_of j.item)) refl touches
 
   -- ---- the pages with a change
 

@@ -5,7 +5,7 @@ ghost use Rattle.std.specs.Prelude.{◌≤◌, IfOk};
 use crate::drawn::{Draws, Shape};
 use rep_cert::Certifier;
 use rep_plain::PlainNode;
-use rep_types::Refusal;
+use rep_types::{Refusal, Window};
 use std::alloc::Global;
 
 /// How many of the first `count` items commit, by the plain node.
@@ -29,7 +29,9 @@ pub(crate) fn certifier_commits(alloc: Global, shape: &Shape, count: u64) -> Res
     ensures { IfOk result (λ committed. committed ≤ count) }
 {
     let mut draws = Draws::new(1);
-    let mut certifier = Certifier::new(alloc, shape.params()?, 0, Vec::new(alloc))?;
+    let params = shape.params()?;
+    let window = Window::fixed(params.window_size(), 0, Vec::new(alloc));
+    let mut certifier = Certifier::new(alloc, params, 0, window)?;
     let mut committed = 0;
     for before in 0..count {
         let item = draws.item(shape, before + 1)?;

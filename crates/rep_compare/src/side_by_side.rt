@@ -4,7 +4,7 @@ ghost use Rattle.std.specs.Prelude.{◌≡◌, ◌≤◌};
 
 use rep_cert::Certifier;
 use rep_plain::PlainNode;
-use rep_types::{Entry, MAX_AHEAD, Params, Verdict, WriteSet};
+use rep_types::{MAX_AHEAD, Params, Verdict, Window, WindowSize, WriteSet};
 use std::alloc::Global;
 use std::process::Abort;
 use std::test::Fail;
@@ -17,7 +17,7 @@ pub(crate) struct SideBySide {
     /// The position that the certifier was made at.
     made_at: u64,
     /// The plain node's window there and at each later position.
-    windows: Vec<Vec<Entry>>,
+    windows: Vec<Window>,
     ghost made: { certifier.current.made ≡ made_at },
 }
 
@@ -75,9 +75,39 @@ impl SideBySide {
         Ok(verdict)
     }
 
+    /// Hands both a change of the window's size, which commits at both.
+    pub(crate) fn resize(
+        &mut self,
+        rt: &impl Abort,
+        alloc: Global,
+        size: WindowSize,
+    ) -> Result<(), Fail> {
+        let admitted = self.certifier.set_window(size)?;
+        let verdict = self.plain.set_window(size)?;
+        assert_eq!(rt; admitted, (self.plain.position(), verdict));
+        self.windows.push(self.plain.window(alloc)?)?;
+        self.compare_window(rt, alloc, 0)
+    }
+
+    /// Hands the change to the certifier alone, and takes it back: the windows are then as before.
+    pub(crate) fn resize_back(
+        &mut self,
+        rt: &impl Abort,
+        alloc: Global,
+        size: WindowSize,
+    ) -> Result<(), Fail> {
+        self.certifier.set_window(size)?;
+        self.certifier.undo_last();
+        assert_eq!(rt; self.certifier.delivered(), self.plain.position());
+        self.compare_window(rt, alloc, 0)?;
+        self.compare_window(rt, alloc, MAX_AHEAD)
+    }
+
     /// How many entries the window has that the certifier was made with.
     pub(crate) fn entries_at_first(&self) -> usize {
-        self.windows.first().map_or(0, |window| window.len())
+        self.windows
+            .first()
+            .map_or(0, |window| window.entries().len())
     }
 
     /// Compares the windows of so many positions back, or where the certifier was made.
@@ -90,8 +120,8 @@ impl SideBySide {
         let place = (position - self.made_at) as usize;
         let expected = self.windows.get(place).ok_or("no such window")?;
         assert_eq!(rt;
-            held.as_slice(),
-            expected.as_slice(),
+            (held.size(), held.floor(), held.entries()),
+            (expected.size(), expected.floor(), expected.entries()),
             "{back} back from {delivered}"
         );
         Ok(())

@@ -1,13 +1,13 @@
 //! Verdicts and windows of the certifier, compared with those of the plain node.
 
-ghost use Rattle.std.specs.Prelude.{◌<◌};
+ghost use Rattle.std.specs.Prelude.{◌<◌, ◌≤◌, IfOk};
 
 use crate::drawn::{Draws, Shape, TABLES, delete_of};
 use crate::judging::{certifier_commits, drawn_items, plain_commits};
 use crate::side_by_side::SideBySide;
 use rep_cert::Certifier;
 use rep_plain::PlainNode;
-use rep_types::{Entry, Key, Params, Refusal, Verdict, WriteSet};
+use rep_types::{Entry, Key, Params, Refusal, Verdict, Window, WindowSize, WriteSet};
 use std::alloc::Global;
 use std::process::Abort;
 use std::test::Fail;
@@ -162,6 +162,49 @@ fn compare_from_the_start(
     Ok(())
 }
 
+/// Hands both drawn items, and now and then a change of the window's size, some of which the certifier took back once
+/// before. Says how many items were stale.
+fn compare_resized(
+    rt: &impl Abort,
+    alloc: Global,
+    pair: &mut SideBySide,
+    shape: &Shape,
+    count: u32,
+) -> Result<u32, Fail>
+    ensures { IfOk result (λ stale. stale ≤ count) }
+{
+    let mut draws = Draws::new(u64::from(count));
+    let mut stale = 0;
+    for step in 0..count {
+        if step % 11 == 2 {
+            let size = WindowSize::new(u64::from(draws.below(128)) + 1)?;
+            if step % 3 == 0 {
+                pair.resize_back(rt, alloc, size)?;
+            }
+            pair.resize(rt, alloc, size)?;
+        }
+        let seqno = pair.position().saturating_add(1);
+        if pair.take(rt, alloc, &drawn_item(&mut draws, shape, seqno)?)? == Verdict::Stale {
+            stale += 1;
+        }
+        if step % 128 == 0 {
+            pair.compare_windows(rt, alloc)?;
+        }
+    }
+    pair.compare_windows(rt, alloc)?;
+    Ok(stale)
+}
+
+#[test]
+fn agree_while_the_window_changes(rt: HostRuntime) -> Result<(), Fail> {
+    let shape = shape_of(63);
+    let plain = PlainNode::new(rt.alloc(), shape.params()?);
+    let mut pair = SideBySide::new(rt.alloc(), plain, shape.params()?)?;
+    let stale = compare_resized(&rt, rt.alloc(), &mut pair, &shape, 900)?;
+    assert!(rt; stale > 40 && stale < 500, "{stale} were stale");
+    Ok(())
+}
+
 #[test]
 fn agree_with_small_windows(rt: HostRuntime) -> Result<(), Fail> {
     for window in [1, 2, 4] {
@@ -284,7 +327,8 @@ fn agree_whatever_the_order_of_the_first_entries(rt: HostRuntime) -> Result<(), 
         plain.deliver(draws.item(&shape, seqno)?)?;
     }
     let window = plain.window(alloc)?;
-    let mixed = disordered(alloc, window.as_slice())?;
+    let mixed = disordered(alloc, window.entries())?;
+    let mixed = Window::new(window.size(), window.floor(), mixed);
     let mut one = Certifier::new(alloc, shape.params()?, 200, window)?;
     let mut other = Certifier::new(alloc, shape.params()?, 200, mixed)?;
     let mut tally = Tally::default();
@@ -315,6 +359,20 @@ fn verdicts_on(
     Ok((of_reader, pair.take(rt, alloc, &writer)?))
 }
 
+/// Compares the verdicts that both give on this key.
+fn agree_on(
+    rt: &impl Abort,
+    alloc: Global,
+    pair: &mut SideBySide,
+    key: Key,
+    verdict: Verdict,
+) -> Result<(), Fail> {
+    let both = verdicts_on(rt, alloc, pair, key)?;
+    let Key { table, row } = key;
+    assert_eq!(rt; both, (verdict, verdict), "{table}/{row}");
+    Ok(())
+}
+
 #[test]
 fn agree_at_the_edges_of_the_schema(rt: HostRuntime) -> Result<(), Fail> {
     let alloc = rt.alloc();
@@ -335,8 +393,7 @@ fn agree_at_the_edges_of_the_schema(rt: HostRuntime) -> Result<(), Fail> {
         (255, u32::MAX, Verdict::BadKey),
     ];
     for (table, row, verdict) in cases {
-        let both = verdicts_on(&rt, alloc, &mut pair, Key { table, row })?;
-        assert_eq!(rt; both, (verdict, verdict), "{table}/{row}");
+        agree_on(&rt, alloc, &mut pair, Key { table, row }, verdict)?;
     }
     Ok(())
 }
@@ -354,8 +411,7 @@ fn agree_at_the_edges_of_the_largest_schema(rt: HostRuntime) -> Result<(), Fail>
             (64511, Verdict::Commit),
             (64512, Verdict::BadKey),
         ] {
-            let both = verdicts_on(&rt, alloc, &mut pair, Key { table, row })?;
-            assert_eq!(rt; both, (verdict, verdict), "{table}/{row}");
+            agree_on(&rt, alloc, &mut pair, Key { table, row }, verdict)?;
         }
     }
     Ok(())

@@ -145,14 +145,18 @@ fn leaves(disk: &mut MemDisk, loss: Loss, left: [u8; 4]) -> (bool, bool) {
     (at_once, disk.bytes() == left.as_slice())
 }
 
-fn stop(
-    rt: &(impl Abort + AllocGlobal),
-    case: Case,
-    loss: Loss,
-    left: [u8; 4],
-) -> Result<(), Fail> {
+/// What this loss leaves.
+fn left_by(case: Case, loss: Loss) -> [u8; 4] {
+    match loss {
+        Loss::Keep => case.keep,
+        Loss::Drop => case.drop,
+        Loss::Junk => case.junk,
+    }
+}
+
+fn stop(rt: &(impl Abort + AllocGlobal), case: Case, loss: Loss) -> Result<(), Fail> {
     let (mut disk, right) = asked(rt.alloc(), case)?;
-    let found = (right, leaves(&mut disk, loss, left));
+    let found = (right, leaves(&mut disk, loss, left_by(case, loss)));
     assert_eq!(rt;
         (case.name, loss, found),
         (case.name, loss, (true, (true, true)))
@@ -163,9 +167,9 @@ fn stop(
 #[test]
 fn a_stop_leaves_what_the_loss_says(rt: HostRuntime) -> Result<(), Fail> {
     for case in CASES {
-        stop(&rt, case, Loss::Keep, case.keep)?;
-        stop(&rt, case, Loss::Drop, case.drop)?;
-        stop(&rt, case, Loss::Junk, case.junk)?;
+        for loss in [Loss::Keep, Loss::Drop, Loss::Junk] {
+            stop(&rt, case, loss)?;
+        }
     }
     Ok(())
 }

@@ -8,7 +8,7 @@ use rep_disk::MemDisk;
 use rep_layout::Layout;
 use rep_log::{Phase, Step};
 use rep_record::{BlockBuilder, put_record};
-use rep_types::{Judged, Key, Refusal, Value, Verdict, Write, WriteSet};
+use rep_types::{Item, Judged, Key, Refusal, Value, Verdict, Write, WriteSet};
 use std::alloc::Global;
 use std::process::Abort;
 use std::test::Fail;
@@ -119,8 +119,7 @@ fn over_laps_the_bytes_hold_the_durable_records_from_each_start(
 fn takes_one(
     rt: &(impl Abort + AllocGlobal),
     bench: &mut Bench<MemDisk>,
-    block: u32,
-    due: Step,
+    (block, due): (u32, Step),
 ) -> Result<(), Fail> {
     let before = bench.look().due;
     let durable = bench.append(&block_of(block)?)?;
@@ -140,8 +139,8 @@ fn a_log_of_one_cell_takes_block_after_block(rt: HostRuntime) -> Result<(), Fail
     let layout = Layout { cells: 1, pages: 0 };
     let disk = MemDisk::new(rt.alloc(), 62_464)?;
     let (mut bench, _) = opened(rt.alloc(), disk, layout, 0)?;
-    for (block, due) in [(0, Step::Seal), (1, Step::Recycle), (2, Step::Recycle)] {
-        takes_one(&rt, &mut bench, block, due)?;
+    for next in [(0, Step::Seal), (1, Step::Recycle), (2, Step::Recycle)] {
+        takes_one(&rt, &mut bench, next)?;
     }
     Ok(())
 }
@@ -165,7 +164,7 @@ fn largest(alloc: Global, seqno: u64) -> Result<Judged, Refusal> {
     }
     Ok(Judged {
         seqno,
-        item: WriteSet::new(u64::MAX, seqno, u64::MAX, &reads, &writes)?,
+        item: Item::WriteSet(WriteSet::new(u64::MAX, seqno, u64::MAX, &reads, &writes)?),
         verdict: Verdict::Future,
     })
 }

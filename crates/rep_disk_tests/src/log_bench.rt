@@ -5,7 +5,7 @@ use rep_disk::{Disk, DiskFault, MemDisk};
 use rep_layout::Layout;
 use rep_log::{Log, Phase, Step};
 use rep_record::BlockBuilder;
-use rep_types::{Judged, Key, Part, Refusal, Value, Verdict, Write, WriteSet};
+use rep_types::{Item, Judged, Key, Part, Refusal, Value, Verdict, Write, WriteSet};
 use std::alloc::{AllocError, Global};
 use std::process::Abort;
 use std::test::Fail;
@@ -110,7 +110,7 @@ pub(crate) fn item(seqno: u64) -> Result<Judged, Refusal> {
     };
     Ok(Judged {
         seqno,
-        item: WriteSet::new(7, seqno, 0, &[], &[write])?,
+        item: Item::WriteSet(WriteSet::new(7, seqno, 0, &[], &[write])?),
         verdict: Verdict::Commit,
     })
 }

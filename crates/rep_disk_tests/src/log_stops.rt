@@ -50,18 +50,6 @@ fn stopped(alloc: Global, block: u32, calls: usize, loss: Loss) -> Result<MemDis
     Ok(crashed(bench.into_disk(), loss))
 }
 
-/// Appends the next block behind a stop, and compares what is then found.
-fn goes_on(
-    rt: &(impl Abort + AllocGlobal),
-    bench: &mut Bench<MemDisk>,
-    start: u32,
-    next: u32,
-) -> Result<(), Fail> {
-    bench.append(&block_of(next)?)?;
-    finds(rt, bench.bytes(), start, next.saturating_add(1))?;
-    Ok(())
-}
-
 /// Compares what a log finds that was stopped on the way of this block, whether that is left or not, and appends the next
 /// block behind it.
 fn leaves(
@@ -78,7 +66,9 @@ fn leaves(
         ..at_rest(start, next)
     };
     assert_eq!(rt; found, (look, true));
-    goes_on(rt, &mut bench, start, next)
+    bench.append(&block_of(next)?)?;
+    finds(rt, bench.bytes(), start, next.saturating_add(1))?;
+    Ok(())
 }
 
 /// Compares what each stop behind so many calls of the way of this block leaves.

@@ -9,6 +9,7 @@ use Rattle.rep_types.specs.declared.judged.Judged.{Judged}
 use Rattle.rep_types.specs.declared.value.Write.{Write}
 use Rattle.rep_types.specs.declared.limits.TheConstants.{MAX_SEQNO}
 use Rattle.rep_types.specs.Keys.{key_eq}
+use Rattle.rep_types.specs.Items.{writes_of}
 use Rattle.rep_types.specs.Order.{counts, latest}
 use Rattle.rep_record.specs.Blocks.{SeqnosFrom, has_room}
 use Rattle.rep_record.specs.Fronts.{fitting, FrontsAreDetermined}
@@ -76,8 +77,8 @@ seqnos_append n (x ∷ xs) ys h k = (h.0, seqnos_append (n + 1) xs ys h.1 (subst
 -- ---- versions
 
 -- an item that was added was added at its seqno
-effects_by : (j : Judged) (b : Bool) → counts j ≡ b → effect_of j ≡ (if b then j.item.writes else [])
-effects_by j b is = ap (λ c. if c then j.item.writes else []) is
+effects_by : (j : Judged) (b : Bool) → counts j ≡ b → effect_of j ≡ (if b then writes_of j.item else [])
+effects_by j b is = ap (λ c. if c then writes_of j.item else []) is
 
 none_added : (j : Judged) (kept : Kept) → IsAdded j.seqno [] kept kept
 none_added j kept key s = by (s == j.seqno) (version_at kept key s)

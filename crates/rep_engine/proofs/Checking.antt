@@ -8,6 +8,7 @@ use Rattle.rep_types.specs.declared.refusal.Refusal.{Refusal}
 use Rattle.rep_types.specs.declared.refusal.Refusal.TheVariants.{OutOfMemory, DiskFault, NotDue}
 use Rattle.rep_types.specs.declared.verdict.Verdict.TheVariants.{Commit}
 use Rattle.rep_types.specs.Entries.{Entry}
+use Rattle.rep_types.specs.Windows.{Window as WindowOf, fixed}
 use Rattle.rep_types.specs.Settings.{Setting, IsRow}
 use Rattle.rep_types.specs.Order.{State}
 use Rattle.rep_disk.specs.History.{History, stable, IsImage}
@@ -66,15 +67,15 @@ engine_begun l c log kept block position entries left h is at later =
     with_stage l c log kept block h (Toward (next_of c.base position log.next entries left) Flushing) is (record { above = later; within = omega (arith, at); started = h.begun; begun = omega arith }) (omega (arith, at, h.behind))
 
 -- and it can begin
-pub can_begin : WindowsGoOn → (l : Layout) (c : Checkpoint) (log : Log) (kept : _) (block : List Judged) (entries : List Entry) → IsEngine l c log kept block → c.stage ≡ Off → c.base.position < durable_of log → log.next < log.seqno → IsWindowAt c.base.params (durable_of log) entries
-    → CanBegin c (durable_of log) log.next entries
-can_begin law l c log kept block entries h off later below window = record {
+pub can_begin : WindowsGoOn → (l : Layout) (c : Checkpoint) (log : Log) (kept : _) (block : List Judged) (v : WindowOf) → IsEngine l c log kept block → c.stage ≡ Off → c.base.position < durable_of log → log.next < log.seqno → IsWindowAt c.base.params (durable_of log) v
+    → CanBegin c (durable_of log) log.next v.entries
+can_begin law l c log kept block v h off later below window = record {
   off = off;
   later = later;
   limit = omega (arith, h.limit);
   started = omega (arith, below);
   defined = λ nil. let none = h.undefined (nil_bytes c.base.uuid nil) in omega (arith, none.0, later);
-  is_window = law.body c.base.params (c.base.number + 1) (durable_of log) entries (omega (arith, h.checkpoint.is_super.number, h.checkpoint.is_super.position)) (omega (arith, h.limit)) window;
+  is_window = law.body c.base.params (c.base.number + 1) (durable_of log) v (omega (arith, h.checkpoint.is_super.number, h.checkpoint.is_super.position)) (omega (arith, h.limit)) window;
 }
 
 module _ {D : Type 0} (failures : D → ℕ) (old : Engine D) (entries : List Entry) (left : List ℕ) (runs : old.halted ≡ None) (off : old.checkpoint.stage ≡ Off) (later : old.checkpoint.base.position < durable_of old.log) where
@@ -108,7 +109,7 @@ module _ {D : Type 0} (failures : D → ℕ) (old : Engine D) (entries : List En
       subst (λ (a : Answer). Moves s Check a (facts_of failures new)) (ap (check_answer s) at_rest) (done_moves s Check f (facts_of failures new) (ap is_some runs) not_refused (facts_begun f refl))
 
   -- at a node
-  module _ (honest : D → Type 0) (history : D → History) (nodes : NodesStayNodes) (lead : VersionsLeadToTheState) (goes : JudgingGoesOn) (n : Node) (holds : Holds honest history failures n old) (window : entries ≡ window_at n n.facts.durable)
+  module _ (honest : D → Type 0) (history : D → History) (nodes : NodesStayNodes) (lead : VersionsLeadToTheState) (goes : JudgingGoesOn) (n : Node) (holds : Holds honest history failures n old) (window : fixed old.checkpoint.base.params.window (durable_of old.log) entries ≡ window_at n n.facts.durable)
       (pages : ArePages old.kept old.checkpoint.base.params.rows old.checkpoint.base.position (durable_of old.log) left) (begins : Begins old.kept old.checkpoint d next) where
     there : Stands history n old
     there = holds.runs runs
@@ -162,7 +163,7 @@ module _ {D : Type 0} (failures : D → ℕ) (old : Engine D) (entries : List En
     goal_at : goal.position ≡ next.super.position
     goal_at = goes.reached_position n.facts.setting n.base (take past n.items) ∙ omega (arith, at, length-take-le past n.items (omega (arith, holds.node.enough)))
 
-    goal_kept : goal.kept ≡ entries
+    goal_kept : goal.kept ≡ fixed next.super.params.window next.super.position entries
     goal_kept = ap (λ i. (reached n.facts.setting n.base (take (n.facts.durable - i) n.items)).kept) (sym holds.node.position) ∙ sym window
 
     stands_so : StandsAs (moved n Check) (length (stable (history old.disk))) d old.log there.blocks there.sealed there.states
@@ -443,31 +444,34 @@ module _ {D : Type 0} (failures : D → ℕ) (old after_it : Engine D) (h : Hold
   abbrev at_durable : ℕ
   at_durable = durable_of old.log
 
-  abbrev window_there : List Entry
+  abbrev window_there : WindowOf
   window_there = window_of h at_durable
+
+  abbrev entries_there : List Entry
+  entries_there = window_there.entries
 
   above : old.checkpoint.base.position < at_durable
   above = omega (arith, b.later, b.position_is)
 
-  begun_is : after_it.checkpoint ≡ begun old.checkpoint at_durable old.log.next window_there b.left
-  begun_is = b.checkpoint ∙ ap (λ i. begun old.checkpoint i old.log.next (window_of h i) b.left) b.position_is
+  begun_is : after_it.checkpoint ≡ begun old.checkpoint at_durable old.log.next entries_there b.left
+  begun_is = b.checkpoint ∙ ap (λ i. begun old.checkpoint i old.log.next (window_of h i).entries b.left) b.position_is
 
-  becomes : after_it ≡ record old { checkpoint = begun old.checkpoint at_durable old.log.next window_there b.left }
+  becomes : after_it ≡ record old { checkpoint = begun old.checkpoint at_durable old.log.next entries_there b.left }
   becomes = rest ∙ ap (λ (k : Checkpoint). record old { checkpoint = k }) begun_is
 
   pub began_moves : Moves (facts_of failures old) Check (Began position) (facts_of failures after_it)
   began_moves =
       subst (λ (e : Engine D). Moves (facts_of failures old) Check (Began position) (facts_of failures e)) (sym becomes)
-      (subst (λ i. Moves (facts_of failures old) Check (Began i) (facts_of failures (record old { checkpoint = begun old.checkpoint at_durable old.log.next window_there b.left }))) (sym b.position_is) (begun_moves failures old window_there b.left runs off above))
+      (subst (λ i. Moves (facts_of failures old) Check (Began i) (facts_of failures (record old { checkpoint = begun old.checkpoint at_durable old.log.next entries_there b.left }))) (sym b.position_is) (begun_moves failures old entries_there b.left runs off above))
 
-  pub began_holds : (honest : D → Type 0) (history : D → History) → NodesStayNodes → VersionsLeadToTheState → JudgingGoesOn → (n : Node) → Holds honest history failures n old → window_there ≡ window_at n n.facts.durable
+  pub began_holds : (honest : D → Type 0) (history : D → History) → NodesStayNodes → VersionsLeadToTheState → JudgingGoesOn → (n : Node) → Holds honest history failures n old → window_there ≡ fixed old.checkpoint.base.params.window at_durable entries_there → window_there ≡ window_at n n.facts.durable
       → (m : Node) × Steps n Check (Began position) m × Holds honest history failures m after_it
-  began_holds honest history nodes lead goes n holds window =
+  began_holds honest history nodes lead goes n holds is_fixed window =
       let pages : ArePages old.kept old.checkpoint.base.params.rows old.checkpoint.base.position at_durable b.left = subst (λ i. ArePages old.kept old.checkpoint.base.params.rows old.checkpoint.base.position i b.left) b.position_is b.pages in
-      let begins : Begins old.kept old.checkpoint (begun old.checkpoint at_durable old.log.next window_there b.left) (next_of old.checkpoint.base at_durable old.log.next window_there b.left) =
-      subst (λ i. Begins old.kept old.checkpoint (begun old.checkpoint i old.log.next (window_of h i) b.left) (next_of old.checkpoint.base i old.log.next (window_of h i) b.left)) b.position_is
-      (subst (λ (k : Checkpoint). Begins old.kept old.checkpoint k (next_of old.checkpoint.base position old.log.next (window_of h position) b.left)) b.checkpoint b.begins) in
-      let came = begun_holds failures old window_there b.left runs off above honest history nodes lead goes n holds window pages begins in
+      let begins : Begins old.kept old.checkpoint (begun old.checkpoint at_durable old.log.next entries_there b.left) (next_of old.checkpoint.base at_durable old.log.next entries_there b.left) =
+      subst (λ i. Begins old.kept old.checkpoint (begun old.checkpoint i old.log.next (window_of h i).entries b.left) (next_of old.checkpoint.base i old.log.next (window_of h i).entries b.left)) b.position_is
+      (subst (λ (k : Checkpoint). Begins old.kept old.checkpoint k (next_of old.checkpoint.base position old.log.next (window_of h position).entries b.left)) b.checkpoint b.begins) in
+      let came = begun_holds failures old entries_there b.left runs off above honest history nodes lead goes n holds (sym is_fixed ∙ window) pages begins in
       (came.0, subst (λ i. Steps n Check (Began i) came.0) (sym b.position_is) came.1, subst (λ (e : Engine D). Holds honest history failures came.0 e) (sym becomes) came.2)
 
 -- where it is refused

@@ -1,34 +1,42 @@
 -- The windows that a certifier holds can be written.
-use Rattle.std.proofs.Common.{◌≡◌, ◌⊎◌, inl, inr, ℕ, ◌+◌, ◌<◌, ◌≤◌, List, [], ◌∷◌, refl, sym, ap, subst, ◌∙◌, arith}
+use Rattle.std.proofs.Common.{◌≡◌, ◌⊎◌, inl, inr, ℕ, ◌+◌, ◌-◌, ◌<◌, ◌≤◌, max, List, [], ◌∷◌, refl, sym, ap, subst, ◌∙◌, arith}
 use Rattle.std.specs.List.{AllByRecursion}
 use Rattle.std.proofs.lemmas.Bool.{cases_lt}
-use Rattle.std.proofs.lemmas.Bool.Decides.{nat_tests}
+use Rattle.std.proofs.lemmas.List.Elements.{All-from_recursion}
 use Rattle.rep_types.specs.Entries.{Entry}
 use Rattle.rep_types.specs.Settings.{Setting}
 use Rattle.rep_types.specs.Transactions.{Transaction, IsWithinLimits}
-use Rattle.rep_types.specs.Order.{floor, recent}
+use Rattle.rep_types.specs.declared.item.Item.TheVariants.{WriteSet}
+use Rattle.rep_types.specs.Windows.{Window}
 use Rattle.rep_layout.specs.Windows.{IsEntry}
-use Rattle.rep_cert.specs.Holdings.{Holding, IsAskable, Admits, window_of, upto, made_at}
+use Rattle.rep_cert.specs.Holdings.{Holding, IsAskable, Admits, IsOfPosition, GivesItsWindow, window_of, made_at}
 use Rattle.rep_checkpoint.specs.Windows.{IsWindowAt, WindowsGoOn}
 use Rattle.rep_engine.specs.Checking.{HoldsWindows, CertifiersHoldWindows}
 
--- entries of a window all stand in it
-all_upto : (p : Setting) (position : ℕ) (es : List Entry) → AllByRecursion (IsEntry p position) es → upto position es ≡ es
-all_upto p position [] h = refl
-all_upto p position (e ∷ es) h = let first = h.0.past in let rest = all_upto p position es h.1 in grind (arith, nat_tests, first, rest)
+-- a window of a position has the form of one there
+entries_there : (p : Setting) (position : ℕ) (lowest : ℕ) (es : List Entry) → lowest ≡ max 1 (position + 1 - p.window) → AllByRecursion (IsEntry p position) es
+    → AllByRecursion (λ (e : Entry). (lowest ≤ e.seqno) × (e.seqno ≤ position)) es
+entries_there p position lowest [] is h = tt
+entries_there p position lowest (e ∷ es) is h = ((omega (arith, is, h.0.near, h.0.first), h.0.past), entries_there p position lowest es is h.1)
 
-all_recent : (p : Setting) (position : ℕ) (es : List Entry) → AllByRecursion (IsEntry p position) es → recent (floor p position) es ≡ es
-all_recent p position [] h = refl
-all_recent p position (e ∷ es) h = let near = h.0.near in let rest = all_recent p position es h.1 in grind (arith, nat_tests, near, rest)
+of_position : (p : Setting) (position : ℕ) (v : Window) → IsWindowAt p position v → IsOfPosition position v
+of_position p position v is =
+    let floor_is : v.floor ≡ max 1 (position + 1 - p.window) = ap (λ (u : Window). u.floor) is.is_fixed in
+    let size_is : v.size ≡ p.window = ap (λ (u : Window). u.size) is.is_fixed in
+    record {
+      spans = omega (arith, floor_is, size_is);
+      entries = All-from_recursion (λ (e : Entry). (v.floor ≤ e.seqno) × (e.seqno ≤ position)) v.entries (entries_there p position v.floor v.entries floor_is is.entries);
+    }
 
-made_windows : (p : Setting) (position : ℕ) (es : List Entry) → IsWindowAt p position es → HoldsWindows (made_at p position es)
-made_windows p position es is k askable =
+first_window : GivesItsWindow → (p : Setting) (position : ℕ) (v : Window) → IsWindowAt p position v → window_of (made_at p position v) position ≡ v
+first_window gives p position v is = gives.whole p position v (of_position p position v is)
+
+made_windows : GivesItsWindow → (p : Setting) (position : ℕ) (v : Window) → IsWindowAt p position v → HoldsWindows (made_at p position v)
+made_windows gives p position v is k askable =
     let at : k ≡ position = omega (arith, askable.made, askable.past) in
-    let kept : (made_at p position es).entries ≡ es = ap (recent (floor p position)) (all_upto p position es is.entries) ∙ all_recent p position es is.entries in
-    let window : recent (floor p position) (upto position (made_at p position es).entries) ≡ es = ap (λ (fs : List Entry). recent (floor p position) (upto position fs)) kept ∙ kept in
-    subst (λ i. IsWindowAt p i (recent (floor p i) (upto i (made_at p position es).entries))) (sym at) (subst (IsWindowAt p position) (sym window) is)
+    subst (λ i. IsWindowAt p i (window_of (made_at p position v) i)) (sym at) (subst (IsWindowAt p position) (sym (first_window gives p position v is)) is)
 
-module _ (law : WindowsGoOn) (h new : Holding) (w : Transaction) (start : h.made ≤ h.delivered) (limits : IsWithinLimits w) (windows : HoldsWindows h) (admits : Admits h w new) where
+module _ (law : WindowsGoOn) (h new : Holding) (w : Transaction) (start : h.made ≤ h.delivered) (limits : IsWithinLimits w) (windows : HoldsWindows h) (admits : Admits h (WriteSet w) new) where
   admitted_by : (k : ℕ) → IsAskable new k → ((k < new.delivered) ⊎ (new.delivered ≤ k)) → IsWindowAt new.setting k (window_of new k)
   admitted_by k askable (inl before) =
       let past : k ≤ h.delivered = omega (arith, before, admits.delivered) in
@@ -44,8 +52,9 @@ module _ (law : WindowsGoOn) (h new : Holding) (w : Transaction) (start : h.made
   admitted_windows : HoldsWindows new
   admitted_windows k askable = admitted_by k askable (cases_lt k new.delivered)
 
-pub hold_windows : WindowsGoOn → CertifiersHoldWindows
-hold_windows law = record {
-  made = made_windows;
+pub hold_windows : WindowsGoOn → GivesItsWindow → CertifiersHoldWindows
+hold_windows law gives = record {
+  first = first_window gives;
+  made = made_windows gives;
   admits = λ h new w start limits windows admits. admitted_windows law h new w start limits windows admits;
 }

@@ -3,6 +3,7 @@ use Rattle.std.specs.Prelude.{◌≡◌, ℕ, ◌+◌, ◌≤◌, Bool, true, fa
 use Rattle.uuid.specs.Parts.{is_nil_bytes}
 use Rattle.rep_types.specs.declared.judged.Judged.{Judged}
 use Rattle.rep_types.specs.declared.limits.TheConstants.{MAX_SEQNO}
+use Rattle.rep_types.specs.Items.{writes_of}
 use Rattle.rep_types.specs.Order.{counts}
 use Rattle.rep_record.specs.Blocks.{SeqnosFrom}
 use Rattle.rep_record.specs.Fronts.{fitting}
@@ -19,7 +20,7 @@ pub record ComeNext (s : Standing) (js : List Judged) : Type 0 where
 
 -- An item that takes effect is added at its seqno.
 abbrev pub AddsWhere : Bool → Judged → Kept → Kept → Type 0
-AddsWhere true j before after = IsAdded j.seqno j.item.writes before after
+AddsWhere true j before after = IsAdded j.seqno (writes_of j.item) before after
 AddsWhere false j before after = after ≡ before
 
 -- So are these, one after another.

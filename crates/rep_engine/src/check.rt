@@ -46,9 +46,13 @@ impl<D: Disk> Engine<D> {
         }
         let window = certifier.window_at(self.alloc, position)?;
         let start = self.log.next();
-        let begun = self
-            .checkpoint
-            .begin(self.alloc, position, start, window, &self.versions);
+        let begun = self.checkpoint.begin(
+            self.alloc,
+            position,
+            start,
+            window.into_entries(),
+            &self.versions,
+        );
         // For its clause: what holds of every checkpoint.
         self.checkpoint.base();
         if let Err(refusal) = begun {

@@ -6,6 +6,7 @@ ghost use Rattle.rep_engine.specs.Accepting.{AcceptedItemsAreAFront};
 
 use crate::engine::Engine;
 use rep_cells::images_read_as_allowed;
+use rep_cert::gives_its_window;
 use rep_checkpoint::{nodes_leave_their_ends, windows_go_on};
 use rep_disk::Disk;
 use rep_record::fronts_are_determined;
@@ -22,12 +23,13 @@ pub fn running_engines_leave_their_ends<D: Disk>(engine: &Engine<D>)
     engine.durable();
 }
 
-/// A certifier that was made with a window that a disk can hold holds such windows alone, at each position that
-/// can be asked for, and so it does with each further item.
+/// A certifier that was made with a window that a disk can hold gives it at its position, and holds such windows
+/// alone, at each position that can be asked for; and so it does with each further write set.
 pub fn certifiers_hold_windows()
     ensures { CertifiersHoldWindows }
 {
     windows_go_on();
+    gives_its_window();
 }
 
 /// What `accept` takes is a front of what waits: no more than there is; with what was gathered it fits one block; and

@@ -5,7 +5,7 @@ use rep_backlog::Backlog;
 use rep_cert::Certifier;
 use rep_plain::PlainNode;
 use rep_record::BlockBuilder;
-use rep_types::{Entry, Judged, Refusal, Verdict, WriteSet};
+use rep_types::{Item, Judged, Refusal, Verdict, Window, WriteSet};
 use std::alloc::Global;
 
 fn deliver(node: &mut PlainNode, item: WriteSet) -> Result<Verdict, Refusal> {
@@ -15,7 +15,7 @@ fn deliver(node: &mut PlainNode, item: WriteSet) -> Result<Verdict, Refusal> {
     }
 }
 
-fn plain_window(alloc: Global, node: &PlainNode) -> Result<Vec<Entry>, Refusal> {
+fn plain_window(alloc: Global, node: &PlainNode) -> Result<Window, Refusal> {
     match node.window(alloc) {
         Err(Refusal::OutOfMemory) => node.window(alloc),
         answer => answer,
@@ -31,17 +31,22 @@ pub(crate) fn plain(alloc: Global) -> Result<(u64, usize), Refusal> {
             committed = committed.saturating_add(1);
         }
     }
-    Ok((committed, plain_window(alloc, &node)?.len()))
+    Ok((committed, plain_window(alloc, &node)?.entries().len()))
+}
+
+/// The window of no item.
+fn first_window(alloc: Global) -> Result<Window, Refusal> {
+    Ok(Window::fixed(params()?.window_size(), 0, Vec::new(alloc)))
 }
 
 fn certifier_at_the_start(alloc: Global) -> Result<Certifier, Refusal> {
-    match Certifier::new(alloc, params()?, 0, Vec::new(alloc)) {
-        Err(Refusal::OutOfMemory) => Certifier::new(alloc, params()?, 0, Vec::new(alloc)),
+    match Certifier::new(alloc, params()?, 0, first_window(alloc)?) {
+        Err(Refusal::OutOfMemory) => Certifier::new(alloc, params()?, 0, first_window(alloc)?),
         answer => answer,
     }
 }
 
-fn certified_window(alloc: Global, certifier: &Certifier) -> Result<Vec<Entry>, Refusal> {
+fn certified_window(alloc: Global, certifier: &Certifier) -> Result<Window, Refusal> {
     let position = certifier.delivered();
     match certifier.window_at(alloc, position) {
         Err(Refusal::OutOfMemory) => certifier.window_at(alloc, position),
@@ -59,7 +64,10 @@ pub(crate) fn certifier(alloc: Global) -> Result<(u64, usize), Refusal> {
             committed = committed.saturating_add(1);
         }
     }
-    Ok((committed, certified_window(alloc, &certifier)?.len()))
+    Ok((
+        committed,
+        certified_window(alloc, &certifier)?.entries().len(),
+    ))
 }
 
 /// How many items move into a block, and how many stay.
@@ -71,7 +79,7 @@ pub(crate) fn backlog(alloc: Global) -> Result<(u16, usize), Refusal> {
     for (before, row) in ROWS.iter().enumerate() {
         backlog.push(Judged {
             seqno: before as u64 + 1,
-            item: item(*row, 0)?,
+            item: Item::WriteSet(item(*row, 0)?),
             verdict: Verdict::Commit,
         })?;
     }

@@ -6,7 +6,7 @@ use rep_disk::MemDisk;
 use rep_layout::Layout;
 use rep_log::Log;
 use rep_record::BlockBuilder;
-use rep_types::{Judged, Refusal, Verdict};
+use rep_types::{Item, Judged, Refusal, Verdict};
 use std::alloc::{AllocError, Global};
 
 /// One cell of the log and no page: 62,464 bytes, of which the cell's gate begins at 61,952.
@@ -24,7 +24,7 @@ fn block() -> Result<BlockBuilder, Refusal> {
     for (before, row) in ROWS.iter().enumerate() {
         block.push(&Judged {
             seqno: before as u64 + 1,
-            item: item(*row, 0)?,
+            item: Item::WriteSet(item(*row, 0)?),
             verdict: Verdict::Commit,
         });
     }

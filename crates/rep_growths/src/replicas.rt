@@ -7,7 +7,7 @@ use rep_layout::need;
 use rep_recover::format_disk;
 use rep_replica::Replica;
 use rep_steps::{Answer, Event};
-use rep_types::{Entry, Key, Refusal};
+use rep_types::{Entry, Key, Refusal, Window};
 use std::alloc::{AllocError, Global};
 use uuid::Uuid;
 
@@ -65,7 +65,7 @@ fn run(
     }
 }
 
-fn window(alloc: Global, replica: &Replica<MemDisk>) -> Result<Vec<Entry>, Refusal> {
+fn window(alloc: Global, replica: &Replica<MemDisk>) -> Result<Window, Refusal> {
     match replica.window(alloc) {
         Err(Refusal::OutOfMemory) => replica.window(alloc),
         entries => entries,
@@ -124,7 +124,7 @@ fn looked_at(
             rows = rows.saturating_add(1);
         }
     }
-    let entries = window(alloc, replica)?.len();
+    let entries = window(alloc, replica)?.entries().len();
     Ok((replica.base(), durable, rows, entries))
 }
 

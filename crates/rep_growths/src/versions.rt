@@ -2,12 +2,12 @@
 
 use crate::items::params;
 use arrayvec::ArrayVec;
-use rep_types::{Key, Refusal, Value, Write, WriteSet};
+use rep_types::{Item, Key, Refusal, Value, Write, WriteSet};
 use rep_versions::{At, Versions};
 use std::alloc::Global;
 
 /// An item that writes 16 rows, each seventh from this one on.
-fn item(first: u32) -> Result<WriteSet, Refusal> {
+fn item(first: u32) -> Result<Item, Refusal> {
     let mut writes: ArrayVec<Write, 16> = ArrayVec::new();
     for i in 0..16 {
         writes.push(Write {
@@ -18,10 +18,10 @@ fn item(first: u32) -> Result<WriteSet, Refusal> {
             value: Some(Value::new(b"1")?),
         });
     }
-    WriteSet::new(1, 1, 0, &[], &writes)
+    Ok(Item::WriteSet(WriteSet::new(1, 1, 0, &[], &writes)?))
 }
 
-fn add(versions: &mut Versions, seqno: u64, item: &WriteSet) -> Result<(), Refusal> {
+fn add(versions: &mut Versions, seqno: u64, item: &Item) -> Result<(), Refusal> {
     match versions.add(seqno, item) {
         Err(Refusal::OutOfMemory) => versions.add(seqno, item),
         answer => answer,

@@ -62,8 +62,8 @@ fn show_state<D: Disk, W: Write>(
     writer: &mut W,
 ) -> Result<(), Refusal> {
     match node.window(alloc) {
-        Ok(window) if is_full => write_window(writer, &window),
-        Ok(window) => write_state(writer, node, &window),
+        Ok(window) if is_full => write_window(writer, window.entries()),
+        Ok(window) => write_state(writer, node, window.entries()),
         Err(refusal) => write_refused(writer, refusal),
     }
 }

@@ -7,8 +7,8 @@ use crate::device::Failing;
 use arrayvec::ArrayVec;
 use rep_disk::Loss;
 use rep_record::{Words, read_params_line};
-use rep_script::{Command, read_command};
-use rep_types::{Params, Refusal, read_number};
+use rep_script::{Command, next_number, read_command, read_loss};
+use rep_types::{Params, Refusal};
 
 /// The most bytes that a line can put into the disk.
 const MAX_PUT: usize = 1024;
@@ -83,11 +83,6 @@ pub(crate) enum Order {
     Batch(u64),
 }
 
-/// The next word as a number.
-fn next_number(words: &mut Words) -> Option<u64> {
-    read_number(words.next_word()?)
-}
-
 /// The digit that the byte is, from 0 to 15.
 fn digit_of(byte: u8) -> Option<u8>
     ensures { IfSome result (λ digit. digit < 16) }
@@ -117,19 +112,6 @@ fn bytes_in(word: &[u8]) -> Option<Part> {
         bytes.push(byte_of(*high, *low)?);
     }
     Some(bytes)
-}
-
-/// What a stop loses.
-fn read_loss(words: &mut Words) -> Option<Loss> {
-    if words.skip(b"keep") {
-        Some(Loss::Keep)
-    } else if words.skip(b"drop") {
-        Some(Loss::Drop)
-    } else if words.skip(b"junk") {
-        Some(Loss::Junk)
-    } else {
-        None
-    }
 }
 
 /// Which calls fail: `once n`, or `from n` on.

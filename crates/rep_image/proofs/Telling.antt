@@ -7,6 +7,7 @@ use Rattle.std.proofs.lemmas.Bool.Decides.{nat_tests}
 use Rattle.std.proofs.lemmas.Option.{same_Some}
 use Rattle.rep_types.specs.declared.key.Key.{Key}
 use Rattle.rep_types.specs.Entries.{Entry}
+use Rattle.rep_types.specs.Windows.{Window as Kept, fixed}
 use Rattle.rep_types.specs.Settings.{Setting, IsRow, is_setting}
 use Rattle.rep_types.specs.Order.{State}
 use Rattle.rep_layout.specs.declared.super_body.SuperBody.{SuperBody}
@@ -69,9 +70,11 @@ module _ (told : SuperblocksAreTold) (size : ℕ) (r s : Reading) (alike : (side
 
 -- ---- what it names
 
-one_window : WindowsAreTold → (r : Reading) (b : SuperBody) (es fs : List Entry) → is_setting b.params ≡ true → HasWindow r b es → HasWindow r b fs → es ≡ fs
-one_window told r b es fs setting h k =
-    ap (λ (w : Window). w.entries) (told b.params (window b.number b.position es) (window b.number b.position fs) setting h.is_window k.is_window (same_Some _ _ (sym h.stands ∙ k.stands)))
+one_window : WindowsAreTold → (r : Reading) (b : SuperBody) (v u : Kept) → is_setting b.params ≡ true → HasWindow r b v → HasWindow r b u → v ≡ u
+one_window told r b v u setting h k =
+    let entries : v.entries ≡ u.entries =
+    ap (λ (w : Window). w.entries) (told b.params (window b.number b.position v.entries) (window b.number b.position u.entries) setting h.is_window k.is_window (same_Some _ _ (sym h.stands ∙ k.stands))) in
+    h.is_fixed ∙ ap (λ (es : List Entry). fixed b.params.window b.position es) entries ∙ sym k.is_fixed
 
 module _ (told : PagesAreTold) (r : Reading) (b : SuperBody) (f g : Key → Option (List ℕ)) (h : HasContent r b f) (k : HasContent r b g) where
   one_page : (key : Key) → IsRow b.params.rows key → (slot : Slot) → state_of_page b (row_place b.params.rows key).page ≡ In slot → f key ≡ g key

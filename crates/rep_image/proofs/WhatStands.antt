@@ -39,8 +39,9 @@ module _ (image : List ℕ) (b : SuperBody) (m : Meaning) (log : Standing) (bloc
 
   windows : HasWindow r b m.base.kept
   windows = record {
-    stands = reads_as _ (Stable (window_bytes (window b.number b.position m.base.kept))) _ h.base.saved (allowed (Window (side_of b.number)) refl);
+    stands = reads_as _ (Stable (window_bytes (window b.number b.position m.base.kept.entries))) _ h.base.saved (allowed (Window (side_of b.number)) refl);
     is_window = h.base.is_window;
+    is_fixed = h.base.is_fixed;
   }
 
   contents : HasContent r b m.base.content

@@ -1,13 +1,13 @@
 -- What an image means. It knows nothing of who wrote it.
-use Rattle.std.specs.Prelude.{◌≡◌, ℕ, ◌+◌, List, [], ◌++◌, length, map}
+use Rattle.std.specs.Prelude.{◌≡◌, ℕ, ◌+◌, List, [], ◌++◌, length}
 use Rattle.rep_types.specs.declared.judged.Judged.{Judged}
-use Rattle.rep_types.specs.Order.{Order, state}
+use Rattle.rep_types.specs.Order.{Order, items_of, state}
 use Rattle.rep_layout.specs.declared.super_body.SuperBody.{SuperBody}
 use Rattle.rep_layout.specs.Places.{layout_of}
 use Rattle.rep_layout.specs.Supers.{IsNil}
 use Rattle.rep_cells.specs.Readings.{Reading, reading_of}
 use Rattle.rep_log.specs.Tail.{IsLog, records_of}
-use Rattle.rep_steps.specs.Images.{Meaning, StandsFor, AreJudgedFrom, write_set_of}
+use Rattle.rep_steps.specs.Images.{Meaning, StandsFor, AreJudgedFrom}
 use Rattle.rep_image.specs.Bases.{IsChosen, HasWindow, HasContent}
 
 -- What a reading of a device of this size means: the chosen superblock gives UUID, parameters and position; the window beside it
@@ -35,7 +35,7 @@ pub record Means (image : List ℕ) (m : Meaning) : Type 0 where
 abbrev pub ImagesMeanOneThing : Type 0
 ImagesMeanOneThing = (image : List ℕ) (m n : Meaning) → Means image m → Means image n → m ≡ n
 
--- Where its base is an order's state, it stands for the order with the write sets of its log at the end.
+-- Where its base is an order's state, it stands for the order with the items of its log at the end.
 abbrev pub ImagesStandForOrders : Type 0
 ImagesStandForOrders = (image : List ℕ) (m : Meaning) (L : Order) → Means image m → m.base ≡ state m.setting L
-    → StandsFor m.uuid m.setting (L ++ map write_set_of m.tail) m
+    → StandsFor m.uuid m.setting (L ++ items_of m.tail) m

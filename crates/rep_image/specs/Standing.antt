@@ -1,7 +1,7 @@
 -- How a base that stands still lies on a device, beside its log, and what every image then means.
 use Rattle.std.specs.Prelude.{◌≡◌, ℕ, ◌+◌, List, [], length, Option}
 use Rattle.rep_types.specs.declared.judged.Judged.{Judged}
-use Rattle.rep_types.specs.Entries.{Entry}
+use Rattle.rep_types.specs.Windows.{Window as Kept}
 use Rattle.rep_layout.specs.declared.super_body.SuperBody.{SuperBody}
 use Rattle.rep_layout.specs.declared.place.Place.TheVariants.{Super, Window, Page}
 use Rattle.rep_layout.specs.Places.{side_of, layout_of}
@@ -13,16 +13,17 @@ use Rattle.rep_log.specs.Tail.{records_of}
 use Rattle.rep_log.specs.Standing.{Standing, LogIs}
 use Rattle.rep_log.specs.Laws.{MayHold}
 use Rattle.rep_steps.specs.Images.{Meaning, AreJudgedFrom}
-use Rattle.rep_image.specs.Bases.{other, IsSuperAt, IsLesser, HaveContent}
+use Rattle.rep_image.specs.Bases.{other, IsSuperAt, IsLesser, IsFixed, HaveContent}
 use Rattle.rep_image.specs.Meanings.{Means}
 
 -- The superblock stands open, and what the other one's cell may read as is lesser; its window is stable.
-pub record IsBaseAt (size : ℕ) (b : SuperBody) (entries : List Entry) (s : States) : Type 0 where
+pub record IsBaseAt (size : ℕ) (b : SuperBody) (v : Kept) (s : States) : Type 0 where
   pub is_super : IsSuperAt size (side_of b.number) b
   pub opened : s (Super (side_of b.number)) ≡ Opened (super_bytes b)
   pub lesser : (reading : Option (List ℕ)) → Allows (s (Super (other (side_of b.number)))) reading → IsLesser size (other (side_of b.number)) b.number reading
-  pub saved : s (Window (side_of b.number)) ≡ Stable (window_bytes (window b.number b.position entries))
-  pub is_window : IsWindowBody b.params (window b.number b.position entries)
+  pub saved : s (Window (side_of b.number)) ≡ Stable (window_bytes (window b.number b.position v.entries))
+  pub is_window : IsWindowBody b.params (window b.number b.position v.entries)
+  pub is_fixed : IsFixed b v
 
 -- What stands on a device: a base with its pages, which are stable, and a log that begins behind it.
 pub record Stands (size : ℕ) (b : SuperBody) (m : Meaning) (log : Standing) (blocks : List (List Judged)) (sealed : List Judged) (s : States) : Type 0 where

@@ -1,7 +1,7 @@
 -- One more item under a scan of the order from its front.
-use Rattle.std.proofs.Common.{◌≡◌, ℕ, ◌+◌, ◌-◌, ◌<◌, Bool, true, false, cond, Some, List, [], ◌∷◌, ◌++◌, length, get_or, take, drop, nat_lt, ◌≤◌, All, arith, refl, ap, sym, ◌∙◌, append-nil}
+use Rattle.std.proofs.Common.{◌≡◌, ℕ, ◌+◌, ◌<◌, Bool, true, false, cond, Some, List, [], ◌∷◌, ◌++◌, length, get_or, take, drop, nat_lt, ◌≤◌, All, arith, refl, ap, sym, ◌∙◌, append-nil}
 use Rattle.std.specs.Prelude.{◌&&◌}
-use Rattle.std.proofs.lemmas.List.{take_more, length-take, take-append-drop}
+use Rattle.std.proofs.lemmas.List.{take_more, map-append, length-map, length-take, length-take-le, take-append-drop}
 use Rattle.std.proofs.lemmas.List.Elements.{All-head, All-tail}
 use Rattle.std.proofs.lemmas.Bool.{le-ltb}
 use Rattle.rep_types.specs.Entries.{Entry}
@@ -10,9 +10,13 @@ use Rattle.rep_types.specs.declared.value.Write.{Write}
 use Rattle.rep_types.specs.declared.judged.Judged.{Judged}
 use Rattle.rep_types.specs.Keys.{key_eq}
 use Rattle.rep_types.specs.Transactions.{Transaction}
+use Rattle.rep_types.specs.declared.reach.Reach.{Reach}
 use Rattle.rep_types.specs.Settings.{Setting}
-use Rattle.rep_types.specs.Order.{Order, counts, against, seqnos_against, greatest, entries, entry_of, latest, effects, row_in, overwritten, floor, recent, history, window}
-use Rattle.rep_types.proofs.Histories.{length_history, take_history}
+use Rattle.rep_types.specs.Items.{writes_of}
+use Rattle.rep_types.specs.Reaches.{reach, reach_after}
+use Rattle.rep_types.specs.Order.{Order, counts, is_kept, against, seqnos_against, greatest, entries, entry_of, items_of, latest, effects, row_in, overwritten, recent, history, window}
+use Rattle.rep_types.proofs.Reaches.{reach_push}
+use Rattle.rep_types.proofs.Histories.{take_history}
 use Rattle.rep_types.proofs.Greatest.{greater, greatest_against-append, greatest_against_push}
 use Rattle.rep_types.proofs.Windows.{entries-append, entries_push, seqnos_entries}
 use Rattle.rep_types.proofs.Rows.{effects_push, row_in-append}
@@ -24,8 +28,8 @@ take_read xs i x read within = take_more xs i x within ∙ ap (λ y. take i xs +
 -- one more item, whose seqno may be the greatest that stands against w
 pub greatest_seqno_push : (w : Transaction) (h : List Judged) (j : Judged) →
     greatest (seqnos_against w (entries (h ++ j ∷ []))) ≡
-    cond (counts j && against w (entry_of j)) (greater (greatest (seqnos_against w (entries h))) (Some j.seqno)) (greatest (seqnos_against w (entries h)))
-greatest_seqno_push w h j = rw entries_push (by_test (counts j))
+    cond (is_kept j && against w (entry_of j)) (greater (greatest (seqnos_against w (entries h))) (Some j.seqno)) (greatest (seqnos_against w (entries h)))
+greatest_seqno_push w h j = rw entries_push (by_test (is_kept j))
   where
     by_test : (b : Bool) →
         greatest (seqnos_against w (entries h ++ cond b (entry_of j ∷ []) [])) ≡
@@ -35,20 +39,28 @@ greatest_seqno_push w h j = rw entries_push (by_test (counts j))
 
 -- the writes that one more item puts on top
 pub row_push : (h : List Judged) (j : Judged) (key : Key) →
-    row_in (effects (h ++ j ∷ [])) key ≡ cond (counts j) (overwritten (row_in (effects h) key) (latest (λ (write : Write). key_eq write.key key) j.item.writes)) (row_in (effects h) key)
+    row_in (effects (h ++ j ∷ [])) key ≡ cond (counts j) (overwritten (row_in (effects h) key) (latest (λ (write : Write). key_eq write.key key) (writes_of j.item))) (row_in (effects h) key)
 row_push h j key = ap (λ writes. row_in writes key) (effects_push h j) ∙ (row_in-append (effects h) _ key ∙ by_test (counts j))
   where
-    by_test : (b : Bool) → overwritten (row_in (effects h) key) (latest (λ (write : Write). key_eq write.key key) (cond b j.item.writes []))
-        ≡ cond b (overwritten (row_in (effects h) key) (latest (λ (write : Write). key_eq write.key key) j.item.writes)) (row_in (effects h) key)
+    by_test : (b : Bool) → overwritten (row_in (effects h) key) (latest (λ (write : Write). key_eq write.key key) (cond b (writes_of j.item) []))
+        ≡ cond b (overwritten (row_in (effects h) key) (latest (λ (write : Write). key_eq write.key key) (writes_of j.item))) (row_in (effects h) key)
     by_test true = refl
     by_test false = refl
 
--- the window of a front of the order, by its items
-pub window_from : (p : Setting) (L : Order) (items : List Judged) (lowest span : ℕ) → items ≡ history p L → lowest ≡ length items + 1 - span → span ≡ p.window
-    → recent lowest (entries items) ≡ window p L
-window_from p L items lowest span same e f =
-    let long : length items ≡ length L = ap length same ∙ length_history p L in
-    ap (λ k. recent k (entries items)) (e ∙ ap (λ n. n + 1 - span) long ∙ ap (λ n. length L + 1 - n) f) ∙ ap (λ h. recent (floor p (length L)) (entries h)) same
+-- the reach of the items up to and with the one that is read
+pub reach_more : (p : Setting) (h : List Judged) (n : ℕ) (d : Judged) → n < length h →
+    reach p (items_of (take (n + 1) h)) ≡ reach_after (reach p (items_of (take n h))) (n + 1) (get_or h n d).item
+reach_more p h n d within =
+    let front : List Judged = take n h in
+    let next : items_of (take (n + 1) h) ≡ items_of front ++ (get_or h n d).item ∷ [] =
+    ap items_of (take_more h n d within) ∙ map-append (λ (j : Judged). j.item) front (get_or h n d ∷ []) in
+    let long : length (items_of front) ≡ n = length-map front (λ (j : Judged). j.item) ∙ length-take-le n h (omega arith) in
+    ap (reach p) next ∙ (reach_push p (items_of front) (get_or h n d).item ∙ ap (λ k. reach_after (reach p (items_of front)) (k + 1) (get_or h n d).item) long)
+
+-- the window of an order, by its items and its reach
+pub window_from : (p : Setting) (L : Order) (h : List Judged) (r : Reach) → h ≡ history p L → r ≡ reach p L →
+    (record { size = r.size; floor = r.floor; entries = recent r.floor (entries h) }) ≡ window p L
+window_from p L h r same far = cc
 
 -- items that a transaction had seen do not stand against it
 none_of_seen : (w : Transaction) (s : ℕ) (es : List Entry) → s ≤ w.last_seen → All (λ (e : Entry). (0 < e.seqno) × (e.seqno ≤ s)) es → seqnos_against w es ≡ []

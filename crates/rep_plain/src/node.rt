@@ -2,10 +2,16 @@
 
 ghost use Rattle.std.specs.Prelude.{◌≡◌, ◌+◌, ◌≤◌, [], ◌∷◌, ◌++◌, length, take, IfOk, IfErr, OnOk, OnErr};
 ghost use Rattle.std.specs.Option.{option_copied};
-ghost use Rattle.rep_types.specs.Order.{verdict, read, window, history, entries, seqnos_against, greatest};
+ghost use Rattle.rep_types.specs.declared.item.Item.TheVariants.{WriteSet as OfWriteSet, SetWindow as OfSetWindow};
+ghost use Rattle.rep_types.specs.declared.verdict.Verdict.TheVariants.{Commit};
+ghost use Rattle.rep_types.specs.Reaches.{floor};
+ghost use Rattle.rep_types.specs.Order.{verdict_among, verdict, read, window, history, entries, seqnos_against, greatest};
 
-use crate::scan::{greatest_conflict, recent_entries, row_of};
-use rep_types::{Entry, Judged, Key, Params, Refusal, Value, Verdict, WriteSet};
+use crate::scan::{greatest_conflict, reach_of, recent_entries, row_of};
+use rep_types::{
+    Item, Judged, Key, Params, Reach, Refusal, SetWindow, Value, Verdict, Window, WindowSize,
+    WriteSet,
+};
 use std::alloc::Global;
 use std::marker::Model;
 
@@ -15,10 +21,12 @@ use std::marker::Model;
 pub struct PlainNode {
     params: Params,
     items: Vec<Judged>,
+    reach: Reach,
 }
 
 impl Model for PlainNode {
     ghost use Rattle.std.specs.Prelude.{◌≡◌};
+    ghost use Rattle.rep_types.specs.Reaches.{reach as reach_of};
     ghost use Rattle.rep_types.specs.Order.{history};
     ghost use Rattle.rep_plain.specs.Delivered.{Delivered, delivered};
 
@@ -26,7 +34,7 @@ impl Model for PlainNode {
 
     ghost view = { λ node. delivered node.params node.items.items };
 
-    ghost invariant = { λ node. node.items.items ≡ history node.params (delivered node.params node.items.items).order };
+    ghost invariant = { λ node. (node.items.items ≡ history node.params (delivered node.params node.items.items).order) × (node.reach ≡ reach_of node.params (delivered node.params node.items.items).order) };
 }
 
 impl PlainNode {
@@ -34,9 +42,11 @@ impl PlainNode {
     pub fn new(alloc: Global, params: Params) -> PlainNode
         ensures { result ≡ record { setting = params; order = [] } }
     {
+        let reach = Reach::first(params.window_size());
         PlainNode {
             params,
             items: Vec::new(alloc),
+            reach,
         }
     }
 
@@ -49,11 +59,25 @@ impl PlainNode {
         greatest_conflict(&self.items[item.last_seen() as usize..], item)
     }
 
-    /// The verdict on the item, were it the next.
-    fn judge(&self, item: &WriteSet) -> Verdict
-        ensures { result ≡ verdict self.now.setting (self.now.order ++ item.now ∷ []) (length self.now.order + 1) }
+    /// The seqno of the next item.
+    fn next_seqno(&self) -> u64
+        ensures { result ≡ length self.now.order + 1 }
     {
-        let seqno = self.items.len() as u64 + 1;
+        1 + self.items.len() as u64
+    }
+
+    /// The least seqno that the window can hold.
+    fn floor(&self) -> u64
+        ensures { result ≡ floor self.now.setting self.now.order (length self.now.order) }
+    {
+        self.reach.floor
+    }
+
+    /// The verdict on the write set, were it the next item.
+    fn judge_write_set(&self, item: &WriteSet) -> Verdict
+        ensures { result ≡ verdict_among self.now.setting (floor self.now.setting self.now.order (length self.now.order)) (length self.now.order + 1) (entries (history self.now.setting self.now.order)) item.now }
+    {
+        let seqno = self.next_seqno();
         let seen = item.last_seen();
         if seen >= seqno {
             return Verdict::Future;
@@ -61,7 +85,7 @@ impl PlainNode {
         if !self.params.schema().contains_all(item) {
             return Verdict::BadKey;
         }
-        if seen + u64::from(self.params.window()) + 1 < seqno {
+        if seen + 1 < self.floor() {
             return Verdict::Stale;
         }
         match self.greatest_conflict(item) {
@@ -70,11 +94,21 @@ impl PlainNode {
         }
     }
 
-    /// Takes the next item of the order and says its verdict. Whatever that is, the item has taken
-    /// the next seqno.
+    /// The verdict on the item, were it the next.
+    fn judge(&self, item: &Item) -> Verdict
+        ensures { result ≡ verdict self.now.setting (self.now.order ++ item.now ∷ []) (length self.now.order + 1) }
+    {
+        match item {
+            Item::WriteSet(write_set) => self.judge_write_set(write_set),
+            Item::SetWindow(_) => Verdict::Commit,
+        }
+    }
+
+    /// Takes the next item of the order, of either kind, and says its verdict. Whatever that is, the item has
+    /// taken the next seqno.
     ///
     /// Refuses with `OutOfMemory` where the list cannot grow; the node is then as it was.
-    pub fn deliver(&mut self, item: WriteSet) -> Result<Verdict, Refusal>
+    pub fn deliver_item(&mut self, item: Item) -> Result<Verdict, Refusal>
         // The verdict is that of the order with the item at its end.
         ensures verdict { IfOk result (λ v. v ≡ verdict self.old.setting (self.old.order ++ item ∷ []) (length self.old.order + 1)) }
         // The order grows by the item.
@@ -83,13 +117,48 @@ impl PlainNode {
         ensures unchanged { OnErr result (self.new ≡ self.old) }
     {
         let verdict = self.judge(&item);
-        let seqno = self.items.len() as u64 + 1;
+        let seqno = self.next_seqno();
+        let reach = self.reach.after(seqno, &item);
         self.items.push(Judged {
             seqno,
             item,
             verdict,
         })?;
+        self.reach = reach;
         Ok(verdict)
+    }
+
+    /// Takes the write set as the next item of the order and says its verdict. Whatever that is, it has
+    /// taken the next seqno.
+    ///
+    /// Refuses with `OutOfMemory` where the list cannot grow; the node is then as it was.
+    pub fn deliver(&mut self, item: WriteSet) -> Result<Verdict, Refusal>
+        // The verdict is that of the order with the write set at its end.
+        ensures verdict { IfOk result (λ v. v ≡ verdict self.old.setting (self.old.order ++ OfWriteSet item ∷ []) (length self.old.order + 1)) }
+        // The order grows by the write set.
+        ensures order { OnOk result (self.new ≡ record self.old { order = self.old.order ++ OfWriteSet item ∷ [] }) }
+        ensures refused { IfErr result (λ refusal. refusal ≡ Refusal.OutOfMemory) }
+        ensures unchanged { OnErr result (self.new ≡ self.old) }
+    {
+        self.deliver_item(Item::WriteSet(item))
+    }
+
+    /// Takes a change of the window's size, without labels (0:0), as the next item of the order. It commits, and
+    /// has taken the next seqno.
+    ///
+    /// Refuses with `OutOfMemory` where the list cannot grow; the node is then as it was.
+    pub fn set_window(&mut self, size: WindowSize) -> Result<Verdict, Refusal>
+        ensures verdict { IfOk result (λ v. v ≡ Commit) }
+        // The order grows by the change.
+        ensures order { OnOk result (self.new ≡ record self.old { order = self.old.order ++ OfSetWindow (record { size = size; source = 0; trx = 0 }) ∷ [] }) }
+        ensures refused { IfErr result (λ refusal. refusal ≡ Refusal.OutOfMemory) }
+        ensures unchanged { OnErr result (self.new ≡ self.old) }
+    {
+        self.deliver_item(Item::SetWindow(SetWindow {
+            size,
+            source: 0,
+            trx: 0,
+        }))
     }
 
     /// What stands under the key in the state after the first `s` items, which is at most the position.
@@ -100,28 +169,30 @@ impl PlainNode {
         row_of(&self.items[..s as usize], key)
     }
 
-    /// The committed items that certification may still need, in ascending order.
+    /// The window: its size and floor, and the committed write sets that certification may still need, in
+    /// ascending order.
     ///
     /// Refuses with `OutOfMemory` where the list cannot grow.
-    pub fn window(&self, alloc: Global) -> Result<Vec<Entry>, Refusal>
-        ensures window { IfOk result (λ entries. entries.items ≡ window self.now.setting self.now.order) }
+    pub fn window(&self, alloc: Global) -> Result<Window, Refusal>
+        ensures window { IfOk result (λ found. found ≡ window self.now.setting self.now.order) }
         ensures refused { IfErr result (λ refusal. refusal ≡ Refusal.OutOfMemory) }
     {
         self.window_at(alloc, self.position())
     }
 
-    /// The window after the first `s` items, which is at most the position: the committed items that
-    /// certification needed for the one behind them, in ascending order.
+    /// The window after the first `s` items, which is at most the position: what certification needed for the
+    /// item behind them.
     ///
     /// Refuses with `OutOfMemory` where the list cannot grow.
-    pub fn window_at(&self, alloc: Global, s: u64) -> Result<Vec<Entry>, Refusal>
+    pub fn window_at(&self, alloc: Global, s: u64) -> Result<Window, Refusal>
         requires { s ≤ length self.now.order }
-        ensures window { IfOk result (λ entries. entries.items ≡ window self.now.setting (take s self.now.order)) }
+        ensures window { IfOk result (λ found. found ≡ window self.now.setting (take s self.now.order)) }
         ensures refused { IfErr result (λ refusal. refusal ≡ Refusal.OutOfMemory) }
     {
         let items = &self.items[..s as usize];
-        let floor = (items.len() as u64 + 1).saturating_sub(u64::from(self.params.window()));
-        recent_entries(alloc, items, floor)
+        let reach = reach_of(&self.params, items);
+        let entries = recent_entries(alloc, items, reach.floor)?;
+        Ok(Window::new(reach.size, reach.floor, entries))
     }
 
     /// The parameters.

@@ -5,9 +5,10 @@ ghost use Rattle.std.specs.List.{list_any};
 ghost use Rattle.std.specs.Option.{option_copied};
 ghost use Rattle.rep_types.specs.Keys.{key_eq};
 ghost use Rattle.rep_types.specs.Transactions.{named};
-ghost use Rattle.rep_types.specs.Order.{counts, against, seqnos_against, greatest, entries, entry_of, latest, effects, row_in, recent};
+ghost use Rattle.rep_types.specs.Reaches.{reach};
+ghost use Rattle.rep_types.specs.Order.{is_kept, against, seqnos_against, greatest, entries, entry_of, items_of, latest, effects, row_in, recent};
 
-use rep_types::{Entry, Judged, Key, Refusal, Value, Write, WriteSet};
+use rep_types::{Entry, Judged, Key, Params, Reach, Refusal, Value, Write, WriteSet};
 use std::alloc::Global;
 
 /// Whether one of the writes is of a key that the item reads or writes.
@@ -17,14 +18,14 @@ fn touches_item(writes: &[Write], item: &WriteSet) -> bool
     writes.iter().any(|write| item.names(write.key))
 }
 
-/// Whether the earlier item stands against this one: it committed, this one's transaction had not
-/// seen it, and it wrote a key that this one reads or writes.
+/// Whether the earlier item stands against this one: it is a write set that committed, this one's
+/// transaction had not seen it, and it wrote a key that this one reads or writes.
 #[tactic(auto, using(rep_types::proofs::Tests::tests))]
 fn is_against(earlier: &Judged, item: &WriteSet) -> bool
-    ensures { result ≡ (counts earlier.now && against item.now (entry_of earlier.now)) }
+    ensures { result ≡ (is_kept earlier.now && against item.now (entry_of earlier.now)) }
 {
     item.last_seen() < earlier.seqno
-        && earlier.verdict.is_commit()
+        && earlier.is_kept()
         && touches_item(earlier.item.writes(), item)
 }
 
@@ -70,7 +71,18 @@ pub(crate) fn row_of(items: &[Judged], key: Key) -> Option<&Value>
     row
 }
 
-/// The committed items from the floor on, each as its seqno and the keys that it wrote.
+/// How far back the window reaches after these items.
+pub(crate) fn reach_of(params: &Params, items: &[Judged]) -> Reach
+    ensures { result ≡ reach params.now (items_of items.now) }
+{
+    let mut reach = Reach::first(params.window_size());
+    for place in 0..items.len() {
+        reach = reach.after(place as u64 + 1, &items[place].item);
+    }
+    reach
+}
+
+/// The committed write sets from the floor on, each as its seqno and the keys that it wrote.
 pub(crate) fn recent_entries(
     alloc: Global,
     items: &[Judged],
@@ -81,7 +93,7 @@ pub(crate) fn recent_entries(
 {
     let mut kept = Vec::new(alloc);
     for judged in items {
-        if judged.verdict.is_commit() && judged.seqno >= floor {
+        if judged.is_kept() && judged.seqno >= floor {
             kept.push(Entry::new(judged.seqno, judged.item.written()))?;
         }
     }

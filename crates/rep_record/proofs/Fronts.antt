@@ -4,11 +4,13 @@ use Rattle.std.specs.Prelude.{◌&&◌, if◌then◌else◌, slice_index_or}
 use Rattle.std.proofs.lemmas.Bool.{ltb-true, le-leb}
 use Rattle.std.proofs.lemmas.List.{append-nil}
 use Rattle.rep_types.specs.declared.judged.Judged.{Judged}
-use Rattle.rep_types.specs.Transactions.{IsWithinLimits}
+use Rattle.rep_types.specs.declared.item.Item.{Item}
+use Rattle.rep_types.specs.declared.item.Item.TheVariants.{WriteSet, SetWindow}
+use Rattle.rep_types.specs.declared.verdict.Verdict.{Verdict}
 use Rattle.rep_forms.specs.Forms.{number_bytes}
 use Rattle.rep_forms.specs.FormLaws.{length_number, conjuncts}
 use Rattle.rep_record.specs.declared.limits.TheConstants.{MAX_RECORDS, MAX_BLOCK}
-use Rattle.rep_record.specs.Records.{is_placed, body_bytes, record_bytes}
+use Rattle.rep_record.specs.Records.{is_placed, IsWithin, body_bytes, spelled, record_bytes}
 use Rattle.rep_record.specs.RecordLaws.{body_short}
 use Rattle.rep_record.specs.Blocks.{has_room, is_next, run_bytes}
 use Rattle.rep_record.specs.Fronts.{fitting, IsLongestFront}
@@ -63,12 +65,18 @@ only_fitting block (j ∷ js) (suc n) is =
 -- ---- an empty block
 
 -- an empty block takes an item that has a spelling
-pub takes_first : (j : Judged) → is_placed j ≡ true → IsWithinLimits j.item → has_room [] j ≡ true
+record_short : (seqno : ℕ) (i : Item) (v : Verdict) → IsWithin i → length (spelled seqno i v) ≤ MAX_BLOCK
+record_short seqno (WriteSet w) v h =
+    let body : List ℕ = body_bytes seqno w v in
+    omega (arith, body_short seqno w v h, length-append (number_bytes 2 (length body + 2)) body, length_number 2 (length body + 2))
+record_short seqno (SetWindow c) v h = omega arith
+
+pub takes_first : (j : Judged) → is_placed j ≡ true → IsWithin j.item → has_room [] j ≡ true
 takes_first j placed h =
-    let size : 0 + length (record_bytes j) ≤ MAX_BLOCK = omega (arith, body_short j h, length-append (number_bytes 2 (length (body_bytes j) + 2)) (body_bytes j), length_number 2 (length (body_bytes j) + 2)) in
+    let size : 0 + length (record_bytes j) ≤ MAX_BLOCK = omega (arith, record_short j.seqno j.item j.verdict h) in
     rw (placed, le-leb (0 + length (record_bytes j)) MAX_BLOCK size) refl
 
-pub fitting_first : (j : Judged) (js : List Judged) → is_placed j ≡ true → IsWithinLimits j.item → 1 ≤ fitting [] (j ∷ js)
+pub fitting_first : (j : Judged) (js : List Judged) → is_placed j ≡ true → IsWithin j.item → 1 ≤ fitting [] (j ∷ js)
 fitting_first j js placed h = let room = takes_first j placed h in rw room (omega arith)
 
 -- ---- no more than a block may have

@@ -1,20 +1,25 @@
 -- What comes of a line, by what it says.
-use Rattle.std.proofs.Common.{◌≡◌, ℕ, ◌<◌, Bool, true, false, cond, ltb, leb, List, [], ◌∷◌, length, take, map, Option, Some, None, Result, Ok, Err, refl, sym, ap, subst, arith, inl, inr}
-use Rattle.std.specs.Prelude.{◌&&◌, ◌||◌, IfOk}
+use Rattle.std.proofs.Common.{◌≡◌, ℕ, ◌<◌, Bool, true, false, cond, ltb, leb, List, [], ◌∷◌, length, take, map, Option, Some, None, Result, Ok, Err, refl, sym, ap, subst, ◌∙◌, arith, inl, inr}
+use Rattle.std.specs.Prelude.{◌&&◌, ◌||◌, IfOk, codes}
 use Rattle.std.specs.List.{list_any}
 use Rattle.std.specs.Option.{option_map}
 use Rattle.std.proofs.Math.Bool.{and-false}
 use Rattle.std.proofs.lemmas.Bool.{cases_lt, lt-ltb, le-ltb, lt-leb}
 use Rattle.std.proofs.lemmas.List.{take_all, length-take, length-map}
 use Rattle.rep_types.specs.declared.value.Write.{Write}
+use Rattle.rep_types.specs.declared.item.Item.{Item}
+use Rattle.rep_types.specs.declared.item.Item.TheVariants.{WriteSet, SetWindow as OfSetWindow}
+use Rattle.rep_types.specs.declared.item.SetWindow.{SetWindow}
 use Rattle.rep_types.specs.declared.refusal.Refusal.{Refusal}
 use Rattle.rep_types.specs.declared.refusal.Refusal.TheVariants.{Malformed, ValueTooLong, BadParams}
 use Rattle.rep_types.specs.Transactions.{Transaction, misplaced}
 use Rattle.rep_types.specs.Settings.{Setting, setting, is_setting, allowed}
-use Rattle.rep_record.specs.Grammar.{IsItemLine, IsParamsLine}
-use Rattle.rep_record.specs.Reading.{is_long, well_placed, limited, outcome, item_form, item_outcome, item_line, params_form, params_outcome, params_line}
+use Rattle.rep_types.specs.Windows.{is_window_size}
+use Rattle.rep_record.specs.Words.{words}
+use Rattle.rep_record.specs.Grammar.{IsItemLine, IsOrderLine, IsParamsLine}
+use Rattle.rep_record.specs.Reading.{is_next, is_long, well_placed, limited, sized, of_kind, limited_item, outcome, item_form, item_outcome, item_line, change_form, change_line, order_form, order_outcome, order_line, params_form, params_outcome, params_line}
 use Rattle.rep_record.specs.Drafts.{short_write, drafted, limited_draft, drafted_setting}
-use Rattle.rep_record.proofs.Parts.{item_means, params_mean}
+use Rattle.rep_record.proofs.Parts.{item_means, by_first_word, order_means, params_mean}
 
 -- ---- what is kept of a line passes the same limits
 
@@ -72,6 +77,19 @@ allowed_drafted p =
 pub params_kept : (number : ℕ) (form : Option Setting) → outcome allowed number (option_map drafted_setting form) ≡ params_outcome number form
 params_kept number form = kept_outcome drafted_setting allowed allowed allowed_drafted number form
 
+-- ---- what comes of a line of either kind
+
+-- what comes of a line whose items are of this kind
+kind_outcome : {A : Type 0} (kind : A → Item) (number : ℕ) (limit : A → Result A Refusal) → ((x : A) → limited_item number (kind x) ≡ of_kind kind (limit x))
+    → (form : Option A) → outcome (limited_item number) number (option_map kind form) ≡ of_kind kind (outcome limit number form)
+kind_outcome kind number limit same None = refl
+kind_outcome kind number limit same (Some x) = same x
+
+-- what comes of a line by its first word
+pub order_by_kind : (number : ℕ) (line : List ℕ) (b : Bool) → is_next (codes "window") (words line) ≡ b → order_line number line ≡ cond b (of_kind OfSetWindow (change_line number line)) (of_kind WriteSet (item_line number line))
+order_by_kind number line true e = ap (order_outcome number) (by_first_word line true e) ∙ kind_outcome OfSetWindow number sized (λ c. refl) (change_form line)
+order_by_kind number line false e = ap (order_outcome number) (by_first_word line false e) ∙ kind_outcome WriteSet number (limited number) (λ w. refl) (item_form line)
+
 -- ---- what is given is what the line says
 
 -- What comes of a line, where what is given is what the line says.
@@ -108,6 +126,21 @@ placed_same number w (Some i) = tt
 limited_same : (number : ℕ) (w : Transaction) → IfOk (limited number w) (λ v. w ≡ v)
 limited_same number w = unless w _ _ (ltb 16 (length w.reads)) (unless w _ _ (ltb 16 (length w.writes)) (unless w _ _ (list_any is_long w.writes) (placed_same number w (misplaced w.reads w.writes))))
 
+-- what is given under a kind is the same where what is given is
+kind_same : {A : Type 0} (kind : A → Item) (x : A) (r : Result A Refusal) → IfOk r (λ y. x ≡ y) → IfOk (of_kind kind r) (λ i. kind x ≡ i)
+kind_same kind x (Ok y) e = ap kind e
+kind_same kind x (Err refusal) e = tt
+
+-- a change that is given is the one whose size was looked at
+sized_same : (c : SetWindow) (b : Bool) → IfOk (cond b (Ok c) (Err BadParams)) (λ d. c ≡ d)
+sized_same c true = refl
+sized_same c false = tt
+
+-- an item that is given is the one whose limits were looked at
+item_same : (number : ℕ) (i : Item) → IfOk (limited_item number i) (λ j. i ≡ j)
+item_same number (WriteSet w) = kind_same WriteSet w (limited number w) (limited_same number w)
+item_same number (OfSetWindow c) = kind_same OfSetWindow c (sized c) (sized_same c (is_window_size c.size))
+
 -- the parameters that are given are those whose limits were looked at
 allowed_same : (p : Setting) (b : Bool) → IfOk (cond b (Ok p) (Err BadParams)) (λ q. p ≡ q)
 allowed_same p true = refl
@@ -116,6 +149,10 @@ allowed_same p false = tt
 pub item_comes : (number : ℕ) (line : List ℕ) (r : Result Transaction Refusal) → r ≡ item_line number line → Comes (IsItemLine line) (limited number) number r
 item_comes number line r e =
     subst (Comes (IsItemLine line) (limited number) number) (sym e) (comes (limited number) number (limited_same number) (item_form line) (item_means.found line).of (item_means.again line))
+
+pub order_comes : (number : ℕ) (line : List ℕ) (r : Result Item Refusal) → r ≡ order_line number line → Comes (IsOrderLine line) (limited_item number) number r
+order_comes number line r e =
+    subst (Comes (IsOrderLine line) (limited_item number) number) (sym e) (comes (limited_item number) number (item_same number) (order_form line) (order_means.found line).of (order_means.again line))
 
 pub params_come : (number : ℕ) (line : List ℕ) (r : Result Setting Refusal) → r ≡ params_line number line → Comes (IsParamsLine line) allowed number r
 params_come number line r e =

@@ -14,15 +14,18 @@ use Rattle.std.proofs.lemmas.Option.{same_Some}
 use Rattle.std.proofs.lemmas.Slice.Eq.{bytes_eq-Decides}
 use Rattle.rep_types.specs.declared.key.Key.{Key}
 use Rattle.rep_types.specs.declared.value.Write.{Write}
+use Rattle.rep_types.specs.declared.item.Item.{Item}
+use Rattle.rep_types.specs.declared.item.Item.TheVariants.{WriteSet, SetWindow as OfSetWindow}
+use Rattle.rep_types.specs.declared.item.SetWindow.{SetWindow}
 use Rattle.rep_types.specs.Transactions.{Transaction, transaction}
 use Rattle.rep_types.specs.Settings.{Setting, setting}
 use Rattle.rep_types.proofs.Digits.{number_of}
 use Rattle.rep_forms.specs.Options.{◌>>=◌}
 use Rattle.rep_forms.specs.FormLaws.{conjuncts}
 use Rattle.rep_record.specs.Words.{words, cut}
-use Rattle.rep_record.specs.Grammar.{IsNumber, ◌⊗◌, After, Optional, One, More, IsKey, IsHex, IsWrite, IsLabel, AreLabels, AreReads, AreWrites, IsTail, IsItemLine, IsSetting, IsParamsLine}
+use Rattle.rep_record.specs.Grammar.{IsNumber, ◌⊗◌, After, Optional, One, Nothing, More, IsKey, IsHex, IsWrite, IsLabel, AreLabels, AreReads, AreWrites, IsTail, IsItemLine, IsChange, IsChangeLine, IsOrderLine, IsSetting, IsParamsLine}
 use Rattle.rep_record.proofs.Lines.{IsFree, free_append}
-use Rattle.rep_record.specs.Reading.{is_number, number_in, pair_at, is_next, after, optional, behind, next, each, some_each, key_in, label_in, byte_in, hex_in, put_in, deleted_in, delete, write_by, write_in, labels_in, keys_in, reads_in, writes_in, tail_in, setting_in, item_form, params_form}
+use Rattle.rep_record.specs.Reading.{is_number, number_in, pair_at, is_next, after, optional, behind, next, nothing_in, each, some_each, key_in, label_in, byte_in, hex_in, put_in, deleted_in, delete, write_by, write_in, labels_in, keys_in, reads_in, writes_in, tail_in, change_in, setting_in, item_form, change_form, order_form, params_form}
 
 -- ---- what it means to read as the grammar says
 
@@ -44,6 +47,11 @@ onward {o = Some x} h k = record { of = (k x (h.of x refl)).of }
 -- what follows from it
 weaken : {A : Type 0} {P Q : A → Type 0} {o : Option A} → Holds P o → ((x : A) → P x → Q x) → Holds Q o
 weaken h k = record { of = λ x e. k x (h.of x e) }
+
+-- what it is a part of
+mapped : {A B : Type 0} {P : B → Type 0} (f : A → B) (o : Option A) → Holds (λ x. P (f x)) o → Holds P (option_map f o)
+mapped f None h = nothing
+mapped f (Some x) h = just (h.of x refl)
 
 -- what stands behind a test
 tested : {A : Type 0} {P : A → Type 0} {o q : Option A} (b : Bool) → (b ≡ true → Holds P o) → (b ≡ false → Holds P q) → Holds P (cond b o q)
@@ -208,10 +216,6 @@ write_found word None whole =
     mapped delete (deleted_in word) (onward (cut_whole 45 word) (λ parts whole. onward (key_means.found parts.0) (λ key first. tested (eqb (length parts.1) 0) (λ e.
     let none : parts.1 ≡ [] = nil_from_length parts.1 (eqb-true (length parts.1) 0 e) in
     just (parts.0, whole ∙ ap (λ rest. parts.0 ++ 45 ∷ rest) none, first)) (λ e. nothing))))
-  where
-    mapped : (f : Key → Write) (o : Option Key) → Holds (λ key. IsWrite word (f key)) o → Holds (IsWrite word) (option_map f o)
-    mapped f None h = nothing
-    mapped f (Some key) h = just (h.of key refl)
 
 -- a delete and a put are read as themselves
 write_again : (word : List ℕ) (key : Key) (value : Option (List ℕ)) → IsWrite word (record { key = key; value = value }) → write_in word ≡ Some (record { key = key; value = value })
@@ -252,6 +256,13 @@ one_found m (word ∷ rest) = onward (m.found word) (λ x h. just (word ∷ [], 
 
 one_fronts : {A : Type 0} {f : List ℕ → Option A} {Says : List ℕ → A → Type 0} → Means f Says → Fronts (next f) (One Says) (λ rest. Unit {0})
 one_fronts m = record { found = one_found m; again = λ part rest x any h. rw (h.1, m.again h.0 x h.2) refl }
+
+-- no word
+nothing_means : Means nothing_in Nothing
+nothing_means = record {
+  found = λ whole. tested (eqb (length whole) 0) (λ e. just (nil_from_length whole (eqb-true (length whole) 0 e))) (λ e. nothing);
+  again = λ whole said h. rw h refl;
+}
 
 -- each word
 each_found : {A : Type 0} {f : List ℕ → Option A} {Says : List ℕ → A → Type 0} → Means f Says → (whole : Lines) → Holds (AllZip Says whole) (each f whole)
@@ -367,6 +378,31 @@ line_means m = record { found = λ line. m.found (words line); again = λ line. 
 
 pub item_means : Means item_form IsItemLine
 item_means = line_means (after_means (codes "item") tail_means)
+
+changed_means : Means change_in IsChange
+unfolding change_in
+changed_means =
+    let labelled = behind_means labels_fronts nothing_means (λ rest x h. (tt, rw h refl)) in
+    via_means (λ (x : ℕ × ((ℕ × ℕ) × Unit {0})). record { size = x.0; source = x.1.0.0; trx = x.1.0.1 }) (λ (c : SetWindow). (c.size, ((c.source, c.trx), tt))) (λ x. refl {a = x}) (λ c. refl {a = c})
+    (behind_means (one_fronts (number_means (2 ^ 64))) labelled (λ rest x h. tt))
+
+pub change_means : Means change_form IsChangeLine
+change_means = line_means (after_means (codes "window") changed_means)
+
+-- what is read of a line of either kind, by whether its first word is `window`
+pub by_first_word : (line : List ℕ) (b : Bool) → is_next (codes "window") (words line) ≡ b → order_form line ≡ cond b (option_map OfSetWindow (change_form line)) (option_map WriteSet (item_form line))
+by_first_word line b e = ap (λ v. cond v (option_map OfSetWindow (change_form line)) (option_map WriteSet (item_form line))) e
+
+order_again : (line : List ℕ) (i : Item) → IsOrderLine line i → order_form line ≡ Some i
+order_again line (WriteSet w) h = by_first_word line false (rw h.1 refl) ∙ ap (option_map WriteSet) (item_means.again line w h)
+order_again line (OfSetWindow c) h = by_first_word line true (rw h.1 refl) ∙ ap (option_map OfSetWindow) (change_means.again line c h)
+
+pub order_means : Means order_form IsOrderLine
+order_means = record {
+  found = λ line.
+      tested (is_next (codes "window") (words line)) (λ is. mapped OfSetWindow (change_form line) (change_means.found line)) (λ is. mapped WriteSet (item_form line) (item_means.found line));
+  again = order_again;
+}
 
 setting_means : Means setting_in IsSetting
 unfolding setting_in

@@ -1,9 +1,8 @@
 -- What a block takes of some items.
 use Rattle.std.specs.Prelude.{◌≡◌, ℕ, ◌+◌, ◌<◌, ◌≤◌, true, false, if◌then◌else◌, List, [], ◌∷◌, ◌++◌, length, take, drop, slice_index_or}
 use Rattle.rep_types.specs.declared.judged.Judged.{Judged}
-use Rattle.rep_types.specs.Transactions.{IsWithinLimits}
 use Rattle.rep_record.specs.declared.limits.TheConstants.{MAX_RECORDS}
-use Rattle.rep_record.specs.Records.{is_placed}
+use Rattle.rep_record.specs.Records.{is_placed, IsWithin}
 use Rattle.rep_record.specs.Blocks.{has_room, SeqnosFrom}
 
 -- how many of these items the block takes, one after another, up to the first that it doesn't
@@ -22,7 +21,7 @@ pub record IsLongestFront (block js : List Judged) (n : ℕ) : Type 0 where
 pub record FrontsAreDetermined : Type 0 where
   pub right : (block js : List Judged) → IsLongestFront block js (fitting block js)
   pub only : (block js : List Judged) (n : ℕ) → IsLongestFront block js n → n ≡ fitting block js
-  pub first : (j : Judged) (js : List Judged) → is_placed j ≡ true → IsWithinLimits j.item → 1 ≤ fitting [] (j ∷ js)
+  pub first : (j : Judged) (js : List Judged) → is_placed j ≡ true → IsWithin j.item → 1 ≤ fitting [] (j ∷ js)
   pub few : (block js : List Judged) → length block ≤ MAX_RECORDS → length block + fitting block js ≤ MAX_RECORDS
 
 -- Items whose seqnos follow one another, from n on, stay so where the next one comes behind them, and where a front is taken

@@ -6,6 +6,9 @@ use Rattle.std.specs.Char.{digit_value}
 use Rattle.std.specs.Str.Parse.{IsNumeral, digits_value}
 use Rattle.rep_types.specs.declared.key.Key.{Key}
 use Rattle.rep_types.specs.declared.value.Write.{Write}
+use Rattle.rep_types.specs.declared.item.Item.{Item}
+use Rattle.rep_types.specs.declared.item.Item.TheVariants.{WriteSet, SetWindow as OfSetWindow}
+use Rattle.rep_types.specs.declared.item.SetWindow.{SetWindow}
 use Rattle.rep_types.specs.Transactions.{Transaction}
 use Rattle.rep_types.specs.Settings.{Setting}
 use Rattle.rep_record.specs.Words.{words}
@@ -38,6 +41,10 @@ Optional mark value Says whole x = ((whole ≡ []) × (x ≡ value)) ⊎ After m
 -- One word, which says the value.
 abbrev pub One : {A : Type 0} → (List ℕ → A → Type 0) → List (List ℕ) → A → Type 0
 One Says part x = (word : List ℕ) × (part ≡ word ∷ []) × Says word x
+
+-- No word, which says nothing.
+abbrev pub Nothing : List (List ℕ) → Unit {0} → Type 0
+Nothing part said = part ≡ []
 
 -- One word or more, each of which says one of the values, in their order.
 abbrev pub More : {A : Type 0} → (List ℕ → A → Type 0) → List (List ℕ) → List A → Type 0
@@ -88,6 +95,19 @@ IsTail tail w = (One (IsNumber (2 ^ 64)) ⊗ (AreLabels ⊗ (AreReads ⊗ AreWri
 -- An item's line: `item` and a tail.
 abbrev pub IsItemLine : List ℕ → Transaction → Type 0
 IsItemLine line w = After (codes "item") IsTail (words line) w
+
+-- A change of the window's size: `size [id source:trx]`. It stands for a change whatever the size is.
+abbrev pub IsChange : List (List ℕ) → SetWindow → Type 0
+IsChange part c = (One (IsNumber (2 ^ 64)) ⊗ (AreLabels ⊗ Nothing)) part (c.size, ((c.source, c.trx), tt))
+
+-- A change's line: `window` and a change.
+abbrev pub IsChangeLine : List ℕ → SetWindow → Type 0
+IsChangeLine line c = After (codes "window") IsChange (words line) c
+
+-- A line of an item of either kind.
+abbrev pub IsOrderLine : List ℕ → Item → Type 0
+IsOrderLine line (WriteSet w) = IsItemLine line w
+IsOrderLine line (OfSetWindow c) = IsChangeLine line c
 
 -- A node's parameters: `W N rows rows ..`, one number for each table, one table or more.
 abbrev pub IsSetting : List (List ℕ) → Setting → Type 0

@@ -6,10 +6,14 @@ use Rattle.std.specs.Char.{digit_value, is_digit}
 use Rattle.std.specs.Str.{bytes_eq}
 use Rattle.rep_types.specs.declared.key.Key.{Key}
 use Rattle.rep_types.specs.declared.value.Write.{Write}
+use Rattle.rep_types.specs.declared.item.Item.{Item}
+use Rattle.rep_types.specs.declared.item.Item.TheVariants.{WriteSet, SetWindow as OfSetWindow}
+use Rattle.rep_types.specs.declared.item.SetWindow.{SetWindow}
 use Rattle.rep_types.specs.declared.refusal.Refusal.{Refusal}
-use Rattle.rep_types.specs.declared.refusal.Refusal.TheVariants.{Malformed, TooManyReads, TooManyWrites, ValueTooLong}
+use Rattle.rep_types.specs.declared.refusal.Refusal.TheVariants.{Malformed, TooManyReads, TooManyWrites, ValueTooLong, BadParams}
 use Rattle.rep_types.specs.Transactions.{Transaction, transaction, misplaced}
 use Rattle.rep_types.specs.Settings.{Setting, setting, allowed}
+use Rattle.rep_types.specs.Windows.{is_window_size}
 pub use Rattle.rep_types.specs.Numbers.{given, is_number}
 unfoldable pub use Rattle.rep_types.specs.Numbers.{number_in}
 use Rattle.rep_forms.specs.Options.{◌>>=◌}
@@ -46,6 +50,10 @@ behind f g words = f words >>= λ x. g x.1 >>= λ y. Some (x.0, y)
 abbrev pub next : {A : Type 0} → (List ℕ → Option A) → List (List ℕ) → Option (A × List (List ℕ))
 next f [] = None
 next f (word ∷ rest) = f word >>= λ x. Some (x, rest)
+
+-- nothing, where no word is left
+abbrev pub nothing_in : List (List ℕ) → Option (Unit {0})
+nothing_in words = given (length words == 0) tt
 
 -- what each word is
 unfoldable pub each : {A : Type 0} → (List ℕ → Option A) → List (List ℕ) → Option (List A)
@@ -131,6 +139,11 @@ unfoldable pub tail_in : List (List ℕ) → Option Transaction
 tail_in words =
     behind (next (number_in (2 ^ 64))) (behind labels_in (behind reads_in writes_in)) words >>= λ x. Some (transaction x.1.0.0 x.1.0.1 x.0 x.1.1.0 x.1.1.1)
 
+-- what stands behind `window`: `size [id source:trx]`
+unfoldable pub change_in : List (List ℕ) → Option SetWindow
+change_in words =
+    behind (next (number_in (2 ^ 64))) (behind labels_in nothing_in) words >>= λ x. Some (record { size = x.0; source = x.1.0.0; trx = x.1.0.1 })
+
 -- what stands behind `params`: `W N rows rows ..`
 unfoldable pub setting_in : List (List ℕ) → Option Setting
 setting_in words = behind (next (number_in (2 ^ 32))) (behind (next (number_in (2 ^ 32))) (some_each (number_in (2 ^ 32)))) words >>= λ x. Some (setting x.0 x.1.0 x.1.1)
@@ -138,6 +151,14 @@ setting_in words = behind (next (number_in (2 ^ 32))) (behind (next (number_in (
 -- What an item's line says, `item` and a tail, where it is of the form.
 abbrev pub item_form : List ℕ → Option Transaction
 item_form line = after (codes "item") tail_in (words line)
+
+-- What a change's line says, `window` and what stands behind it, where it is of the form.
+abbrev pub change_form : List ℕ → Option SetWindow
+change_form line = after (codes "window") change_in (words line)
+
+-- What a line says whose first word is `window`, a change's, and what any other says, an item's, where it is of the form.
+abbrev pub order_form : List ℕ → Option Item
+order_form line = if is_next (codes "window") (words line) then option_map OfSetWindow (change_form line) else option_map WriteSet (item_form line)
 
 -- What a params line says, `params` and what stands behind it, where it is of the form.
 abbrev pub params_form : List ℕ → Option Setting
@@ -160,6 +181,20 @@ limited number w =
     else if list_any is_long w.writes then Err ValueTooLong
     else well_placed number w (misplaced w.reads w.writes)
 
+-- The change of a line of the form, where its size is inside the limits.
+abbrev pub sized : SetWindow → Result SetWindow Refusal
+sized c = if is_window_size c.size then Ok c else Err BadParams
+
+-- an item of this kind, or the refusal
+abbrev pub of_kind : {A : Type 0} → (A → Item) → Result A Refusal → Result Item Refusal
+of_kind kind (Ok x) = Ok (kind x)
+of_kind kind (Err refusal) = Err refusal
+
+-- The item of a line of the form, or the first limit that it passes, in the line with this number.
+abbrev pub limited_item : ℕ → Item → Result Item Refusal
+limited_item number (WriteSet w) = of_kind WriteSet (limited number w)
+limited_item number (OfSetWindow c) = of_kind OfSetWindow (sized c)
+
 -- what comes of a line by its number and what it says, where that has to be inside limits
 abbrev pub outcome : {A B : Type 0} → (A → Result B Refusal) → ℕ → Option A → Result B Refusal
 outcome limit number None = Err (Malformed number)
@@ -169,6 +204,14 @@ outcome limit number (Some x) = limit x
 abbrev pub item_outcome : ℕ → Option Transaction → Result Transaction Refusal
 item_outcome number form = outcome (limited number) number form
 
+-- the same of a change's line
+abbrev pub change_outcome : ℕ → Option SetWindow → Result SetWindow Refusal
+change_outcome number form = outcome sized number form
+
+-- the same of a line of either kind
+abbrev pub order_outcome : ℕ → Option Item → Result Item Refusal
+order_outcome number form = outcome (limited_item number) number form
+
 -- the same of a params line
 abbrev pub params_outcome : ℕ → Option Setting → Result Setting Refusal
 params_outcome number form = outcome allowed number form
@@ -176,6 +219,14 @@ params_outcome number form = outcome allowed number form
 -- What comes of an item's line with this number.
 abbrev pub item_line : ℕ → List ℕ → Result Transaction Refusal
 item_line number line = item_outcome number (item_form line)
+
+-- What comes of a change's line with this number.
+abbrev pub change_line : ℕ → List ℕ → Result SetWindow Refusal
+change_line number line = change_outcome number (change_form line)
+
+-- What comes of a line of an order text behind the parameters, of either kind, with this number.
+abbrev pub order_line : ℕ → List ℕ → Result Item Refusal
+order_line number line = order_outcome number (order_form line)
 
 -- What comes of a params line with this number.
 abbrev pub params_line : ℕ → List ℕ → Result Setting Refusal

@@ -2,6 +2,8 @@
 use Rattle.std.proofs.Common.{◌≡◌, ℕ, ◌≤◌, length, Ok, refl, arith, lit<, ◌*◌, length-append}
 use Rattle.std.proofs.lemmas.Bool.{le-ltb, lt-ltb}
 use Rattle.rep_types.specs.declared.judged.Judged.{Judged}
+use Rattle.rep_types.specs.declared.item.Item.{Item}
+use Rattle.rep_types.specs.declared.item.Item.TheVariants.{WriteSet, SetWindow}
 use Rattle.rep_types.specs.declared.verdict.Verdict.{Verdict}
 use Rattle.rep_types.specs.declared.verdict.Verdict.TheVariants.{Commit, Conflict, Stale, Future, BadKey}
 use Rattle.rep_types.specs.declared.limits.TheConstants.{MAX_SEQNO, MAX_READS, MAX_WRITES}
@@ -13,7 +15,7 @@ use Rattle.rep_forms.specs.Keys.{key_bytes}
 use Rattle.rep_forms.specs.KeyLaws.{key_is_form, key_short}
 use Rattle.rep_forms.specs.Writes.{write_bytes}
 use Rattle.rep_forms.specs.WriteLaws.{write_is_form, write_short}
-use Rattle.rep_record.specs.Records.{IsVerdictAt, IsRecord, body_bytes, record_bytes, label_fields, verdict_fields, list_fields, record_fields, record_form}
+use Rattle.rep_record.specs.Records.{IsVerdictAt, IsSpelled, HasSpelling, IsRecord, item_parts, item_of, body_bytes, record_bytes, label_fields, verdict_fields, list_fields, record_fields, record_form}
 
 ruleset forms = (via_is_form, both_is_form, number_is_form, byte_is_form, many_is_form, key_is_form, write_is_form)
 
@@ -42,26 +44,38 @@ checked_again : (w : Transaction) → IsWithinLimits w → checked w ≡ Ok w
 checked_again w h =
     rw (le-ltb MAX_READS (length w.reads) h.few_reads, le-ltb MAX_WRITES (length w.writes) h.few_writes, h.reads_ascend, h.writes_ascend, lt-ltb 0 (length w.writes) h.some_write) refl
 
-lists_fit : (j : Judged) → IsRecord j → list_fields.Fits (j.item.reads, j.item.writes)
-lists_fit j h = (
+lists_fit : (w : Transaction) → IsSpelled w → list_fields.Fits (w.reads, w.writes)
+lists_fit w h = (
   (omega (arith, h.limits.few_reads), (omega (arith, h.limits.few_writes), (record { size = refl; few = h.limits.few_reads; each = h.reads }, record { size = refl; few = h.limits.few_writes; each = h.writes }))),
   refl,
 )
 
 -- a record's body takes at most 1,227 bytes
-pub body_short : (j : Judged) → IsWithinLimits j.item → length (body_bytes j) ≤ 1227
-body_short j h =
+pub body_short : (seqno : ℕ) (w : Transaction) (v : Verdict) → IsWithinLimits w → length (body_bytes seqno w v) ≤ 1227
+body_short seqno w v h =
     let Short : Key → Type 0 = λ key. length (key_bytes key) ≤ 5 in
-    let reads = run_short key_bytes Short 5 (λ key small. small) j.item.reads (all_of Short key_short j.item.reads) in
-    let writes = run_short write_bytes HasShortValue 69 write_short j.item.writes h.short_values in
-    let few : 5 * length j.item.reads ≤ 80 = omega (arith, h.few_reads) in
-    let many : 69 * length j.item.writes ≤ 1104 = omega (arith, h.few_writes) in
+    let reads = run_short key_bytes Short 5 (λ key small. small) w.reads (all_of Short key_short w.reads) in
+    let writes = run_short write_bytes HasShortValue 69 write_short w.writes h.short_values in
+    let few : 5 * length w.reads ≤ 80 = omega (arith, h.few_reads) in
+    let many : 69 * length w.writes ≤ 1104 = omega (arith, h.few_writes) in
     simp (length-append, length_number) (omega (arith, reads, writes, few, many))
+
+-- the parts of what has a spelling fit, and are of it
+item_fits : (seqno : ℕ) (i : Item) (v : Verdict) → seqno ≤ MAX_SEQNO → IsVerdictAt seqno v → HasSpelling i →
+    record_fields.Fits (record { seqno = seqno; item = i; verdict = v })
+item_fits seqno (WriteSet w) v small at h = (
+  (omega (arith, body_short seqno w v h.limits), (((omega (arith, small), (h.last_seen, (h.source, h.trx))), refl), (verdict_fits seqno v small at, lists_fit w h))),
+  rw (checked_again w h.limits) refl,
+)
+item_fits seqno (SetWindow c) v small at h = absurd h
+
+item_spelled : (seqno : ℕ) (i : Item) (v : Verdict) → HasSpelling i →
+    record_bytes (record { seqno = seqno; item = i; verdict = v }) ≡ record_fields.spell (record { seqno = seqno; item = i; verdict = v })
+item_spelled seqno (WriteSet w) v h = refl
+item_spelled seqno (SetWindow c) v h = absurd h
 
 pub record_is_form : IsForm record_form
 record_is_form =
     named_is_form record_fields IsRecord record_bytes fields_is_form
-    (λ j h.
-    let verdict = verdict_fits j.seqno j.verdict h.seqno h.verdict in
-    ((omega (arith, body_short j h.limits), (((omega (arith, h.seqno), (h.last_seen, (h.source, h.trx))), refl), (verdict, lists_fit j h))), rw (checked_again j.item h.limits) refl))
-    (λ j h. refl)
+    (λ j h. item_fits j.seqno j.item j.verdict h.seqno h.verdict h.item)
+    (λ j h. item_spelled j.seqno j.item j.verdict h.item)

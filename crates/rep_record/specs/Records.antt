@@ -1,14 +1,17 @@
 -- Records as bytes: a delivered item with its verdict, in the one spelling that it has.
-use Rattle.std.specs.Prelude.{◌≡◌, ℕ, ◌+◌, ◌≤◌, ◌<◌, ◌^◌, Bool, true, ◌==◌, ◌&&◌, nat_lt, nat_le, if◌then◌else◌, List, ◌∷◌, ◌++◌, length, drop, Option, None, Some, Result, Ok, Err}
+use Rattle.std.specs.Prelude.{◌≡◌, ℕ, ◌+◌, ◌≤◌, ◌<◌, ◌^◌, Bool, true, ◌==◌, ◌&&◌, nat_lt, nat_le, if◌then◌else◌, List, [], ◌∷◌, ◌++◌, length, drop, Option, None, Some, Result, Ok, Err}
 use Rattle.std.specs.List.{flat_map, AllByRecursion}
 use Rattle.rep_types.specs.declared.key.Key.{Key}
 use Rattle.rep_types.specs.declared.value.Write.{Write}
 use Rattle.rep_types.specs.declared.judged.Judged.{Judged}
+use Rattle.rep_types.specs.declared.item.Item.{Item}
+use Rattle.rep_types.specs.declared.item.Item.TheVariants.{WriteSet, SetWindow}
 use Rattle.rep_types.specs.declared.refusal.Refusal.{Refusal}
 use Rattle.rep_types.specs.declared.verdict.Verdict.{Verdict}
 use Rattle.rep_types.specs.declared.verdict.Verdict.TheVariants.{Commit, Conflict, Stale, Future, BadKey}
 use Rattle.rep_types.specs.declared.limits.TheConstants.{MAX_SEQNO, MAX_READS, MAX_WRITES}
 use Rattle.rep_types.specs.Transactions.{Transaction, transaction, IsWithinLimits, checked}
+use Rattle.rep_types.specs.Items.{is_write_set}
 use Rattle.rep_record.specs.declared.record.Labels.{Labels}
 use Rattle.rep_forms.specs.Options.{◌>>=◌}
 use Rattle.rep_forms.specs.Forms.{Form, byte, number, number_bytes, both, ◌⊗◌, many, via, as_named}
@@ -22,27 +25,41 @@ abbrev pub IsVerdictAt : ℕ → Verdict → Type 0
 IsVerdictAt seqno (Conflict m) = (1 ≤ m) × (m < seqno)
 IsVerdictAt seqno verdict = Unit {0}
 
--- What has a spelling: a seqno from 1 to the greatest, a write set within the limits, a verdict that fits the seqno, and numbers
--- in the range of their types.
+-- a write set within the limits, and numbers in the range of their types
+pub record IsSpelled (w : Transaction) : Type 0 where
+  pub limits : IsWithinLimits w
+  pub last_seen : w.last_seen < 2 ^ 64
+  pub source : w.source < 2 ^ 64
+  pub trx : w.trx < 2 ^ 64
+  pub reads : AllByRecursion KeyFits w.reads
+  pub writes : AllByRecursion WriteFits w.writes
+
+-- which items have a spelling: a change of the window's size has none
+abbrev pub HasSpelling : Item → Type 0
+HasSpelling (WriteSet w) = IsSpelled w
+HasSpelling (SetWindow c) = ⊥
+
+-- What has a spelling: a seqno from 1 to the greatest, a verdict that fits the seqno, and an item that has one.
 pub record IsRecord (j : Judged) : Type 0 where
   pub positive : 1 ≤ j.seqno
   pub seqno : j.seqno ≤ MAX_SEQNO
-  pub limits : IsWithinLimits j.item
   pub verdict : IsVerdictAt j.seqno j.verdict
-  pub last_seen : j.item.last_seen < 2 ^ 64
-  pub source : j.item.source < 2 ^ 64
-  pub trx : j.item.trx < 2 ^ 64
-  pub reads : AllByRecursion KeyFits j.item.reads
-  pub writes : AllByRecursion WriteFits j.item.writes
+  pub item : HasSpelling j.item
+
+-- the limits of an item that is a write set
+abbrev pub IsWithin : Item → Type 0
+IsWithin (WriteSet w) = IsWithinLimits w
+IsWithin (SetWindow c) = Unit {0}
 
 -- whether a conflict is with an item before this one
 abbrev pub is_verdict_at : ℕ → Verdict → Bool
 is_verdict_at seqno (Conflict m) = nat_le 1 m && nat_lt m seqno
 is_verdict_at seqno verdict = true
 
--- whether the seqno is from 1 to the greatest and the verdict fits it: what a write set and numbers of their types leave open
+-- whether the item is a write set, the seqno is from 1 to the greatest and the verdict fits it: what a write set and numbers of their
+-- types leave open
 abbrev pub is_placed : Judged → Bool
-is_placed j = nat_le 1 j.seqno && nat_le j.seqno MAX_SEQNO && is_verdict_at j.seqno j.verdict
+is_placed j = is_write_set j.item && nat_le 1 j.seqno && nat_le j.seqno MAX_SEQNO && is_verdict_at j.seqno j.verdict
 
 -- ---- the spelling
 
@@ -62,20 +79,25 @@ abbrev pub verdict_bytes : Verdict → List ℕ
 verdict_bytes verdict = verdict_code verdict ∷ number_bytes 8 (conflict_seqno verdict)
 
 -- the numbers of a record: seqno, last_seen, source and trx
-abbrev pub label_bytes : Judged → List ℕ
-label_bytes j = number_bytes 8 j.seqno ++ (number_bytes 8 j.item.last_seen ++ (number_bytes 8 j.item.source ++ number_bytes 8 j.item.trx))
+abbrev pub label_bytes : ℕ → Transaction → List ℕ
+label_bytes seqno w = number_bytes 8 seqno ++ (number_bytes 8 w.last_seen ++ (number_bytes 8 w.source ++ number_bytes 8 w.trx))
 
 -- how many reads and how many writes there are, the reads, and the writes
 abbrev pub list_bytes : Transaction → List ℕ
 list_bytes w = length w.reads ∷ length w.writes ∷ (flat_map key_bytes w.reads ++ flat_map write_bytes w.writes)
 
 -- the record behind its length
-abbrev pub body_bytes : Judged → List ℕ
-body_bytes j = label_bytes j ++ (verdict_bytes j.verdict ++ list_bytes j.item)
+abbrev pub body_bytes : ℕ → Transaction → Verdict → List ℕ
+body_bytes seqno w verdict = label_bytes seqno w ++ (verdict_bytes verdict ++ list_bytes w)
 
--- A record: the length of all of it, and the rest.
+-- the length of all of a record, and the rest; nothing of an item that has no spelling
+abbrev pub spelled : ℕ → Item → Verdict → List ℕ
+spelled seqno (WriteSet w) verdict = number_bytes 2 (length (body_bytes seqno w verdict) + 2) ++ body_bytes seqno w verdict
+spelled seqno (SetWindow c) verdict = []
+
+-- A record.
 abbrev pub record_bytes : Judged → List ℕ
-record_bytes j = number_bytes 2 (length (body_bytes j) + 2) ++ body_bytes j
+record_bytes j = spelled j.seqno j.item j.verdict
 
 -- ---- the form
 
@@ -119,13 +141,22 @@ unrefused (Err e) = None
 abbrev pub Parts : Type 0
 Parts = ℕ × (Labels × (Verdict × Lists))
 
+abbrev pub write_set_parts : ℕ → Transaction → Verdict → Parts
+write_set_parts seqno w verdict =
+    (length (body_bytes seqno w verdict) + 2, (record { seqno = seqno; last_seen = w.last_seen; source = w.source; trx = w.trx }, (verdict, (w.reads, w.writes))))
+
+-- a change of the window's size has the parts of no record
+abbrev pub item_parts : ℕ → Item → Verdict → Parts
+item_parts seqno (WriteSet w) verdict = write_set_parts seqno w verdict
+item_parts seqno (SetWindow c) verdict = (0, (record { seqno = 0; last_seen = 0; source = 0; trx = 0 }, (verdict, ([], []))))
+
 abbrev pub parts_of : Judged → Parts
-parts_of j = (length (body_bytes j) + 2, (record { seqno = j.seqno; last_seen = j.item.last_seen; source = j.item.source; trx = j.item.trx }, (j.verdict, (j.item.reads, j.item.writes))))
+parts_of j = item_parts j.seqno j.item j.verdict
 
 -- the item that these are of
 abbrev pub item_of : Labels → Verdict → Lists → Option Judged
 item_of labels verdict lists =
-    unrefused (checked (transaction labels.source labels.trx labels.last_seen lists.0 lists.1)) >>= λ item. Some (record { seqno = labels.seqno; item = item; verdict = verdict })
+    unrefused (checked (transaction labels.source labels.trx labels.last_seen lists.0 lists.1)) >>= λ w. Some (record { seqno = labels.seqno; item = WriteSet w; verdict = verdict })
 
 abbrev pub record_fields : Form Judged
 record_fields = via (number 2 ⊗ (label_fields ⊗ (verdict_fields ⊗ list_fields))) parts_of (λ (x : Parts). item_of x.1.0 x.1.1.0 x.1.1.1)

@@ -62,7 +62,7 @@ impl Draft {
 
 /// The labels, 0 and 0 where none stand there.
 #[tactic(auto, unfolding(crate::specs::Reading::labels_in))]
-fn read_labels(words: &mut Words) -> Option<(u64, u64)>
+pub(crate) fn read_labels(words: &mut Words) -> Option<(u64, u64)>
     ensures { Gives (λ label. label) result words.new (labels_in words.old) }
 {
     if !words.skip(b"id") {

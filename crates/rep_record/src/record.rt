@@ -3,10 +3,11 @@
 ghost use Rattle.std.specs.Prelude.{◌≡◌, ◌+◌, ◌≤◌, ◌<◌, ◌^◌, ◌++◌, ◌↔◌, ℕ, List, length, true, Ok, IfOk, IfErr, IsSome, IfSome, option_map};
 ghost use Rattle.std.specs.List.{AllByRecursion};
 ghost use Rattle.rep_types.specs.declared.judged.Judged.{Judged};
+ghost use Rattle.rep_types.specs.declared.item.Item.TheVariants.{WriteSet as OfWriteSet};
 ghost use Rattle.rep_types.specs.Transactions.{IsWithinLimits};
 ghost use Rattle.rep_forms.specs.Keys.{KeyFits};
 ghost use Rattle.rep_forms.specs.Writes.{WriteFits};
-ghost use Rattle.rep_record.specs.Records.{IsRecord, IsFront, RecordsAreTold, is_verdict_at, is_placed, conflict_seqno, verdict_bytes, label_bytes, list_bytes, body_bytes, record_bytes, label_fields, verdict_of, verdict_fields, list_fields, record_form};
+ghost use Rattle.rep_record.specs.Records.{IsSpelled, IsRecord, spelled, IsFront, RecordsAreTold, is_verdict_at, is_placed, conflict_seqno, verdict_bytes, label_bytes, list_bytes, body_bytes, record_bytes, label_fields, verdict_of, verdict_fields, list_fields, record_form};
 
 use crate::limits::MAX_RECORD;
 use arrayvec::ArrayVec;
@@ -14,7 +15,9 @@ use rep_forms::{
     Exact, Form, put_bytes, put_run, put_u8, put_u16, put_u64, read_front, read_run, read_u8,
     read_u16, read_u64, spellings_are_told, strip_front,
 };
-use rep_types::{Judged, Key, MAX_READS, MAX_SEQNO, MAX_WRITES, Refusal, Verdict, Write, WriteSet};
+use rep_types::{
+    Item, Judged, Key, MAX_READS, MAX_SEQNO, MAX_WRITES, Refusal, Verdict, Write, WriteSet,
+};
 use std::marker::Model;
 
 type Bytes = ArrayVec<u8, MAX_RECORD>;
@@ -38,12 +41,15 @@ fn is_verdict_at(seqno: u64, verdict: Verdict) -> bool
     }
 }
 
-/// Whether the item can be written as a record: its seqno is from 1 to 2^60, and a conflict is with
-/// an item before it.
+/// Whether the item can be written as a record: it is a write set, its seqno is from 1 to 2^60, and a
+/// conflict is with an item before it.
 pub fn is_placed(judged: &Judged) -> bool
     ensures { result ≡ is_placed judged.now }
 {
-    1 <= judged.seqno && judged.seqno <= MAX_SEQNO && is_verdict_at(judged.seqno, judged.verdict)
+    judged.item.is_write_set()
+        && 1 <= judged.seqno
+        && judged.seqno <= MAX_SEQNO
+        && is_verdict_at(judged.seqno, judged.verdict)
 }
 
 /// Puts a verdict: 9 bytes.
@@ -65,17 +71,17 @@ fn put_verdict(out: &mut Bytes, verdict: Verdict)
 
 /// Puts the numbers of a record: 32 bytes.
 #[tactic(auto, using(rep_forms::specs::FormLaws::sizes, rep_forms::specs::FormLaws::joined))]
-fn put_labels(out: &mut Bytes, judged: &Judged)
+fn put_labels(out: &mut Bytes, seqno: u64, item: &WriteSet)
     requires { length out.old.items + 32 ≤ MAX_RECORD }
-    ensures bytes { out.new.items ≡ out.old.items ++ label_bytes judged.now }
-    ensures last_seen { judged.now.item.last_seen < 2 ^ 64 }
-    ensures source { judged.now.item.source < 2 ^ 64 }
-    ensures trx { judged.now.item.trx < 2 ^ 64 }
+    ensures bytes { out.new.items ≡ out.old.items ++ label_bytes seqno item.now }
+    ensures last_seen { item.now.last_seen < 2 ^ 64 }
+    ensures source { item.now.source < 2 ^ 64 }
+    ensures trx { item.now.trx < 2 ^ 64 }
 {
-    put_u64(out, judged.seqno);
-    put_u64(out, judged.item.last_seen());
-    put_u64(out, judged.item.source());
-    put_u64(out, judged.item.trx());
+    put_u64(out, seqno);
+    put_u64(out, item.last_seen());
+    put_u64(out, item.source());
+    put_u64(out, item.trx());
 }
 
 /// Puts the reads and the writes, behind how many there are: at most 1,186 bytes.
@@ -98,36 +104,48 @@ fn put_lists(out: &mut Bytes, item: &WriteSet)
 
 /// The record behind its length.
 #[tactic(auto, using(rep_forms::specs::FormLaws::sizes, rep_forms::specs::FormLaws::joined))]
-fn body_of(judged: &Judged) -> Bytes
-    ensures bytes { result.items ≡ body_bytes judged.now }
+fn body_of(seqno: u64, item: &WriteSet, verdict: Verdict) -> Bytes
+    ensures bytes { result.items ≡ body_bytes seqno item.now verdict }
     ensures size { length result.items ≤ 1227 }
-    ensures fits { is_placed judged.now ≡ true → IsRecord judged.now }
+    ensures spelled { IsSpelled item.now }
 {
     let mut body = ArrayVec::new();
-    put_labels(&mut body, judged);
-    put_verdict(&mut body, judged.verdict);
-    put_lists(&mut body, &judged.item);
+    put_labels(&mut body, seqno, item);
+    put_verdict(&mut body, verdict);
+    put_lists(&mut body, item);
     body
 }
 
-/// The bytes of a record, at most 1,229: a delivered item with its seqno and its verdict. None where
-/// it has no spelling: where its seqno is not from 1 to 2^60, or a conflict is not with an item
-/// before it.
+/// The bytes of a record of this item with this seqno and this verdict, whether or not they fit it.
 #[tactic(auto, using(rep_forms::specs::FormLaws::sizes, rep_forms::specs::FormLaws::joined))]
+fn put_write_set(seqno: u64, item: &WriteSet, verdict: Verdict) -> ArrayVec<u8, MAX_RECORD>
+    ensures bytes { result.items ≡ spelled seqno (OfWriteSet item.now) verdict }
+    ensures size { length result.items ≤ MAX_RECORD }
+    ensures spelled { IsSpelled item.now }
+{
+    let body = body_of(seqno, item, verdict);
+    let mut out = ArrayVec::new();
+    put_u16(&mut out, body.len() as u16 + 2);
+    put_bytes(&mut out, body.as_slice());
+    out
+}
+
+/// The bytes of a record, at most 1,229: a delivered item with its seqno and its verdict. None where
+/// it has no spelling: where it is no write set, its seqno is not from 1 to 2^60, or a conflict is not
+/// with an item before it.
 pub fn put_record(judged: &Judged) -> Option<ArrayVec<u8, MAX_RECORD>>
     ensures placed { IsSome result ↔ (is_placed judged.now ≡ true) }
     // What is put has a spelling, and that is it: so it is read again.
     ensures bytes { IfSome result (λ b. IsRecord judged.now × (b.items ≡ record_bytes judged.now)) }
     ensures size { length (record_bytes judged.now) ≤ MAX_RECORD }
 {
-    let body = body_of(judged);
-    if !is_placed(judged) {
-        return None;
+    match &judged.item {
+        Item::WriteSet(item) => {
+            let out = put_write_set(judged.seqno, item, judged.verdict);
+            if is_placed(judged) { Some(out) } else { None }
+        }
+        Item::SetWindow(_) => None,
     }
-    let mut out = ArrayVec::new();
-    put_u16(&mut out, body.len() as u16 + 2);
-    put_bytes(&mut out, body.as_slice());
-    Some(out)
 }
 
 /// The numbers of a record, and the bytes behind them.
@@ -243,7 +261,7 @@ impl Form for Record {
         .ok()?;
         let judged = Judged {
             seqno: labels.seqno,
-            item,
+            item: Item::WriteSet(item),
             verdict,
         };
         Some((Record { judged }, rest))

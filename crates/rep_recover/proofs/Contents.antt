@@ -11,9 +11,12 @@ use Rattle.rep_types.specs.declared.value.Write.{Write}
 use Rattle.rep_types.specs.declared.judged.Judged.{Judged}
 use Rattle.rep_types.specs.declared.verdict.Verdict.{Verdict}
 use Rattle.rep_types.specs.declared.verdict.Verdict.TheVariants.{Stale, Future, BadKey}
-use Rattle.rep_types.specs.Entries.{Entry}
+use Rattle.rep_types.specs.Windows.{Window as WindowOf}
+use Rattle.rep_types.specs.declared.item.Item.{Item}
+use Rattle.rep_types.specs.declared.item.Item.TheVariants.{WriteSet, SetWindow}
+use Rattle.rep_types.specs.Items.{writes_of}
 use Rattle.rep_types.specs.Settings.{Setting, IsRow, has_row}
-use Rattle.rep_types.specs.Order.{State, counts, in_schema, is_commit, content_after, floor, recent, conflict_with, greatest, seqnos_against}
+use Rattle.rep_types.specs.Order.{State, counts, in_schema, is_commit, content_after, extended, judge, conflict_with, greatest, seqnos_against}
 use Rattle.rep_record.specs.Blocks.{SeqnosFrom}
 use Rattle.rep_layout.specs.declared.super_body.SuperBody.{SuperBody}
 use Rattle.rep_layout.specs.declared.page_state.PageState.{PageState}
@@ -28,12 +31,12 @@ use Rattle.rep_pages.specs.declared.page.Page.{Page as PageBody}
 use Rattle.rep_pages.specs.Slots.{state_of_page}
 use Rattle.rep_pages.specs.Pages.{IsPageBody, PagesAreTold}
 use Rattle.rep_pages.specs.Images.{row_of}
-use Rattle.rep_steps.specs.Moves.{entry_in}
 use Rattle.rep_steps.specs.Nodes.{reached, advanced}
 use Rattle.rep_steps.specs.Images.{AreJudgedFrom}
 use Rattle.rep_image.specs.Bases.{HasContent}
 use Rattle.rep_recover.specs.Judging.{base_with}
 use Rattle.rep_recover.specs.Looking.{HasPage, HasPages}
+use Rattle.rep_recover.specs.Opening.{names_rows}
 
 -- ---- the rows of the pages
 
@@ -96,17 +99,17 @@ module _ (told : PagesAreTold) (r : Reading) (b : SuperBody) (pages : HasPages r
 
 -- ---- the rows of a base change no verdict and no window
 
-pub same_windows : (p : Setting) (n : ℕ) (es : List Entry) (f g : Key → Option (List ℕ)) (js : List Judged) → (reached p (base_with n es f) js).kept ≡ (reached p (base_with n es g) js).kept
-same_windows p n es f g [] = refl
-same_windows p n es f g (j ∷ js) =
-    same_windows p (n + 1) (recent (floor p (n + 1)) (es ++ entry_in j)) (if counts j then content_after f j.item.writes else f) (if counts j then content_after g j.item.writes else g) js
+pub same_windows : (p : Setting) (n : ℕ) (v : WindowOf) (f g : Key → Option (List ℕ)) (js : List Judged) → (reached p (base_with n v f) js).kept ≡ (reached p (base_with n v g) js).kept
+same_windows p n v f g [] = refl
+same_windows p n v f g (j ∷ js) =
+    same_windows p (n + 1) (extended v j) (if counts j then content_after f (writes_of j.item) else f) (if counts j then content_after g (writes_of j.item) else g) js
 
-pub judged_alike : (p : Setting) (n : ℕ) (es : List Entry) (f g : Key → Option (List ℕ)) (js : List Judged) → AreJudgedFrom p (base_with n es f) js → AreJudgedFrom p (base_with n es g) js
-judged_alike p n es f g [] h = tt
-judged_alike p n es f g (j ∷ js) h = (
+pub judged_alike : (p : Setting) (n : ℕ) (v : WindowOf) (f g : Key → Option (List ℕ)) (js : List Judged) → AreJudgedFrom p (base_with n v f) js → AreJudgedFrom p (base_with n v g) js
+judged_alike p n v f g [] h = tt
+judged_alike p n v f g (j ∷ js) h = (
   h.0,
   h.1,
-  judged_alike p (n + 1) (recent (floor p (n + 1)) (es ++ entry_in j)) (if counts j then content_after f j.item.writes else f) (if counts j then content_after g j.item.writes else g) js h.2,
+  judged_alike p (n + 1) (extended v j) (if counts j then content_after f (writes_of j.item) else f) (if counts j then content_after g (writes_of j.item) else g) js h.2,
 )
 
 -- ---- items that are judged so
@@ -121,10 +124,15 @@ commits true rows stale v h = absurd cc
 commits false true stale v h = refl
 commits false false stale v h = absurd cc
 
-pub rows_there : (p : Setting) (S : State) (js : List Judged) → AreJudgedFrom p S js → AllByRecursion (λ (j : Judged). counts j ≡ true → in_schema p j.item ≡ true) js
+commits_rows : (p : Setting) (position : ℕ) (v : WindowOf) (i : Item) → is_commit (judge p position v i) ≡ true → names_rows p i ≡ true
+commits_rows p position v (WriteSet w) is =
+    commits (nat_le (position + 1) w.last_seen) (in_schema p w) (nat_lt (w.last_seen + 1) v.floor) (conflict_with (greatest (seqnos_against w v.entries))) is
+commits_rows p position v (SetWindow c) is = refl
+
+pub rows_there : (p : Setting) (S : State) (js : List Judged) → AreJudgedFrom p S js → AllByRecursion (λ (j : Judged). counts j ≡ true → names_rows p j.item ≡ true) js
 rows_there p S [] h = tt
 rows_there p S (j ∷ js) h = (
-  λ counted. commits (nat_le (S.position + 1) j.item.last_seen) (in_schema p j.item) (nat_lt (j.item.last_seen + 1) (floor p S.position)) (conflict_with (greatest (seqnos_against j.item S.kept))) (ap is_commit (sym h.1) ∙ counted),
+  λ counted. commits_rows p S.position S.kept j.item (ap is_commit (sym h.1) ∙ counted),
   rows_there p (advanced p S j) js h.2,
 )
 

@@ -6,6 +6,7 @@ use Rattle.rep_types.specs.declared.refusal.Part.TheVariants.{Superblock, Window
 use Rattle.rep_types.specs.declared.refusal.Refusal.{Refusal}
 use Rattle.rep_types.specs.declared.refusal.Refusal.TheVariants.{NotFormatted, Corrupt}
 use Rattle.rep_types.specs.Entries.{Entry}
+use Rattle.rep_types.specs.Windows.{Window as WindowOf, fixed}
 use Rattle.rep_types.specs.Settings.{Setting}
 use Rattle.rep_layout.specs.declared.super_body.SuperBody.{SuperBody}
 use Rattle.rep_layout.specs.declared.place.Side.{Side}
@@ -74,10 +75,12 @@ bad_super size r s alike b h bad = elim (sides bad.side (side_of b.number)) [
 -- ---- what stands behind it
 
 module _ (windows : WindowsAreTold) (size : ℕ) (b : SuperBody) (r : Reading) (m : Meaning) (h : MeansBy size b r m) where
-  entries_are : (entries : List Entry) → HasWindow r b entries → m.base.kept ≡ entries
-  entries_are entries k =
+  window_is : (beside : WindowOf) → HasWindow r b beside → m.base.kept ≡ beside
+  window_is beside k =
+      let entries : m.base.kept.entries ≡ beside.entries =
       ap (λ (w : Window). w.entries)
-      (windows b.params (window b.number b.position m.base.kept) (window b.number b.position entries) h.chosen.is_super.is_super.setting h.window.is_window k.is_window (same_Some _ _ (sym h.window.stands ∙ k.stands)))
+      (windows b.params (window b.number b.position m.base.kept.entries) (window b.number b.position beside.entries) h.chosen.is_super.is_super.setting h.window.is_window k.is_window (same_Some _ _ (sym h.window.stands ∙ k.stands))) in
+      h.window.is_fixed ∙ ap (λ (es : List Entry). fixed b.params.window b.position es) entries ∙ sym k.is_fixed
 
   tail_is : HasTail r b m.base.kept m.tail
   tail_is =
@@ -92,7 +95,7 @@ module _ (windows : WindowsAreTold) (size : ℕ) (b : SuperBody) (r : Reading) (
   fails_not : (part : Part) → FailsBehind part r b → ⊥
   fails_not Superblock fails = fails
   fails_not in_window fails = fails.none m.base.kept h.window
-  fails_not in_log fails = fails.none m.tail (subst (λ (es : List Entry). HasTail r b es m.tail) (entries_are fails.entries fails.window) tail_is)
+  fails_not in_log fails = fails.none m.tail (subst (λ (v : WindowOf). HasTail r b v m.tail) (window_is fails.beside fails.window) tail_is)
   fails_not Pages fails =
       let page = h.content.pages fails.bad.number fails.bad.slot fails.bad.there in
       fails.bad.none (record { body = page.0; shown = page.1; page = page.2.page; is_page = record { is_page = page.2.is_page; is_it = page.2.is_it; earlier = page.2.earlier } })

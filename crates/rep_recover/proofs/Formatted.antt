@@ -1,10 +1,11 @@
 -- What every image of a formatted device means.
-use Rattle.std.proofs.Common.{◌≡◌, ℕ, ◌<◌, ◌≤◌, inl, inr, true, false, List, [], length, get_or, replicate, Option, None, refl, sym, subst, ◌∙◌, arith}
+use Rattle.std.proofs.Common.{◌≡◌, ℕ, ◌+◌, ◌-◌, ◌<◌, ◌≤◌, max, inl, inr, true, false, List, [], length, get_or, replicate, Option, None, refl, sym, ap, subst, ◌∙◌, arith}
 use Rattle.std.proofs.lemmas.Bool.{cases_lt}
 use Rattle.std.proofs.lemmas.Bool.Decides.{nat_tests}
 use Rattle.std.proofs.lemmas.List.{get_or-replicate, get_or_past, length-replicate}
 use Rattle.rep_types.specs.declared.judged.Judged.{Judged}
 use Rattle.rep_types.specs.Settings.{Setting, is_setting, pages_of}
+use Rattle.rep_types.specs.Windows.{Window as WindowOf}
 use Rattle.rep_types.specs.Order.{state}
 use Rattle.rep_disk.specs.History.{History}
 use Rattle.rep_layout.specs.declared.page_state.PageState.TheVariants.{Nowhere, In}
@@ -82,6 +83,10 @@ module _ (uuid : List ℕ) (p : Setting) (is : IsSuper (first_super uuid p)) (is
       lesser = λ reading allows. lesser size 0 (s (Super B)) reading has.second allows;
       saved = has.beside;
       is_window = is_window;
+      is_fixed =
+          let low : 1 ≡ max 1 (0 + 1 - p.window) = omega arith in
+          let made : ℕ → WindowOf = λ least. record { size = p.window; floor = least; entries = [] } in
+          ap made low;
     };
     content = record {
       pages = λ number slot there. (let none : Nowhere ≡ In slot = sym (no_slot (pages_of p.rows) number) ∙ there in absurd cc);

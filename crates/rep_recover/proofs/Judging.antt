@@ -6,18 +6,17 @@ use Rattle.std.proofs.lemmas.List.Sums.{fold-append}
 use Rattle.rep_types.specs.declared.judged.Judged.{Judged}
 use Rattle.rep_types.specs.declared.verdict.Verdict.{Verdict}
 use Rattle.rep_types.specs.declared.value.Write.{Write}
-use Rattle.rep_types.specs.Entries.{Entry}
+use Rattle.rep_types.specs.Windows.{Window as WindowOf}
 use Rattle.rep_types.specs.Settings.{Setting}
-use Rattle.rep_types.specs.Transactions.{written}
-use Rattle.rep_types.specs.Order.{State, floor, recent, counts, is_commit, judge, window_after}
+use Rattle.rep_types.specs.Items.{is_write_set, writes_of}
+use Rattle.rep_types.specs.Order.{State, counts, extended, judge, judged_next, window_after}
 use Rattle.std.specs.FinMap.{empty}
 use Rattle.rep_versions.specs.Versions.{Kept, IsAdded}
 use Rattle.rep_versions.specs.Following.{AreVersionsOf, effect_of, VersionsFollowTheItems}
-use Rattle.rep_cert.specs.Holdings.{Holding, IsAskable, Admits, upto, window_of, verdict_of, made_at}
-use Rattle.rep_steps.specs.Moves.{entry_in}
+use Rattle.rep_cert.specs.Holdings.{Holding, IsAskable, Admits, window_of, verdict_of, made_at}
 use Rattle.rep_steps.specs.Nodes.{advanced, reached}
 use Rattle.rep_steps.specs.Images.{AreJudgedFrom}
-use Rattle.rep_recover.specs.Judging.{AreSpanned, IsNext, Notes, HasJudged}
+use Rattle.rep_recover.specs.Judging.{AreOfWriteSets, IsNext, Notes, HasJudged}
 
 -- ---- states on the way
 
@@ -44,11 +43,10 @@ judged_there p S (i ∷ js) j rest h = judged_there p (advanced p S i) js j rest
 -- ---- the certifier
 
 -- the window after an item that is the next
-window_is : (p : Setting) (position : ℕ) (es : List Entry) (j : Judged) → j.seqno ≡ position + 1 → j.verdict ≡ judge p position es j.item
-    → window_after p position es j.item ≡ recent (floor p (position + 1)) (es ++ entry_in j)
-window_is p position es j e f =
-    let F : Verdict → ℕ → List Entry = λ v s. recent (floor p (position + 1)) (es ++ (if is_commit v then (record { seqno = s; keys = written j.item }) ∷ [] else [])) in
-    ap (λ (v : Verdict). F v (position + 1)) (sym f) ∙ ap (F j.verdict) (sym e)
+window_is : (p : Setting) (position : ℕ) (v : WindowOf) (j : Judged) → j.seqno ≡ position + 1 → j.verdict ≡ judge p position v j.item → window_after p position v j.item ≡ extended v j
+window_is p position v j e f =
+    let made : ℕ → Verdict → Judged = λ seqno verdict. record { seqno = seqno; item = j.item; verdict = verdict } in
+    ap (λ (verdict : Verdict). extended v (made (position + 1) verdict)) (sym f) ∙ ap (λ seqno. extended v (made seqno j.verdict)) (sym e)
 
 -- the present window can be asked for
 now_askable : (h : Holding) → h.made ≤ h.delivered → IsAskable h h.delivered
@@ -68,7 +66,7 @@ module _ (law : VersionsFollowTheItems) (p : Setting) (S : State) (js : List Jud
 
   verdict_is : (j : Judged) → verdict_of h j.item ≡ judge p R.position R.kept j.item
   verdict_is j =
-      ap (λ (q : Setting). judge q h.delivered (window_of h h.delivered) j.item) at.setting ∙ ap (λ (es : List Entry). judge p h.delivered es j.item) present
+      ap (λ (q : Setting). judge q h.delivered (window_of h h.delivered) j.item) at.setting ∙ ap (λ (v : WindowOf). judge p h.delivered v j.item) present
       ∙ ap (λ (n : ℕ). judge p n R.kept j.item) (sym position_is)
 
   next_at : (j : Judged) → IsNext h j → IsNextAt p R j
@@ -92,7 +90,7 @@ module _ (law : VersionsFollowTheItems) (p : Setting) (S : State) (js : List Jud
     next_window =
         let next = next_at j is in
         admits.next ∙ ap (λ (q : Setting). window_after q h.delivered (window_of h h.delivered) j.item) at.setting
-        ∙ ap (λ (es : List Entry). window_after p h.delivered es j.item) present ∙ ap (λ (n : ℕ). window_after p n R.kept j.item) (sym position_is)
+        ∙ ap (λ (v : WindowOf). window_after p h.delivered v j.item) present ∙ ap (λ (n : ℕ). window_after p n R.kept j.item) (sym position_is)
         ∙ window_is p R.position R.kept j next.seqno next.verdict ∙ sym (ap (λ (T : State). T.kept) (reached_more p S js j))
 
     windows_more : (k : ℕ) → IsAskable new k → window_of new k ≡ (reached p S (take (k - S.position) more)).kept
@@ -120,11 +118,11 @@ module _ (law : VersionsFollowTheItems) (p : Setting) (S : State) (js : List Jud
     versions_more : (b : Bool) → counts j ≡ b → (after : Kept) → Notes b j kept after → AreVersionsOf S.position (map effect_of more) after
     versions_more true e after notes =
         let place : j.seqno ≡ S.position + length (map effect_of js) + 1 = omega (arith, is.seqno, at.delivered, counted js) in
-        let effect : effect_of j ≡ j.item.writes = ap (λ (b : Bool). if b then j.item.writes else []) e in
-        let own = law.added S.position (map effect_of js) j.item.writes kept after at.versions (subst (λ (n : ℕ). IsAdded n j.item.writes kept after) place notes) in
+        let effect : effect_of j ≡ writes_of j.item = ap (λ (b : Bool). if b then writes_of j.item else []) e in
+        let own = law.added S.position (map effect_of js) (writes_of j.item) kept after at.versions (subst (λ (n : ℕ). IsAdded n (writes_of j.item) kept after) place notes) in
         subst (λ (xs : List (List Write)). AreVersionsOf S.position xs after) (ap (λ (ws : List Write). map effect_of js ++ ws ∷ []) (sym effect) ∙ effects_more) own
     versions_more false e after notes =
-        let effect : effect_of j ≡ [] = ap (λ (b : Bool). if b then j.item.writes else []) e in
+        let effect : effect_of j ≡ [] = ap (λ (b : Bool). if b then writes_of j.item else []) e in
         let own = law.passed S.position (map effect_of js) kept at.versions in
         subst (λ (x : Kept). AreVersionsOf S.position (map effect_of more) x) (sym notes)
         (subst (λ (xs : List (List Write)). AreVersionsOf S.position xs kept) (ap (λ (ws : List Write). map effect_of js ++ ws ∷ []) (sym effect) ∙ effects_more) own)
@@ -142,7 +140,7 @@ module _ (law : VersionsFollowTheItems) (p : Setting) (S : State) (js : List Jud
 
 -- ---- the beginning
 
-pub nothing_judged : VersionsFollowTheItems → (p : Setting) (S : State) (h : Holding) (kept : Kept) → AreSpanned p S.position S.kept → h ≡ made_at p S.position S.kept → kept ≡ empty → HasJudged p S [] h kept
+pub nothing_judged : VersionsFollowTheItems → (p : Setting) (S : State) (h : Holding) (kept : Kept) → window_of (made_at p S.position S.kept) S.position ≡ S.kept → h ≡ made_at p S.position S.kept → kept ≡ empty → HasJudged p S [] h kept
 nothing_judged law p S h kept spanned is none =
     subst (λ (x : Holding). HasJudged p S [] x kept) (sym is)
     (subst (λ (v : Kept). HasJudged p S [] (made_at p S.position S.kept) v) (sym none) (record {
@@ -152,12 +150,25 @@ nothing_judged law p S h kept spanned is none =
       judged = tt;
       windows = λ k ask.
           let same : k ≡ S.position = omega (arith, ask.made, ask.past) in
-          ap (λ (n : ℕ). recent (floor p n) (upto n (recent (floor p S.position) (upto S.position S.kept)))) same ∙ ap (λ (es : List Entry). recent (floor p S.position) (upto S.position es)) spanned ∙ spanned
+          ap (window_of (made_at p S.position S.kept)) same ∙ spanned
           ∙ ap (λ (xs : List Judged). (reached p S xs).kept) (sym (take_all (k - S.position) [] (omega arith)));
       versions = law.none S.position;
     }))
 
 -- ---- the items one by one
+
+-- write sets with one more
+pub one_more : (js : List Judged) (j : Judged) → AreOfWriteSets js → is_write_set j.item ≡ true → AreOfWriteSets (js ++ j ∷ [])
+one_more [] j are is = (is, tt)
+one_more (i ∷ js) j are is = (are.0, one_more js j are.1 is)
+
+-- and each of them is one
+within : (js : List Judged) (j : Judged) (rest : List Judged) → AreOfWriteSets (js ++ j ∷ rest) → is_write_set j.item ≡ true
+within [] j rest are = are.0
+within (i ∷ js) j rest are = within js j rest are.1
+
+pub one_of : (js : List Judged) (j : Judged) (rest items : List Judged) → items ≡ js ++ j ∷ rest → AreOfWriteSets items → is_write_set j.item ≡ true
+one_of js j rest items split are = within js j rest (subst AreOfWriteSets split are)
 
 pub split_at : (xs : List Judged) (i : ℕ) (j : Judged) → i < length xs → j ≡ get_or xs i j → xs ≡ take i xs ++ j ∷ drop (i + 1) xs
 split_at xs i j lt is = split xs i lt is ∙ ap (λ (n : ℕ). take i xs ++ j ∷ drop n xs) (sym (add-one i))

@@ -4,7 +4,6 @@ pub mod Formatted
 pub mod Judging
 pub mod Choosing
 pub mod Reading
-pub mod Spanning
 pub mod Behind
 pub mod Contents
 pub mod Opening

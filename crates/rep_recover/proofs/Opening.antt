@@ -33,8 +33,8 @@ opened_from size b l log items h kept is layout behind = record {
   is_super = is;
   layout = layout;
   behind = behind;
-  seqnos = seqnos_follow b.params (bare b.position behind.entries) items behind.judged.judged;
-  rows = rows_there b.params (bare b.position behind.entries) items behind.judged.judged;
+  seqnos = seqnos_follow b.params (bare b.position behind.beside) items behind.judged.judged;
+  rows = rows_there b.params (bare b.position behind.beside) items behind.judged.judged;
   within = versions_within b.position items kept behind.judged.versions;
 }
 
@@ -46,7 +46,7 @@ module _ (told : PagesAreTold) (bytes : List ℕ) (b : SuperBody) (log : Standin
   r = reading_of (layout_of b.params) bytes
 
   abbrev pub meant : Meaning
-  meant = record { uuid = b.uuid; setting = b.params; base = base_with b.position behind.entries (content told r b behind.pages); tail = items }
+  meant = record { uuid = b.uuid; setting = b.params; base = base_with b.position behind.beside (content told r b behind.pages); tail = items }
 
   pub means : IsChosen (length bytes) r b → MeansBy (length bytes) b r meant
   means chosen = record {
@@ -60,7 +60,7 @@ module _ (told : PagesAreTold) (bytes : List ℕ) (b : SuperBody) (log : Standin
     log = behind.finds.is_log;
     undefined = λ nil. no_blocks (Shows r (layout_of b.params)) b.start (b.position + 1) behind.finds.blocks behind.finds.is_log.stand (sym behind.finds.items_are ∙ behind.undefined nil);
     tail = behind.finds.items_are;
-    judged = judged_alike b.params b.position behind.entries (λ key. None) (content told r b behind.pages) items behind.judged.judged;
+    judged = judged_alike b.params b.position behind.beside (λ key. None) (content told r b behind.pages) items behind.judged.judged;
   }
 
 pub recovers_from :
@@ -80,7 +80,7 @@ recovers_from told law old mid new size m b both log items h kept synced same si
       other_is = counts.1;
       states = subst (λ (x : History). Assigns l x (found l (seen old))) (sym (same ∙ synced)) (law l (Synced old) (omega (arith, counts.0.is_super.fits, long)) refl);
       finds = behind.finds;
-      windows = λ k ask. behind.judged.windows k ask ∙ same_windows b.params b.position behind.entries (λ key. None) (content told (reading_of l (seen old)) b behind.pages) (take (k - b.position) items);
+      windows = λ k ask. behind.judged.windows k ask ∙ same_windows b.params b.position behind.beside (λ key. None) (content told (reading_of l (seen old)) b behind.pages) (take (k - b.position) items);
       versions = behind.judged.versions;
     }
 

@@ -5,26 +5,24 @@ use Rattle.rep_types.specs.declared.judged.Judged.{Judged}
 use Rattle.rep_types.specs.declared.refusal.Part.TheVariants.{Log as in_log}
 use Rattle.rep_types.specs.declared.refusal.Refusal.{Refusal}
 use Rattle.rep_types.specs.declared.refusal.Refusal.TheVariants.{OutOfMemory, Corrupt}
-use Rattle.rep_types.specs.Entries.{Entry}
+use Rattle.rep_types.specs.Windows.{Window as WindowOf}
 use Rattle.rep_types.specs.Settings.{Setting}
-use Rattle.rep_types.specs.Order.{State, floor, recent}
+use Rattle.std.specs.List.{AllByRecursion}
+use Rattle.rep_types.specs.Items.{is_write_set, writes_of}
+use Rattle.rep_types.specs.Order.{State}
 use Rattle.rep_versions.specs.Versions.{Kept, IsAdded}
 use Rattle.rep_versions.specs.Following.{AreVersionsOf, effect_of}
-use Rattle.rep_cert.specs.Holdings.{Holding, IsAskable, upto, window_of, verdict_of}
+use Rattle.rep_cert.specs.Holdings.{Holding, IsAskable, window_of, verdict_of}
 use Rattle.rep_steps.specs.Nodes.{reached}
 use Rattle.rep_steps.specs.Images.{AreJudgedFrom}
 
 -- a base: its position, its window and its rows
-abbrev pub base_with : ℕ → List Entry → (Key → Option (List ℕ)) → State
-base_with position entries content = record { position = position; content = content; kept = entries }
+abbrev pub base_with : ℕ → WindowOf → (Key → Option (List ℕ)) → State
+base_with position window content = record { position = position; content = content; kept = window }
 
 -- a base whose rows nothing is said of: no verdict and no window depends on them
-abbrev pub bare : ℕ → List Entry → State
-bare position entries = base_with position entries (λ key. None)
-
--- The window of this position spans these entries.
-abbrev pub AreSpanned : Setting → ℕ → List Entry → Type 0
-AreSpanned p position entries = recent (floor p position) (upto position entries) ≡ entries
+abbrev pub bare : ℕ → WindowOf → State
+bare position window = base_with position window (λ key. None)
 
 -- The item is the next: it has the next seqno, and the verdict that judging it gives.
 pub record IsNext (h : Holding) (j : Judged) : Type 0 where
@@ -33,7 +31,7 @@ pub record IsNext (h : Holding) (j : Judged) : Type 0 where
 
 -- The versions with what an item wrote, if it counts.
 abbrev pub Notes : Bool → Judged → Kept → Kept → Type 0
-Notes true j before after = IsAdded j.seqno j.item.writes before after
+Notes true j before after = IsAdded j.seqno (writes_of j.item) before after
 Notes false j before after = after ≡ before
 
 -- These items were judged again behind a base, one after another: each has the next seqno and the verdict that judging it gives.
@@ -46,6 +44,10 @@ pub record HasJudged (p : Setting) (S : State) (items : List Judged) (h : Holdin
   pub windows : (k : ℕ) → IsAskable h k → window_of h k ≡ (reached p S (take (k - S.position) items)).kept
   pub versions : AreVersionsOf S.position (map effect_of items) kept
 
--- A refusal that judging again may answer: no memory, or an item that is not the next.
+-- Each of them is a write set.
+abbrev pub AreOfWriteSets : List Judged → Type 0
+AreOfWriteSets items = AllByRecursion (λ (j : Judged). is_write_set j.item ≡ true) items
+
+-- A refusal that judging again may answer: no memory, or an item that is not the next, or no write set.
 abbrev pub RefusesItems : Type 0 → Refusal → Type 0
 RefusesItems Reason e = (e ≡ OutOfMemory) ⊎ ((e ≡ Corrupt in_log) × Reason)

@@ -6,6 +6,7 @@ use Rattle.rep_types.specs.declared.refusal.Part.TheVariants.{Superblock}
 use Rattle.rep_types.specs.declared.refusal.Refusal.{Refusal}
 use Rattle.rep_types.specs.declared.refusal.Refusal.TheVariants.{OutOfMemory, DiskFault, NotFormatted, Corrupt}
 use Rattle.rep_types.specs.Entries.{Entry}
+use Rattle.rep_types.specs.Windows.{Window as WindowOf}
 use Rattle.rep_disk.specs.declared.disk.DiskFault.{DiskFault as Fault}
 use Rattle.rep_disk.specs.History.{History}
 use Rattle.rep_disk.specs.Calls.{IsCall}
@@ -90,11 +91,11 @@ pub record HasBlocks (r : Reading) (b : SuperBody) (blocks : List (List Judged))
   pub undefined : IsNil b.uuid → blocks ≡ []
 
 -- The items of the reading's log behind this superblock and this window, which judging gives again.
-pub record HasTail (r : Reading) (b : SuperBody) (entries : List Entry) (items : List Judged) : Type 0 where
+pub record HasTail (r : Reading) (b : SuperBody) (beside : WindowOf) (items : List Judged) : Type 0 where
   pub blocks : List (List Judged)
   pub has : HasBlocks r b blocks
   pub items_are : items ≡ records_of blocks
-  pub judged : AreJudgedFrom b.params (bare b.position entries) items
+  pub judged : AreJudgedFrom b.params (bare b.position beside) items
 
 -- ---- the pages
 

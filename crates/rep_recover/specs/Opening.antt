@@ -1,5 +1,5 @@
 -- What opening a device finds, and why it may refuse.
-use Rattle.std.specs.Prelude.{◌≡◌, ◌⊎◌, ℕ, ◌+◌, ◌-◌, ◌<◌, ◌≤◌, Bool, is_some, List, [], length, map, take, Some, IsTrue}
+use Rattle.std.specs.Prelude.{◌≡◌, ◌⊎◌, ℕ, ◌+◌, ◌-◌, ◌<◌, ◌≤◌, Bool, true, is_some, List, [], length, map, take, Some, IsTrue}
 use Rattle.std.specs.List.{AllByRecursion}
 use Rattle.rep_types.specs.declared.key.Key.{Key}
 use Rattle.rep_types.specs.declared.judged.Judged.{Judged}
@@ -7,7 +7,10 @@ use Rattle.rep_types.specs.declared.refusal.Part.{Part}
 use Rattle.rep_types.specs.declared.refusal.Part.TheVariants.{Superblock, Window as in_window, Log as in_log, Pages}
 use Rattle.rep_types.specs.declared.refusal.Refusal.{Refusal}
 use Rattle.rep_types.specs.declared.refusal.Refusal.TheVariants.{OutOfMemory, DiskFault, NotFormatted, Corrupt}
-use Rattle.rep_types.specs.Entries.{Entry}
+use Rattle.rep_types.specs.Settings.{Setting}
+use Rattle.rep_types.specs.Windows.{Window as WindowOf}
+use Rattle.rep_types.specs.declared.item.Item.{Item}
+use Rattle.rep_types.specs.declared.item.Item.TheVariants.{WriteSet, SetWindow}
 use Rattle.rep_types.specs.Order.{counts, in_schema}
 use Rattle.rep_record.specs.Blocks.{SeqnosFrom}
 use Rattle.rep_disk.specs.History.{History, Synced, seen}
@@ -26,10 +29,10 @@ use Rattle.rep_versions.specs.Following.{AreVersionsOf, effect_of}
 use Rattle.rep_cert.specs.Holdings.{Holding, IsAskable, window_of}
 use Rattle.rep_steps.specs.Nodes.{reached}
 use Rattle.rep_steps.specs.Images.{Meaning}
-use Rattle.rep_image.specs.Bases.{other, IsSuperAt, IsChosen, HasWindow}
+use Rattle.rep_image.specs.Bases.{other, IsSuperAt, IsChosen, IsFixed, HasWindow}
 use Rattle.rep_image.specs.Meanings.{Means, MeansBy}
 use Rattle.rep_engine.specs.Checking.{HoldsWindows}
-use Rattle.rep_recover.specs.Judging.{bare, HasJudged}
+use Rattle.rep_recover.specs.Judging.{bare, AreOfWriteSets, HasJudged}
 use Rattle.rep_recover.specs.Looking.{HasBadSuper, HasNoSuper, HasTail, HasPages, HasBadPage}
 
 -- ---- why it refuses
@@ -40,20 +43,20 @@ without_log = record { cells = 0; pages = 0 }
 
 -- No window of the form stands beside the superblock that counts.
 pub record FailsAtWindow (r : Reading) (b : SuperBody) : Type 0 where
-  pub none : (entries : List Entry) → HasWindow r b entries → ⊥
+  pub none : (beside : WindowOf) → HasWindow r b beside → ⊥
 
 -- A window does, but no log whose items judging gives again.
 pub record FailsAtLog (r : Reading) (b : SuperBody) : Type 0 where
-  pub entries : List Entry
-  pub window : HasWindow r b entries
-  pub none : (items : List Judged) → HasTail r b entries items → ⊥
+  pub beside : WindowOf
+  pub window : HasWindow r b beside
+  pub none : (items : List Judged) → HasTail r b beside items → ⊥
 
 -- Both do, but in a slot that the superblock names there is no such page.
 pub record FailsAtPages (r : Reading) (b : SuperBody) : Type 0 where
-  pub entries : List Entry
-  pub window : HasWindow r b entries
+  pub beside : WindowOf
+  pub window : HasWindow r b beside
   pub items : List Judged
-  pub tail : HasTail r b entries items
+  pub tail : HasTail r b beside items
   pub bad : HasBadPage r b
 
 -- The first part behind the superblock that isn't of the form.
@@ -87,23 +90,25 @@ ReasonsExcludeMeanings = (image : List ℕ) (e : Refusal) (m : Meaning) → IsRe
 
 -- ---- what is found behind a superblock
 
--- On any device: a log at rest behind the superblock, items that were judged again over a window of the form, and the windows and
+-- On any device: a log at rest behind the superblock, write sets that were judged again over a window of the form, and the windows and
 -- versions that this gives; each of these windows can be written; without a cluster there is no item.
 pub record IsBehind (b : SuperBody) (log : Standing) (items : List Judged) (h : Holding) (kept : Kept) : Type 0 where
   pub scanned : IsScanned (layout_of b.params) b.start (b.position + 1) log items
   pub undefined : IsNil b.uuid → items ≡ []
-  pub entries : List Entry
-  pub is_window : IsWindowBody b.params (window b.number b.position entries)
-  pub judged : HasJudged b.params (bare b.position entries) items h kept
+  pub beside : WindowOf
+  pub is_window : IsWindowBody b.params (window b.number b.position beside.entries)
+  pub is_fixed : IsFixed b beside
+  pub write_sets : AreOfWriteSets items
+  pub judged : HasJudged b.params (bare b.position beside) items h kept
   pub windows : HoldsWindows h
 
 -- In bytes on which nothing is pending: the window and the pages that the superblock names, and the log behind it.
 pub record StandsBehind (bytes : List ℕ) (b : SuperBody) (log : Standing) (items : List Judged) (h : Holding) (kept : Kept) : Type 0 where
-  pub entries : List Entry
-  pub window : HasWindow (reading_of (layout_of b.params) bytes) b entries
+  pub beside : WindowOf
+  pub window : HasWindow (reading_of (layout_of b.params) bytes) b beside
   pub finds : Finds (layout_of b.params) bytes b.start (b.position + 1) log items
   pub undefined : IsNil b.uuid → items ≡ []
-  pub judged : HasJudged b.params (bare b.position entries) items h kept
+  pub judged : HasJudged b.params (bare b.position beside) items h kept
   pub pages : HasPages (reading_of (layout_of b.params) bytes) b
 
 -- A refusal of what stands behind it: no memory, the device's failure, or the first part that isn't of the form.
@@ -112,6 +117,11 @@ RefusesBehind Reason e = (e ≡ OutOfMemory) ⊎ ((e ≡ DiskFault) ⊎ ((part :
 
 -- ---- what opening finds
 
+-- whether each key that the item reads or writes is a row of the schema: a change of the window's size names none
+abbrev pub names_rows : Setting → Item → Bool
+names_rows p (WriteSet w) = in_schema p w
+names_rows p (SetWindow c) = true
+
 -- On any device of this size: what stands behind a superblock that it has room for. The items' seqnos follow its position, those
 -- that count read and write rows of its schema, and each version is of one of them.
 pub record IsOpened (size : ℕ) (b : SuperBody) (l : Layout) (log : Standing) (items : List Judged) (h : Holding) (kept : Kept) : Type 0 where
@@ -119,7 +129,7 @@ pub record IsOpened (size : ℕ) (b : SuperBody) (l : Layout) (log : Standing) (
   pub layout : l ≡ layout_of b.params
   pub behind : IsBehind b log items h kept
   pub seqnos : SeqnosFrom (b.position + 1) items
-  pub rows : AllByRecursion (λ (j : Judged). IsTrue (counts j) → IsTrue (in_schema b.params j.item)) items
+  pub rows : AllByRecursion (λ (j : Judged). IsTrue (counts j) → IsTrue (names_rows b.params j.item)) items
   pub within : (key : Key) (s : ℕ) (version : Version) → version_at kept key s ≡ Some version → (b.position < s) × (s ≤ b.position + length items)
 
 -- On an honest device: its bytes, which are stable now, mean what was found. The log so stands in the states which the bytes show,

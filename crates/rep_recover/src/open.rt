@@ -54,10 +54,10 @@ fn read_behind<D: Disk>(
 {
     the_log_is_told();
     let position = superblock.position;
-    let entries = read_window(alloc, cells, superblock)?;
+    let beside = read_window(alloc, cells, superblock)?;
     let (log, items) = find_log(alloc, cells, superblock)?;
     let params = superblock.params.copied();
-    let (certifier, versions) = judge_again(alloc, params, position, entries, &items)?;
+    let (certifier, versions) = judge_again(alloc, params, position, beside, &items)?;
     read_pages(cells, superblock)?;
     Ok(Behind {
         log,

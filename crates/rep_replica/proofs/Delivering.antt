@@ -10,16 +10,17 @@ use Rattle.rep_types.specs.declared.limits.TheConstants.{MAX_SEQNO, MAX_AHEAD}
 use Rattle.rep_types.specs.declared.refusal.Refusal.{Refusal}
 use Rattle.rep_types.specs.declared.refusal.Refusal.TheVariants.{Stopped}
 use Rattle.rep_types.specs.declared.verdict.Verdict.{Verdict}
-use Rattle.rep_types.specs.Entries.{Entry}
+use Rattle.rep_types.specs.declared.item.Item.TheVariants.{WriteSet}
+use Rattle.rep_types.specs.Windows.{Window}
 use Rattle.rep_types.specs.Settings.{Setting}
-use Rattle.rep_types.specs.Transactions.{Transaction, IsWithinLimits, written}
-use Rattle.rep_types.specs.Order.{State, floor, recent, is_commit, judge, window_after}
+use Rattle.rep_types.specs.Transactions.{Transaction, IsWithinLimits}
+use Rattle.rep_types.specs.Order.{State, judge, window_after}
 use Rattle.rep_disk.specs.History.{History}
-use Rattle.rep_cert.specs.Holdings.{Holding, IsAskable, Admits, window_of, verdict_of}
+use Rattle.rep_cert.specs.Holdings.{Holding, IsAskable, Admits, reach_at, window_of, verdict_of}
 use Rattle.rep_steps.specs.declared.event.Event.TheVariants.{Deliver}
 use Rattle.rep_steps.specs.declared.answer.Answer.TheVariants.{Gave}
 use Rattle.rep_steps.specs.Standings.{Standing, delivered, refusal, delivery_refusal}
-use Rattle.rep_steps.specs.Moves.{Found, Moves, next_item, entry_in}
+use Rattle.rep_steps.specs.Moves.{Found, Moves, next_item}
 use Rattle.rep_steps.specs.Nodes.{Node, Steps, NodesStayNodes, reached, window_at, moved, verdict_on}
 use Rattle.rep_steps.specs.Parts.{with_ahead, part_of}
 use Rattle.rep_steps.specs.Images.{AreJudgedFrom}
@@ -43,27 +44,27 @@ tests false false true many a b c d e = absurd cc
 tests false false false true a b c d e = absurd cc
 tests false false false false a b c d e = (refl, refl, refl)
 
-running_refusal : (s : Standing) (seqno : ℕ) (w : Transaction) → s.stopped ≡ false → refusal s (Deliver seqno w) ≡ delivery_refusal s seqno
+pub running_refusal : (s : Standing) (seqno : ℕ) (w : Transaction) → s.stopped ≡ false → refusal s (Deliver seqno w) ≡ delivery_refusal s seqno
 running_refusal s seqno w runs = ap (λ b. if b then Some Stopped else delivery_refusal s seqno) runs
+
+-- the backlog has room
+pub not_full : {D : Type 0} (failures : D → ℕ) (r : Replica D) (seqno : ℕ) → delivery_refusal (facts_of failures r) seqno ≡ None → length r.backlog < MAX_AHEAD
+not_full failures r seqno none =
+    let s : Standing = facts_of failures r in
+    let few = (tests (is_nil_bytes s.uuid) (delivered s == MAX_SEQNO) _ (nat_le MAX_AHEAD (length s.ahead)) _ _ _ _ none).2 in
+    let many : length s.ahead < MAX_AHEAD = grind (arith, nat_tests, few) in
+    omega (arith, many, length-append r.engine.block r.backlog)
 
 by_none : (A : Type 0) (B : Refusal → Type 0) (o : Option Refusal) → o ≡ None → A → MatchOption o A B
 by_none A B o none a = subst (λ (o : Option Refusal). MatchOption o A B) (sym none) a
-
--- ---- the window behind an item that is the next
-
-window_is : (p : Setting) (position : ℕ) (es : List Entry) (j : Judged) → j.seqno ≡ position + 1 → j.verdict ≡ judge p position es j.item
-    → window_after p position es j.item ≡ recent (floor p (position + 1)) (es ++ entry_in j)
-window_is p position es j e f =
-    let F : Verdict → ℕ → List Entry = λ v s. recent (floor p (position + 1)) (es ++ (if is_commit v then (record { seqno = s; keys = written j.item }) ∷ [] else [])) in
-    ap (λ (v : Verdict). F v (position + 1)) (sym f) ∙ ap (F j.verdict) (sym e)
 
 -- ---- the replica with one item more
 
 module _ {D : Type 0} (honest : D → Type 0) (history : D → History) (failures : D → ℕ) (old new : Replica D) (seqno : ℕ) (w : Transaction) (j : Judged)
     (running : old.stopped ≡ false) (runs : old.engine.halted ≡ None) (none : delivery_refusal (facts_of failures old) seqno ≡ None)
     (is : IsReplica (engine_facts failures old.engine) old.backlog old.certifier.current old.stopped)
-    (j_is : j ≡ record { seqno = old.certifier.current.delivered + 1; item = w; verdict = verdict_of old.certifier.current w })
-    (admits : Admits old.certifier.current w new.certifier.current)
+    (j_is : j ≡ record { seqno = old.certifier.current.delivered + 1; item = WriteSet w; verdict = verdict_of old.certifier.current (WriteSet w) })
+    (admits : Admits old.certifier.current (WriteSet w) new.certifier.current)
     (engine : new.engine ≡ old.engine) (backlog : new.backlog ≡ old.backlog ++ j ∷ []) (stopped : new.stopped ≡ old.stopped) (goes : JudgingGoesOn) where
   abbrev h : Holding
   h = old.certifier.current
@@ -74,8 +75,8 @@ module _ {D : Type 0} (honest : D → Type 0) (history : D → History) (failure
   count : h.delivered ≡ delivered s
   count = let go = is.items running in omega (arith, go.count, length-append old.engine.block old.backlog)
 
-  next_is : j ≡ next_item s w (verdict_of h w)
-  next_is = j_is ∙ ap (λ n. record { seqno = n + 1; item = w; verdict = verdict_of h w }) count
+  next_is : j ≡ next_item s w (verdict_of h (WriteSet w))
+  next_is = j_is ∙ ap (λ n. record { seqno = n + 1; item = WriteSet w; verdict = verdict_of h (WriteSet w) }) count
 
   s_runs : s.stopped ≡ false
   s_runs = ap (λ b. b || is_some old.engine.halted) running ∙ ap is_some runs
@@ -95,9 +96,9 @@ module _ {D : Type 0} (honest : D → Type 0) (history : D → History) (failure
   -- ---- on any device
 
   abbrev found_it : Found
-  found_it = record { verdict = verdict_of h w; stale = false; left = []; row = None }
+  found_it = record { verdict = verdict_of h (WriteSet w); stale = false; left = []; row = None }
 
-  pub delivered_moves : Moves s (Deliver seqno w) (Gave (verdict_of h w)) (facts_of failures new)
+  pub delivered_moves : Moves s (Deliver seqno w) (Gave (verdict_of h (WriteSet w))) (facts_of failures new)
   delivered_moves = by_none _ _ (refusal s (Deliver seqno w)) nothing (inl (found_it, refl, facts_are ∙ ap (λ (x : Judged). record s { ahead = s.ahead ++ x ∷ [] }) next_is))
 
   passed : (is_nil_bytes s.uuid ≡ false) × ((delivered s == MAX_SEQNO) ≡ false) × (nat_le MAX_AHEAD (length s.ahead) ≡ false)
@@ -133,7 +134,7 @@ module _ {D : Type 0} (honest : D → Type 0) (history : D → History) (failure
                 limit = omega (arith, length-append old.backlog (j ∷ []), go.count, count, limited);
                 undefined = λ nil. absurd (let never : false ≡ true = sym passed.0 ∙ nil in cc);
               };
-              placed = placed_more old.backlog j go.placed (subst (λ (x : Judged). is_placed x ≡ true) (sym j_is) (places.upto h.setting h.delivered (floor h.setting h.delivered) h.entries w (omega (arith, limited, count))));
+              placed = placed_more old.backlog j go.placed (subst (λ (x : Judged). is_placed x ≡ true) (sym j_is) (places.upto h.setting h.delivered (reach_at h h.delivered).size (reach_at h h.delivered).floor h.entries w (omega (arith, limited, count))));
               count = omega (arith, admits.delivered, go.count, length-append old.backlog (j ∷ []));
             };
       }))
@@ -167,22 +168,22 @@ module _ {D : Type 0} (honest : D → Type 0) (history : D → History) (failure
     window_there : window_at n (delivered n.facts) ≡ (reached p n.base n.items).kept
     window_there = ap (λ (xs : List Judged). (reached p n.base xs).kept) (take_all (delivered n.facts - n.base.position) n.items (omega (arith, all)))
 
-    verdict_is : verdict_of h w ≡ verdict_on n (Deliver seqno w)
+    verdict_is : verdict_of h (WriteSet w) ≡ verdict_on n (Deliver seqno w)
     verdict_is =
-        ap (λ (r : Setting). judge r h.delivered (window_of h h.delivered) w) setting_is ∙ ap (λ k. judge p k (window_of h h.delivered) w) here
-        ∙ ap (λ (es : List Entry). judge p (delivered n.facts) es w) (present ∙ sym window_there)
+        ap (λ (r : Setting). judge r h.delivered (window_of h h.delivered) (WriteSet w)) setting_is ∙ ap (λ k. judge p k (window_of h h.delivered) (WriteSet w)) here
+        ∙ ap (λ (v : Window). judge p (delivered n.facts) v (WriteSet w)) (present ∙ sym window_there)
 
     abbrev m : Node
     m = moved n (Deliver seqno w)
 
     -- the item is the one that comes next at the node
     item_is : j ≡ next_item n.facts w (verdict_on n (Deliver seqno w))
-    item_is = next_is ∙ ap (λ (t : Standing). next_item t w (verdict_of h w)) (sym holds.facts) ∙ ap (next_item n.facts w) verdict_is
+    item_is = next_is ∙ ap (λ (t : Standing). next_item t w (verdict_of h (WriteSet w))) (sym holds.facts) ∙ ap (next_item n.facts w) verdict_is
 
     items_are : m.items ≡ n.items ++ j ∷ []
     items_are = ap (λ (x : Judged). n.items ++ x ∷ []) (sym item_is)
 
-    step : Steps n (Deliver seqno w) (Gave (verdict_of h w)) m
+    step : Steps n (Deliver seqno w) (Gave (verdict_of h (WriteSet w))) m
     step = by_none _ _ (refusal n.facts (Deliver seqno w)) (ap (λ (t : Standing). refusal t (Deliver seqno w)) holds.facts ∙ nothing) (inl (ap Gave verdict_is, refl))
 
     facts_then : m.facts ≡ facts_of failures new
@@ -195,12 +196,12 @@ module _ {D : Type 0} (honest : D → Type 0) (history : D → History) (failure
     seqno_is : j.seqno ≡ (reached p n.base n.items).position + 1
     seqno_is = ap (λ (x : Judged). x.seqno) j_is ∙ ap (λ k. k + 1) (sym place)
 
-    verdict_there : j.verdict ≡ judge p (reached p n.base n.items).position (reached p n.base n.items).kept w
+    verdict_there : j.verdict ≡ judge p (reached p n.base n.items).position (reached p n.base n.items).kept (WriteSet w)
     verdict_there =
-        ap (λ (x : Judged). x.verdict) j_is ∙ ap (λ (r : Setting). judge r h.delivered (window_of h h.delivered) w) setting_is ∙ ap (λ (es : List Entry). judge p h.delivered es w) present
-        ∙ ap (λ k. judge p k (reached p n.base n.items).kept w) (sym place)
+        ap (λ (x : Judged). x.verdict) j_is ∙ ap (λ (r : Setting). judge r h.delivered (window_of h h.delivered) (WriteSet w)) setting_is ∙ ap (λ (v : Window). judge p h.delivered v (WriteSet w)) present
+        ∙ ap (λ k. judge p k (reached p n.base n.items).kept (WriteSet w)) (sym place)
 
-    same_item : j.item ≡ w
+    same_item : j.item ≡ WriteSet w
     same_item = ap (λ (x : Judged). x.item) j_is
 
     verdict_here : j.verdict ≡ judge p (reached p n.base n.items).position (reached p n.base n.items).kept j.item
@@ -208,9 +209,9 @@ module _ {D : Type 0} (honest : D → Type 0) (history : D → History) (failure
 
     next_window : window_of new.certifier.current new.certifier.current.delivered ≡ (reached p n.base (n.items ++ j ∷ [])).kept
     next_window =
-        admits.next ∙ ap (λ (r : Setting). window_after r h.delivered (window_of h h.delivered) w) setting_is ∙ ap (λ (es : List Entry). window_after p h.delivered es w) present
-        ∙ ap (λ k. window_after p k (reached p n.base n.items).kept w) (sym place) ∙ ap (window_after p (reached p n.base n.items).position (reached p n.base n.items).kept) (sym same_item)
-        ∙ window_is p (reached p n.base n.items).position (reached p n.base n.items).kept j seqno_is verdict_here
+        admits.next ∙ ap (λ (r : Setting). window_after r h.delivered (window_of h h.delivered) (WriteSet w)) setting_is ∙ ap (λ (v : Window). window_after p h.delivered v (WriteSet w)) present
+        ∙ ap (λ k. window_after p k (reached p n.base n.items).kept (WriteSet w)) (sym place) ∙ ap (window_after p (reached p n.base n.items).position (reached p n.base n.items).kept) (sym same_item)
+        ∙ goes.window_next p (reached p n.base n.items).position (reached p n.base n.items).kept j seqno_is verdict_here
         ∙ sym (ap (λ (T : State). T.kept) (goes.reached_more p n.base n.items j))
 
     windows_more : (k : ℕ) → n.base.position ≤ k → IsAskable new.certifier.current k → window_of new.certifier.current k ≡ (reached p n.base (take (k - n.base.position) (n.items ++ j ∷ []))).kept
@@ -227,7 +228,7 @@ module _ {D : Type 0} (honest : D → Type 0) (history : D → History) (failure
             admits.kept k ask le ∙ holds.windows k above (record { made = omega (arith, ask.made, admits.made); near = omega (arith, ask.near, admits.delivered); past = le })
             ∙ ap (λ (xs : List Judged). (reached p n.base xs).kept) (sym (take-append-le (k - n.base.position) n.items (j ∷ []) (omega (arith, le, here, all))))
 
-    pub delivered_holds : (t : Node) × Steps n (Deliver seqno w) (Gave (verdict_of h w)) t × Holds honest history failures t new
+    pub delivered_holds : (t : Node) × Steps n (Deliver seqno w) (Gave (verdict_of h (WriteSet w))) t × Holds honest history failures t new
     delivered_holds =
         let part : part_of old.engine.block q m ≡ part_of old.engine.block q n =
         ap (λ (xs : List Judged). record n { facts = with_ahead old.engine.block n.facts; items = xs }) (take-append-le q n.items (next_item n.facts w (verdict_on n (Deliver seqno w)) ∷ []) holds.within) in
@@ -237,7 +238,7 @@ module _ {D : Type 0} (honest : D → Type 0) (history : D → History) (failure
           record {
             running = stopped ∙ running;
             facts = facts_then;
-            node = stay n m (Deliver seqno w) (Gave (verdict_of h w)) holds.node step;
+            node = stay n m (Deliver seqno w) (Gave (verdict_of h (WriteSet w))) holds.node step;
             judged = subst (AreJudgedFrom p n.base) (sym items_are) (goes.judged_more p n.base n.items j holds.judged (seqno_is, verdict_here, tt));
             taken = q;
             within = omega (arith, holds.within, ap length items_are, length-append n.items (j ∷ []));
@@ -247,7 +248,7 @@ module _ {D : Type 0} (honest : D → Type 0) (history : D → History) (failure
           },
         )
 
-  pub delivered_step : NodesStayNodes → IsStep honest history failures old (Deliver seqno w) (Gave (verdict_of h w)) new
+  pub delivered_step : NodesStayNodes → IsStep honest history failures old (Deliver seqno w) (Gave (verdict_of h (WriteSet w))) new
   delivered_step stay = record {
     moves = delivered_moves;
     steps = delivered_holds stay;

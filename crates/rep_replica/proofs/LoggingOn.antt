@@ -7,8 +7,8 @@ use Rattle.std.proofs.lemmas.Bool.Decides.{nat_tests}
 use Rattle.std.specs.Prelude.{IfSome, nat_le, ◌==◌, if◌then◌else◌, get_or, slice_get, slice_set}
 use Rattle.rep_types.specs.declared.judged.Judged.{Judged}
 use Rattle.rep_types.specs.declared.refusal.Refusal.TheVariants.{NotDue, LogFull}
-use Rattle.rep_types.specs.Transactions.{IsWithinLimits}
 use Rattle.rep_record.specs.Blocks.{has_room}
+use Rattle.rep_record.specs.Records.{IsWithin}
 use Rattle.rep_record.specs.Fronts.{fitting, FrontsAreDetermined}
 use Rattle.rep_log.specs.declared.phase.Phase.{Phase}
 use Rattle.rep_log.specs.declared.phase.Phase.TheVariants.{Resting, Closing, Filling, Filled, Opening}
@@ -51,7 +51,7 @@ first_fits b bs rest all = by (has_room [] b) refl
     by true room = omega (arith, ap (λ k. if k then fitting (b ∷ []) rest + 1 else 0) room)
     by false room = absurd (omega (arith, all, ap (λ k. if k then fitting (b ∷ []) bs + 1 else 0) room))
 
-pub some_fit : FrontsAreDetermined → (block backlog : List Judged) → fitting [] block ≡ length block → ArePlaced backlog → IfSome (slice_get backlog 0) (λ j. IsWithinLimits j.item) → 0 < length (block ++ backlog) → 1 ≤ fitting [] (block ++ backlog)
+pub some_fit : FrontsAreDetermined → (block backlog : List Judged) → fitting [] block ≡ length block → ArePlaced backlog → IfSome (slice_get backlog 0) (λ j. IsWithin j.item) → 0 < length (block ++ backlog) → 1 ≤ fitting [] (block ++ backlog)
 some_fit fronts [] [] all placed limits some = absurd (omega (arith, some))
 some_fit fronts [] (j ∷ js) all placed limits some = fronts.first j js placed.0 limits
 some_fit fronts (b ∷ bs) backlog all placed limits some = first_fits b bs (bs ++ backlog) all
@@ -88,7 +88,7 @@ module _ {D : Type 0} (failures : D → ℕ) (r : Replica D) (running : IsRunnin
   log_by (Filled n) is write some = refl
   log_by (Opening n) is write some = absurd write
 
-  pub can_log : FrontsAreDetermined → IsWrite (due_of r.engine.log) → ArePlaced r.backlog → IfSome (slice_get r.backlog 0) (λ j. IsWithinLimits j.item) → 0 < length (facts_of failures r).ahead → refusal_here (facts_of failures r) to_log ≡ None
+  pub can_log : FrontsAreDetermined → IsWrite (due_of r.engine.log) → ArePlaced r.backlog → IfSome (slice_get r.backlog 0) (λ j. IsWithin j.item) → 0 < length (facts_of failures r).ahead → refusal_here (facts_of failures r) to_log ≡ None
   can_log fronts write placed limits some =
       ap (log_refusal (facts_of failures r)) phase_is ∙ log_by r.engine.log.phase refl write (some_fit fronts r.engine.block r.backlog h.fits placed limits some)
 

@@ -12,7 +12,7 @@ use rep_backlog::Backlog;
 use rep_cert::Certifier;
 use rep_disk::Disk;
 use rep_engine::Engine;
-use rep_types::{Entry, Gtid, Params, Refusal};
+use rep_types::{Gtid, Params, Refusal, Window};
 use std::alloc::Global;
 use std::marker::Model;
 use uuid::Uuid;
@@ -146,13 +146,13 @@ impl<D: Disk> Replica<D> {
         self.engine.gtid()
     }
 
-    /// The window at what is durable: the committed items that certification needed for the item behind it,
-    /// in ascending order.
+    /// The window at what is durable: its size, its floor, and the committed write sets that certification needed
+    /// for the item behind it, in ascending order.
     ///
     /// Refuses with `OutOfMemory` where the list cannot grow.
-    pub fn window(&self, alloc: Global) -> Result<Vec<Entry>, Refusal>
-        ensures window { IfOk result (λ entries. entries.items ≡ window_of self.now.certifier.current (durable_of self.now.engine.log)) }
-        ensures node { (n : Node) → Holds D.honest D.history D.failures n self.now → IfOk result (λ entries. entries.items ≡ window_at n n.facts.durable) }
+    pub fn window(&self, alloc: Global) -> Result<Window, Refusal>
+        ensures window { IfOk result (λ window. window ≡ window_of self.now.certifier.current (durable_of self.now.engine.log)) }
+        ensures node { (n : Node) → Holds D.honest D.history D.failures n self.now → IfOk result (λ window. window ≡ window_at n n.facts.durable) }
         ensures refused { IfErr result (λ refusal. refusal ≡ Refusal.OutOfMemory) }
     {
         let durable = self.engine.durable();

@@ -28,7 +28,7 @@ use rep_steps::{
     Answer, Event, Replies, judging_goes_on, nodes_stay_nodes, parts_step_as_the_whole,
     verdicts_have_a_place,
 };
-use rep_types::{Judged, Key, MAX_AHEAD, MAX_SEQNO, Refusal, Value, WriteSet};
+use rep_types::{Item, Judged, Key, MAX_AHEAD, MAX_SEQNO, Refusal, Value, WriteSet};
 
 /// What the log's step answers.
 fn wrote(outcome: Result<(), Refusal>) -> Answer
@@ -114,7 +114,7 @@ impl<D: Disk> Replica<D> {
         };
         let judged = Judged {
             seqno,
-            item,
+            item: Item::WriteSet(item),
             verdict,
         };
         if self.backlog.push(judged).is_err() {

@@ -1,20 +1,23 @@
 -- What a line of an order text has to be to be read without a fault.
-use Rattle.std.proofs.Common.{◌≡◌, ℕ, ◌+◌, ◌<◌, ◌≤◌, Bool, true, false, cond, ltb, List, [], ◌∷◌, length, map, Option, Some, None, Result, Ok, Err, refl, ap, ◌∙◌, arith}
+use Rattle.std.proofs.Common.{◌≡◌, ℕ, ◌+◌, ◌<◌, ◌≤◌, Bool, true, false, cond, ltb, List, [], ◌∷◌, length, map, Option, Some, None, Result, Ok, Err, refl, ap, subst, ◌∙◌, arith}
 use Rattle.std.specs.Prelude.{◌||◌, IfSome}
 use Rattle.std.specs.List.{list_any, AllByRecursion}
 use Rattle.std.specs.Option.{option_map_or}
 use Rattle.std.proofs.lemmas.Bool.{ltb-false, lt-ltb, le-ltb}
 use Rattle.rep_types.specs.declared.key.Key.{Key}
 use Rattle.rep_types.specs.declared.value.Write.{Write}
+use Rattle.rep_types.specs.declared.item.Item.{Item}
+use Rattle.rep_types.specs.declared.item.Item.TheVariants.{WriteSet, SetWindow as OfSetWindow}
 use Rattle.rep_types.specs.declared.refusal.Refusal.{Refusal}
 use Rattle.rep_types.specs.declared.refusal.Refusal.TheVariants.{Malformed, TooManyReads, TooManyWrites, ValueTooLong, BadParams, StreamFault}
 use Rattle.rep_types.specs.Keys.{disorder}
 use Rattle.rep_types.specs.Transactions.{Transaction, IsWithinLimits, HasShortValue, key_of, misplaced, misplaced_entry, misplaced_write}
 use Rattle.rep_types.specs.Settings.{Setting, is_setting}
+use Rattle.rep_types.specs.Windows.{is_window_size}
 use Rattle.rep_record.specs.Lines.{without_feed, line_fault}
-use Rattle.rep_record.specs.Grammar.{IsParamsLine}
-use Rattle.rep_record.specs.Reading.{is_long, well_placed, limited, item_form, item_outcome, item_line, params_form, params_outcome, params_line}
-use Rattle.rep_record.proofs.Parts.{item_means, params_mean}
+use Rattle.rep_record.specs.Grammar.{IsOrderLine, IsParamsLine}
+use Rattle.rep_record.specs.Reading.{is_long, well_placed, limited, of_kind, limited_item, order_form, order_outcome, order_line, params_form, params_outcome, params_line}
+use Rattle.rep_record.proofs.Parts.{order_means, params_mean}
 use Rattle.rep_script.specs.OrderText.{IsItem}
 
 -- ---- the limits of a write set
@@ -96,25 +99,40 @@ limited_again number w h =
 
 -- ---- the lines
 
+-- what is given is what limits were looked at of, and within them
+allowed_found : {A : Type 0} (x y : A) (b : Bool) → cond b (Ok x) (Err BadParams) ≡ Ok y → (x ≡ y) × (b ≡ true)
+allowed_found x y true e = (cc, refl)
+allowed_found x y false e = absurd cc
+
+-- an item that is given is of the kind of what was read
+kind_found : {A : Type 0} (kind : A → Item) (r : Result A Refusal) (i : Item) → of_kind kind r ≡ Ok i → (x : A) × (r ≡ Ok x) × (kind x ≡ i)
+kind_found kind (Ok x) i e = (x, refl, cc)
+kind_found kind (Err refusal) i e = absurd cc
+
+-- an item that is given for what a line says is that, within its limits
+item_is_within : (number : ℕ) (line : List ℕ) (i j : Item) → IsOrderLine line i → limited_item number i ≡ Ok j → IsItem line j
+item_is_within number line (WriteSet w) j h e =
+    let kind = kind_found WriteSet (limited number w) j e in
+    let g = limited_found number w kind.0 kind.1 in
+    subst (IsItem line) (ap WriteSet g.0 ∙ kind.2) (h, g.1)
+item_is_within number line (OfSetWindow c) j h e =
+    let kind = kind_found OfSetWindow (cond (is_window_size c.size) (Ok c) (Err BadParams)) j e in
+    let g = allowed_found c kind.0 (is_window_size c.size) kind.1 in
+    subst (IsItem line) (ap OfSetWindow g.0 ∙ kind.2) (h, g.1)
+
 -- what is given for an item's line, by what it says
-outcome_found : (number : ℕ) (line : List ℕ) (form : Option Transaction) (w : Transaction) → item_form line ≡ form → item_outcome number form ≡ Ok w → IsItem line w
-outcome_found number line None w f e = absurd cc
-outcome_found number line (Some v) w f e =
-    let g = limited_found number v w e in
-    rw (← g.0) ((item_means.found line).of v f, g.1)
+outcome_found : (number : ℕ) (line : List ℕ) (form : Option Item) (i : Item) → order_form line ≡ form → order_outcome number form ≡ Ok i → IsItem line i
+outcome_found number line None i f e = absurd cc
+outcome_found number line (Some j) i f e = item_is_within number line j i ((order_means.found line).of j f) e
 
 -- a line that is given as an item is one
-pub item_is_said : (number : ℕ) (line : List ℕ) (w : Transaction) → item_line number line ≡ Ok w → IsItem line w
-item_is_said number line w e = outcome_found number line (item_form line) w refl e
+pub item_is_said : (number : ℕ) (line : List ℕ) (i : Item) → order_line number line ≡ Ok i → IsItem line i
+item_is_said number line i e = outcome_found number line (order_form line) i refl e
 
 -- an item is given
-pub item_is_given : (number : ℕ) (line : List ℕ) (w : Transaction) → IsItem line w → item_line number line ≡ Ok w
-item_is_given number line w h = ap (item_outcome number) (item_means.again line w h.0) ∙ limited_again number w h.1
-
--- parameters that are given are those whose limits were looked at, and within them
-allowed_found : (p q : Setting) (b : Bool) → cond b (Ok p) (Err BadParams) ≡ Ok q → (p ≡ q) × (b ≡ true)
-allowed_found p q true e = (cc, refl)
-allowed_found p q false e = absurd cc
+pub item_is_given : (number : ℕ) (line : List ℕ) (i : Item) → IsItem line i → order_line number line ≡ Ok i
+item_is_given number line (WriteSet w) h = ap (order_outcome number) (order_means.again line (WriteSet w) h.0) ∙ ap (of_kind WriteSet) (limited_again number w h.1)
+item_is_given number line (OfSetWindow c) h = ap (order_outcome number) (order_means.again line (OfSetWindow c) h.0) ∙ rw h.1 refl
 
 -- what is given for a params line, by what it says
 setting_found : (number : ℕ) (line : List ℕ) (form : Option Setting) (p : Setting) → params_form line ≡ form → params_outcome number form ≡ Ok p →

@@ -14,7 +14,7 @@ use Rattle.rep_record.specs.Lines.{Unread, ahead, NextLine}
 use Rattle.rep_replica.specs.Replicas.{Replica}
 use Rattle.rep_script.specs.declared.script_line.Command.{Command}
 use Rattle.rep_script.specs.declared.script_line.Command.TheVariants.{Step, State, Stop}
-use Rattle.rep_record.specs.Reading.{item_line}
+use Rattle.rep_record.specs.Reading.{order_line}
 use Rattle.rep_script.specs.ScriptLines.{script_line}
 use Rattle.rep_script.specs.Judging.{Reading, reading_of, said_ahead, text_ahead, with_line, content, ReadsParams}
 use Rattle.rep_script.specs.Scripts.{script, script_on_disk, disk_line, unless_stop, IsOpening, EndsBehind, EndsOnDisk, Crashes, OnNewDisk, Stops, EndsAtFault, FailsAtStop, ScriptEnds, RunEnds, Did, Does, DoesOrStops, RunsLine, RunsDiskLine}
@@ -331,7 +331,7 @@ script_stop_fails size failures honest history crashes p (Some text) (Some known
 
 -- a whole script whose params line is not read
 pub script_unread : {D : Type 0} (size failures : D → ℕ) (honest : D → Type 0) (history : D → History) (crashes : Loss → D → D → Type 0) (left left' : Option (List ℕ)) (u new : Unread) (refusal : Refusal) → u ≡ at_start →
-    IfSome (ahead u left) (λ known. ReadsParams item_line known u (Err refusal) new left' × ReadsParams script_line known u (Err refusal) new left') →
+    IfSome (ahead u left) (λ known. ReadsParams order_line known u (Err refusal) new left' × ReadsParams script_line known u (Err refusal) new left') →
     IfSome left (λ text. ScriptEnds size failures honest history crashes (script text) (Err refusal))
 script_unread size failures honest history crashes None left' u new refusal is reads = tt
 script_unread size failures honest history crashes (Some text) left' u new refusal is reads =
@@ -354,7 +354,7 @@ begun size failures honest history crashes text first new (Some rest) p result r
 
 -- a whole script whose params line is read, and for which there is no disk
 pub script_without_disk : {D : Type 0} (size failures : D → ℕ) (honest : D → Type 0) (history : D → History) (crashes : Loss → D → D → Type 0) (left left' : Option (List ℕ)) (u new : Unread) (p : Setting) (refusal : Refusal) → u ≡ at_start →
-    IfSome (ahead u left) (λ known. ReadsParams item_line known u (Ok p) new left' × ReadsParams script_line known u (Ok p) new left') → OnNewDisk size failures honest history p (Err refusal) →
+    IfSome (ahead u left) (λ known. ReadsParams order_line known u (Ok p) new left' × ReadsParams script_line known u (Ok p) new left') → OnNewDisk size failures honest history p (Err refusal) →
     IfSome left (λ text. ScriptEnds size failures honest history crashes (script text) (Err refusal))
 script_without_disk size failures honest history crashes None left' u new p refusal is reads on = tt
 script_without_disk size failures honest history crashes (Some text) left' u new p refusal is reads on =
@@ -363,7 +363,7 @@ script_without_disk size failures honest history crashes (Some text) left' u new
 
 -- a whole script whose params line is read, and whose lines are run
 pub script_read : {D : Type 0} (size failures : D → ℕ) (honest : D → Type 0) (history : D → History) (crashes : Loss → D → D → Type 0) (left left' : Option (List ℕ)) (u new : Unread) (p : Setting) (result : Result (Unit {0}) Refusal) → u ≡ at_start →
-    IfSome (ahead u left) (λ known. ReadsParams item_line known u (Ok p) new left' × ReadsParams script_line known u (Ok p) new left') →
+    IfSome (ahead u left) (λ known. ReadsParams order_line known u (Ok p) new left' × ReadsParams script_line known u (Ok p) new left') →
     IfSome (ahead new left') (λ rest. ScriptEnds size failures honest history crashes (reading_of p (said_ahead script_line new rest)) result) →
     IfSome left (λ text. ScriptEnds size failures honest history crashes (script text) result)
 script_read size failures honest history crashes None left' u new p result is reads ends = tt

@@ -6,7 +6,7 @@ use Rattle.rep_types.specs.declared.refusal.Refusal.TheVariants.{Malformed, Stre
 use Rattle.rep_types.specs.Settings.{Setting}
 use Rattle.rep_record.specs.Words.{is_blank}
 use Rattle.rep_record.specs.Lines.{Unread, ahead, without_feed, line_fault, HandedOut, IsRefused, NextLine}
-use Rattle.rep_record.specs.Reading.{item_line, params_line}
+use Rattle.rep_record.specs.Reading.{order_line, params_line}
 use Rattle.rep_script.specs.Judging.{text_of, said_by, text_ahead, said_ahead, content, with_line, with_params, read_line, refused, ReadsParams}
 use Rattle.rep_script.specs.ScriptLines.{script_line}
 
@@ -106,12 +106,12 @@ params_found read (Some text) (Some known) left' first old new line r said next 
 -- ---- the same of items and of commands
 
 abbrev pub NeitherSaid : Option (List ℕ) → Unread → Unread → Option (List ℕ) → Type 0
-NeitherSaid start first u left = SaidNothing item_line start first u left × SaidNothing script_line start first u left
+NeitherSaid start first u left = SaidNothing order_line start first u left × SaidNothing script_line start first u left
 
 abbrev pub BothRead : Option (List ℕ) → Unread → Result Setting Refusal → Unread → Option (List ℕ) → Type 0
-BothRead start first r new left = IfSome start (λ text. ReadsParams item_line text first r new left × ReadsParams script_line text first r new left)
+BothRead start first r new left = IfSome start (λ text. ReadsParams order_line text first r new left × ReadsParams script_line text first r new left)
 
-both_read : (start : Option (List ℕ)) (first new : Unread) (left' : Option (List ℕ)) (r : Result Setting Refusal) → IfSome start (λ text. ReadsParams item_line text first r new left') →
+both_read : (start : Option (List ℕ)) (first new : Unread) (left' : Option (List ℕ)) (r : Result Setting Refusal) → IfSome start (λ text. ReadsParams order_line text first r new left') →
     IfSome start (λ text. ReadsParams script_line text first r new left') → BothRead start first r new left'
 both_read None first new left' r items commands = tt
 both_read (Some text) first new left' r items commands = (items, commands)
@@ -119,19 +119,19 @@ both_read (Some text) first new left' r items commands = (items, commands)
 pub both_refused : (start left left' : Option (List ℕ)) (first old new : Unread) (refusal : Refusal) (line : List ℕ) → NeitherSaid start first old (ahead old left) →
     IfSome left (λ known. NextLine (old.pending ++ known) old (Err refusal) new left' line) → BothRead start first (Err refusal) new left'
 both_refused start left left' first old new refusal line said next =
-    both_read start first new left' (Err refusal) (params_refused item_line start left left' first old new refusal line said.0 next)
+    both_read start first new left' (Err refusal) (params_refused order_line start left left' first old new refusal line said.0 next)
     (params_refused script_line start left left' first old new refusal line said.1 next)
 
 pub both_missing : (start left left' : Option (List ℕ)) (first old new : Unread) (line : List ℕ) (number : ℕ) → NeitherSaid start first old (ahead old left) →
     IfSome left (λ known. NextLine (old.pending ++ known) old (Ok false) new left' line) → new.number ≡ old.number → number ≡ new.number →
     BothRead start first (Err (Malformed (number + 1))) new left'
 both_missing start left left' first old new line number said next same is =
-    both_read start first new left' (Err (Malformed (number + 1))) (params_missing item_line start left left' first old new line number said.0 next same is)
+    both_read start first new left' (Err (Malformed (number + 1))) (params_missing order_line start left left' first old new line number said.0 next same is)
     (params_missing script_line start left left' first old new line number said.1 next same is)
 
 pub both_found : (start left left' : Option (List ℕ)) (first old new : Unread) (line : List ℕ) (r : Result Setting Refusal) → NeitherSaid start first old (ahead old left) →
     IfSome left (λ known. NextLine (old.pending ++ known) old (Ok true) new left' line) → new.number ≡ old.number + 1 → is_blank line ≡ false →
     r ≡ params_line new.number line → BothRead start first r new left'
 both_found start left left' first old new line r said next numbered filled is =
-    both_read start first new left' r (params_found item_line start left left' first old new line r said.0 next numbered filled is)
+    both_read start first new left' r (params_found order_line start left left' first old new line r said.0 next numbered filled is)
     (params_found script_line start left left' first old new line r said.1 next numbered filled is)

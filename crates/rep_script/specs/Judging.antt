@@ -2,16 +2,16 @@
 use Rattle.std.specs.Prelude.{◌≡◌, ℕ, ◌+◌, if◌then◌else◌, List, [], ◌∷◌, ◌++◌, length, take, Option, None, Some, IsSomeAnd, Result, Ok, Err}
 use Rattle.std.specs.List.{flat_map}
 use Rattle.std.specs.Io.KnownBytes.{Appends}
+use Rattle.rep_types.specs.declared.item.Item.{Item}
 use Rattle.rep_types.specs.declared.judged.Judged.{Judged}
 use Rattle.rep_types.specs.declared.refusal.Refusal.{Refusal}
 use Rattle.rep_types.specs.declared.refusal.Refusal.TheVariants.{OutOfMemory, Malformed, StreamFault}
-use Rattle.rep_types.specs.Transactions.{Transaction}
 use Rattle.rep_types.specs.Settings.{Setting}
 use Rattle.rep_types.specs.Order.{Order, history, verdict}
 use Rattle.rep_plain.specs.Delivered.{Delivered}
 use Rattle.rep_record.specs.Words.{is_blank}
 use Rattle.rep_record.specs.Lines.{Unread, ahead, raw_lines, without_feed, line_fault}
-use Rattle.rep_record.specs.Reading.{item_line, params_line}
+use Rattle.rep_record.specs.Reading.{order_line, params_line}
 use Rattle.rep_record.specs.Texts.{verdict_line}
 
 -- What a text with parameters says: the parameters, what the lines behind them say up to the first fault, and that fault. Of an order
@@ -44,7 +44,7 @@ said_by read number before (raw ∷ lines) = with_line (read_line read number be
 
 -- the items of these lines
 abbrev pub items_of : ℕ → ℕ → List (List ℕ) → Order × Option Refusal
-items_of number before lines = said_by item_line number before lines
+items_of number before lines = said_by order_line number before lines
 
 -- what stands where a text has no parameters
 abbrev pub no_setting : Setting
@@ -67,8 +67,8 @@ text_of read number before (raw ∷ lines) =
     with_params (read_line params_line number before raw) (said_by read (number + 1) (before + length raw) lines) (text_of read (number + 1) (before + length raw) lines)
 
 -- What an order text says.
-abbrev pub reading : List ℕ → Reading Transaction
-reading text = text_of item_line 1 0 (raw_lines text)
+abbrev pub reading : List ℕ → Reading Item
+reading text = text_of order_line 1 0 (raw_lines text)
 
 -- the line of a judged item
 abbrev pub line_of : Judged → List ℕ
@@ -79,20 +79,20 @@ abbrev pub verdict_lines : List Judged → List ℕ
 verdict_lines h = flat_map line_of h
 
 -- The verdict lines of what a text says, by the definition of a verdict.
-abbrev pub judged_text : Reading Transaction → List ℕ
+abbrev pub judged_text : Reading Item → List ℕ
 judged_text r = verdict_lines (history r.setting r.order)
 
 -- How judging a text ended, and what is answered then: at the end of a text without fault, all verdict lines; at want of memory, the
 -- lines of some first items, whole; at a stream fault, which may also be the reader's or the writer's, a front of all verdict
 -- lines; at any other refusal, which is the text's first fault, all verdict lines of the items before it.
-abbrev pub EndsBy : Reading Transaction → (List ℕ → Type 0) → Result (Unit {0}) Refusal → Type 0
+abbrev pub EndsBy : Reading Item → (List ℕ → Type 0) → Result (Unit {0}) Refusal → Type 0
 EndsBy r IsAnswered (Ok _) = (r.fault ≡ None) × IsAnswered (judged_text r)
 EndsBy r IsAnswered (Err OutOfMemory) = (k : ℕ) × IsAnswered (verdict_lines (take k (history r.setting r.order)))
 EndsBy r IsAnswered (Err StreamFault) = (k : ℕ) × IsAnswered (take k (judged_text r))
 EndsBy r IsAnswered (Err refusal) = (r.fault ≡ Some refusal) × IsAnswered (judged_text r)
 
 -- how it ended, where all that is answered was written
-abbrev pub Ends : Reading Transaction → Option (List ℕ) → Option (List ℕ) → Result (Unit {0}) Refusal → Type 0
+abbrev pub Ends : Reading Item → Option (List ℕ) → Option (List ℕ) → Result (Unit {0}) Refusal → Type 0
 Ends r old new result = EndsBy r (Appends old new) result
 
 -- a reading with these parameters
@@ -105,7 +105,7 @@ said_ahead read u text = said_by read (u.number + 1) u.taken (raw_lines text)
 
 -- the items of these lines
 abbrev pub items_ahead : Unread → List ℕ → Order × Option Refusal
-items_ahead u text = said_ahead item_line u text
+items_ahead u text = said_ahead order_line u text
 
 -- what the text says that a reader of lines still has
 abbrev pub text_ahead : {A : Type 0} → (ℕ → List ℕ → Result A Refusal) → Unread → List ℕ → Reading A
@@ -123,14 +123,14 @@ abbrev pub content : {A : Type 0} → (ℕ → List ℕ → Result A Refusal) �
 content read number line = if is_blank line then None else Some (read number line)
 
 -- the line that is written for the next item
-abbrev pub next_verdict_line : Delivered → Transaction → List ℕ
-next_verdict_line node w = verdict_line (length node.order + 1) (verdict node.setting (node.order ++ w ∷ []) (length node.order + 1))
+abbrev pub next_verdict_line : Delivered → Item → List ℕ
+next_verdict_line node i = verdict_line (length node.order + 1) (verdict node.setting (node.order ++ i ∷ []) (length node.order + 1))
 
 -- What judging one line does to the node and to what is written.
-abbrev pub JudgesLine : Delivered → Option (Result Transaction Refusal) → Result (Unit {0}) Refusal → Delivered → Option (List ℕ) → Option (List ℕ) → Type 0
+abbrev pub JudgesLine : Delivered → Option (Result Item Refusal) → Result (Unit {0}) Refusal → Delivered → Option (List ℕ) → Option (List ℕ) → Type 0
 JudgesLine old None result new before after = (result ≡ Ok tt) × (new ≡ old) × Appends before after []
 JudgesLine old (Some (Err refusal)) result new before after = (result ≡ Err refusal) × Appends before after []
-JudgesLine old (Some (Ok w)) (Ok _) new before after = (new ≡ record old { order = old.order ++ w ∷ [] }) × Appends before after (next_verdict_line old w)
-JudgesLine old (Some (Ok w)) (Err OutOfMemory) new before after = Appends before after []
-JudgesLine old (Some (Ok w)) (Err StreamFault) new before after = (k : ℕ) × Appends before after (take k (next_verdict_line old w))
-JudgesLine old (Some (Ok w)) (Err refusal) new before after = ⊥
+JudgesLine old (Some (Ok i)) (Ok _) new before after = (new ≡ record old { order = old.order ++ i ∷ [] }) × Appends before after (next_verdict_line old i)
+JudgesLine old (Some (Ok i)) (Err OutOfMemory) new before after = Appends before after []
+JudgesLine old (Some (Ok i)) (Err StreamFault) new before after = (k : ℕ) × Appends before after (take k (next_verdict_line old i))
+JudgesLine old (Some (Ok i)) (Err refusal) new before after = ⊥

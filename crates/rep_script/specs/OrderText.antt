@@ -1,21 +1,25 @@
 -- The grammar of a whole order text, apart from how a text is read, and what reading and the grammar have to do with each other.
 use Rattle.std.specs.Prelude.{◌≡◌, ◌↔◌, ℕ, ◌≤◌, not, IsTrue, List, ◌∷◌, length, map, filter, None}
 use Rattle.std.specs.List.{AllByRecursion, AllZip}
-use Rattle.rep_types.specs.Transactions.{Transaction, IsWithinLimits}
+use Rattle.rep_types.specs.declared.item.Item.{Item}
+use Rattle.rep_types.specs.declared.item.Item.TheVariants.{WriteSet, SetWindow}
+use Rattle.rep_types.specs.Transactions.{IsWithinLimits}
 use Rattle.rep_types.specs.Settings.{Setting, is_setting}
+use Rattle.rep_types.specs.Windows.{is_window_size}
 use Rattle.rep_types.specs.Order.{Order}
 use Rattle.rep_record.specs.Words.{is_blank}
 use Rattle.rep_record.specs.Lines.{raw_lines, without_feed}
-use Rattle.rep_record.specs.Grammar.{IsItemLine, IsParamsLine}
+use Rattle.rep_record.specs.Grammar.{IsItemLine, IsChangeLine, IsParamsLine}
 use Rattle.rep_script.specs.Judging.{reading}
 
 -- the lines with words of a text, without their line feeds
 abbrev pub contents : List ℕ → List (List ℕ)
 contents text = filter (λ (line : List ℕ). not (is_blank line)) (map without_feed (raw_lines text))
 
--- An item's line within the limits of a write set.
-abbrev pub IsItem : List ℕ → Transaction → Type 0
-IsItem line w = IsItemLine line w × IsWithinLimits w
+-- A line of an item within its limits: those of a write set, or those of a window's size.
+abbrev pub IsItem : List ℕ → Item → Type 0
+IsItem line (WriteSet w) = IsItemLine line w × IsWithinLimits w
+IsItem line (SetWindow c) = IsChangeLine line c × IsTrue (is_window_size c.size)
 
 -- An order text: at most 67,108,864 bytes, lines of at most 4,096 bytes; the first line with words is a params line within the
 -- limits, and each further one is an item.

@@ -3,7 +3,7 @@
 ghost use Rattle.std.specs.Prelude.{◌≡◌, ◌++◌, [], IfSome};
 ghost use Rattle.std.specs.Io.KnownBytes.{Appends};
 ghost use Rattle.rep_record.specs.Lines.{Unread, ahead};
-ghost use Rattle.rep_record.specs.Reading.{item_line};
+ghost use Rattle.rep_record.specs.Reading.{order_line};
 ghost use Rattle.rep_script.specs.Judging.{reading, reading_of, items_ahead, Ends, EndsBy, ReadsParams, JudgesLine, content};
 ghost use Rattle.rep_script.specs.Answering.{Answered};
 ghost use Rattle.rep_script.specs.ScriptLines.{script_line};
@@ -11,7 +11,7 @@ ghost use Rattle.rep_script.specs.ScriptLines.{script_line};
 use crate::exchange::{Counted, Waiting, next_line, send};
 use arrayvec::ArrayVec;
 use rep_plain::PlainNode;
-use rep_record::{TextReader, is_blank, read_item_line, read_params_line, write_verdict};
+use rep_record::{TextReader, is_blank, read_order_line, read_params_line, write_verdict};
 use rep_types::{Params, Refusal};
 use std::alloc::Global;
 use std::io::{Read, Write};
@@ -28,7 +28,7 @@ pub fn read_params<R: Read>(
 ) -> Result<Params, Refusal>
     // The lines behind it are items, or commands.
     ensures { IfSome (ahead text.old (R.remaining reader.old)) (λ known.
-        ReadsParams item_line known text.old result text.new (R.remaining reader.new) × ReadsParams script_line known text.old result text.new (R.remaining reader.new)) }
+        ReadsParams order_line known text.old result text.new (R.remaining reader.new) × ReadsParams script_line known text.old result text.new (R.remaining reader.new)) }
 {
     'lines: while text.next_line(reader, line)? {
         if !is_blank(line) {
@@ -47,13 +47,13 @@ fn judge_line<W: Write>(
     number: u64,
     writer: &mut W,
 ) -> Result<(), Refusal>
-    ensures { JudgesLine node.old (content item_line number line.now) result node.new (W.contents writer.old) (W.contents writer.new) }
+    ensures { JudgesLine node.old (content order_line number line.now) result node.new (W.contents writer.old) (W.contents writer.new) }
 {
     if is_blank(line) {
         return Ok(());
     }
-    let item = read_item_line(line, number)?;
-    let verdict = node.deliver(item)?;
+    let item = read_order_line(line, number)?;
+    let verdict = node.deliver_item(item)?;
     write_verdict(writer, node.position(), verdict)
 }
 
@@ -91,10 +91,11 @@ fn judge_items<R: Read, W: Write>(
     outcome
 }
 
-/// Judges an order text: writes a verdict line for each of its items. The lines go out together, but each before the
-/// reader is asked for what comes after the item's line.
+/// Judges an order text: writes a verdict line for each of its items, which are write sets and changes of the
+/// window's size. The lines go out together, but each before the reader is asked for what comes after the
+/// item's line.
 ///
-/// Refuses a params line as `read_params_line` does, an item's line as `read_item_line` does, want of
+/// Refuses a params line as `read_params_line` does, an item's line as `read_order_line` does, want of
 /// memory with `OutOfMemory`, and with `StreamFault` a reader or a writer that fails and a text of more
 /// than 67,108,864 bytes. The verdict lines of the items before stand.
 pub fn judge_text<R: Read, W: Write>(

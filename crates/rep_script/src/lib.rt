@@ -20,5 +20,5 @@ pub use judge::{judge_text, read_params};
 pub use laws::reading_is_the_text_grammar;
 pub use saved_file::read_saved;
 pub use script::{on_new_disk, opened, run_on_disk, run_script};
-pub use script_line::{Command, read_command};
+pub use script_line::{Command, next_number, read_command, read_loss};
 pub use state::state_text;

@@ -81,7 +81,7 @@ fn run_command<D: Disk, W: Write>(
             write_answer(writer, replica, &answer)?;
         }
         Command::State => match replica.window(alloc) {
-            Ok(window) => write_state(writer, replica, &window)?,
+            Ok(window) => write_state(writer, replica, window.entries())?,
             Err(refusal) => write_refused(writer, refusal)?,
         },
         Command::Stop(loss) => return Ok(Some(loss)),

@@ -21,16 +21,16 @@ pub enum Command {
     Stop(Loss),
 }
 
-/// The next word as a number.
-fn next_number(words: &mut Words) -> Option<u64>
+/// The next word as a number below 2^64, or nothing where there is none or it is none.
+pub fn next_number(words: &mut Words) -> Option<u64>
     ensures { Gives (λ number. number) result words.new (next (number_in (2 ^ 64)) words.old) }
 {
     read_number(words.next_word()?)
 }
 
-/// What a stop loses.
+/// What a stop loses: `keep`, `drop` or `junk`, as the next word says.
 #[tactic(auto, unfolding(crate::specs::ScriptLines::loss_in))]
-fn read_loss(words: &mut Words) -> Option<Loss>
+pub fn read_loss(words: &mut Words) -> Option<Loss>
     ensures { Gives (λ loss. loss) result words.new (loss_in words.old) }
 {
     if words.skip(b"keep") {

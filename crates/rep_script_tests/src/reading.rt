@@ -8,18 +8,30 @@ use std::io::Read;
 use std::process::Abort;
 use uuid::Uuid;
 
-/// What judging this text writes, whose reader fails behind it, and how that ends.
-fn judged_before_a_fault(alloc: Global, text: &[u8]) -> (Vec<u8>, Result<(), Refusal>) {
+/// What is done with a text.
+#[derive(Clone, Copy)]
+enum Done {
+    /// It is judged.
+    Judged,
+    /// It is run as a script.
+    Ran,
+}
+
+/// What this text writes, whose reader fails behind it, and how that ends.
+fn before_a_fault(alloc: Global, done: Done, text: &[u8]) -> (Vec<u8>, Result<(), Refusal>) {
     let mut reader = text.chain(BrokenReader);
     let mut written = Vec::new(alloc);
-    let end = judge_text(alloc, &mut reader, &mut written);
+    let end = match done {
+        Done::Judged => judge_text(alloc, &mut reader, &mut written),
+        Done::Ran => run_script(alloc, &mut reader, &mut written),
+    };
     (written, end)
 }
 
 #[test]
 fn a_verdict_is_written_before_more_is_read(rt: HostRuntime) {
     let text = b"params 4 4 126\nitem 0 w 0/1=61\nitem 0 w 0/2=61";
-    let (written, end) = judged_before_a_fault(rt.alloc(), text);
+    let (written, end) = before_a_fault(rt.alloc(), Done::Judged, text);
     wrote(
         &rt,
         (&written, end),
@@ -27,19 +39,11 @@ fn a_verdict_is_written_before_more_is_read(rt: HostRuntime) {
     );
 }
 
-/// What running this script writes, whose reader fails behind it, and how that ends.
-fn ran_before_a_fault(alloc: Global, script: &[u8]) -> (Vec<u8>, Result<(), Refusal>) {
-    let mut reader = script.chain(BrokenReader);
-    let mut written = Vec::new(alloc);
-    let end = run_script(alloc, &mut reader, &mut written);
-    (written, end)
-}
-
 #[test]
 fn a_reader_that_fails_ends_a_script(rt: HostRuntime) {
     let rows: [(&[u8], &[u8]); 2] = [(b"", b""), (b"params 4 4 126\nsync\nsync", b"synced 0\n")];
     for (script, lines) in rows {
-        let (written, end) = ran_before_a_fault(rt.alloc(), script);
+        let (written, end) = before_a_fault(rt.alloc(), Done::Ran, script);
         wrote(&rt, (&written, end), (lines, Err(Refusal::StreamFault)));
     }
 }

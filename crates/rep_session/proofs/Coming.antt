@@ -7,6 +7,8 @@ use Rattle.rep_types.specs.declared.value.Write.{Write}
 use Rattle.rep_types.specs.declared.refusal.Refusal.{Refusal}
 use Rattle.rep_types.specs.Settings.{Setting}
 use Rattle.rep_types.specs.Transactions.{Transaction, transaction}
+use Rattle.rep_types.specs.declared.item.Item.{Item}
+use Rattle.rep_types.specs.Items.{reads_of, seen_by}
 use Rattle.rep_types.specs.Order.{Order, item, read}
 use Rattle.rep_types.specs.Verdicts.{ReadsAreSerial}
 use Rattle.rep_session.specs.declared.finished.Finished.TheVariants.{ReadOnly, WriteSet}
@@ -154,9 +156,9 @@ module _ {S : Type 0} (gives : S → Key → ℕ → Result (Option (List ℕ)) 
   set_of false w x e = absurd cc
 
   pub sessions_serial : ReadsAreSerial → SessionsAreSerial gives are_of
-  sessions_serial serial p L source trx snapshot tables calls u n runs first last ends commit key row was =
+  sessions_serial serial p L source trx snapshot tables calls u n w runs first last is ends commit key row was =
       let c = sessions_come p L source trx snapshot tables calls u runs in
-      let w : transaction u.source u.trx u.snapshot u.reads u.writes ≡ item L n = set_of (nat_lt 0 (length u.writes)) (transaction u.source u.trx u.snapshot u.reads u.writes) (item L n) ends in
-      let has : Contains (item L n).reads key = subst (λ (x : Transaction). Contains x.reads key) w ((c.reads key).1 (row, was)) in
-      let seen : snapshot ≡ (item L n).last_seen = sym c.snapshot ∙ ap (λ (x : Transaction). x.last_seen) w in
+      let own : transaction u.source u.trx u.snapshot u.reads u.writes ≡ w = set_of (nat_lt 0 (length u.writes)) (transaction u.source u.trx u.snapshot u.reads u.writes) w ends in
+      let has : Contains (reads_of (item L n)) key = subst (λ (i : Item). Contains (reads_of i) key) (sym is) (subst (λ (x : Transaction). Contains x.reads key) own ((c.reads key).1 (row, was))) in
+      let seen : snapshot ≡ seen_by (item L n) = sym c.snapshot ∙ ap (λ (x : Transaction). x.last_seen) own ∙ sym (ap seen_by is) in
       c.rows key row was ∙ ap (read p L key) seen ∙ serial p L n key first last commit has

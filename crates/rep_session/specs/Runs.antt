@@ -6,6 +6,8 @@ use Rattle.rep_types.specs.declared.refusal.Refusal.{Refusal}
 use Rattle.rep_types.specs.declared.verdict.Verdict.TheVariants.{Commit}
 use Rattle.rep_types.specs.Keys.{key_eq}
 use Rattle.rep_types.specs.Settings.{Setting}
+use Rattle.rep_types.specs.declared.item.Item.TheVariants.{WriteSet as OfWriteSet}
+use Rattle.rep_types.specs.Transactions.{Transaction}
 use Rattle.rep_types.specs.Order.{Order, item, verdict, read, latest}
 use Rattle.rep_session.specs.declared.finished.Finished.TheVariants.{WriteSet}
 use Rattle.rep_session.specs.Sessions.{Progress, Gets, Writes, begun, finished, write_of}
@@ -69,7 +71,7 @@ SessionsComeTo gives are_of = (p : Setting) (L : Order) (source trx snapshot : �
 -- Where the write set of a session is an item of the order and commits, each key that the session read had, at the item's own place,
 -- the row that was answered.
 abbrev pub SessionsAreSerial : {S : Type 0} → (S → Key → ℕ → Result (Option (List ℕ)) Refusal → S → Type 0) → (S → Setting → Order → Type 0) → Type 0
-SessionsAreSerial gives are_of = (p : Setting) (L : Order) (source trx snapshot : ℕ) (tables : List ℕ) (calls : List Call) (u : Progress) (n : ℕ) →
+SessionsAreSerial gives are_of = (p : Setting) (L : Order) (source trx snapshot : ℕ) (tables : List ℕ) (calls : List Call) (u : Progress) (n : ℕ) (w : Transaction) →
     Runs gives are_of p L (begun source trx tables snapshot) calls u →
-    0 < n → n ≤ length L → finished u ≡ WriteSet (item L n) → verdict p L n ≡ Commit →
+    0 < n → n ≤ length L → item L n ≡ OfWriteSet w → finished u ≡ WriteSet w → verdict p L n ≡ Commit →
     (key : Key) (row : Option (List ℕ)) → WasRead calls key row → row ≡ read p L key (n - 1)

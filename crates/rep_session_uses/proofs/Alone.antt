@@ -6,9 +6,12 @@ use Rattle.rep_types.specs.declared.key.Key.{Key}
 use Rattle.rep_types.specs.declared.value.Write.{Write}
 use Rattle.rep_types.specs.declared.refusal.Refusal.{Refusal}
 use Rattle.rep_types.specs.Settings.{Setting}
+use Rattle.rep_types.specs.declared.item.Item.{Item}
+use Rattle.rep_types.specs.Items.{writes_of}
 use Rattle.rep_types.specs.Transactions.{Transaction, transaction}
 use Rattle.rep_types.specs.Order.{Order, item, read, overwritten, content_after}
 use Rattle.rep_types.specs.Verdicts.{StateIsEnough}
+use Rattle.rep_types.specs.ByItems.{ReachByItems}
 use Rattle.rep_session.specs.declared.finished.Finished.TheVariants.{ReadOnly, WriteSet}
 use Rattle.rep_session.specs.Sessions.{Progress, begun, finished, write_of}
 use Rattle.rep_session.specs.Runs.{Call, WasGot, WasRead, ComesTo, done, last_write, SessionsComeTo, SessionsAreSerial}
@@ -47,13 +50,13 @@ module _ (p : Setting) (L : Order) (t : Progress) (calls : List Call) (u : Progr
   none_done ends key = sym (c.writes key) ∙ unwritten_of u.writes key (transaction u.source u.trx u.snapshot u.reads u.writes) ends
 
 pub run_alone : {S : Type 0} (gives : S → Key → ℕ → Result (Option (List ℕ)) Refusal → S → Type 0) (are_of : S → Setting → Order → Type 0) →
-    SessionsComeTo gives are_of → SessionsAreSerial gives are_of → StateIsEnough → SessionsRunAlone gives are_of
-run_alone gives are_of come serial enough = record {
-  committed = λ p L source trx snapshot tables calls u n runs ends is.
+    SessionsComeTo gives are_of → SessionsAreSerial gives are_of → StateIsEnough → ReachByItems → SessionsRunAlone gives are_of
+run_alone gives are_of come serial enough reach = record {
+  committed = λ p L source trx snapshot tables calls u n w runs own ends is.
       let t = begun source trx tables snapshot in
       let c : ComesTo p L t calls u = come p L source trx snapshot tables calls u runs in
-      alone p L t calls u c (n - 1) (serial p L source trx snapshot tables calls u n runs is.first is.last ends is.commit) (rows_at p L n)
-      (λ key. after_commit p L n key enough is ∙ ap (overwritten (read p L key (n - 1))) (item_writes p L t calls u c (item L n) ends key));
+      alone p L t calls u c (n - 1) (serial p L source trx snapshot tables calls u n w runs is.first is.last own ends is.commit) (rows_at p L n)
+      (λ key. after_commit reach p L n key enough is ∙ ap (overwritten (read p L key (n - 1))) (ap (λ (i : Item). last_write (writes_of i) key) own ∙ item_writes p L t calls u c w ends key));
   read_only = λ p L source trx snapshot tables calls u runs ends.
       let t = begun source trx tables snapshot in
       let c : ComesTo p L t calls u = come p L source trx snapshot tables calls u runs in

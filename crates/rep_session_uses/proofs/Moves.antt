@@ -8,7 +8,7 @@ use Rattle.rep_types.specs.declared.refusal.Refusal.TheVariants.{Closed}
 use Rattle.rep_types.specs.Keys.{key_eq}
 use Rattle.rep_types.specs.Settings.{Setting}
 use Rattle.rep_types.specs.Transactions.{Transaction, transaction}
-use Rattle.rep_types.specs.Order.{Order, item, read}
+use Rattle.rep_types.specs.Order.{Order, read}
 use Rattle.rep_session.specs.declared.finished.Finished.{Finished}
 use Rattle.rep_session.specs.declared.finished.Finished.TheVariants.{ReadOnly, WriteSet}
 use Rattle.rep_session.specs.Sessions.{Progress, begun, known, Gets, Writes, after_read, write_refusal, finished, put, delete}
@@ -50,9 +50,9 @@ module _ {S : Type 0} (gives : S → Key → ℕ → Result (Option (List ℕ)) 
       labels = labelled source trx snapshot tables t u ends began
           (then_labels t t1 u (got_labels gives t t1 from a b (Ok found) (known t from) got)
           (then_labels t1 t2 u (wrote_labels t1 t2 (delete from) (Ok none) (write_refusal t1 (delete from)) out) (wrote_labels t2 u (put to v) (Ok nothing) (write_refusal t2 (put to v)) onto))) answer;
-      committed = λ p L n of is committed key.
-          let own = ended_with u.ended (finished u) (WriteSet (item L n)) (sym answer ∙ is) in
-          let alone = law.committed p L source trx snapshot tables calls u n (runs p L of) own committed in
+      committed = λ p L n w of here is committed key.
+          let own = ended_with u.ended (finished u) (WriteSet w) (sym answer ∙ is) in
+          let alone = law.committed p L source trx snapshot tables calls u n w (runs p L of) here own committed in
           alone.leaves key
           ∙ two_written (delete from) (put to v) (key_eq from key) (key_eq to key) (read p L key (n - 1))
           ∙ ap (λ (row : Option (List ℕ)). if key_eq to key then row else if key_eq from key then None else read p L key (n - 1))
@@ -70,10 +70,10 @@ module _ {S : Type 0} (gives : S → Key → ℕ → Result (Option (List ℕ)) 
         subst (λ (s : Progress). Gets gives s from a (Ok None) u b) began (subst (λ (o : Option (List ℕ)). Gets gives t from a (Ok o) u b) is_none got) in
         record {
           labels = labelled source trx snapshot tables t u ends began (got_labels gives t u from a b (Ok found) (known t from) got) answer;
-          committed = λ p L n of is committed key.
-              absurd (no_set u.writes (transaction u.source u.trx u.snapshot u.reads u.writes) (item L n)
+          committed = λ p L n w of here is committed key.
+              absurd (no_set u.writes (transaction u.source u.trx u.snapshot u.reads u.writes) w
               (got_writes gives (begun source trx tables snapshot) u from a b (Ok None) (known (begun source trx tables snapshot) from) was)
-              (ended_with u.ended (finished u) (WriteSet (item L n)) (sym answer ∙ is)));
+              (ended_with u.ended (finished u) (WriteSet w) (sym answer ∙ is)));
           nothing = λ is. (
             snapshot,
             (

@@ -7,7 +7,7 @@ use Rattle.rep_types.specs.declared.refusal.Refusal.TheVariants.{Closed}
 use Rattle.rep_types.specs.Keys.{key_eq}
 use Rattle.rep_types.specs.Settings.{Setting}
 use Rattle.rep_types.specs.Transactions.{transaction}
-use Rattle.rep_types.specs.Order.{Order, item, read}
+use Rattle.rep_types.specs.Order.{Order, read}
 use Rattle.rep_session.specs.declared.finished.Finished.{Finished}
 use Rattle.rep_session.specs.declared.finished.Finished.TheVariants.{ReadOnly, WriteSet}
 use Rattle.rep_session.specs.Sessions.{Progress, begun, known, Gets, Writes, after_read, write_refusal, finished}
@@ -45,9 +45,9 @@ module _ {S : Type 0} (gives : S → Key → ℕ → Result (Option (List ℕ)) 
           (then_labels t t2 u (then_labels t t1 t2 (got_labels gives t t1 one a b (Ok first) (known t one) got) (got_labels gives t1 t2 other b c (Ok second) (known t1 other) got_other))
           (then_labels t2 t3 u (wrote_labels t2 t3 (written_as one second) (Ok none) (write_refusal t2 (written_as one second)) wrote)
           (wrote_labels t3 u (written_as other first) (Ok nothing) (write_refusal t3 (written_as other first)) wrote_other))) answer;
-      committed = λ p L n of is committed key.
-          let own = ended_with u.ended (finished u) (WriteSet (item L n)) (sym answer ∙ is) in
-          let alone = law.committed p L source trx snapshot tables calls u n (runs p L of) own committed in
+      committed = λ p L n w of here is committed key.
+          let own = ended_with u.ended (finished u) (WriteSet w) (sym answer ∙ is) in
+          let alone = law.committed p L source trx snapshot tables calls u n w (runs p L of) here own committed in
           alone.leaves key
           ∙ two_written (written_as one second) (written_as other first) (key_eq one key) (key_eq other key) (read p L key (n - 1))
           ∙ ap (λ (row : Option (List ℕ)). if key_eq other key then row else if key_eq one key then second else read p L key (n - 1))

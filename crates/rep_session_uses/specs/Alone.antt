@@ -4,6 +4,7 @@ use Rattle.rep_types.specs.declared.key.Key.{Key}
 use Rattle.rep_types.specs.declared.refusal.Refusal.{Refusal}
 use Rattle.rep_types.specs.Settings.{Setting}
 use Rattle.rep_types.specs.Transactions.{Transaction}
+use Rattle.rep_types.specs.declared.item.Item.TheVariants.{WriteSet as OfWriteSet}
 use Rattle.rep_types.specs.Order.{Order, item, read, content_after}
 use Rattle.rep_types.specs.ByItems.{IsCommitted}
 use Rattle.rep_session.specs.declared.finished.Finished.{Finished}
@@ -24,8 +25,8 @@ rows_at p L s key = read p L key s
 -- Serializability (Pedone, Guerraoui and Schiper 2003), of sessions whose rows are those of an order. One whose write set is an
 -- item of the order and commits runs as alone at the item's own place. One that wrote nothing runs as alone at its snapshot.
 pub record SessionsRunAlone {S : Type 0} (gives : S → Key → ℕ → Result (Option (List ℕ)) Refusal → S → Type 0) (are_of : S → Setting → Order → Type 0) : Type 0 where
-  pub committed : (p : Setting) (L : Order) (source trx snapshot : ℕ) (tables : List ℕ) (calls : List Call) (u : Progress) (n : ℕ) →
-      Runs gives are_of p L (begun source trx tables snapshot) calls u → finished u ≡ WriteSet (item L n) → IsCommitted p L n →
+  pub committed : (p : Setting) (L : Order) (source trx snapshot : ℕ) (tables : List ℕ) (calls : List Call) (u : Progress) (n : ℕ) (w : Transaction) →
+      Runs gives are_of p L (begun source trx tables snapshot) calls u → item L n ≡ OfWriteSet w → finished u ≡ WriteSet w → IsCommitted p L n →
       RunsAlone (rows_at p L (n - 1)) calls (rows_at p L n)
   pub read_only : (p : Setting) (L : Order) (source trx snapshot : ℕ) (tables : List ℕ) (calls : List Call) (u : Progress) →
       Runs gives are_of p L (begun source trx tables snapshot) calls u → finished u ≡ ReadOnly →

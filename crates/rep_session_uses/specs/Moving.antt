@@ -4,6 +4,8 @@ use Rattle.rep_types.specs.declared.key.Key.{Key}
 use Rattle.rep_types.specs.declared.refusal.Refusal.{Refusal}
 use Rattle.rep_types.specs.Keys.{key_eq}
 use Rattle.rep_types.specs.Settings.{Setting}
+use Rattle.rep_types.specs.declared.item.Item.TheVariants.{WriteSet as OfWriteSet}
+use Rattle.rep_types.specs.Transactions.{Transaction}
 use Rattle.rep_types.specs.Order.{Order, item, read}
 use Rattle.rep_types.specs.ByItems.{IsCommitted}
 use Rattle.rep_session_uses.specs.Alone.{AreLabelled}
@@ -19,6 +21,6 @@ moved rows from to key = if key_eq to key then rows from else if key_eq from key
 -- is none, the row was not there at the front at which the move began.
 pub record Moves {S : Type 0} (front_gives : S → ℕ → S → Type 0) (are_of : Setting → Order → Type 0) (start : S) (source trx : ℕ) (from to : Key) (ends : Result Finished Refusal) : Type 0 where
   pub labels : AreLabelled source trx ends
-  pub committed : (p : Setting) (L : Order) (n : ℕ) → are_of p L → ends ≡ Ok (WriteSet (item L n)) → IsCommitted p L n →
+  pub committed : (p : Setting) (L : Order) (n : ℕ) (w : Transaction) → are_of p L → item L n ≡ OfWriteSet w → ends ≡ Ok (WriteSet w) → IsCommitted p L n →
       (key : Key) → read p L key n ≡ moved (λ k. read p L k (n - 1)) from to key
   pub nothing : ends ≡ Ok ReadOnly → (s : ℕ) × ((behind : S) × (front_gives start s behind × ((p : Setting) (L : Order) → are_of p L → read p L from s ≡ None)))

@@ -5,6 +5,8 @@ use Rattle.rep_types.specs.declared.value.Write.{Write}
 use Rattle.rep_types.specs.declared.refusal.Refusal.{Refusal}
 use Rattle.rep_types.specs.Keys.{key_eq}
 use Rattle.rep_types.specs.Settings.{Setting}
+use Rattle.rep_types.specs.declared.item.Item.TheVariants.{WriteSet as OfWriteSet}
+use Rattle.rep_types.specs.Transactions.{Transaction}
 use Rattle.rep_types.specs.Order.{Order, item, read}
 use Rattle.rep_types.specs.ByItems.{IsCommitted}
 use Rattle.rep_session_uses.specs.Alone.{AreLabelled}
@@ -23,6 +25,6 @@ swapped rows one other key = if key_eq other key then rows one else if key_eq on
 -- commits, the item swaps both rows, from what stood there before it.
 pub record Swaps (are_of : Setting → Order → Type 0) (source trx : ℕ) (one other : Key) (ends : Result Finished Refusal) : Type 0 where
   pub labels : AreLabelled source trx ends
-  pub committed : (p : Setting) (L : Order) (n : ℕ) → are_of p L → ends ≡ Ok (WriteSet (item L n)) → IsCommitted p L n →
+  pub committed : (p : Setting) (L : Order) (n : ℕ) (w : Transaction) → are_of p L → item L n ≡ OfWriteSet w → ends ≡ Ok (WriteSet w) → IsCommitted p L n →
       (key : Key) → read p L key n ≡ swapped (λ k. read p L k (n - 1)) one other key
   pub written : ends ≡ Ok ReadOnly → ⊥

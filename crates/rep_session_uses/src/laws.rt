@@ -3,7 +3,7 @@
 ghost use Rattle.rep_session_uses.specs.Alone.{SessionsRunAlone};
 
 use rep_session::{Rows, sessions_are_serial, sessions_come_to};
-use rep_types::state_is_enough;
+use rep_types::{reach_by_items, state_is_enough};
 
 /// A committed transaction that went through a session did what it would have done alone at its own place
 /// in the order: each get was answered by what stood there behind all the items before it and its own
@@ -16,4 +16,5 @@ pub fn sessions_run_alone<R: Rows>()
     sessions_come_to::<R>();
     sessions_are_serial::<R>();
     state_is_enough();
+    reach_by_items();
 }

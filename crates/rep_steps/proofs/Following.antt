@@ -10,6 +10,7 @@ use Rattle.rep_types.specs.declared.refusal.Refusal.{Refusal}
 use Rattle.rep_types.specs.declared.refusal.Refusal.TheVariants.{Stopped, OutOfMemory, DiskFault}
 use Rattle.rep_types.specs.Replies.{reply_of}
 use Rattle.rep_types.specs.Transactions.{Transaction}
+use Rattle.rep_types.specs.declared.item.Item.TheVariants.{WriteSet}
 use Rattle.rep_types.specs.Settings.{Setting}
 use Rattle.rep_types.specs.Order.{Order, State, verdict, history, state, read, judge}
 use Rattle.rep_record.specs.Fronts.{FrontsAreDetermined}
@@ -52,9 +53,9 @@ module _ (laws : OrderLaws) (L : Order) (n : Node) (h : IsNode n) (o : IsOf L n)
   whole_is = state_is (delivered n.facts) (omega (arith, count, o.within)) (omega (arith, count)) ∙ ap (λ (M : Order). state p M) (take_all (delivered n.facts) L (omega (arith, count)))
 
   -- the verdict that it finds is the order's
-  pub verdict_is : (seqno : ℕ) (w : Transaction) → verdict_on n (Deliver seqno w) ≡ verdict p (L ++ w ∷ []) (length L + 1)
+  pub verdict_is : (seqno : ℕ) (w : Transaction) → verdict_on n (Deliver seqno w) ≡ verdict p (L ++ WriteSet w ∷ []) (length L + 1)
   verdict_is seqno w =
-      ap (λ k. judge p k (window_at n (delivered n.facts)) w) count ∙ ap (λ (S : State). judge p (length L) S.kept w) whole_is ∙ judged_next laws p L w
+      ap (λ k. judge p k (window_at n (delivered n.facts)) (WriteSet w)) count ∙ ap (λ (S : State). judge p (length L) S.kept (WriteSet w)) whole_is ∙ judged_next laws p L (WriteSet w)
 
   -- the items that aren't durable
   pub ahead_is : n.facts.ahead ≡ drop n.facts.durable (history p L)
@@ -71,17 +72,17 @@ module _ (laws : OrderLaws) (L : Order) (n : Node) (h : IsNode n) (o : IsOf L n)
 
   -- ---- what an event makes of it
 
-  delivered_is : (seqno : ℕ) (w : Transaction) → IsOf (L ++ w ∷ []) (moved n (Deliver seqno w))
+  delivered_is : (seqno : ℕ) (w : Transaction) → IsOf (L ++ WriteSet w ∷ []) (moved n (Deliver seqno w))
   delivered_is seqno w = record {
-    within = omega (arith, o.within, length-append L (w ∷ []));
-    base = o.base ∙ ap (state p) (sym (take-append-le n.base.position L (w ∷ []) o.within));
+    within = omega (arith, o.within, length-append L (WriteSet w ∷ []));
+    base = o.base ∙ ap (state p) (sym (take-append-le n.base.position L (WriteSet w ∷ []) o.within));
     items =
-        let made : ℕ → Verdict → Judged = λ k v. record { seqno = k + 1; item = w; verdict = v } in
+        let made : ℕ → Verdict → Judged = λ k v. record { seqno = k + 1; item = WriteSet w; verdict = v } in
         ap (λ js. js ++ next_item n.facts w (verdict_on n (Deliver seqno w)) ∷ []) o.items
         ∙ ap (λ v. drop n.base.position (history p L) ++ made (delivered n.facts) v ∷ []) (verdict_is seqno w)
-        ∙ ap (λ k. drop n.base.position (history p L) ++ made k (verdict p (L ++ w ∷ []) (length L + 1)) ∷ []) count
-        ∙ sym (drop-append-le n.base.position (history p L) (made (length L) (verdict p (L ++ w ∷ []) (length L + 1)) ∷ []) (omega (arith, o.within, laws.items.as_many p L)))
-        ∙ ap (drop n.base.position) (sym (laws.items.one_more p L w));
+        ∙ ap (λ k. drop n.base.position (history p L) ++ made k (verdict p (L ++ WriteSet w ∷ []) (length L + 1)) ∷ []) count
+        ∙ sym (drop-append-le n.base.position (history p L) (made (length L) (verdict p (L ++ WriteSet w ∷ []) (length L + 1)) ∷ []) (omega (arith, o.within, laws.items.as_many p L)))
+        ∙ ap (drop n.base.position) (sym (laws.items.one_more p L (WriteSet w)));
   }
 
   synced_is : IsOf L (moved n Sync)

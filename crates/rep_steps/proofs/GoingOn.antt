@@ -1,11 +1,11 @@
 -- Items that were judged one after another, with one more, in parts, and from another state.
-use Rattle.std.proofs.Common.{◌≡◌, ℕ, zero, suc, ◌+◌, ◌≤◌, List, [], ◌∷◌, ◌++◌, length, drop, refl, ap, subst, ◌∙◌, arith}
+use Rattle.std.proofs.Common.{◌≡◌, ℕ, zero, suc, ◌+◌, ◌≤◌, List, [], ◌∷◌, ◌++◌, length, drop, refl, sym, ap, subst, ◌∙◌, arith}
 use Rattle.rep_types.specs.declared.judged.Judged.{Judged}
-use Rattle.rep_types.specs.Entries.{Entry}
 use Rattle.rep_types.specs.Settings.{Setting}
-use Rattle.rep_types.specs.Order.{State, floor, recent, judge}
+use Rattle.rep_types.specs.Windows.{Window}
+use Rattle.rep_types.specs.declared.verdict.Verdict.{Verdict}
+use Rattle.rep_types.specs.Order.{State, extended, judge, window_after}
 use Rattle.rep_record.specs.Blocks.{SeqnosFrom}
-use Rattle.rep_steps.specs.Moves.{entry_in}
 use Rattle.rep_steps.specs.Nodes.{advanced, reached}
 use Rattle.rep_steps.specs.Images.{AreJudgedFrom}
 use Rattle.rep_steps.specs.Judging.{JudgingGoesOn}
@@ -29,14 +29,14 @@ reached_more : (p : Setting) (S : State) (js : List Judged) (j : Judged) → rea
 reached_more p S [] j = refl
 reached_more p S (i ∷ js) j = reached_more p (advanced p S i) js j
 
--- the window behind an item, where position and window are the same
-kept_next : (p : Setting) (S T : State) (j : Judged) → S.position ≡ T.position → S.kept ≡ T.kept → (advanced p S j).kept ≡ (advanced p T j).kept
-kept_next p S T j at same =
-    ap (λ n. recent (floor p (n + 1)) (S.kept ++ entry_in j)) at ∙ ap (λ (es : List Entry). recent (floor p (T.position + 1)) (es ++ entry_in j)) same
+window_next : (p : Setting) (position : ℕ) (v : Window) (j : Judged) → j.seqno ≡ position + 1 → j.verdict ≡ judge p position v j.item → window_after p position v j.item ≡ extended v j
+window_next p position v j e f =
+    let made : ℕ → Verdict → Judged = λ seqno verdict. record { seqno = seqno; item = j.item; verdict = verdict } in
+    ap (λ (verdict : Verdict). extended v (made (position + 1) verdict)) (sym f) ∙ ap (λ seqno. extended v (made seqno j.verdict)) (sym e)
 
-kept_alike : (p : Setting) (S T : State) (js : List Judged) → S.position ≡ T.position → S.kept ≡ T.kept → (reached p S js).kept ≡ (reached p T js).kept
-kept_alike p S T [] at same = same
-kept_alike p S T (j ∷ js) at same = kept_alike p (advanced p S j) (advanced p T j) js (ap (λ n. n + 1) at) (kept_next p S T j at same)
+kept_alike : (p : Setting) (S T : State) (js : List Judged) → S.kept ≡ T.kept → (reached p S js).kept ≡ (reached p T js).kept
+kept_alike p S T [] same = same
+kept_alike p S T (j ∷ js) same = kept_alike p (advanced p S j) (advanced p T j) js (ap (λ (v : Window). extended v j) same)
 
 -- ---- what was judged
 
@@ -52,8 +52,8 @@ judged_alike : (p : Setting) (S T : State) (js : List Judged) → S.position ≡
 judged_alike p S T [] at same h = tt
 judged_alike p S T (j ∷ js) at same h = (
   h.0 ∙ ap (λ n. n + 1) at,
-  h.1 ∙ ap (λ n. judge p n S.kept j.item) at ∙ ap (λ (es : List Entry). judge p T.position es j.item) same,
-  judged_alike p (advanced p S j) (advanced p T j) js (ap (λ n. n + 1) at) (kept_next p S T j at same) h.2,
+  h.1 ∙ ap (λ n. judge p n S.kept j.item) at ∙ ap (λ (v : Window). judge p T.position v j.item) same,
+  judged_alike p (advanced p S j) (advanced p T j) js (ap (λ n. n + 1) at) (ap (λ (v : Window). extended v j) same) h.2,
 )
 
 pub judging_goes_on : JudgingGoesOn
@@ -66,6 +66,7 @@ judging_goes_on = record {
   reached_position = reached_position;
   reached_more = reached_more;
   reached_both = reached_both;
+  window_next = window_next;
   kept_alike = kept_alike;
   seqnos_drop = seqnos_drop;
   seqnos_more = seqnos_more;

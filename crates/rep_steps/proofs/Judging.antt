@@ -4,9 +4,9 @@ use Rattle.std.proofs.Math.Seq.{take-append_seam}
 use Rattle.std.proofs.lemmas.List.{drop-append-le, drop_all, length-take-le}
 use Rattle.rep_types.specs.declared.judged.Judged.{Judged}
 use Rattle.rep_types.specs.Settings.{Setting}
-use Rattle.rep_types.specs.Order.{Order, State, state, history, judge, verdict}
+use Rattle.rep_types.specs.Order.{Order, State, items_of, state, history, judge, verdict}
 use Rattle.rep_steps.specs.Nodes.{advanced, reached}
-use Rattle.rep_steps.specs.Images.{Meaning, StandsFor, AreJudgedFrom, write_set_of, JudgedItemsExtendTheOrder}
+use Rattle.rep_steps.specs.Images.{Meaning, StandsFor, AreJudgedFrom, JudgedItemsExtendTheOrder}
 use Rattle.rep_steps.proofs.Reaching.{OrderLaws, judged, history_at, next_judged, advanced_is, next_is, state_next}
 use Rattle.rep_steps.proofs.Running.{behind_of, none_behind}
 
@@ -45,22 +45,22 @@ module _ (laws : OrderLaws) (p : Setting) where
   advanced_to L j e f =
       ap (advanced p (state p L)) (same_item j (next_judged p (state p L) j.item) e refl f) ∙ advanced_is p (state p L) j.item ∙ laws.enough.states p L j.item
 
-  all_are : (L : Order) (js : List Judged) → AreJudgedFrom p (state p L) js → drop (length L) (history p (L ++ map write_set_of js)) ≡ js
+  all_are : (L : Order) (js : List Judged) → AreJudgedFrom p (state p L) js → drop (length L) (history p (L ++ items_of js)) ≡ js
   all_are L [] h = ap (λ (M : Order). drop (length L) (history p M)) (append-nil L) ∙ none_behind laws p L
   all_are L (j ∷ js) h =
       let M = L ++ j.item ∷ [] in
       let rest = all_are M js (subst (λ (S : State). AreJudgedFrom p S js) (advanced_to L j h.0 h.1) h.2) in
-      let whole : L ++ (j.item ∷ map write_set_of js) ≡ M ++ map write_set_of js = sym (append_assoc L (j.item ∷ []) (map write_set_of js)) in
-      ap (λ (K : Order). drop (length L) (history p K)) whole ∙ behind_of laws p M (map write_set_of js) (length L) (omega (arith, length-append L (j.item ∷ [])))
-      ∙ ap (λ ks. ks ++ drop (length M) (history p (M ++ map write_set_of js))) (first_is L j h.0 h.1) ∙ ap (λ ks. j ∷ ks) rest
+      let whole : L ++ (j.item ∷ items_of js) ≡ M ++ items_of js = sym (append_assoc L (j.item ∷ []) (items_of js)) in
+      ap (λ (K : Order). drop (length L) (history p K)) whole ∙ behind_of laws p M (items_of js) (length L) (omega (arith, length-append L (j.item ∷ [])))
+      ∙ ap (λ ks. ks ++ drop (length M) (history p (M ++ items_of js))) (first_is L j h.0 h.1) ∙ ap (λ ks. j ∷ ks) rest
 
   extend : (uuid : List ℕ) (L : Order) (js : List Judged) → AreJudgedFrom p (state p L) js
-      → StandsFor uuid p (L ++ map write_set_of js) (record { uuid = uuid; setting = p; base = state p L; tail = js })
+      → StandsFor uuid p (L ++ items_of js) (record { uuid = uuid; setting = p; base = state p L; tail = js })
   extend uuid L js h = record {
     uuid_is = refl;
     setting_is = refl;
-    within = omega (arith, length-append L (map write_set_of js));
-    base_is = ap (state p) (sym (take-append_seam L (map write_set_of js)));
+    within = omega (arith, length-append L (items_of js));
+    base_is = ap (state p) (sym (take-append_seam L (items_of js)));
     tail_is = sym (all_are L js h);
   }
 

@@ -6,9 +6,11 @@ use Rattle.std.specs.List.{Contains}
 use Rattle.rep_types.specs.declared.verdict.Verdict.TheVariants.{Stale, Future, BadKey}
 use Rattle.rep_types.specs.declared.limits.TheConstants.{MAX_SEQNO}
 use Rattle.rep_types.specs.Entries.{Entry}
+use Rattle.rep_types.specs.Windows.{Window}
+use Rattle.rep_types.specs.declared.item.Item.TheVariants.{WriteSet}
 use Rattle.rep_types.specs.Settings.{Setting}
 use Rattle.rep_types.specs.Transactions.{Transaction, named}
-use Rattle.rep_types.specs.Order.{against, seqnos_against, greatest, conflict_with, in_schema, floor, touches, judge, recent}
+use Rattle.rep_types.specs.Order.{against, seqnos_against, greatest, conflict_with, in_schema, touches, judge, recent}
 use Rattle.rep_types.proofs.Greatest.{IsGreatest, IsGreatest-greatest}
 use Rattle.rep_types.proofs.Members.{Contains-from_map, Contains-from_filter}
 use Rattle.rep_record.specs.Records.{is_verdict_at, is_placed}
@@ -18,9 +20,9 @@ first_of : (a b : Bool) → (a && b) ≡ true → a ≡ true
 first_of true b e = refl
 first_of false b e = e
 
-module _ (p : Setting) (position : ℕ) (es : List Entry) (w : Transaction) (low : (e : Entry) → Contains es e → e.seqno ≤ position) where
+module _ (p : Setting) (position : ℕ) (v : Window) (w : Transaction) (low : (e : Entry) → Contains v.entries e → e.seqno ≤ position) where
   -- those that stand against an item were not seen by it, so they are items
-  against_within : (m : ℕ) → Contains (seqnos_against w es) m → (1 ≤ m) × (m ≤ position)
+  against_within : (m : ℕ) → Contains (seqnos_against w v.entries) m → (1 ≤ m) × (m ≤ position)
   against_within m has =
       let among = Contains-from_map (λ (e : Entry). e.seqno) _ m has in
       let e : Entry = among.0 in
@@ -29,21 +31,21 @@ module _ (p : Setting) (position : ℕ) (es : List Entry) (w : Transaction) (low
       let unseen : nat_lt w.last_seen e.seqno ≡ true = first_of (nat_lt w.last_seen e.seqno) (touches e.keys (named w)) stands.1 in
       (grind (arith, nat_tests, among.2, unseen), omega (arith, among.2, up))
 
-  conflict_at : (o : Option ℕ) → IsGreatest (seqnos_against w es) o → is_verdict_at (position + 1) (conflict_with o) ≡ true
+  conflict_at : (o : Option ℕ) → IsGreatest (seqnos_against w v.entries) o → is_verdict_at (position + 1) (conflict_with o) ≡ true
   conflict_at None is = refl
   conflict_at (Some m) is = let here = against_within m is.0 in grind (arith, nat_tests, here)
 
   -- the verdict on the next item fits its seqno
-  verdict_placed : is_verdict_at (position + 1) (judge p position es w) ≡ true
-  verdict_placed = by (nat_le (position + 1) w.last_seen) (not (in_schema p w)) (nat_lt (w.last_seen + 1) (floor p position))
+  verdict_placed : is_verdict_at (position + 1) (judge p position v (WriteSet w)) ≡ true
+  verdict_placed = by (nat_le (position + 1) w.last_seen) (not (in_schema p w)) (nat_lt (w.last_seen + 1) v.floor)
     where
-      by : (future bad stale : Bool) → is_verdict_at (position + 1) (if future then Future else if bad then BadKey else if stale then Stale else conflict_with (greatest (seqnos_against w es))) ≡ true
+      by : (future bad stale : Bool) → is_verdict_at (position + 1) (if future then Future else if bad then BadKey else if stale then Stale else conflict_with (greatest (seqnos_against w v.entries))) ≡ true
       by true bad stale = refl
       by false true stale = refl
       by false false true = refl
-      by false false false = conflict_at (greatest (seqnos_against w es)) (IsGreatest-greatest (seqnos_against w es))
+      by false false false = conflict_at (greatest (seqnos_against w v.entries)) (IsGreatest-greatest (seqnos_against w v.entries))
 
-  judged_placed : position < MAX_SEQNO → is_placed (record { seqno = position + 1; item = w; verdict = judge p position es w }) ≡ true
+  judged_placed : position < MAX_SEQNO → is_placed (record { seqno = position + 1; item = WriteSet w; verdict = judge p position v (WriteSet w) }) ≡ true
   judged_placed lt = let fits = verdict_placed in grind (arith, nat_tests, lt, fits)
 
 -- the entries of a window up to a position
@@ -55,6 +57,8 @@ upto_within position lowest es e has =
 
 pub verdicts_placed : VerdictsHaveAPlace
 verdicts_placed = record {
-  within = λ p position es w lt low. judged_placed p position es w low lt;
-  upto = λ p position lowest es w lt. judged_placed p position (recent lowest (filter (λ (e : Entry). nat_le e.seqno position) es)) w (upto_within position lowest es) lt;
+  within = λ p position v w lt low. judged_placed p position v w low lt;
+  upto = λ p position span lowest es w lt.
+      let v : Window = record { size = span; floor = lowest; entries = recent lowest (filter (λ (e : Entry). nat_le e.seqno position) es) } in
+      judged_placed p position v w (upto_within position lowest es) lt;
 }

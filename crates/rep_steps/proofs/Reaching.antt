@@ -4,7 +4,7 @@ use Rattle.std.proofs.lemmas.List.{take_more, get_or-drop, length-drop, length-t
 use Rattle.std.proofs.lemmas.List.Sums.{fold-append, fold_push}
 use Rattle.rep_types.specs.declared.judged.Judged.{Judged}
 use Rattle.rep_types.specs.declared.verdict.Verdict.{Verdict}
-use Rattle.rep_types.specs.Transactions.{Transaction}
+use Rattle.rep_types.specs.declared.item.Item.{Item}
 use Rattle.rep_types.specs.Settings.{Setting}
 use Rattle.rep_types.specs.Verdicts.{StateIsEnough}
 use Rattle.rep_types.specs.ByItems.{HistoryByItems}
@@ -33,12 +33,12 @@ reached_position p S [] = omega arith
 reached_position p S (j ∷ js) = omega (arith, reached_position p (advanced p S j) js)
 
 -- the next item, judged at its place
-abbrev pub next_judged : Setting → State → Transaction → Judged
-next_judged p S w = record { seqno = S.position + 1; item = w; verdict = judge p S.position S.kept w }
+abbrev pub next_judged : Setting → State → Item → Judged
+next_judged p S i = record { seqno = S.position + 1; item = i; verdict = judge p S.position S.kept i }
 
 -- what an item makes of the state is what the order makes of it
-pub advanced_is : (p : Setting) (S : State) (w : Transaction) → advanced p S (next_judged p S w) ≡ after p S w
-advanced_is p S w = refl
+pub advanced_is : (p : Setting) (S : State) (i : Item) → advanced p S (next_judged p S i) ≡ after p S i
+advanced_is p S i = refl
 
 -- a front of the order with the item behind it
 pub next_item_is : (L : Order) (k : ℕ) → k < length L → take (k + 1) L ≡ take k L ++ item L (k + 1) ∷ []
@@ -78,5 +78,5 @@ module _ (laws : OrderLaws) (p : Setting) where
       ∙ ap (λ n. state p (take n L)) (omega arith)
 
   -- the next item of the order, judged from the state before it
-  pub judged_next : (L : Order) (w : Transaction) → judge p (length L) (window p L) w ≡ verdict p (L ++ w ∷ []) (length L + 1)
-  judged_next L w = laws.enough.verdicts p L w
+  pub judged_next : (L : Order) (i : Item) → judge p (length L) (window p L) i ≡ verdict p (L ++ i ∷ []) (length L + 1)
+  judged_next L i = laws.enough.verdicts p L i

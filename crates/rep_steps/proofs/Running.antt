@@ -5,6 +5,7 @@ use Rattle.std.proofs.lemmas.List.{drop_all, take_all, take-append-drop, take-ap
 use Rattle.rep_types.specs.declared.judged.Judged.{Judged}
 use Rattle.rep_types.specs.declared.refusal.Refusal.TheVariants.{DiskFault}
 use Rattle.rep_types.specs.Transactions.{Transaction}
+use Rattle.rep_types.specs.declared.item.Item.TheVariants.{WriteSet}
 use Rattle.rep_types.specs.Replies.{reply_of}
 use Rattle.rep_types.specs.Settings.{Setting}
 use Rattle.rep_types.specs.Order.{Order, history, verdict}
@@ -97,15 +98,15 @@ module _ (laws : OrderLaws) (L : Order) (n : Node) (h : IsNode n) (o : IsOf L n)
   delivery_steps : (seqno : ℕ) (w : Transaction) → StepsTo L n (Deliver seqno w) (answer n.facts (Deliver seqno w) (found n (Deliver seqno w))) (moved n (Deliver seqno w))
   delivery_steps seqno w =
       let p = n.facts.setting in
-      let j : Judged = record { seqno = length L + 1; item = w; verdict = verdict p (L ++ w ∷ []) (length L + 1) } in
-      let behind : drop (length L) (history p (L ++ w ∷ [])) ≡ j ∷ [] =
-      ap (drop (length L)) (laws.items.one_more p L w) ∙ drop-append-le (length L) (history p L) (j ∷ []) (omega (arith, laws.items.as_many p L)) ∙ ap (λ js. js ++ j ∷ []) (none_behind laws p L) in
+      let j : Judged = record { seqno = length L + 1; item = WriteSet w; verdict = verdict p (L ++ WriteSet w ∷ []) (length L + 1) } in
+      let behind : drop (length L) (history p (L ++ WriteSet w ∷ [])) ≡ j ∷ [] =
+      ap (drop (length L)) (laws.items.one_more p L (WriteSet w)) ∙ drop-append-le (length L) (history p L) (j ∷ []) (omega (arith, laws.items.as_many p L)) ∙ ap (λ js. js ++ j ∷ []) (none_behind laws p L) in
       record {
         setting = refl;
         uuid = refl;
         judged = ap (λ v. v ∷ []) (verdict_is laws L n h o seqno w) ∙ sym (ap (map verdict_of) behind);
         rises = omega arith;
-        replied = no_replies (n.facts.durable - n.facts.durable) (drop n.facts.durable (history p (L ++ w ∷ []))) (omega arith);
+        replied = no_replies (n.facts.durable - n.facts.durable) (drop n.facts.durable (history p (L ++ WriteSet w ∷ []))) (omega arith);
       }
 
   sync_steps : StepsTo L n Sync (answer n.facts Sync (found n Sync)) (moved n Sync)

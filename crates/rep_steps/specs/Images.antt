@@ -4,8 +4,7 @@ use Rattle.uuid.specs.Parts.{is_nil_bytes}
 use Rattle.rep_types.specs.declared.judged.Judged.{Judged}
 use Rattle.rep_types.specs.declared.limits.TheConstants.{MAX_SEQNO}
 use Rattle.rep_types.specs.Settings.{Setting, is_setting}
-use Rattle.rep_types.specs.Transactions.{Transaction}
-use Rattle.rep_types.specs.Order.{Order, State, state, history, judge}
+use Rattle.rep_types.specs.Order.{Order, State, items_of, state, history, judge}
 use Rattle.rep_disk.specs.History.{History}
 use Rattle.rep_disk.specs.Moments.{LeavesOnly}
 use Rattle.rep_log.specs.declared.phase.Phase.TheVariants.{Resting, Opening}
@@ -15,10 +14,6 @@ use Rattle.rep_steps.specs.Standings.{Off, Retiring, Standing}
 use Rattle.rep_steps.specs.Nodes.{Node, IsNode, Steps, advanced, reached}
 use Rattle.rep_steps.specs.Orders.{IsOf}
 use Rattle.rep_steps.specs.Runs.{Runs, accepted_by}
-
--- the write set of an item
-abbrev pub write_set_of : Judged → Transaction
-write_set_of j = j.item
 
 -- What an image means: of which state UUID and under which parameters it is, a base, and the tail behind it.
 pub record Meaning : Type 0 where
@@ -40,11 +35,11 @@ abbrev pub AreJudgedFrom : Setting → State → List Judged → Type 0
 AreJudgedFrom p S [] = Unit {0}
 AreJudgedFrom p S (j ∷ js) = (j.seqno ≡ S.position + 1) × (j.verdict ≡ judge p S.position S.kept j.item) × AreJudgedFrom p (advanced p S j) js
 
--- Items that are so judged from an order's state on are those of the order with their write sets at its end; and what stands for
+-- Items that are so judged from an order's state on are those of the order with them at its end; and what stands for
 -- an order has items that are so judged.
 pub record JudgedItemsExtendTheOrder : Type 0 where
   pub extend : (uuid : List ℕ) (p : Setting) (L : Order) (js : List Judged) → AreJudgedFrom p (state p L) js
-      → StandsFor uuid p (L ++ map write_set_of js) (record { uuid = uuid; setting = p; base = state p L; tail = js })
+      → StandsFor uuid p (L ++ items_of js) (record { uuid = uuid; setting = p; base = state p L; tail = js })
   pub judged : (uuid : List ℕ) (p : Setting) (L : Order) (b : Meaning) → StandsFor uuid p L b → AreJudgedFrom p b.base b.tail
 
 -- The meaning is a front, up to a position, of a base and the items behind it: its base is a state on the way, its tail the

@@ -6,12 +6,13 @@ use Rattle.rep_types.specs.declared.reply.Reply.{Reply}
 use Rattle.rep_types.specs.declared.refusal.Refusal.TheVariants.{OutOfMemory, DiskFault, Corrupt}
 use Rattle.rep_types.specs.declared.refusal.Part.TheVariants.{Pages}
 use Rattle.rep_types.specs.declared.verdict.Verdict.{Verdict}
-use Rattle.rep_types.specs.Entries.{Entry}
+use Rattle.rep_types.specs.declared.item.Item.TheVariants.{WriteSet}
 use Rattle.rep_types.specs.declared.value.Write.{Write}
 use Rattle.rep_types.specs.Settings.{pages_of}
 use Rattle.rep_types.specs.Replies.{reply_of}
 use Rattle.rep_types.specs.Transactions.{Transaction}
-use Rattle.rep_types.specs.Order.{counts, entry_of}
+use Rattle.rep_types.specs.Items.{writes_of}
+use Rattle.rep_types.specs.Order.{counts}
 use Rattle.rep_disk.specs.Calls.{Rises}
 use Rattle.rep_layout.specs.Rows.{row_place}
 use Rattle.rep_log.specs.declared.phase.Phase.{Phase}
@@ -71,7 +72,7 @@ below (suc n) = below n ++ n ∷ []
 -- whether an item that took effect wrote a row of the page
 abbrev pub is_touched : List ℕ → List Judged → ℕ → Bool
 is_touched rows items page =
-    list_any (λ (j : Judged). counts j && list_any (λ (write : Write). (row_place rows write.key).page == page) j.item.writes) items
+    list_any (λ (j : Judged). counts j && list_any (λ (write : Write). (row_place rows write.key).page == page) (writes_of j.item)) items
 
 -- the pages that these items changed, each once and in ascending order
 abbrev pub touched : List ℕ → List Judged → List ℕ
@@ -122,12 +123,9 @@ start_after start stage = start
 
 -- ---- a step
 
--- the next item, with its verdict; its entry, where it takes effect
+-- the next item, a write set, with its verdict
 abbrev pub next_item : Standing → Transaction → Verdict → Judged
-next_item s w v = record { seqno = delivered s + 1; item = w; verdict = v }
-
-abbrev pub entry_in : Judged → List Entry
-entry_in j = if counts j then entry_of j ∷ [] else []
+next_item s w v = record { seqno = delivered s + 1; item = WriteSet w; verdict = v }
 
 abbrev pub answer : Standing → Event → Found → Answer
 answer s (Deliver seqno w) found = Gave found.verdict

@@ -5,9 +5,11 @@ use Rattle.rep_types.specs.declared.refusal.Refusal.TheVariants.{Corrupt}
 use Rattle.rep_types.specs.declared.refusal.Part.TheVariants.{Pages}
 use Rattle.rep_types.specs.declared.verdict.Verdict.{Verdict}
 use Rattle.rep_types.specs.declared.verdict.Verdict.TheVariants.{Commit}
-use Rattle.rep_types.specs.Entries.{Entry}
+use Rattle.rep_types.specs.declared.item.Item.TheVariants.{WriteSet}
 use Rattle.rep_types.specs.Settings.{Setting}
-use Rattle.rep_types.specs.Order.{State, counts, content_after, floor, recent, judge}
+use Rattle.rep_types.specs.Windows.{Window}
+use Rattle.rep_types.specs.Items.{writes_of}
+use Rattle.rep_types.specs.Order.{State, counts, content_after, extended, judge}
 use Rattle.rep_log.specs.declared.phase.Phase.{Phase}
 use Rattle.rep_log.specs.declared.phase.Phase.TheVariants.{Closing, Opening}
 use Rattle.rep_steps.specs.declared.event.Event.{Event}
@@ -15,14 +17,14 @@ use Rattle.rep_steps.specs.declared.event.Event.TheVariants.{Deliver, Log, Sync,
 use Rattle.rep_steps.specs.declared.answer.Answer.{Answer}
 use Rattle.rep_steps.specs.declared.answer.Answer.TheVariants.{Refused}
 use Rattle.rep_steps.specs.Standings.{Standing, delivered, refusal, IsStanding}
-use Rattle.rep_steps.specs.Moves.{Found, answer, after, Moves, Fails, next_item, entry_in, touched, base_after}
+use Rattle.rep_steps.specs.Moves.{Found, answer, after, Moves, Fails, next_item, touched, base_after}
 
 -- the state after one more judged item, and after some of them
 abbrev pub advanced : Setting → State → Judged → State
 advanced p S j = record {
   position = S.position + 1;
-  content = if counts j then content_after S.content j.item.writes else S.content;
-  kept = recent (floor p (S.position + 1)) (S.kept ++ entry_in j);
+  content = if counts j then content_after S.content (writes_of j.item) else S.content;
+  kept = extended S.kept j;
 }
 
 abbrev pub reached : Setting → State → List Judged → State
@@ -40,7 +42,7 @@ abbrev pub state_at : Node → ℕ → State
 state_at n position = reached n.facts.setting n.base (take (position - n.base.position) n.items)
 
 -- the window at a position
-abbrev pub window_at : Node → ℕ → List Entry
+abbrev pub window_at : Node → ℕ → Window
 window_at n position = (state_at n position).kept
 
 -- Facts and items agree.
@@ -53,7 +55,7 @@ pub record IsNode (n : Node) : Type 0 where
 -- ---- what a step finds
 
 abbrev pub verdict_on : Node → Event → Verdict
-verdict_on n (Deliver seqno w) = judge n.facts.setting (delivered n.facts) (window_at n (delivered n.facts)) w
+verdict_on n (Deliver seqno w) = judge n.facts.setting (delivered n.facts) (window_at n (delivered n.facts)) (WriteSet w)
 verdict_on n e = Commit
 
 abbrev pub row_on : Node → Event → Option (List ℕ)

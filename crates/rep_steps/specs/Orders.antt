@@ -1,5 +1,6 @@
 -- Nodes of an order.
 use Rattle.std.specs.Prelude.{◌≡◌, ◌⊎◌, ℕ, ◌+◌, ◌≤◌, [], ◌∷◌, ◌++◌, length, map, take, drop}
+use Rattle.rep_types.specs.declared.item.Item.TheVariants.{WriteSet}
 use Rattle.rep_types.specs.declared.refusal.Refusal.{Refusal}
 use Rattle.rep_types.specs.Replies.{reply_of}
 use Rattle.rep_types.specs.Order.{Order, verdict, history, read, window, state}
@@ -17,14 +18,14 @@ pub record IsOf (L : Order) (n : Node) : Type 0 where
   pub base : n.base ≡ state n.facts.setting (take n.base.position L)
   pub items : n.items ≡ drop n.base.position (history n.facts.setting L)
 
--- the write set of a delivery that was answered by a verdict
+-- the item of a delivery that was answered by a verdict
 abbrev pub accepted : Event → Answer → Order
-accepted (Deliver seqno w) (Gave v) = w ∷ []
+accepted (Deliver seqno w) (Gave v) = WriteSet w ∷ []
 accepted e a = []
 
 -- What an event is answered where no refusal comes: what the order says.
 abbrev pub answer_of : Order → Standing → Event → Answer
-answer_of L s (Deliver seqno w) = Gave (verdict s.setting (L ++ w ∷ []) (length L + 1))
+answer_of L s (Deliver seqno w) = Gave (verdict s.setting (L ++ WriteSet w ∷ []) (length L + 1))
 answer_of L s Log = Wrote
 answer_of L s Sync = Synced (map reply_of (take (opening s.phase) (drop s.durable (history s.setting L))))
 answer_of L s Check = check_answer s s.stage

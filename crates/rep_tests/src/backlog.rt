@@ -2,7 +2,7 @@
 
 use rep_backlog::Backlog;
 use rep_record::BlockBuilder;
-use rep_types::{Judged, Key, Refusal, Value, Verdict, Write, WriteSet};
+use rep_types::{Item, Judged, Key, Refusal, Value, Verdict, Write, WriteSet};
 use std::alloc::Global;
 use std::process::Abort;
 use std::test::Fail;
@@ -15,7 +15,7 @@ fn short_item(seqno: u64) -> Result<Judged, Refusal> {
     };
     Ok(Judged {
         seqno,
-        item: WriteSet::new(1, seqno, 0, &[], &[write])?,
+        item: Item::WriteSet(WriteSet::new(1, seqno, 0, &[], &[write])?),
         verdict: Verdict::Commit,
     })
 }
@@ -31,7 +31,7 @@ fn long_item(alloc: Global, seqno: u64) -> Result<Judged, Refusal> {
     }
     Ok(Judged {
         seqno,
-        item: WriteSet::new(1, seqno, 0, &[], &writes)?,
+        item: Item::WriteSet(WriteSet::new(1, seqno, 0, &[], &writes)?),
         verdict: Verdict::Commit,
     })
 }

@@ -1,7 +1,7 @@
 //! The certifier: each call once, and one that is made of any entries.
 
 use rep_cert::Certifier;
-use rep_types::{Entry, Key, Params, Refusal, Verdict, Write, WriteSet};
+use rep_types::{Entry, Key, Params, Refusal, Verdict, Window, Write, WriteSet};
 use std::alloc::Global;
 use std::process::Abort;
 use std::test::Fail;
@@ -22,11 +22,13 @@ fn certifier(
     item: &WriteSet,
     seqnos: &[u64],
 ) -> Result<Certifier, Refusal> {
-    let mut window = Vec::new(alloc);
+    let mut entries = Vec::new(alloc);
     for seqno in seqnos {
-        window.push(Entry::new(*seqno, item.written()))?;
+        entries.push(Entry::new(*seqno, item.written()))?;
     }
-    Certifier::new(alloc, Params::new(4, 4, &[10])?, position, window)
+    let params = Params::new(4, 4, &[10])?;
+    let window = Window::fixed(params.window_size(), position, entries);
+    Certifier::new(alloc, params, position, window)
 }
 
 /// Compares what the item is judged and admitted with.
@@ -67,7 +69,7 @@ fn stands(
 ) -> Result<(), Refusal> {
     let window = certifier.window_at(rt.alloc(), certifier.delivered())?;
     assert_eq!(rt;
-        (certifier.delivered(), are(&window, seqnos)),
+        (certifier.delivered(), are(window.entries(), seqnos)),
         (position, true)
     );
     Ok(())

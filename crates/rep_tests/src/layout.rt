@@ -30,13 +30,19 @@ fn devices_have_the_sizes_of_the_format(rt: HostRuntime) -> Result<(), Fail> {
     Ok(())
 }
 
-/// Where a place begins, if the layout has it.
-fn offset_of(layout: Layout, place: Place) -> Option<usize> {
+/// Where a place and its gate begin, if the layout has it.
+fn lie_of(layout: Layout, place: Place) -> Option<(usize, usize)> {
     if layout.has(place) {
-        Some(layout.offset(place))
+        Some((layout.offset(place), layout.gate(place)))
     } else {
         None
     }
+}
+
+/// Where a place begins, if the layout has it.
+fn offset_of(layout: Layout, place: Place) -> Option<usize> {
+    let (offset, _) = lie_of(layout, place)?;
+    Some(offset)
 }
 
 const PLACES: [(Place, Option<usize>); 10] = [
@@ -61,23 +67,14 @@ fn places_lie_where_the_format_says(rt: HostRuntime) -> Result<(), Fail> {
     Ok(())
 }
 
-/// Where the gate of a place begins, if the layout has it.
-fn gate_of(layout: Layout, place: Place) -> Option<usize> {
-    if layout.has(place) {
-        Some(layout.gate(place))
-    } else {
-        None
-    }
-}
-
 #[test]
 fn gates_lie_behind_their_bodies(rt: HostRuntime) -> Result<(), Fail> {
     let layout = Layout::new(&small()?);
-    let gates = [
-        gate_of(layout, Place::Super(Side::A)),
-        gate_of(layout, Place::Log(0)),
+    let lies = [
+        lie_of(layout, Place::Super(Side::A)),
+        lie_of(layout, Place::Log(0)),
     ];
-    assert_eq!(rt; gates, [Some(3_584), Some(61_952)]);
+    assert_eq!(rt; lies, [Some((0, 3_584)), Some((54_272, 61_952))]);
     Ok(())
 }
 

@@ -1,7 +1,7 @@
-//! The plain node: its rows and its window.
+//! The plain node: its rows and its window, and changes of the window's size.
 
 use rep_plain::PlainNode;
-use rep_types::{Entry, Key, Params, Refusal, Value, Verdict, Write, WriteSet};
+use rep_types::{Entry, Key, Params, Refusal, Value, Verdict, Window, WindowSize, Write, WriteSet};
 use std::process::Abort;
 use std::test::Fail;
 
@@ -73,24 +73,74 @@ fn are(entries: &[Entry], wanted: &[(u64, u32)]) -> bool {
     right
 }
 
+/// The size and the floor of the window.
+fn limits(window: &Window) -> (u64, u64) {
+    (window.size().get(), window.floor())
+}
+
 /// Compares the position, and the window there.
 fn stands(
     rt: &(impl Abort + AllocGlobal),
     node: &PlainNode,
     position: u64,
-    window: &[(u64, u32)],
+    wanted: (u64, u64),
+    entries: &[(u64, u32)],
 ) -> Result<(), Refusal> {
-    let entries = node.window(rt.alloc())?;
-    assert_eq!(rt; (node.position(), are(&entries, window)), (position, true));
+    let window = node.window(rt.alloc())?;
+    assert_eq!(rt;
+        (
+            node.position(),
+            limits(&window),
+            are(window.entries(), entries)
+        ),
+        (position, wanted, true)
+    );
     Ok(())
 }
 
 #[test]
 fn the_plain_node_keeps_rows_and_window(rt: HostRuntime) -> Result<(), Fail> {
     let mut node = PlainNode::new(rt.alloc(), Params::new(2, 4, &[126])?);
-    stands(&rt, &node, 0, &[])?;
+    stands(&rt, &node, 0, (2, 1), &[])?;
     judges(&rt, &mut node)?;
     has_rows(&rt, &node);
-    stands(&rt, &node, 4, &[(3, 1), (4, 2)])?;
+    stands(&rt, &node, 4, (2, 3), &[(3, 1), (4, 2)])?;
+    Ok(())
+}
+
+/// A change of the window to so many seqnos.
+fn resize(node: &mut PlainNode, seqnos: u64) -> Result<Verdict, Refusal> {
+    node.set_window(WindowSize::new(seqnos)?)
+}
+
+/// Write sets behind a change of the size, by what they saw and their row, and their verdicts.
+type Run = [(u64, u32, Verdict); 2];
+
+/// Compares the verdict on a change to so many seqnos, and those on the write sets behind it.
+fn resizes(rt: &impl Abort, node: &mut PlainNode, seqnos: u64, items: &Run) -> Result<(), Refusal> {
+    let verdict = resize(node, seqnos)?;
+    assert_eq!(rt; (seqnos, verdict), (seqnos, Verdict::Commit));
+    for (last_seen, row, verdict) in items {
+        let item = put(*last_seen, *row, b'a')?;
+        assert_eq!(rt; (row, node.deliver(item)?), (row, *verdict));
+    }
+    Ok(())
+}
+
+/// Behind a change to two seqnos: the first may have seen nothing, the second came too late for that.
+const NARROW: Run = [(0, 2, Verdict::Commit), (0, 3, Verdict::Stale)];
+
+/// Behind a change to four, which does not lower the floor at once.
+const WIDE: Run = [(1, 4, Verdict::Stale), (2, 5, Verdict::Commit)];
+
+// A smaller window raises the floor, seqno by seqno, and a larger one does not lower it.
+#[test]
+fn a_larger_window_leaves_the_floor(rt: HostRuntime) -> Result<(), Fail> {
+    let mut node = PlainNode::new(rt.alloc(), Params::new(4, 4, &[126])?);
+    let first = node.deliver(put(0, 1, b'a')?)?;
+    assert_eq!(rt; first, Verdict::Commit);
+    resizes(&rt, &mut node, 2, &NARROW)?;
+    resizes(&rt, &mut node, 4, &WIDE)?;
+    stands(&rt, &node, 7, (4, 4), &[(7, 5)])?;
     Ok(())
 }

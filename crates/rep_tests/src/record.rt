@@ -4,7 +4,7 @@ use crate::bytes::exchanged;
 use rep_record::{
     BlockBuilder, BlockReader, MAX_BLOCK, MAX_RECORD, put_record, read_block, read_record,
 };
-use rep_types::{Judged, Key, Refusal, Value, Verdict, Write, WriteSet};
+use rep_types::{Item, Judged, Key, Refusal, Value, Verdict, Write, WriteSet};
 use std::alloc::{AllocError, Global};
 use std::process::Abort;
 use std::test::Fail;
@@ -22,7 +22,7 @@ fn put() -> Result<WriteSet, Refusal> {
 fn judged(seqno: u64, verdict: Verdict) -> Result<Judged, Refusal> {
     Ok(Judged {
         seqno,
-        item: put()?,
+        item: Item::WriteSet(put()?),
         verdict,
     })
 }
@@ -269,7 +269,7 @@ fn two_puts(seqno: u64, size: usize) -> Result<Judged, Refusal> {
     let writes = [put_of(1, size)?, put_of(2, 0)?];
     Ok(Judged {
         seqno,
-        item: WriteSet::new(3, seqno, 0, &[], &writes)?,
+        item: Item::WriteSet(WriteSet::new(3, seqno, 0, &[], &writes)?),
         verdict: Verdict::Commit,
     })
 }
@@ -284,7 +284,7 @@ fn largest(alloc: Global) -> Result<Judged, Refusal> {
     }
     Ok(Judged {
         seqno: 1 << 60,
-        item: WriteSet::new(u64::MAX, u64::MAX, u64::MAX, &reads, &writes)?,
+        item: Item::WriteSet(WriteSet::new(u64::MAX, u64::MAX, u64::MAX, &reads, &writes)?),
         verdict: Verdict::Conflict((1 << 60) - 1),
     })
 }

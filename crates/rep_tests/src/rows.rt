@@ -1,6 +1,6 @@
 //! Writes of rows, and the versions that items of them make: what more than one test is made of.
 
-use rep_types::{Key, Refusal, Value, Write, WriteSet};
+use rep_types::{Item, Key, Refusal, Value, Write, WriteSet};
 use rep_versions::Versions;
 
 /// A write that puts these bytes.
@@ -18,5 +18,5 @@ pub(crate) fn delete(key: Key) -> Write {
 
 /// Adds the versions of an item of these writes.
 pub(crate) fn add(versions: &mut Versions, seqno: u64, writes: &[Write]) -> Result<(), Refusal> {
-    versions.add(seqno, &WriteSet::new(1, 1, 0, &[], writes)?)
+    versions.add(seqno, &Item::WriteSet(WriteSet::new(1, 1, 0, &[], writes)?))
 }

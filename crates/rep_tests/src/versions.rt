@@ -39,13 +39,14 @@ fn is(versions: &Versions, (row, seqno, bytes, below): Case) -> bool {
 }
 
 /// Compares these rows.
-fn are(rt: &impl Abort, versions: &Versions, cases: &[Case]) {
+fn are(rt: &impl Abort, versions: &Versions, cases: &[Case]) -> Result<(), Fail> {
     for case in cases {
         assert_eq!(rt;
             (case.0, case.1, is(versions, *case)),
             (case.0, case.1, true)
         );
     }
+    Ok(())
 }
 
 const NEWEST: [Case; 12] = [
@@ -65,8 +66,7 @@ const NEWEST: [Case; 12] = [
 
 #[test]
 fn the_newest_version_at_most_at_the_snapshot_is_found(rt: HostRuntime) -> Result<(), Fail> {
-    are(&rt, &three(rt.alloc())?, &NEWEST);
-    Ok(())
+    are(&rt, &three(rt.alloc())?, &NEWEST)
 }
 
 const TAKEN_BACK: [Case; 2] = [(5, 9, None, false), (5, 5, Some(b"two"), false)];
@@ -81,16 +81,14 @@ const PRUNED: [Case; 3] = [
 fn versions_are_taken_back_by_seqno(rt: HostRuntime) -> Result<(), Fail> {
     let mut versions = three(rt.alloc())?;
     versions.take_back(9);
-    are(&rt, &versions, &TAKEN_BACK);
-    Ok(())
+    are(&rt, &versions, &TAKEN_BACK)
 }
 
 #[test]
 fn versions_are_pruned_by_seqno(rt: HostRuntime) -> Result<(), Fail> {
     let mut versions = three(rt.alloc())?;
     versions.prune(6);
-    are(&rt, &versions, &PRUNED);
-    Ok(())
+    are(&rt, &versions, &PRUNED)
 }
 
 /// A base, a position, and the pages with a version between.

@@ -6,7 +6,7 @@ ghost use Rattle.std.specs.Prelude.{◌<◌};
 
 use anyhow::{Context, Result};
 use arrayvec::ArrayVec;
-use rep_types::{Key, Refusal, Value, Write, WriteSet};
+use rep_types::{Item, Key, Refusal, Value, Write, WriteSet};
 use rep_versions::{At, Versions};
 use std::alloc::Global;
 use std::env;
@@ -45,7 +45,7 @@ fn item(seqno: u64) -> Result<WriteSet, Refusal> {
 fn versions(alloc: Global, items: u64) -> Result<Versions, Refusal> {
     let mut versions = Versions::new(alloc);
     for seqno in 0..items {
-        versions.add(seqno, &item(seqno)?)?;
+        versions.add(seqno, &Item::WriteSet(item(seqno)?))?;
     }
     Ok(versions)
 }

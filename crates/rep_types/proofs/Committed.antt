@@ -1,13 +1,14 @@
--- The entries of a history are those of the committed items.
+-- The entries of a history are those of the committed write sets.
 use Rattle.std.proofs.Common.{◌≡◌, ℕ, zero, suc, ◌+◌, ◌-◌, ◌<◌, ◌≤◌, Bool, true, false, if◌then◌else◌, List, [], ◌∷◌, length, map, filter, get_or, Contains, refl, sym, ap, subst, ◌∙◌, arith}
+use Rattle.std.proofs.lemmas.Bool.{and_from, and_parts}
 use Rattle.rep_types.specs.declared.key.Key.{Key}
 use Rattle.rep_types.specs.declared.judged.Judged.{Judged}
 use Rattle.rep_types.specs.declared.verdict.Verdict.{Verdict}
 use Rattle.rep_types.specs.declared.verdict.Verdict.TheVariants.{Commit}
-use Rattle.rep_types.specs.Transactions.{written}
 use Rattle.rep_types.specs.Settings.{Setting}
 use Rattle.rep_types.specs.Entries.{Entry}
-use Rattle.rep_types.specs.Order.{Order, item, is_commit, counts, entry_of, entries, history, verdict}
+use Rattle.rep_types.specs.Items.{is_write_set, written_by}
+use Rattle.rep_types.specs.Order.{Order, item, is_commit, is_kept, entry_of, entries, history, verdict}
 use Rattle.rep_types.specs.ByItems.{IsEntry, AscendBySeqno}
 use Rattle.rep_types.proofs.Members.{Contains-map, Contains-from_map, Contains-filter, Contains-from_filter}
 use Rattle.rep_types.proofs.Histories.{judged, length_history, history_at, history_at_index}
@@ -26,36 +27,39 @@ judged-from_history p L j (i, inside, is) =
     let within : i < length L = omega (arith, inside, length_history p L) in
     (i + 1, omega arith, omega (arith, within), sym is ∙ history_at_index p L i j within)
 
--- a committed item has an entry
-pub Contains-entries : (p : Setting) (L : Order) (n : ℕ) → 0 < n → n ≤ length L → verdict p L n ≡ Commit →
-    Contains (entries (history p L)) (record { seqno = n; keys = written (item L n) })
-Contains-entries p L n pos inside commit =
-    Contains-map entry_of (filter counts (history p L)) (judged p L n)
-    (Contains-filter counts (history p L) (judged p L n) (Contains-history p L n pos inside) (ap is_commit commit))
+-- a committed write set has an entry
+pub Contains-entries : (p : Setting) (L : Order) (n : ℕ) → 0 < n → n ≤ length L → is_write_set (item L n) ≡ true → verdict p L n ≡ Commit →
+    Contains (entries (history p L)) (record { seqno = n; keys = written_by (item L n) })
+Contains-entries p L n pos inside kind commit =
+    Contains-map entry_of (filter is_kept (history p L)) (judged p L n)
+    (Contains-filter is_kept (history p L) (judged p L n) (Contains-history p L n pos inside)
+    (and_from (is_write_set (item L n)) (is_commit (verdict p L n)) kind (ap is_commit commit)))
 
--- each entry is that of a committed item
+-- each entry is that of a committed write set
 pub IsEntry-from_entries : (p : Setting) (L : Order) (e : Entry) → Contains (entries (history p L)) e → IsEntry p L e
 IsEntry-from_entries p L e has =
-    let found : (j : Judged) × Contains (filter counts (history p L)) j × (entry_of j ≡ e) = Contains-from_map entry_of (filter counts (history p L)) e has in
+    let found : (j : Judged) × Contains (filter is_kept (history p L)) j × (entry_of j ≡ e) = Contains-from_map entry_of (filter is_kept (history p L)) e has in
     let j : Judged = found.0 in
-    let kept : Contains (history p L) j × (counts j ≡ true) = Contains-from_filter counts (history p L) j found.1 in
+    let kept : Contains (history p L) j × (is_kept j ≡ true) = Contains-from_filter is_kept (history p L) j found.1 in
     let at : (n : ℕ) × (0 < n) × (n ≤ length L) × (j ≡ judged p L n) = judged-from_history p L j kept.0 in
-    let P : Judged → Type 0 = λ x. counts x ≡ true in
+    let P : Judged → Type 0 = λ x. is_kept x ≡ true in
     let Q : Judged → Type 0 = λ x. IsEntry p L (entry_of x) in
+    let both : (is_write_set (item L at.0) ≡ true) × (is_commit (verdict p L at.0) ≡ true) =
+    and_parts (is_write_set (item L at.0)) (is_commit (verdict p L at.0)) (subst P at.3 kept.1) in
     let is : IsEntry p L (entry_of (judged p L at.0)) =
-    record { committed = record { first = at.1; last = at.2; commit = is_commit-true (verdict p L at.0) (subst P at.3 kept.1) }; keys = refl } in
+    record { committed = record { first = at.1; last = at.2; commit = is_commit-true (verdict p L at.0) both.1 }; kind = both.0; keys = refl } in
     subst (IsEntry p L) found.2 (subst Q (sym at.3) is)
 
 -- an entry of these keys
 same_entry : (e : Entry) (ks : List Key) → e.keys ≡ ks → record { seqno = e.seqno; keys = ks } ≡ e
 same_entry e ks is = ap (λ (keys : List Key). record { seqno = e.seqno; keys = keys }) (sym is)
 
--- the entry of a committed item is there
+-- the entry of a committed write set is there
 pub entries_from_IsEntry : (p : Setting) (L : Order) (e : Entry) → IsEntry p L e → Contains (entries (history p L)) e
 entries_from_IsEntry p L e is =
-    let own : Entry = record { seqno = e.seqno; keys = written (item L e.seqno) } in
-    let same : own ≡ e = same_entry e (written (item L e.seqno)) is.keys in
-    subst (Contains (entries (history p L))) same (Contains-entries p L e.seqno is.committed.first is.committed.last is.committed.commit)
+    let own : Entry = record { seqno = e.seqno; keys = written_by (item L e.seqno) } in
+    let same : own ≡ e = same_entry e (written_by (item L e.seqno)) is.keys in
+    subst (Contains (entries (history p L))) same (Contains-entries p L e.seqno is.committed.first is.committed.last is.kind is.committed.commit)
 
 -- each seqno is above the bound, and below those behind it
 abbrev pub AscendFrom : ℕ → List Entry → Type 0
@@ -101,16 +105,16 @@ HaveSeqnos-from n [] at = tt
 HaveSeqnos-from n (j ∷ js) at =
     (omega (arith, at zero j (omega arith)), HaveSeqnos-from (n + 1) js (λ i d inside. omega (arith, at (suc i) d (omega (arith, inside)))))
 
--- the entries of those that commit ascend
+-- the entries of the write sets that commit ascend
 AscendFrom-entries : (n : ℕ) (js : List Judged) → HaveSeqnos n js → AscendFrom n (entries js)
 AscendFrom-entries n [] have = tt
 AscendFrom-entries n (j ∷ js) have =
     let P : ℕ → Type 0 = λ m. AscendFrom m (entries js) in
     let next : n + 1 ≡ j.seqno + 1 = omega (arith, have.0) in
-    entries_first (counts j) n j js (omega (arith, have.0)) (subst P next (AscendFrom-entries (n + 1) js have.1))
+    entries_first (is_kept j) n j js (omega (arith, have.0)) (subst P next (AscendFrom-entries (n + 1) js have.1))
   where
     entries_first : (b : Bool) (low : ℕ) (j : Judged) (js : List Judged) → low ≤ j.seqno → AscendFrom (j.seqno + 1) (entries js) →
-        AscendFrom low (map entry_of (if b then j ∷ filter counts js else filter counts js))
+        AscendFrom low (map entry_of (if b then j ∷ filter is_kept js else filter is_kept js))
     entries_first true low j js above rest = (above, rest)
     entries_first false low j js above rest = AscendFrom-lower (j.seqno + 1) low (entries js) (omega (arith, above)) rest
 

@@ -86,21 +86,29 @@ floor_take p L k (suc n) below =
     ap (λ (f : ℕ). max f (suc n + 1 - size p (take (suc n) (take k L)))) (floor_take p L k n (omega arith))
     ∙ ap (λ (K : List Item). max (floor p L n) (suc n + 1 - size p K)) front
 
--- the reach goes on from itself as the order does
-pub reach_push : (p : Setting) (L : List Item) (i : Item) → reach p (L ++ i ∷ []) ≡ reach_after (reach p L) (length L + 1) i
-reach_push p L i =
+-- items behind an order leave its floor
+pub floor_append : (p : Setting) (L M : List Item) → floor p (L ++ M) (length L) ≡ floor p L (length L)
+floor_append p L M =
+    sym (floor_take p (L ++ M) (length L) (length L) (omega arith)) ∙ ap (λ (K : List Item). floor p K (length L)) (take_at L M (length L) refl)
+
+-- the floor after one more item
+pub floor_push : (p : Setting) (L : List Item) (i : Item) →
+    floor p (L ++ i ∷ []) (length (L ++ i ∷ [])) ≡ max (floor p L (length L)) (length L + 1 + 1 - resized (size p L) i)
+floor_push p L i =
     let more : List Item = L ++ i ∷ [] in
     let n : ℕ = length L in
     let long : length more ≡ n + 1 = length_push L i in
-    let before : take n more ≡ L = take_at L (i ∷ []) n refl in
-    let same : floor p more n ≡ floor p L n = sym (floor_take p more n n (omega arith)) ∙ ap (λ (K : List Item). floor p K n) before in
     let whole : take (n + 1) more ≡ more = take_all (n + 1) more (omega arith) in
     let wide : size p (take (n + 1) more) ≡ resized (size p L) i = ap (size p) whole ∙ size_push p L i in
-    let raised : floor p more (length more) ≡ max (floor p L n) (n + 1 + 1 - resized (size p L) i) =
     ap (floor p more) long
     ∙ (floor_next p more n
-    ∙ (ap (λ (f : ℕ). max f (n + 1 + 1 - size p (take (n + 1) more))) same ∙ ap (λ (s : ℕ). max (floor p L n) (n + 1 + 1 - s)) wide)) in
-    ap (λ (s : ℕ). made s (floor p more (length more))) (size_push p L i) ∙ ap (made (resized (size p L) i)) raised
+    ∙ (ap (λ (f : ℕ). max f (n + 1 + 1 - size p (take (n + 1) more))) (floor_append p L (i ∷ []))
+    ∙ ap (λ (s : ℕ). max (floor p L n) (n + 1 + 1 - s)) wide))
+
+-- the reach goes on from itself as the order does
+pub reach_push : (p : Setting) (L : List Item) (i : Item) → reach p (L ++ i ∷ []) ≡ reach_after (reach p L) (length L + 1) i
+reach_push p L i =
+    ap (λ (s : ℕ). made s (floor p (L ++ i ∷ []) (length (L ++ i ∷ [])))) (size_push p L i) ∙ ap (made (resized (size p L) i)) (floor_push p L i)
   where
     made : ℕ → ℕ → Reach
     made s f = record { size = s; floor = f }

@@ -7,9 +7,12 @@ use Rattle.std.proofs.lemmas.List.{get_or-drop, length-drop, take-append-drop}
 use Rattle.std.proofs.lemmas.List.Elements.{All-contains, Contains-append_left, Contains-append_right, Contains-append_cases}
 use Rattle.rep_types.specs.declared.key.Key.{Key}
 use Rattle.rep_types.specs.declared.value.Write.{Write}
+use Rattle.rep_types.specs.declared.item.Item.{Item}
+use Rattle.rep_types.specs.declared.item.Item.TheVariants.{WriteSet, SetWindow}
 use Rattle.rep_types.specs.declared.judged.Judged.{Judged}
 use Rattle.rep_types.specs.Keys.{key_eq}
-use Rattle.rep_types.specs.Transactions.{key_of, written}
+use Rattle.rep_types.specs.Transactions.{key_of}
+use Rattle.rep_types.specs.Items.{writes_of, written_by}
 use Rattle.rep_types.specs.Settings.{Setting}
 use Rattle.rep_types.specs.Order.{Order, item, latest, is_commit, counts, history, verdict, effects, row_in, rows, overwritten}
 use Rattle.rep_types.specs.ByItems.{IsCommitted, IsLastWrite}
@@ -36,13 +39,13 @@ Contains-from_flat_map f (z ∷ xs) y has =
     (Contains-append_cases (f z) (flat_map f xs) y has)
 
 -- what judged items write, those that committed
-pub Contains-effects : (h : List Judged) (j : Judged) (write : Write) → Contains h j → counts j ≡ true → Contains j.item.writes write → Contains (effects h) write
+pub Contains-effects : (h : List Judged) (j : Judged) (write : Write) → Contains h j → counts j ≡ true → Contains (writes_of j.item) write → Contains (effects h) write
 Contains-effects h j write has commits writes =
-    Contains-flat_map (λ (x : Judged). x.item.writes) (filter counts h) j write (Contains-filter counts h j has commits) writes
+    Contains-flat_map (λ (x : Judged). writes_of x.item) (filter counts h) j write (Contains-filter counts h j has commits) writes
 
-pub Contains-from_effects : (h : List Judged) (write : Write) → Contains (effects h) write → (j : Judged) × Contains h j × (counts j ≡ true) × Contains j.item.writes write
+pub Contains-from_effects : (h : List Judged) (write : Write) → Contains (effects h) write → (j : Judged) × Contains h j × (counts j ≡ true) × Contains (writes_of j.item) write
 Contains-from_effects h write has =
-    let found = Contains-from_flat_map (λ (x : Judged). x.item.writes) (filter counts h) write has in
+    let found = Contains-from_flat_map (λ (x : Judged). writes_of x.item) (filter counts h) write has in
     let kept = Contains-from_filter counts h found.0 found.1 in
     (found.0, kept.0, kept.1, found.2)
 
@@ -55,14 +58,14 @@ committed-from_history p L j has commits =
     (at.0, record { first = at.1; last = at.2; commit = is_commit-true (verdict p L at.0) (subst P at.3 commits) }, at.3)
 
 -- what takes effect is what committed items write
-pub effects_to : (p : Setting) (L : Order) (write : Write) → Contains (effects (history p L)) write → (n : ℕ) × IsCommitted p L n × Contains (item L n).writes write
+pub effects_to : (p : Setting) (L : Order) (write : Write) → Contains (effects (history p L)) write → (n : ℕ) × IsCommitted p L n × Contains (writes_of (item L n)) write
 effects_to p L write has =
     let found = Contains-from_effects (history p L) write has in
     let at = committed-from_history p L found.0 found.1 found.2 in
-    let P : Judged → Type 0 = λ x. Contains x.item.writes write in
+    let P : Judged → Type 0 = λ x. Contains (writes_of x.item) write in
     (at.0, at.1, subst P at.2 found.3)
 
-pub effects_from : (p : Setting) (L : Order) (write : Write) → ((n : ℕ) × IsCommitted p L n × Contains (item L n).writes write) → Contains (effects (history p L)) write
+pub effects_from : (p : Setting) (L : Order) (write : Write) → ((n : ℕ) × IsCommitted p L n × Contains (writes_of (item L n)) write) → Contains (effects (history p L)) write
 effects_from p L write (n, is, has) = Contains-effects (history p L) (judged p L n) write (Contains-history p L n is.first is.last) (ap is_commit is.commit) has
 
 -- none of the elements passes, so there is no last one that does
@@ -102,17 +105,22 @@ no_write writes key apart =
     none_passes (λ (write : Write). key_eq write.key key) writes
     (λ write has. false_from_ne_true (key_eq write.key key) (λ same. apart write has (key_eq-true write.key key same)))
 
+-- the key of what an item writes is one that it writes
+Contains-written : (i : Item) (write : Write) → Contains (writes_of i) write → Contains (written_by i) write.key
+Contains-written (WriteSet w) write has = Contains-map key_of w.writes write has
+Contains-written (SetWindow c) write has = absurd (Contains-nothing write has)
+
 -- a key that no committed item writes has no row
-pub rows_absent : (p : Setting) (L : Order) (key : Key) → ((n : ℕ) → IsCommitted p L n → Contains (written (item L n)) key → ⊥) → rows p L key ≡ None
+pub rows_absent : (p : Setting) (L : Order) (key : Key) → ((n : ℕ) → IsCommitted p L n → Contains (written_by (item L n)) key → ⊥) → rows p L key ≡ None
 rows_absent p L key none =
     ap (option_and_then (λ (write : Write). write.value))
     (no_write (effects (history p L)) key
     (λ write has same.
     let at = effects_to p L write has in
-    none at.0 at.1 (subst (Contains (written (item L at.0))) same (Contains-map key_of (item L at.0).writes write at.2))))
+    none at.0 at.1 (subst (Contains (written_by (item L at.0))) same (Contains-written (item L at.0) write at.2))))
 
 -- what the items from place n on write, where none of the later ones that committed writes the key
-later_apart : (p : Setting) (L : Order) (key : Key) (n : ℕ) → ((k : ℕ) → n < k → IsCommitted p L k → Contains (written (item L k)) key → ⊥) →
+later_apart : (p : Setting) (L : Order) (key : Key) (n : ℕ) → ((k : ℕ) → n < k → IsCommitted p L k → Contains (written_by (item L k)) key → ⊥) →
     (write : Write) → Contains (effects (drop n (history p L))) write → write.key ≢ key
 later_apart p L key n none write has same =
     let h : List Judged = history p L in
@@ -122,9 +130,9 @@ later_apart p L key n none write has same =
     let there : Contains h j = in_drop n h j found.1 in
     let at = committed-from_history p L j there found.2 in
     let seqno : j.seqno ≡ at.0 = ap (λ (x : Judged). x.seqno) at.2 in
-    let P : Judged → Type 0 = λ x. Contains x.item.writes write in
-    let writes : Contains (item L at.0).writes write = subst P at.2 found.3 in
-    none at.0 (omega (arith, above, seqno)) at.1 (subst (Contains (written (item L at.0))) same (Contains-map key_of (item L at.0).writes write writes))
+    let P : Judged → Type 0 = λ x. Contains (writes_of x.item) write in
+    let writes : Contains (writes_of (item L at.0)) write = subst P at.2 found.3 in
+    none at.0 (omega (arith, above, seqno)) at.1 (subst (Contains (written_by (item L at.0))) same (Contains-written (item L at.0) write writes))
   where
     in_drop : (k : ℕ) (xs : List Judged) (x : Judged) → Contains (drop k xs) x → Contains xs x
     in_drop k xs x (i, inside, is) = (k + i, omega (arith, inside, length-drop k xs), sym (get_or-drop k xs i x) ∙ is)
@@ -137,13 +145,13 @@ last_write writes key write is =
     false_from_ne_true (key_eq (get_or writes k d).key key) (λ same. is.last k d above within (key_eq-true (get_or writes k d).key key same)))
 
 -- the row of a key that a committed item writes, and no later one that committed
-pub rows_present : (p : Setting) (L : Order) (key : Key) (n : ℕ) (write : Write) → IsCommitted p L n → IsLastWrite (item L n).writes key write →
-    ((k : ℕ) → n < k → IsCommitted p L k → Contains (written (item L k)) key → ⊥) → rows p L key ≡ write.value
+pub rows_present : (p : Setting) (L : Order) (key : Key) (n : ℕ) (write : Write) → IsCommitted p L n → IsLastWrite (writes_of (item L n)) key write →
+    ((k : ℕ) → n < k → IsCommitted p L k → Contains (written_by (item L k)) key → ⊥) → rows p L key ≡ write.value
 rows_present p L key n write is last later =
     let h : List Judged = history p L in
     let test : Write → Bool = λ x. key_eq x.key key in
     let before : List Judged = history p (take (n - 1) L) in
-    let own : List Write = (item L n).writes in
+    let own : List Write = writes_of (item L n) in
     let front : take n h ≡ before ++ judged p L n ∷ [] = take_history p L n ∙ history_next p L n is.first is.last in
     let chosen : (if is_commit (verdict p L n) then own else []) ≡ own = ap (λ v. if is_commit v then own else []) is.commit in
     let first : effects (take n h) ≡ effects before ++ own =

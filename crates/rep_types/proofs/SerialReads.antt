@@ -8,7 +8,10 @@ use Rattle.std.proofs.lemmas.Bool.{or_parts}
 use Rattle.std.proofs.lemmas.Bool.Decides.{nat_tests}
 use Rattle.rep_types.specs.declared.key.Key.{Key}
 use Rattle.rep_types.specs.declared.value.Write.{Write}
+use Rattle.rep_types.specs.declared.item.Item.{Item}
+use Rattle.rep_types.specs.declared.item.Item.TheVariants.{WriteSet, SetWindow}
 use Rattle.rep_types.specs.declared.judged.Judged.{Judged}
+use Rattle.rep_types.specs.declared.verdict.Verdict.{Verdict}
 use Rattle.rep_types.specs.declared.verdict.Verdict.TheVariants.{Commit}
 use Rattle.rep_types.specs.Keys.{key_eq}
 use Rattle.rep_types.specs.Transactions.{Transaction, named, written}
@@ -38,12 +41,21 @@ pub latest-effects_none : (w : Transaction) (key : Key) (h : List Judged) → Co
     list_any (against w) (entries h) ≡ false → latest (λ (write : Write). key_eq write.key key) (effects h) ≡ None
 latest-effects_none w key [] has later none = refl
 latest-effects_none w key (j ∷ h) has later none =
-    let test : Write → Bool = λ write. key_eq write.key key in
-    let own : touches (written j.item) (named w) ≡ false → latest test j.item.writes ≡ None = λ apart. latest_untouched j.item.writes (named w) key apart has in
-    let first : w.last_seen < j.seqno = All-head (λ (j : Judged). w.last_seen < j.seqno) j h later in
-    let rest : list_any (against w) (entries h) ≡ false → latest test (effects h) ≡ None =
-    latest-effects_none w key h has (All-tail (λ (j : Judged). w.last_seen < j.seqno) j h later) in
-    grind (arith, nat_tests, latest-append test j.item.writes (effects h))
+    first_none j.item j.verdict (All-head (λ (j : Judged). w.last_seen < j.seqno) j h later)
+    (latest-effects_none w key h has (All-tail (λ (j : Judged). w.last_seen < j.seqno) j h later)) none
+  where
+    test : Write → Bool
+    test write = key_eq write.key key
+
+    with_first : Item → Verdict → List Judged
+    with_first i v = record { seqno = j.seqno; item = i; verdict = v } ∷ h
+
+    first_none : (i : Item) (v : Verdict) → w.last_seen < j.seqno → (list_any (against w) (entries h) ≡ false → latest test (effects h) ≡ None) →
+        list_any (against w) (entries (with_first i v)) ≡ false → latest test (effects (with_first i v)) ≡ None
+    first_none (WriteSet x) v later rest none =
+        let own : touches (written x) (named w) ≡ false → latest test x.writes ≡ None = λ apart. latest_untouched x.writes (named w) key apart has in
+        grind (arith, nat_tests, latest-append test x.writes (effects h))
+    first_none (SetWindow c) v later rest none = grind (arith, rest)
 
 -- after the items that w had seen nothing was written to a key that it names, if it commits as the next item
 pub rows_seen : (p : Setting) (L : Order) (lowest n : ℕ) (w : Transaction) (key : Key) → verdict_among p lowest n (entries (history p L)) w ≡ Commit →

@@ -1,6 +1,6 @@
 -- The history, the rows, the window and the state in the subject's own words, by the items of the order; and how far back its window
 -- reaches.
-use Rattle.std.specs.Prelude.{◌≡◌, ◌≢◌, ◌↔◌, ℕ, ◌+◌, ◌-◌, ◌<◌, ◌≤◌, List, [], ◌∷◌, ◌++◌, length, take, slice_index_or, max, Contains, None}
+use Rattle.std.specs.Prelude.{◌≡◌, ◌≢◌, ◌↔◌, ℕ, ◌+◌, ◌-◌, ◌<◌, ◌≤◌, List, [], ◌∷◌, ◌++◌, length, take, slice_index_or, max, true, Contains, None}
 use Rattle.rep_types.specs.declared.key.Key.{Key}
 use Rattle.rep_types.specs.declared.value.Write.{Write}
 use Rattle.rep_types.specs.declared.item.Item.{Item}
@@ -8,10 +8,10 @@ use Rattle.rep_types.specs.declared.item.Item.TheVariants.{SetWindow as OfSetWin
 use Rattle.rep_types.specs.declared.item.SetWindow.{SetWindow}
 use Rattle.rep_types.specs.declared.judged.Judged.{Judged}
 use Rattle.rep_types.specs.declared.verdict.Verdict.TheVariants.{Commit}
-use Rattle.rep_types.specs.Transactions.{Transaction, written}
 use Rattle.rep_types.specs.Settings.{Setting}
 use Rattle.rep_types.specs.Entries.{Entry}
-use Rattle.rep_types.specs.Items.{AreWriteSets}
+use Rattle.rep_types.specs.Windows.{fixed}
+use Rattle.rep_types.specs.Items.{is_write_set, AreWriteSets, writes_of, written_by}
 use Rattle.rep_types.specs.Reaches.{size, floor, reach, reach_after}
 use Rattle.rep_types.specs.Order.{Order, item, verdict, history, entries, effects, rows, read, window, state}
 
@@ -25,31 +25,36 @@ pub record IsCommitted (p : Setting) (L : Order) (n : ℕ) : Type 0 where
 -- history of a front of the order is a front of it, more items give the earlier ones no other verdict, and one more item stands behind
 -- it with the verdict that the longer order gives it.
 pub record HistoryByItems : Type 0 where
-  pub seqno : (before behind : Order) (w : Transaction) → item (before ++ w ∷ behind) (length before + 1) ≡ w
+  pub seqno : (before behind : Order) (i : Item) → item (before ++ i ∷ behind) (length before + 1) ≡ i
   pub as_many : (p : Setting) (L : Order) → length (history p L) ≡ length L
   pub items : (p : Setting) (L : Order) (n : ℕ) (d : Judged) → 1 ≤ n → n ≤ length L →
       slice_index_or (history p L) (n - 1) d ≡ record { seqno = n; item = item L n; verdict = verdict p L n }
   pub front : (p : Setting) (L : Order) (n : ℕ) → take n (history p L) ≡ history p (take n L)
   pub verdicts : (p : Setting) (L : Order) (k n : ℕ) → 1 ≤ n → n ≤ k → verdict p (take k L) n ≡ verdict p L n
-  pub one_more : (p : Setting) (L : Order) (w : Transaction) →
-      history p (L ++ w ∷ []) ≡ history p L ++ record { seqno = length L + 1; item = w; verdict = verdict p (L ++ w ∷ []) (length L + 1) } ∷ []
+  pub one_more : (p : Setting) (L : Order) (i : Item) →
+      history p (L ++ i ∷ []) ≡ history p L ++ record { seqno = length L + 1; item = i; verdict = verdict p (L ++ i ∷ []) (length L + 1) } ∷ []
 
--- e stands for a committed item of the order: the one with its seqno, which wrote its keys
+-- e stands for a committed write set of the order: the one with its seqno, which wrote its keys
 pub record IsEntry (p : Setting) (L : Order) (e : Entry) : Type 0 where
   pub committed : IsCommitted p L e.seqno
-  pub keys : e.keys ≡ written (item L e.seqno)
+  pub kind : is_write_set (item L e.seqno) ≡ true
+  pub keys : e.keys ≡ written_by (item L e.seqno)
 
 -- each seqno is below those behind it
 abbrev pub AscendBySeqno : List Entry → Type 0
 AscendBySeqno es = (i j : ℕ) (d : Entry) → i < j → j < length es → (slice_index_or es i d).seqno < (slice_index_or es j d).seqno
 
--- The entries are those of the committed items, and the window has those of them whose seqno m has |L| < m + W; both in the
--- order of their seqnos, each once.
+-- The entries are those of the committed write sets, and the window has those of them from the floor on; both in the order of their
+-- seqnos, each once. The window has the size and the floor of the order. Where no item changes the size, it is the fixed window of the
+-- parameters' size.
 pub record WindowByItems : Type 0 where
   pub all : (p : Setting) (L : Order) (e : Entry) → Contains (entries (history p L)) e ↔ IsEntry p L e
   pub all_ascend : (p : Setting) (L : Order) → AscendBySeqno (entries (history p L))
-  pub spanned : (p : Setting) (L : Order) (e : Entry) → Contains (window p L) e ↔ (IsEntry p L e × (length L < e.seqno + p.window))
-  pub spanned_ascend : (p : Setting) (L : Order) → AscendBySeqno (window p L)
+  pub has_size : (p : Setting) (L : Order) → (window p L).size ≡ size p L
+  pub has_floor : (p : Setting) (L : Order) → (window p L).floor ≡ floor p L (length L)
+  pub spanned : (p : Setting) (L : Order) (e : Entry) → Contains (window p L).entries e ↔ (IsEntry p L e × (floor p L (length L) ≤ e.seqno))
+  pub spanned_ascend : (p : Setting) (L : Order) → AscendBySeqno (window p L).entries
+  pub same_size : (p : Setting) (L : Order) → AreWriteSets L → window p L ≡ fixed p.window (length L) (window p L).entries
 
 -- the writes write the key, and this is the last that does
 pub record IsLastWrite (writes : List Write) (key : Key) (write : Write) : Type 0 where
@@ -62,11 +67,11 @@ pub record IsLastWrite (writes : List Write) (key : Key) (write : Write) : Type 
 -- A key that no committed item writes has no row. Where committed items write it, the last of them says the row: the value of
 -- its last write of the key, or no row where that is a delete. What takes effect is what committed items write.
 pub record RowsByItems : Type 0 where
-  pub absent : (p : Setting) (L : Order) (key : Key) → ((n : ℕ) → IsCommitted p L n → Contains (written (item L n)) key → ⊥) → rows p L key ≡ None
-  pub present : (p : Setting) (L : Order) (key : Key) (n : ℕ) (write : Write) → IsCommitted p L n → IsLastWrite (item L n).writes key write →
-      ((k : ℕ) → n < k → IsCommitted p L k → Contains (written (item L k)) key → ⊥) → rows p L key ≡ write.value
+  pub absent : (p : Setting) (L : Order) (key : Key) → ((n : ℕ) → IsCommitted p L n → Contains (written_by (item L n)) key → ⊥) → rows p L key ≡ None
+  pub present : (p : Setting) (L : Order) (key : Key) (n : ℕ) (write : Write) → IsCommitted p L n → IsLastWrite (writes_of (item L n)) key write →
+      ((k : ℕ) → n < k → IsCommitted p L k → Contains (written_by (item L k)) key → ⊥) → rows p L key ≡ write.value
   pub effects : (p : Setting) (L : Order) (write : Write) →
-      Contains (effects (history p L)) write ↔ ((n : ℕ) × IsCommitted p L n × Contains (item L n).writes write)
+      Contains (effects (history p L)) write ↔ ((n : ℕ) × IsCommitted p L n × Contains (writes_of (item L n)) write)
 
 -- A read at s is of the rows after the first s items. It stays the same as more items come.
 pub record ReadsByItems : Type 0 where

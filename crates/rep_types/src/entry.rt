@@ -1,4 +1,4 @@
-//! What certification keeps of a committed item.
+//! What certification keeps of a committed write set.
 
 ghost use Rattle.std.specs.Prelude.{◌≡◌, ◌≤◌, length, ⊤};
 
@@ -8,7 +8,7 @@ use arrayvec::ArrayVec;
 use std::alloc::AllocError;
 use std::marker::Model;
 
-/// A committed item as the window keeps it: its seqno, and the keys that it wrote, at
+/// A committed write set as the window keeps it: its seqno, and the keys that it wrote, at
 /// most 16.
 #[derive(Debug, Drop, PartialEq, Eq)]
 pub struct Entry {
@@ -31,21 +31,21 @@ impl Model for Entry {
 }
 
 impl Entry {
-    /// The entry of the item with this seqno that wrote these keys.
+    /// The entry of the write set with this seqno that wrote these keys.
     pub fn new(seqno: u64, keys: ArrayVec<Key, MAX_WRITES>) -> Entry
         ensures { result ≡ record { seqno = seqno; keys = keys.items } }
     {
         Entry { seqno, keys }
     }
 
-    /// The item's seqno.
+    /// The write set's seqno.
     pub fn seqno(&self) -> u64
         ensures { result ≡ self.now.seqno }
     {
         self.seqno
     }
 
-    /// The keys that the item wrote.
+    /// The keys that the write set wrote.
     pub fn keys(&self) -> &[Key]
         ensures keys { result.now ≡ self.now.keys }
         ensures few { length self.now.keys ≤ MAX_WRITES }

@@ -29,8 +29,9 @@ pub fn history_by_items()
     ensures { HistoryByItems }
 {}
 
-/// An entry is in the window exactly where its item committed and wrote its keys, and the seqno and
-/// the size of the window come to more than the number of items; the window ascends by seqno.
+/// An entry is in the window exactly where its item is a write set that committed and wrote its keys,
+/// and its seqno is the floor or above; the window ascends by seqno, and has the size and the floor of
+/// the order. Where no item changes the size, it is the fixed window of the parameters' size.
 pub fn window_by_items()
     ensures { WindowByItems }
 {}

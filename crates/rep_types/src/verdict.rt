@@ -1,12 +1,13 @@
-//! What certification says of a write set.
+//! What certification says of an item.
 
 use std::fmt;
 
-/// What certification says of a delivered write set. Every write set takes the next seqno,
-/// whatever its verdict; one that commits takes effect, and the others are dropped.
+/// What certification says of a delivered item. Every item takes the next seqno, whatever its
+/// verdict; one that commits takes effect, and the others are dropped. A change of the window's size
+/// always commits.
 #[derive(Clone, Copy, Debug, PartialEq, Eq)]
 pub enum Verdict {
-    /// The write set takes effect.
+    /// The item takes effect.
     Commit,
     /// A committed write set that the transaction had not seen wrote a key that it read or wrote:
     /// the greatest seqno of such a one.
@@ -23,7 +24,7 @@ impl Verdict {
     ghost use Rattle.std.specs.Prelude.{◌≡◌};
     ghost use Rattle.rep_types.specs.Order.{is_commit};
 
-    /// Whether the write set takes effect.
+    /// Whether the item takes effect.
     pub fn is_commit(self) -> bool
         ensures { result ≡ is_commit self }
     {
@@ -40,7 +41,7 @@ impl Default for Verdict {
 
     ghost is_default = { λ verdict. verdict ≡ Stale };
 
-    /// A verdict that drops the write set and says nothing of others, so that none commits by a value
+    /// A verdict that drops the item and says nothing of others, so that none commits by a value
     /// that was never filled in.
     fn default() -> Verdict {
         Verdict::Stale

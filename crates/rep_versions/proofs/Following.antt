@@ -13,6 +13,7 @@ use Rattle.rep_types.specs.declared.value.Write.{Write}
 use Rattle.rep_types.specs.declared.judged.Judged.{Judged}
 use Rattle.rep_types.specs.Keys.{key_eq}
 use Rattle.rep_types.specs.Settings.{Setting}
+use Rattle.rep_types.specs.Items.{writes_of}
 use Rattle.rep_types.specs.Order.{Order, latest, is_commit, judge, history, effects, row_in, rows, read, overwritten, content_after, after}
 use Rattle.rep_types.proofs.Histories.{take_history}
 use Rattle.rep_types.proofs.Rows.{effects_push, row_in-append}
@@ -213,5 +214,5 @@ follow = record {
   answers = answers_are;
   row = rows_are;
   order = rows_of_order;
-  next = λ p S w key. next_content (is_commit (judge p S.position S.kept w)) S.content w.writes key;
+  next = λ p S i key. next_content (is_commit (judge p S.position S.kept i)) S.content (writes_of i) key;
 }

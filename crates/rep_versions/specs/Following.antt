@@ -5,7 +5,8 @@ use Rattle.rep_types.specs.declared.key.Key.{Key}
 use Rattle.rep_types.specs.declared.value.Write.{Write}
 use Rattle.rep_types.specs.declared.judged.Judged.{Judged}
 use Rattle.rep_types.specs.Keys.{key_eq}
-use Rattle.rep_types.specs.Transactions.{Transaction}
+use Rattle.rep_types.specs.declared.item.Item.{Item}
+use Rattle.rep_types.specs.Items.{writes_of}
 use Rattle.rep_types.specs.Settings.{Setting}
 use Rattle.rep_types.specs.Order.{Order, State, latest, is_commit, counts, history, rows, read, judge, content_after, after}
 use Rattle.rep_versions.specs.declared.versions.At.{At}
@@ -33,7 +34,7 @@ rows_after content changes = fold content_after content changes
 
 -- what a judged item writes, and what the items of an order behind a base do
 abbrev pub effect_of : Judged → List Write
-effect_of j = if counts j then j.item.writes else []
+effect_of j = if counts j then writes_of j.item else []
 
 abbrev pub changes_of : Setting → Order → ℕ → Changes
 changes_of p L base = map effect_of (drop base (history p L))
@@ -55,5 +56,5 @@ pub record VersionsFollowTheItems : Type 0 where
       → AreVersionsOf base changes kept → IsRowAt kept key s (content key) row → row ≡ rows_after content (take (s - base) changes) key
   pub order : (p : Setting) (L : Order) (base s : ℕ) (key : Key) → base ≤ s
       → rows_after (rows p (take base L)) (take (s - base) (changes_of p L base)) key ≡ read p L key s
-  pub next : (p : Setting) (S : State) (w : Transaction) (key : Key)
-      → (after p S w).content key ≡ rows_after S.content ((if is_commit (judge p S.position S.kept w) then w.writes else []) ∷ []) key
+  pub next : (p : Setting) (S : State) (i : Item) (key : Key)
+      → (after p S i).content key ≡ rows_after S.content ((if is_commit (judge p S.position S.kept i) then writes_of i else []) ∷ []) key

@@ -3,11 +3,12 @@
 ghost use Rattle.std.specs.Prelude.{◌≡◌, OnOk, OnErr, IfOk, IfErr, IsSome, IfSome, IsNone};
 ghost use Rattle.std.specs.FinMap as map;
 ghost use Rattle.rep_types.specs.declared.refusal.Refusal.TheVariants.{OutOfMemory};
+ghost use Rattle.rep_types.specs.Items.{writes_of};
 ghost use Rattle.rep_layout.specs.Rows.{row_place};
 ghost use Rattle.rep_versions.specs.Versions.{IsAdded, IsTakenBack, IsPruned, IsAnswer, ArePages, IsWithin, NotesPage, restored};
 
 use rep_layout::{page_of, row_places_are_told};
-use rep_types::{Key, Refusal, Schema, Value, Write, WriteSet};
+use rep_types::{Item, Key, Refusal, Schema, Value, Write};
 use std::alloc::Global;
 use std::collections::BTreeMap;
 use std::marker::Model;
@@ -105,8 +106,8 @@ impl Versions {
     /// is deleted, whatever stood there before, and each other version is as it was.
     ///
     /// Refuses with `OutOfMemory` where a growth was refused, and then the versions are as they were.
-    pub fn add(&mut self, seqno: u64, item: &WriteSet) -> Result<(), Refusal>
-        ensures added { OnOk result (IsAdded seqno item.now.writes self.old self.new) }
+    pub fn add(&mut self, seqno: u64, item: &Item) -> Result<(), Refusal>
+        ensures added { OnOk result (IsAdded seqno (writes_of item.now) self.old self.new) }
         ensures refused { IfErr result (λ e. (e ≡ OutOfMemory) × (self.new ≡ self.old)) }
     {
         self.add_writes(seqno, item.writes())

@@ -1,4 +1,4 @@
-use Rattle.std.proofs.Common.{◌≡◌, ℕ, ◌<◌, ◌≤◌, length, inl, inr, refl, sym, ap, subst, ◌∙◌, arith}
+use Rattle.std.proofs.Common.{◌≡◌, ℕ, ◌<◌, ◌≤◌, length, Ok, inl, inr, refl, sym, ap, subst, ◌∙◌, arith}
 use Rattle.std.proofs.lemmas.Bool.{cases_lt, false≢true}
 use Rattle.rep_disk.specs.History.{History, Synced, seen, stable, failed}
 use Rattle.rep_layout.specs.declared.super_body.SuperBody.{SuperBody}
@@ -9,6 +9,8 @@ use Rattle.rep_cells.specs.Readings.{Reading, reading_of}
 use Rattle.rep_image.specs.Bases.{IsSuperAt}
 use Rattle.rep_recover.specs.Looking.{Counts, HasBadSuper, HasNoSuper}
 use Rattle.rep_recover.specs.Opening.{without_log, IsOpened, Recovers}
+use Rattle.rep_disk.specs.Calls.{IsCall}
+use Rattle.rep_recover.proofs.Going.{calls}
 use Rattle.rep_recover.proofs.Opening.{opened_from, recovers_from, refused_behind, refused_supers}
 use Rattle.rep_recover.proofs.open.read_disk.Goals as goal
 use Rattle.rep_recover.proofs.open.read_disk.Goals.{After-relaid-cells}
@@ -43,6 +45,18 @@ returns-in-Err-find_synced-clause-refused g c =
     (λ honest none. subst HasNoSuper reading (none (subst g.D.Disk.honest (sym same) honest)))
     (λ honest bad. subst (λ d. HasBadSuper (g.D.Disk.size d) (reading_of without_log (seen h))) same (subst (λ (x : Reading). HasBadSuper (g.D.Disk.size disk) x) reading (bad (subst g.D.Disk.honest (sym same) honest))))
     c.in-Err-find_synced.ensures.refused
+
+pub returns-in-Ok-read_behind-clause-call : goal.returns-in-Ok-read_behind-clause-call
+returns-in-Ok-read_behind-clause-call g c =
+    let size = g.D.Disk.size in
+    let failures = g.D.Disk.failures in
+    let honest = g.D.Disk.honest in
+    let first : IsCall {T = Unit {0}} size failures honest c.args.disk (disk_of c.find_synced.new.cells) (Ok tt) =
+    subst (λ d. IsCall {T = Unit {0}} size failures honest d (disk_of c.find_synced.new.cells) (Ok tt)) c.in-Ok.ensures.disk c.in-Ok-find_synced.ensures.call in
+    let second : IsCall {T = Unit {0}} size failures honest (disk_of c.find_synced.new.cells) (disk_of c.read_behind.new.cells) (Ok tt) =
+    subst (λ d. IsCall {T = Unit {0}} size failures honest d (disk_of c.read_behind.new.cells) (Ok tt)) c.relaid-cells.ensures.disk c.in-Ok-read_behind.ensures.looks.call in
+    let both = calls size failures honest c.args.disk (disk_of c.find_synced.new.cells) (disk_of c.read_behind.new.cells) tt (Ok tt) first second in
+    subst (λ x. IsCall {T = Unit {0}} size failures honest c.args.disk (disk_of x.cells) (Ok tt)) (sym c.opened.ensures) both
 
 pub returns-in-Ok-read_behind-clause-opened : goal.returns-in-Ok-read_behind-clause-opened
 returns-in-Ok-read_behind-clause-opened g c =

@@ -2,7 +2,7 @@ use Rattle.std.proofs.Common.{◌≡◌, ◌∙◌, sym, Ok, true, false}
 use Rattle.std.proofs.lemmas.Result.{err_from_is_err_and}
 use Rattle.rep_record.specs.Words.{is_blank}
 use Rattle.rep_record.specs.Lines.{ahead}
-use Rattle.rep_record.specs.Reading.{item_line, params_line}
+use Rattle.rep_record.specs.Reading.{order_line, params_line}
 use Rattle.rep_script.specs.ScriptLines.{script_line}
 use Rattle.rep_script.proofs.Stepping.{both_refused, both_missing, params_blank, both_found}
 use Rattle.rep_script.proofs.judge.read_params.Goals as goal
@@ -34,7 +34,7 @@ lines-preserved g c =
     let counts = rw was at c.next_line.ensures.ok in
     let blank : is_blank c.next_line.new.line.items ≡ true = rw (← c.deref.ensures.0) (sym c.is_blank.ensures.value ∙ c.if-not-is_blank.false) in
     let start = ahead c.args.text.now (left c.args.reader.now) in (
-      params_blank item_line start (left c.lines.reader) (left c.next_line.new.reader) c.args.text.now c.lines.text c.next_line.new.self c.next_line.new.line.items c.lines.invariant.0 known counts.0 blank,
+      params_blank order_line start (left c.lines.reader) (left c.next_line.new.reader) c.args.text.now c.lines.text c.next_line.new.self c.next_line.new.line.items c.lines.invariant.0 known counts.0 blank,
       params_blank script_line start (left c.lines.reader) (left c.next_line.new.reader) c.args.text.now c.lines.text c.next_line.new.self c.next_line.new.line.items c.lines.invariant.1 known counts.0 blank,
     )
 

@@ -1,5 +1,5 @@
 use Rattle.std.proofs.Common.{◌≡◌, ◌+◌, ◌-◌, List, [], ◌∷◌, ◌++◌, length, get_or, refl, ap, ◌∙◌, arith}
-use Rattle.rep_types.specs.Transactions.{Transaction}
+use Rattle.rep_types.specs.declared.item.Item.{Item}
 use Rattle.rep_types.specs.Order.{Order, no_item, item}
 use Rattle.rep_types.proofs.Histories.{length_history, history_at, take_history, verdict_take, history_push_judged}
 use Rattle.rep_types.proofs.laws.history_by_items.Goals as goal
@@ -10,10 +10,10 @@ behind [] ys x d = refl
 behind (y ∷ xs) ys x d = behind xs ys x d
 
 -- the item that so many stand before
-item_behind : (before rest : Order) (w : Transaction) → item (before ++ w ∷ rest) (length before + 1) ≡ w
-item_behind before rest w =
+item_behind : (before rest : Order) (i : Item) → item (before ++ i ∷ rest) (length before + 1) ≡ i
+item_behind before rest i =
     let same : length before + 1 - 1 ≡ length before = omega arith in
-    ap (λ k. get_or (before ++ w ∷ rest) k no_item) same ∙ behind before rest w no_item
+    ap (λ k. get_or (before ++ i ∷ rest) k no_item) same ∙ behind before rest i no_item
 
 pub returns : goal.returns
 returns c = record {

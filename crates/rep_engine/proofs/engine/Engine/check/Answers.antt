@@ -14,7 +14,8 @@ returns-in-Ok-clause-moves g c = began_moves g.D.Disk.failures c.args.self.now c
 
 pub returns-in-Ok-clause-steps : goal.returns-in-Ok-clause-steps
 returns-in-Ok-clause-steps g c = λ n holds window.
-    began_holds g.D.Disk.failures c.args.self.now c.begin.new.self c.args.certifier.now.current c.in-Ok.position (runs_of c.self.view_is c.if-is_some.ensures) (begins_off c.self.view_is c.in-Begin.ensures) c.begin.ensures.rest c.in-Ok.ensures.begun g.D.Disk.honest g.D.Disk.history c.nodes_stay_nodes.ensures c.versions_lead_to_the_state.ensures c.judging_goes_on.ensures n holds window
+    began_holds g.D.Disk.failures c.args.self.now c.begin.new.self c.args.certifier.now.current c.in-Ok.position (runs_of c.self.view_is c.if-is_some.ensures) (begins_off c.self.view_is c.in-Begin.ensures) c.begin.ensures.rest c.in-Ok.ensures.begun g.D.Disk.honest g.D.Disk.history c.nodes_stay_nodes.ensures c.versions_lead_to_the_state.ensures c.judging_goes_on.ensures n holds
+    (c.requires.window (begins_off c.self.view_is c.in-Begin.ensures)).window.is_fixed window
 
 pub returns-in-Err-clause-steps : goal.returns-in-Err-clause-steps
 returns-in-Err-clause-steps g c = λ n holds window.

@@ -11,7 +11,7 @@ returns c =
     let w = c.args.item.now in
     let items : List Judged = c.deref.result.now in
     let seen : ℕ = c.last_seen.result in
-    let whole : items ≡ history node.setting node.order = rw (← c.self.view_is) (c.deref.ensures.value ∙ c.self.invariant) in
+    let whole : items ≡ history node.setting node.order = rw (← c.self.view_is) (c.deref.ensures.value ∙ c.self.invariant.0) in
     c.greatest_conflict.ensures
     ∙ (ap (λ (h : List Judged). greatest (seqnos_against w (entries h)))
     (take_all (length items - seen) (drop seen items) (omega (arith, length-drop seen items)) ∙ (ap (λ (n : ℕ). drop n items) c.last_seen.ensures ∙ ap (drop w.last_seen) whole))

@@ -16,4 +16,4 @@ returns-clause-node g c n holds =
     let durable : n.facts.durable ≡ c.durable-durable.result = ap (λ (s : Standing). s.durable) there.facts ∙ sym c.durable-durable.ensures.durable in
     let above = there.node.facts.based in
     let window = there.windows c.durable-durable.result (omega (arith, durable, there.node.position, above)) (subst (IsAskable c.self.inside.certifier.current) (sym c.durable-durable.ensures.durable) c.self.invariant.askable) in
-    weaker c.window_at.result (λ entries is. is ∙ window ∙ ap (window_at n) (sym durable)) c.window_at.ensures.window
+    weaker c.window_at.result (λ there is. is ∙ window ∙ ap (window_at n) (sym durable)) c.window_at.ensures.window

@@ -1,0 +1,7 @@
+use Rattle.rep_record.proofs.Outcomes.{order_comes}
+use Rattle.rep_record.proofs.order_line.read_order_line.Goals as goal
+
+pub returns : goal.returns
+returns c =
+    let h = order_comes c.args.number c.args.line.now c.read_either.result c.read_either.ensures in
+    record { found = h.found; formed = h.formed; unformed = h.unformed; exact = c.read_either.ensures }

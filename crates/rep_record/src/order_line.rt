@@ -1,0 +1,112 @@
+//! The line of an item of either kind: a write set, or a change of the window's size.
+
+ghost use Rattle.std.specs.Prelude.{◌≡◌, codes, IfOk, Err};
+ghost use Rattle.rep_types.specs.declared.item.Item.{Item};
+ghost use Rattle.rep_record.specs.Words.{words};
+ghost use Rattle.rep_record.specs.Grammar.{IsOrderLine};
+ghost use Rattle.rep_record.specs.Reading.{is_next, sized, change_form, change_outcome, change_line, limited_item, order_line};
+
+use crate::item_line::{read_item_line, read_labels};
+use crate::words::Words;
+use rep_types::{Item, Refusal, SetWindow, WindowSize, read_number};
+use std::marker::Model;
+
+/// What a change's line says, whose size may be any number.
+#[derive(Drop)]
+struct ChangeDraft {
+    size: u64,
+    source: u64,
+    trx: u64,
+}
+
+impl Model for ChangeDraft {
+    ghost use Rattle.rep_types.specs.declared.item.SetWindow.{SetWindow as Stated};
+
+    ghost Value = { Stated };
+
+    ghost view = { λ d. record { size = d.size; source = d.source; trx = d.trx } };
+}
+
+impl ChangeDraft {
+    /// The change, or that its size is outside the limits.
+    fn change(&self) -> Result<SetWindow, Refusal>
+        ensures { result ≡ sized self.now }
+    {
+        Ok(SetWindow {
+            size: WindowSize::new(self.size)?,
+            source: self.source,
+            trx: self.trx,
+        })
+    }
+}
+
+/// What a change's line says.
+#[tactic(auto, unfolding(crate::specs::Reading::change_in))]
+fn read_change_draft(line: &[u8]) -> Option<ChangeDraft>
+    ensures { result ≡ change_form line.now }
+{
+    let mut words = Words::new(line);
+    if !words.skip(b"window") {
+        return None;
+    }
+    let size = read_number(words.next_word()?)?;
+    let (source, trx) = read_labels(&mut words)?;
+    if !words.is_empty() {
+        return None;
+    }
+    Some(ChangeDraft { size, source, trx })
+}
+
+/// The change of which this was read, of the line with this number; a line of which nothing was is
+/// malformed.
+fn change_of(draft: Option<ChangeDraft>, number: u64) -> Result<SetWindow, Refusal>
+    ensures { result ≡ change_outcome number draft }
+{
+    let Some(draft) = draft else {
+        return Err(Refusal::Malformed { at: number });
+    };
+    draft.change()
+}
+
+/// The change of the window's size that the line with this number says.
+fn read_change_line(line: &[u8], number: u64) -> Result<SetWindow, Refusal>
+    ensures { result ≡ change_line number line.now }
+{
+    change_of(read_change_draft(line), number)
+}
+
+/// Whether the line's first word is `window`.
+fn is_change(line: &[u8]) -> bool
+    ensures { result ≡ is_next (codes "window") (words line.now) }
+{
+    Words::new(line).is_next(b"window")
+}
+
+/// The item of either kind that the line with this number says.
+#[tactic(auto, using(crate::proofs::Outcomes::order_by_kind))]
+fn read_either(line: &[u8], number: u64) -> Result<Item, Refusal>
+    ensures { result ≡ order_line number line.now }
+{
+    if is_change(line) {
+        return Ok(Item::SetWindow(read_change_line(line, number)?));
+    }
+    Ok(Item::WriteSet(read_item_line(line, number)?))
+}
+
+/// The item that the line with this number says: `window size [id source:trx]`, a change of the
+/// window's size to so many seqnos, with its labels, 0:0 where none stand there; or `item` and a tail, a
+/// write set, as `read_item_line` reads it.
+///
+/// Refuses with `Malformed`, `at` being the line's number, a line that is of neither form, and then a
+/// change to a size outside 1 to 256 with `BadParams`, and a write set as `read_item_line` does.
+pub fn read_order_line(line: &[u8], number: u64) -> Result<Item, Refusal>
+    // What is read is in the grammar.
+    ensures found { IfOk result (λ i. IsOrderLine line.now i) }
+    // Of a line of the form, the item, or the first limit that it passes.
+    ensures formed { (i : Item) → IsOrderLine line.now i → result ≡ limited_item number i }
+    // A line of no form is malformed.
+    ensures unformed { ((i : Item) → IsOrderLine line.now i → ⊥) → result ≡ Err (Refusal.Malformed number) }
+    ensures exact { result ≡ order_line number line.now }
+{
+    read_either(line, number)
+}
