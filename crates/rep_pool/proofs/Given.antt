@@ -1,5 +1,5 @@
 -- What is given of a page is what its slot has.
-use Rattle.std.proofs.Common.{◌≡◌, refl, sym, ap, subst, ◌∙◌, ℕ, Bool, true, false, List, Option, None, Some, IfSome, Result, Ok, Err, IfOk, IfErr, OnOk}
+use Rattle.std.proofs.Common.{◌≡◌, refl, sym, subst, ◌∙◌, ℕ, Bool, true, false, List, Option, None, Some, IfSome, Result, Ok, Err, IfOk, IfErr, OnOk}
 use Rattle.rep_types.specs.declared.refusal.Refusal.{Refusal}
 use Rattle.rep_types.specs.declared.refusal.Refusal.TheVariants.{DiskFault}
 use Rattle.rep_disk.specs.declared.disk.DiskFault.{DiskFault as Fault}
@@ -9,10 +9,10 @@ use Rattle.rep_layout.specs.declared.place.Slot.{Slot}
 use Rattle.rep_layout.specs.declared.place.Place.{Place}
 use Rattle.rep_layout.specs.declared.place.Place.TheVariants.{Page}
 use Rattle.rep_cells.specs.Readings.{reading_of}
-use Rattle.rep_cells.specs.States.{State, Stable, Shows, IsSure}
+use Rattle.rep_cells.specs.Known.{IsReadable}
 use Rattle.rep_cells.specs.Faults.{fault_of}
-use Rattle.rep_cells.specs.Calls.{ReadsPlace, ShowsPlace}
-use Rattle.rep_pool.specs.Pools.{Pooled, found, used, IsKept, AreEach, ReadsAs, IsStableAt, GivesAsRead, GivesAsStable}
+use Rattle.rep_cells.specs.Calls.{ReadsPlace}
+use Rattle.rep_pool.specs.Pools.{Pooled, found, used, IsKept, AreEach, IsAsRead, GivesAsRead}
 use Rattle.rep_pool.proofs.Each.{found_is, used_each, kept_each}
 
 on_ok : {T E : Type 0} (result : Result T E) (P : Type 0) → P → OnOk result P
@@ -46,20 +46,9 @@ not_given number slot before after out gave kept none is = not_given_in number b
 pub kept_agree :
     {D : Type 0} (T F : Type 0) (honest : D → Type 0) (history : D → History) (l : Layout) (number : ℕ) (slot : Slot) (old : D) (before : Pooled) (body out : List ℕ) (result : Result T F)
     → found number slot before ≡ Some body → out ≡ body → GivesAsRead honest history l (Page number slot) old before (used number before) out result
-kept_agree T F honest history l number slot old before body out result is same = λ h readable agree.
-    let here : ReadsAs l (history old) (Page number slot) body = found_is (ReadsAs l (history old)) number slot before body is agree in
-    (on_ok result _ (subst (ReadsAs l (history old) (Page number slot)) (sym same) here), used_each (ReadsAs l (history old)) number before agree)
-
--- in one place one body is stable
-one_stable : (state : State) (body other : List ℕ) → state ≡ Stable body → state ≡ Stable other → body ≡ other
-one_stable state body other is at = let both : Stable body ≡ Stable other = sym is ∙ at in cc
-
-pub kept_stable :
-    {D : Type 0} (T F : Type 0) (honest : D → Type 0) (history : D → History) (l : Layout) (number : ℕ) (slot : Slot) (old : D) (before : Pooled) (body out : List ℕ) (result : Result T F)
-    → found number slot before ≡ Some body → out ≡ body → GivesAsStable honest history l (Page number slot) old before (used number before) out result
-kept_stable T F honest history l number slot old before body out result is same = λ h s stable assigns each there.
-    let here : IsStableAt s (Page number slot) body = found_is (IsStableAt s) number slot before body is each in
-    (on_ok result _ (same ∙ one_stable (s (Page number slot)) body stable here there), used_each (IsStableAt s) number before each)
+kept_agree T F honest history l number slot old before body out result is same = λ h agree.
+    let here : IsAsRead l (history old) (Page number slot) body = found_is (IsAsRead l (history old)) number slot before body is agree in
+    (on_ok result _ (subst (IsAsRead l (history old) (Page number slot)) (sym same) here), used_each (IsAsRead l (history old)) number before agree)
 
 -- ---- what was read
 
@@ -76,31 +65,14 @@ each_read :
 each_read Is number slot out before after (Ok x) kept failed is each = kept_each Is number (record { slot = slot; body = out }) before after kept is each
 each_read Is number slot out before after (Err e) kept failed is each = subst (AreEach Is) (sym failed.1) each
 
-as_read : {T E : Type 0} (result : Result T E) (reading : Option (List ℕ)) (out : List ℕ) → IfOk result (λ _. Some out ≡ reading) → OnOk result (reading ≡ Some out)
-as_read (Ok x) reading out h = sym h
-as_read (Err e) reading out h = tt
+as_read : {T E : Type 0} (result : Result T E) (readable : Type 0) (reading : Option (List ℕ)) (out : List ℕ) → (readable → IfOk result (λ _. Some out ≡ reading)) → OnOk result (readable → reading ≡ Some out)
+as_read (Ok x) readable reading out h = λ r. sym (h r)
+as_read (Err e) readable reading out h = tt
 
 pub read_agree :
     {D T : Type 0} (honest : D → Type 0) (history : D → History) (l : Layout) (number : ℕ) (slot : Slot) (old : D) (before after : Pooled) (out : List ℕ) (result : Result T Refusal)
     → ReadsPlace honest history l (Page number slot) old result (λ _. Some out) → OnOk result (IsKept number (record { slot = slot; body = out }) before after) → IfErr result (λ e. (e ≡ DiskFault) × (after ≡ before))
     → GivesAsRead honest history l (Page number slot) old before after out result
-read_agree honest history l number slot old before after out result read kept failed = λ h readable agree.
-    let is = as_read result (reading_of l (seen (history old)) (Page number slot)) out (read h readable) in
-    (is, each_read (ReadsAs l (history old)) number slot out before after result kept failed is agree)
-
-stable_read : {T E : Type 0} (result : Result T E) (state : State) (body out : List ℕ) → state ≡ Stable body → IfOk result (λ _. Shows state (Some out)) → OnOk result (out ≡ body)
-stable_read (Ok x) state body out is h = let shows : Some out ≡ Some body = subst (λ (s : State). Shows s (Some out)) is h in cc
-stable_read (Err e) state body out is h = tt
-
-stable_as : {T E : Type 0} (result : Result T E) (state : State) (body out : List ℕ) → state ≡ Stable body → OnOk result (out ≡ body) → OnOk result (state ≡ Stable out)
-stable_as (Ok x) state body out is same = is ∙ ap Stable (sym same)
-stable_as (Err e) state body out is same = tt
-
-pub read_stable :
-    {D T : Type 0} (honest : D → Type 0) (history : D → History) (l : Layout) (number : ℕ) (slot : Slot) (old : D) (before after : Pooled) (out : List ℕ) (result : Result T Refusal)
-    → ShowsPlace honest history l (Page number slot) old result (λ _. Some out) → OnOk result (IsKept number (record { slot = slot; body = out }) before after) → IfErr result (λ e. (e ≡ DiskFault) × (after ≡ before))
-    → GivesAsStable honest history l (Page number slot) old before after out result
-read_stable honest history l number slot old before after out result shown kept failed = λ h s body assigns each there.
-    let sure : IsSure (s (Page number slot)) = subst IsSure (sym there) tt in
-    let same = stable_read result (s (Page number slot)) body out there (shown h s assigns sure) in
-    (same, each_read (IsStableAt s) number slot out before after result kept failed (stable_as result (s (Page number slot)) body out there same) each)
+read_agree honest history l number slot old before after out result read kept failed = λ h agree.
+    let is = as_read result (IsReadable l (history old) (Page number slot)) (reading_of l (seen (history old)) (Page number slot)) out (read h) in
+    (is, each_read (IsAsRead l (history old)) number slot out before after result kept failed is agree)

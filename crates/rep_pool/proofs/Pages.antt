@@ -1,15 +1,23 @@
 -- A page of a base is what its bytes say.
-use Rattle.std.proofs.Common.{◌≡◌, refl, sym, ap, ◌∙◌, ℕ, ◌≤◌, inl, inr, List, replicate, Option, None, Some, IfSome, Result, Ok, Err, IfOk, arith}
+use Rattle.std.proofs.Common.{◌≡◌, refl, sym, ap, subst, ◌∙◌, ℕ, ◌<◌, ◌≤◌, ◌⊎◌, inl, inr, List, length, replicate, Option, None, Some, IfSome, Result, Ok, Err, IfOk, arith}
 use Rattle.std.proofs.lemmas.Bool.{cases_lt}
+use Rattle.std.proofs.lemmas.Bool.Decides.{nat_tests}
 use Rattle.std.proofs.lemmas.List.{length-replicate, get_or-replicate, get_or_past}
 use Rattle.rep_types.specs.declared.refusal.Refusal.{Refusal}
+use Rattle.rep_disk.specs.History.{History, seen}
 use Rattle.rep_layout.specs.declared.super_body.SuperBody.{SuperBody}
+use Rattle.rep_layout.specs.Places.{layout_of}
+use Rattle.rep_layout.specs.Supers.{IsSuper}
 use Rattle.rep_layout.specs.declared.page_state.PageState.{PageState}
 use Rattle.rep_layout.specs.declared.page_state.PageState.TheVariants.{Nowhere, In}
 use Rattle.rep_layout.specs.declared.place.Slot.{Slot}
+use Rattle.rep_layout.specs.declared.place.Layout.{Layout}
+use Rattle.rep_layout.specs.declared.place.Place.{Place}
 use Rattle.rep_layout.specs.declared.place.Place.TheVariants.{Page}
-use Rattle.rep_cells.specs.Readings.{Reading}
-use Rattle.rep_cells.specs.States.{States, Stable}
+use Rattle.rep_cells.specs.Readings.{Reading, IsPlace, reading_of}
+use Rattle.rep_cells.specs.States.{State, States, Stable, Shows}
+use Rattle.rep_cells.specs.Known.{Assigns}
+use Rattle.rep_cells.proofs.Reading.{shown}
 use Rattle.rep_pages.specs.declared.page.Page.{Page as PageBody}
 use Rattle.rep_pages.specs.Slots.{state_of_page}
 use Rattle.rep_pages.specs.Pages.{IsPageBody}
@@ -70,3 +78,17 @@ taken_as r b number slot bytes result there shown takes = record {
 -- the bytes that are stable
 pub stable_there : (s : States) (number : ℕ) (slot : Slot) (body bytes : List ℕ) → s (Page number slot) ≡ Stable body → bytes ≡ body → stable_in s (Page number slot) ≡ Some bytes
 stable_there s number slot body bytes is same = ap stable_body is ∙ ap Some (sym same)
+
+-- a page that is in a slot is there
+pub is_page : (b : SuperBody) → IsSuper b → (number : ℕ) (slot : Slot) → state_of_page b number ≡ In slot → IsPlace (layout_of b.params) (Page number slot)
+is_page b super number slot there = by (cases_lt number (length b.pages.items))
+  where
+    by : ((number < length b.pages.items) ⊎ (length b.pages.items ≤ number)) → IsPlace (layout_of b.params) (Page number slot)
+    by (inl lt) = grind (arith, nat_tests, lt, super.pages)
+    by (inr le) = let none = sym there ∙ get_or_past b.pages.items number Nowhere le in absurd cc
+
+-- what reads as these bytes where others are stable are those
+pub stable_reads : (l : Layout) (h : History) (s : States) (place : Place) (body out : List ℕ) → Assigns l h s → IsPlace l place → s place ≡ Stable body → reading_of l (seen h) place ≡ Some out → out ≡ body
+stable_reads l h s place body out assigns there is reads =
+    let shows : Some out ≡ Some body = subst (λ (state : State). Shows state (Some out)) is (shown l h s place (Some out) assigns there (sym reads)) in
+    cc

@@ -16,7 +16,7 @@ use Rattle.rep_pages.specs.declared.page.Page.{Page as PageBody}
 use Rattle.rep_pages.specs.Slots.{state_of_page}
 use Rattle.rep_pages.specs.Pages.{IsPageBody}
 use Rattle.rep_pages.specs.Rows.{row_at}
-use Rattle.rep_pool.specs.Pools.{Pooled, IsKept, Agree, AreStable}
+use Rattle.rep_pool.specs.Pools.{Pooled, IsKept, Agree}
 
 -- ---- what a reading has of a page
 
@@ -78,14 +78,13 @@ IsPageStable s b number = (slot : Slot) → state_of_page b number ≡ In slot �
 abbrev pub IsKeptAnew : ℕ → Slot → Pooled → Pooled → Type 0
 IsKeptAnew number slot before after = (body : List ℕ) × IsKept number (record { slot = slot; body = body }) before after
 
--- On an honest device, where no write failed in the slot and each page in the pool is as its slot has it: what the device reads as
--- decides, and each page still is as its slot has it.
+-- On an honest device, where each page in the pool is as its slot has it: what the device reads as decides, where no write failed in the
+-- slot, and each page still is as its slot has it.
 abbrev pub GivesBasePage : {D : Type 0} → (D → Type 0) → (D → History) → Layout → SuperBody → ℕ → D → Pooled → Pooled → Result PageBody Refusal → Type 0
 GivesBasePage honest history l b number old before after result =
-    honest old → IsPageReadable l (history old) b number → Agree l (history old) before → IsPageAsSpelled (reading_of l (seen (history old))) b number result × Agree l (history old) after
+    honest old → Agree l (history old) before → (IsPageReadable l (history old) b number → IsPageAsSpelled (reading_of l (seen (history old))) b number result) × Agree l (history old) after
 
--- On an honest device, in states in which each page in the pool is stable, and bytes of the base's page: those decide, and each
--- page still is stable.
-abbrev pub GivesStablePage : {D : Type 0} → (D → Type 0) → (D → History) → Layout → SuperBody → ℕ → D → Pooled → Pooled → Result PageBody Refusal → Type 0
-GivesStablePage honest history l b number old before after result =
-    honest old → (s : States) → Assigns l (history old) s → AreStable s before → IsPageStable s b number → IsPageAsSpelled (stable_in s) b number result × AreStable s after
+-- So do the bytes that are stable in the slot, in whatever states.
+abbrev pub GivesStablePage : {D : Type 0} → (D → Type 0) → (D → History) → Layout → SuperBody → ℕ → D → Pooled → Result PageBody Refusal → Type 0
+GivesStablePage honest history l b number old before result =
+    honest old → Agree l (history old) before → (s : States) → Assigns l (history old) s → IsPageStable s b number → IsPageAsSpelled (stable_in s) b number result

@@ -9,8 +9,7 @@ use Rattle.rep_layout.specs.declared.place.Slot.TheVariants.{First, Second}
 use Rattle.rep_layout.specs.declared.place.Place.{Place}
 use Rattle.rep_layout.specs.declared.place.Place.TheVariants.{Page}
 use Rattle.rep_cells.specs.Readings.{reading_of}
-use Rattle.rep_cells.specs.States.{States, Stable}
-use Rattle.rep_cells.specs.Known.{Assigns, IsReadable}
+use Rattle.rep_cells.specs.Known.{IsReadable}
 use Rattle.rep_pool.specs.declared.pool.Kept.{Kept}
 use Rattle.rep_pool.specs.declared.pool.TheConstants.{POOL_PAGES}
 
@@ -57,36 +56,21 @@ IsKept number kept before after = (after ≡ with_page number kept before) ⊎ (
 abbrev pub AreEach : (Place → List ℕ → Type 0) → Pooled → Type 0
 AreEach Is pages = (number : ℕ) (kept : Kept) → Contains pages (number, kept) → Is (Page number kept.slot) kept.body
 
--- The place reads as these bytes.
-abbrev pub ReadsAs : Layout → History → Place → List ℕ → Type 0
-ReadsAs l h place body = reading_of l (seen h) place ≡ Some body
+-- The place reads as these bytes, unless a write failed in it.
+abbrev pub IsAsRead : Layout → History → Place → List ℕ → Type 0
+IsAsRead l h place body = IsReadable l h place → reading_of l (seen h) place ≡ Some body
 
--- In these states the bytes are stable in the place.
-abbrev pub IsStableAt : States → Place → List ℕ → Type 0
-IsStableAt s place body = s place ≡ Stable body
-
--- Each page is as its slot has it.
+-- Each page is as its slot has it, but where a write failed in the slot. It speaks of slots, whatever base there is.
 abbrev pub Agree : Layout → History → Pooled → Type 0
-Agree l h pages = AreEach (ReadsAs l h) pages
+Agree l h pages = AreEach (IsAsRead l h) pages
 
--- Each page is as these states say that it is stable in its slot. It speaks of slots, whatever base there is.
-abbrev pub AreStable : States → Pooled → Type 0
-AreStable s pages = AreEach (IsStableAt s) pages
-
--- The slots of every other page have what they had.
-abbrev pub StayElsewhere : {X : Type 0} → ℕ → (Place → X) → (Place → X) → Type 0
-StayElsewhere number before after = (other : ℕ) (slot : Slot) → other ≢ number → after (Page other slot) ≡ before (Page other slot)
+-- Every slot of another page reads as it did, and where a write failed in it one had failed before.
+abbrev pub StayElsewhere : ℕ → Layout → History → History → Type 0
+StayElsewhere number l before after = (other : ℕ) (slot : Slot) → other ≢ number
+    → (reading_of l (seen after) (Page other slot) ≡ reading_of l (seen before) (Page other slot)) × (IsReadable l after (Page other slot) → IsReadable l before (Page other slot))
 
 -- ---- a page that is asked for
 
--- On an honest device, where no write failed in the slot and each page is as its slot has it: what is given is what the slot reads
--- as, whether it was kept or not, and each page still is as its slot has it.
+-- On an honest device, where each page is as its slot has it: so is what is given, whether it was kept or not, and each page still.
 abbrev pub GivesAsRead : {D T E : Type 0} → (D → Type 0) → (D → History) → Layout → Place → D → Pooled → Pooled → List ℕ → Result T E → Type 0
-GivesAsRead honest history l place old before after out result =
-    honest old → IsReadable l (history old) place → Agree l (history old) before → OnOk result (ReadsAs l (history old) place out) × Agree l (history old) after
-
--- On an honest device, in states in which each page is stable: what is given of a slot in which bytes are stable are these, and each
--- page still is stable.
-abbrev pub GivesAsStable : {D T E : Type 0} → (D → Type 0) → (D → History) → Layout → Place → D → Pooled → Pooled → List ℕ → Result T E → Type 0
-GivesAsStable honest history l place old before after out result =
-    honest old → (s : States) (body : List ℕ) → Assigns l (history old) s → AreStable s before → IsStableAt s place body → OnOk result (out ≡ body) × AreStable s after
+GivesAsRead honest history l place old before after out result = honest old → Agree l (history old) before → OnOk result (IsAsRead l (history old) place out) × Agree l (history old) after

@@ -46,7 +46,7 @@ impl Pool {
         // The bytes decide: those of the slot, whether they were kept or not.
         ensures number { IfOk result (λ page. page.number ≡ number) }
         ensures agree { GivesBasePage D.honest D.history (layout_of cells.old) base.now number (disk_of cells.old) self.old self.new result }
-        ensures stable { GivesStablePage D.honest D.history (layout_of cells.old) base.now number (disk_of cells.old) self.old self.new result }
+        ensures stable { GivesStablePage D.honest D.history (layout_of cells.old) base.now number (disk_of cells.old) self.old result }
         ensures refused { IfErr result (λ e. (e ≡ DiskFault) ⊎ (e ≡ Corrupt Pages)) }
     {
         let PageState::In(slot) = slot_of(base, number) else {

@@ -5,16 +5,15 @@ ghost use Rattle.std.specs.List.{IsDistinct};
 ghost use Rattle.std.specs.Map.{keys_of};
 ghost use Rattle.std.specs.Option.{option_copied};
 ghost use Rattle.rep_types.specs.declared.refusal.Refusal.TheVariants.{DiskFault};
-ghost use Rattle.rep_disk.specs.History.{History, seen};
+ghost use Rattle.rep_disk.specs.History.{History};
 ghost use Rattle.rep_disk.specs.Calls.{IsCall};
 ghost use Rattle.rep_layout.specs.declared.place.Layout.{Layout};
 ghost use Rattle.rep_layout.specs.declared.place.Slot.{Slot};
 ghost use Rattle.rep_cells.specs.Device.{disk_of, layout_of};
-ghost use Rattle.rep_cells.specs.Readings.{IsArea, reading_of};
-ghost use Rattle.rep_cells.specs.States.{States};
-ghost use Rattle.rep_cells.specs.Calls.{ReadsPlace, ShowsPlace};
+ghost use Rattle.rep_cells.specs.Readings.{IsArea};
+ghost use Rattle.rep_cells.specs.Calls.{ReadsPlace};
 ghost use Rattle.rep_cells.specs.Faults.{fault_of};
-ghost use Rattle.rep_pool.specs.Pools.{found, used, without_page, IsKept, Agree, AreStable, StayElsewhere, GivesAsRead, GivesAsStable};
+ghost use Rattle.rep_pool.specs.Pools.{found, used, without_page, IsKept, Agree, StayElsewhere, GivesAsRead};
 
 use lru::LruCache;
 use rep_cells::{Cells, refusal_of};
@@ -123,7 +122,6 @@ impl Pool {
         ensures kept { OnOk result (IsKept number (record { slot = slot; body = out.new }) self.old self.new) }
         ensures refused { IfErr result (λ e. (e ≡ DiskFault) × (self.new ≡ self.old)) }
         ensures read { ReadsPlace D.honest D.history (layout_of cells.old) (Place.Page number slot) (disk_of cells.old) result (λ _. Some out.new) }
-        ensures shown { ShowsPlace D.honest D.history (layout_of cells.old) (Place.Page number slot) (disk_of cells.old) result (λ _. Some out.new) }
     {
         let answer = refusal_of(cells.read_area(Place::Page(number, slot), out));
         if answer.is_ok() {
@@ -154,7 +152,6 @@ impl Pool {
         ensures refused { IfErr result (λ e. (e ≡ DiskFault) × (self.new ≡ self.old)) }
         // What is given is what the slot has.
         ensures agree { GivesAsRead D.honest D.history (layout_of cells.old) (Place.Page number slot) (disk_of cells.old) self.old self.new out.new result }
-        ensures stable { GivesAsStable D.honest D.history (layout_of cells.old) (Place.Page number slot) (disk_of cells.old) self.old self.new out.new result }
     {
         if self.give(number, slot, out) {
             return Ok(());
@@ -177,8 +174,7 @@ impl Pool {
         ensures without { self.new ≡ without_page number self.old }
         ensures gone { (slot : Slot) → found number slot self.new ≡ None }
         // So each page is as its slot has it where the slots of every other page have what they had.
-        ensures agree { (l : Layout) (before after : History) → Agree l before self.old → StayElsewhere number (reading_of l (seen before)) (reading_of l (seen after)) → Agree l after self.new }
-        ensures stable { (before after : States) → AreStable before self.old → StayElsewhere number before after → AreStable after self.new }
+        ensures agree { (l : Layout) (before after : History) → Agree l before self.old → StayElsewhere number l before after → Agree l after self.new }
     {
         self.let_go(number);
     }

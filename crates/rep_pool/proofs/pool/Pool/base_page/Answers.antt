@@ -1,17 +1,21 @@
 use Rattle.std.proofs.Common.{◌≡◌, ◌≤◌, ◌∙◌, sym, subst, None, IfOk, IfSome}
+use Rattle.rep_layout.specs.declared.place.Layout.{Layout}
 use Rattle.rep_layout.specs.declared.place.Slot.{Slot}
-use Rattle.rep_cells.specs.Device.{disk_of}
+use Rattle.rep_layout.specs.declared.place.Place.TheVariants.{Page}
+use Rattle.rep_cells.specs.Device.{disk_of, layout_of}
+use Rattle.rep_cells.specs.Readings.{IsPlace}
+use Rattle.rep_cells.specs.States.{IsSure}
 use Rattle.rep_pages.specs.declared.page.Page.{Page as PageBody}
 use Rattle.rep_pages.specs.Pages.{IsPageBody}
 use Rattle.rep_pool.specs.Pools.{found, used, IsKept}
-use Rattle.rep_pool.proofs.Pages.{same_slot, without_bytes, absent_as, Takes, taken_as, stable_there}
+use Rattle.rep_pool.proofs.Pages.{same_slot, without_bytes, absent_as, Takes, taken_as, stable_there, stable_reads, is_page}
 use Rattle.rep_pool.proofs.pool.Pool.base_page.Goals as goal
 
 pub returns-in_default-clause-agree : goal.returns-in_default-clause-agree
-returns-in_default-clause-agree g c = λ honest readable agree. (absent_as _ c.args.base.now c.args.number c.absent.result c.absent.ensures.number c.absent.ensures.rows (λ slot is. c.in_default.not-In slot (c.slot_of.ensures ∙ is)), agree)
+returns-in_default-clause-agree g c = λ honest agree. (λ readable. absent_as _ c.args.base.now c.args.number c.absent.result c.absent.ensures.number c.absent.ensures.rows (λ slot is. c.in_default.not-In slot (c.slot_of.ensures ∙ is)), agree)
 
 pub returns-in_default-clause-stable : goal.returns-in_default-clause-stable
-returns-in_default-clause-stable g c = λ honest s assigns stable there. (absent_as _ c.args.base.now c.args.number c.absent.result c.absent.ensures.number c.absent.ensures.rows (λ slot is. c.in_default.not-In slot (c.slot_of.ensures ∙ is)), stable)
+returns-in_default-clause-stable g c = λ honest agree s assigns there. absent_as _ c.args.base.now c.args.number c.absent.result c.absent.ensures.number c.absent.ensures.rows (λ slot is. c.in_default.not-In slot (c.slot_of.ensures ∙ is))
 
 pub returns-in_err-page-clause-kept : goal.returns-in_err-page-clause-kept
 returns-in_err-page-clause-kept g c = λ slot is.
@@ -40,14 +44,18 @@ takes g c = record {
 }
 
 pub returns-clause-agree : goal.returns-clause-agree
-returns-clause-agree g c = λ honest readable agree.
+returns-clause-agree g c = λ honest agree.
     let there = sym c.slot_of.ensures ∙ c.in-In.is in
-    let given = c.in_ok-page.ensures.agree honest (readable c.in-In.slot there) agree in
-    (taken_as _ c.args.base.now c.args.number c.in-In.slot c.page.new.out c.read_body.result there given.0 (takes g c), given.1)
+    let given = c.in_ok-page.ensures.agree honest agree in
+    (λ readable. taken_as _ c.args.base.now c.args.number c.in-In.slot c.page.new.out c.read_body.result there (given.0 (readable c.in-In.slot there)) (takes g c), given.1)
 
 pub returns-clause-stable : goal.returns-clause-stable
-returns-clause-stable g c = λ honest s assigns stable bytes.
+returns-clause-stable g c = λ honest agree s assigns bytes.
     let there = sym c.slot_of.ensures ∙ c.in-In.is in
     let body = bytes c.in-In.slot there in
-    let given = c.in_ok-page.ensures.stable honest s body.0 assigns stable body.1 in
-    (taken_as _ c.args.base.now c.args.number c.in-In.slot c.page.new.out c.read_body.result there (stable_there s c.args.number c.in-In.slot body.0 c.page.new.out body.1 given.0) (takes g c), given.1)
+    let given = c.in_ok-page.ensures.agree honest agree in
+    let place : IsPlace (layout_of c.args.cells.now) (Page c.args.number c.in-In.slot) =
+    subst (λ (l : Layout). IsPlace l (Page c.args.number c.in-In.slot)) (sym c.requires.layout) (is_page c.args.base.now c.requires.super_body c.args.number c.in-In.slot there) in
+    let is = given.0 (assigns.readable (Page c.args.number c.in-In.slot) place (subst IsSure (sym body.1) tt)) in
+    let same = stable_reads (layout_of c.args.cells.now) (g.D.Disk.history (disk_of c.args.cells.now)) s (Page c.args.number c.in-In.slot) body.0 c.page.new.out assigns place body.1 is in
+    taken_as _ c.args.base.now c.args.number c.in-In.slot c.page.new.out c.read_body.result there (stable_there s c.args.number c.in-In.slot body.0 c.page.new.out body.1 same) (takes g c)

@@ -1,5 +1,5 @@
 use Rattle.std.proofs.Common.{◌∙◌, ap, subst, sym}
-use Rattle.rep_pool.specs.Pools.{ReadsAs, IsStableAt, Agree, AreStable, found}
+use Rattle.rep_pool.specs.Pools.{IsAsRead, Agree, found}
 use Rattle.rep_pool.proofs.Each.{not_found_then, without_each}
 use Rattle.rep_pool.proofs.pool.Pool.wrote.Goals as goal
 
@@ -9,9 +9,5 @@ returns-clause-gone c = λ slot. ap (found c.args.number slot) c.let_go.ensures.
 pub returns-clause-agree : goal.returns-clause-agree
 returns-clause-agree c = λ l before after each same.
     subst (Agree l after) (sym c.let_go.ensures.without)
-    (without_each (ReadsAs l before) (ReadsAs l after) c.args.number c.args.self.now c.let_go.ensures.once each (λ other slot body away is. same other slot away ∙ is))
-
-pub returns-clause-stable : goal.returns-clause-stable
-returns-clause-stable c = λ before after each same.
-    subst (AreStable after) (sym c.let_go.ensures.without)
-    (without_each (IsStableAt before) (IsStableAt after) c.args.number c.args.self.now c.let_go.ensures.once each (λ other slot body away is. same other slot away ∙ is))
+    (without_each (IsAsRead l before) (IsAsRead l after) c.args.number c.args.self.now c.let_go.ensures.once each
+    (λ other slot body away is readable. let stays = same other slot away in stays.0 ∙ is (stays.1 readable)))
