@@ -8,7 +8,7 @@ use Rattle.rep_layout.specs.declared.place.Layout.{Layout}
 use Rattle.rep_layout.specs.declared.place.Slot.{Slot}
 use Rattle.rep_layout.specs.declared.place.Place.{Place}
 use Rattle.rep_layout.specs.declared.place.Place.TheVariants.{Page}
-use Rattle.rep_cells.specs.Readings.{reading_of}
+use Rattle.rep_cells.specs.Readings.{IsPlace, reading_of}
 use Rattle.rep_cells.specs.Known.{IsReadable}
 use Rattle.rep_cells.specs.Faults.{fault_of}
 use Rattle.rep_cells.specs.Calls.{ReadsPlace}
@@ -65,14 +65,14 @@ each_read :
 each_read Is number slot out before after (Ok x) kept failed is each = kept_each Is number (record { slot = slot; body = out }) before after kept is each
 each_read Is number slot out before after (Err e) kept failed is each = subst (AreEach Is) (sym failed.1) each
 
-as_read : {T E : Type 0} (result : Result T E) (readable : Type 0) (reading : Option (List ℕ)) (out : List ℕ) → (readable → IfOk result (λ _. Some out ≡ reading)) → OnOk result (readable → reading ≡ Some out)
-as_read (Ok x) readable reading out h = λ r. sym (h r)
-as_read (Err e) readable reading out h = tt
+as_read : {T E : Type 0} (result : Result T E) (there readable : Type 0) (reading : Option (List ℕ)) (out : List ℕ) → (readable → IfOk result (λ _. Some out ≡ reading)) → OnOk result (there → readable → reading ≡ Some out)
+as_read (Ok x) there readable reading out h = λ is r. sym (h r)
+as_read (Err e) there readable reading out h = tt
 
 pub read_agree :
     {D T : Type 0} (honest : D → Type 0) (history : D → History) (l : Layout) (number : ℕ) (slot : Slot) (old : D) (before after : Pooled) (out : List ℕ) (result : Result T Refusal)
     → ReadsPlace honest history l (Page number slot) old result (λ _. Some out) → OnOk result (IsKept number (record { slot = slot; body = out }) before after) → IfErr result (λ e. (e ≡ DiskFault) × (after ≡ before))
     → GivesAsRead honest history l (Page number slot) old before after out result
 read_agree honest history l number slot old before after out result read kept failed = λ h agree.
-    let is = as_read result (IsReadable l (history old) (Page number slot)) (reading_of l (seen (history old)) (Page number slot)) out (read h) in
+    let is = as_read result (IsPlace l (Page number slot)) (IsReadable l (history old) (Page number slot)) (reading_of l (seen (history old)) (Page number slot)) out (read h) in
     (is, each_read (IsAsRead l (history old)) number slot out before after result kept failed is agree)

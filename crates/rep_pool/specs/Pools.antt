@@ -8,7 +8,7 @@ use Rattle.rep_layout.specs.declared.place.Slot.{Slot}
 use Rattle.rep_layout.specs.declared.place.Slot.TheVariants.{First, Second}
 use Rattle.rep_layout.specs.declared.place.Place.{Place}
 use Rattle.rep_layout.specs.declared.place.Place.TheVariants.{Page}
-use Rattle.rep_cells.specs.Readings.{reading_of}
+use Rattle.rep_cells.specs.Readings.{IsPlace, reading_of}
 use Rattle.rep_cells.specs.Known.{IsReadable}
 use Rattle.rep_pool.specs.declared.pool.Kept.{Kept}
 use Rattle.rep_pool.specs.declared.pool.TheConstants.{POOL_PAGES}
@@ -56,9 +56,9 @@ IsKept number kept before after = (after ≡ with_page number kept before) ⊎ (
 abbrev pub AreEach : (Place → List ℕ → Type 0) → Pooled → Type 0
 AreEach Is pages = (number : ℕ) (kept : Kept) → Contains pages (number, kept) → Is (Page number kept.slot) kept.body
 
--- The place reads as these bytes, unless a write failed in it.
+-- The place, if there is one, reads as these bytes, unless a write failed in it.
 abbrev pub IsAsRead : Layout → History → Place → List ℕ → Type 0
-IsAsRead l h place body = IsReadable l h place → reading_of l (seen h) place ≡ Some body
+IsAsRead l h place body = IsPlace l place → IsReadable l h place → reading_of l (seen h) place ≡ Some body
 
 -- Each page is as its slot has it, but where a write failed in the slot. It speaks of slots, whatever base there is.
 abbrev pub Agree : Layout → History → Pooled → Type 0
@@ -66,7 +66,7 @@ Agree l h pages = AreEach (IsAsRead l h) pages
 
 -- Every slot of another page reads as it did, and where a write failed in it one had failed before.
 abbrev pub StayElsewhere : ℕ → Layout → History → History → Type 0
-StayElsewhere number l before after = (other : ℕ) (slot : Slot) → other ≢ number
+StayElsewhere number l before after = (other : ℕ) (slot : Slot) → other ≢ number → IsPlace l (Page other slot)
     → (reading_of l (seen after) (Page other slot) ≡ reading_of l (seen before) (Page other slot)) × (IsReadable l after (Page other slot) → IsReadable l before (Page other slot))
 
 -- ---- a page that is asked for

@@ -43,19 +43,20 @@ takes g c = record {
   only = λ page is number earlier. c.read_body.ensures.only page (subst (λ rows. IsPageBody rows page c.page.new.out) (sym c.schema.ensures) is) number earlier;
 }
 
+is_place : (g : _) (c : goal.After-read_body g) → IsPlace (layout_of c.args.cells.now) (Page c.args.number c.in-In.slot)
+is_place g c = subst (λ (l : Layout). IsPlace l (Page c.args.number c.in-In.slot)) (sym c.requires.layout) (is_page c.args.base.now c.requires.super_body c.args.number c.in-In.slot (sym c.slot_of.ensures ∙ c.in-In.is))
+
 pub returns-clause-agree : goal.returns-clause-agree
 returns-clause-agree g c = λ honest agree.
     let there = sym c.slot_of.ensures ∙ c.in-In.is in
     let given = c.in_ok-page.ensures.agree honest agree in
-    (λ readable. taken_as _ c.args.base.now c.args.number c.in-In.slot c.page.new.out c.read_body.result there (given.0 (readable c.in-In.slot there)) (takes g c), given.1)
+    (λ readable. taken_as _ c.args.base.now c.args.number c.in-In.slot c.page.new.out c.read_body.result there (given.0 (is_place g c) (readable c.in-In.slot there)) (takes g c), given.1)
 
 pub returns-clause-stable : goal.returns-clause-stable
 returns-clause-stable g c = λ honest agree s assigns bytes.
     let there = sym c.slot_of.ensures ∙ c.in-In.is in
     let body = bytes c.in-In.slot there in
     let given = c.in_ok-page.ensures.agree honest agree in
-    let place : IsPlace (layout_of c.args.cells.now) (Page c.args.number c.in-In.slot) =
-    subst (λ (l : Layout). IsPlace l (Page c.args.number c.in-In.slot)) (sym c.requires.layout) (is_page c.args.base.now c.requires.super_body c.args.number c.in-In.slot there) in
-    let is = given.0 (assigns.readable (Page c.args.number c.in-In.slot) place (subst IsSure (sym body.1) tt)) in
-    let same = stable_reads (layout_of c.args.cells.now) (g.D.Disk.history (disk_of c.args.cells.now)) s (Page c.args.number c.in-In.slot) body.0 c.page.new.out assigns place body.1 is in
+    let is = given.0 (is_place g c) (assigns.readable (Page c.args.number c.in-In.slot) (is_place g c) (subst IsSure (sym body.1) tt)) in
+    let same = stable_reads (layout_of c.args.cells.now) (g.D.Disk.history (disk_of c.args.cells.now)) s (Page c.args.number c.in-In.slot) body.0 c.page.new.out assigns (is_place g c) body.1 is in
     taken_as _ c.args.base.now c.args.number c.in-In.slot c.page.new.out c.read_body.result there (stable_there s c.args.number c.in-In.slot body.0 c.page.new.out body.1 same) (takes g c)

@@ -10,4 +10,4 @@ pub returns-clause-agree : goal.returns-clause-agree
 returns-clause-agree c = λ l before after each same.
     subst (Agree l after) (sym c.let_go.ensures.without)
     (without_each (IsAsRead l before) (IsAsRead l after) c.args.number c.args.self.now c.let_go.ensures.once each
-    (λ other slot body away is readable. let stays = same other slot away in stays.0 ∙ is (stays.1 readable)))
+    (λ other slot body away is there readable. let stays = same other slot away there in stays.0 ∙ is there (stays.1 readable)))
