@@ -21,7 +21,7 @@ pub enum Command {
     Stop(Loss),
 }
 
-/// The next word as a number below 2^64, or nothing where there is none or it is none.
+/// The next word as a number below 2^64; `None` where no word is left, or it is no such number.
 pub fn next_number(words: &mut Words) -> Option<u64>
     ensures { Gives (λ number. number) result words.new (next (number_in (2 ^ 64)) words.old) }
 {
