@@ -13,7 +13,7 @@ use Rattle.rep_layout.proofs.PlacesApart.{lie_apart, lies_inside}
 use Rattle.rep_cells.specs.Readings.{IsPlace, IsCell, IsArea, reading_of}
 use Rattle.rep_cells.specs.States.{State, States, Unknown, Shutting, Closed, Filling, Filled, Opening, Opened, Closing, Pending, Stable, IsSure, Allowed, Moves, filling, opening, closing, writing}
 use Rattle.rep_cells.specs.Known.{GateIs, BodyIs, BodyStays, Known, Assigns}
-use Rattle.rep_cells.specs.Calls.{gate, Writes, Loses, Stepped}
+use Rattle.rep_cells.specs.Calls.{gate, IsWithin, WroteIn, Writes, Loses, Stepped}
 use Rattle.rep_cells.proofs.Ranges.{Apart, gate_stays_apart, gate_is_apart, body_stays_apart, body_written, gate_written}
 use Rattle.rep_cells.proofs.Kept.{Kept, known_kept, kept_allows, known_elsewhere, Stands, stands, assigned, stands_elsewhere, stands_spoiled}
 use Rattle.rep_cells.proofs.Fitting.{end_fits, gate_fits, place_same, gate_is_sector, states_move}
@@ -242,3 +242,18 @@ gate_ends l place at sector first size cell fits where_it_is what_it_is = omega 
 -- a write of a gate, as the device was asked for it
 pub gate_writes : {T E : Type 0} → (l : Layout) (place : Place) (at : ℕ) (sector : List ℕ) (first : ℕ) (h new : History) (result : Result T E) → at ≡ gate_of l place → sector ≡ gate first → Writes at sector h new result → Writes (gate_of l place) (gate first) h new result
 gate_writes l place at sector first h new result where_it_is what_it_is w = subst (λ n. Writes n (gate first) h new result) where_it_is (subst (λ bytes. Writes at bytes h new result) what_it_is w)
+
+-- ---- one write, within a place
+
+wrote_in : {T E : Type 0} (l : Layout) (place : Place) (at : ℕ) (bytes : List ℕ) (h new : History) (result : Result T E) → IsWithin l place at (length bytes) → OnOk result (new ≡ Wrote at bytes h) → OnOk result (WroteIn l place h new)
+wrote_in l place at bytes h new (Ok x) within is = record { at = at; bytes = bytes; within = within; is = is }
+wrote_in l place at bytes h new (Err e) within is = tt
+
+-- of its body
+pub body_in : {T E : Type 0} (l : Layout) (place : Place) (at : ℕ) (bytes : List ℕ) (h new : History) (result : Result T E) → IsPlace l place → at ≡ offset_of l place → length bytes ≡ body_len place → OnOk result (new ≡ Wrote at bytes h) → OnOk result (WroteIn l place h new)
+body_in l place at bytes h new result there where_it_is size is = wrote_in l place at bytes h new result (record { there = there; begins = omega (arith, where_it_is); ends = omega (arith, where_it_is, size) }) is
+
+-- of its gate
+pub gate_in : {T E : Type 0} (l : Layout) (place : Place) (at : ℕ) (sector : List ℕ) (first : ℕ) (h new : History) (result : Result T E) → IsCell l place → at ≡ gate_of l place → sector ≡ gate first → OnOk result (new ≡ Wrote at sector h) → OnOk result (WroteIn l place h new)
+gate_in l place at sector first h new result cell where_it_is what_it_is is =
+    wrote_in l place at sector h new result (record { there = cell.0; begins = omega (arith, where_it_is); ends = omega (arith, where_it_is, ap length what_it_is, gate_size first place cell.1) }) is

@@ -1,17 +1,31 @@
 -- What each call does to the device and to what is known of its places.
-use Rattle.std.specs.Prelude.{◌≡◌, ℕ, List, length, Option, Result, IfOk, OnOk, OnErr, replicate, ◌∷◌}
+use Rattle.std.specs.Prelude.{◌≡◌, ℕ, ◌+◌, ◌≤◌, List, length, Option, Result, IfOk, OnOk, OnErr, replicate, ◌∷◌}
 use Rattle.rep_disk.specs.History.{History, Wrote, seen, IsImage}
 use Rattle.rep_disk.specs.Calls.{MaySpoil}
 use Rattle.rep_disk.specs.Moments.{LeavesOnly}
 use Rattle.rep_layout.specs.declared.place.Layout.{Layout}
 use Rattle.rep_layout.specs.declared.place.Place.{Place}
-use Rattle.rep_cells.specs.Readings.{body_of, reading_of}
+use Rattle.rep_layout.specs.Places.{offset_of, end_of}
+use Rattle.rep_cells.specs.Readings.{IsPlace, body_of, reading_of}
 use Rattle.rep_cells.specs.States.{State, States, Unknown, Opened, Allows, Shows, IsSure, Allowed, Moves, Syncs}
 use Rattle.rep_cells.specs.Known.{Assigns, IsBodyReadable, IsReadable}
 
 -- a gate whose first byte is this one
 abbrev pub gate : ℕ → List ℕ
 gate first = first ∷ replicate 511 0
+
+-- So many bytes from this offset on lie within a place, its body or its gate.
+pub record IsWithin (l : Layout) (place : Place) (at n : ℕ) : Type 0 where
+  pub there : IsPlace l place
+  pub begins : offset_of l place ≤ at
+  pub ends : at + n ≤ end_of l place
+
+-- One write, within this place.
+pub record WroteIn (l : Layout) (place : Place) (old new : History) : Type 0 where
+  pub at : ℕ
+  pub bytes : List ℕ
+  pub within : IsWithin l place at (length bytes)
+  pub is : new ≡ Wrote at bytes old
 
 -- A write of these bytes at this offset, and of nothing else: a write that failed may leave any bytes there.
 pub record Writes {T E : Type 0} (at : ℕ) (bytes : List ℕ) (old new : History) (result : Result T E) : Type 0 where
@@ -54,6 +68,10 @@ pub record Settled {T E : Type 0} (l : Layout) (old new : History) (s : States) 
 -- On an honest device: a write of these bytes, and of nothing else.
 abbrev pub WritesOnly : {D T E : Type 0} → (D → Type 0) → (D → History) → ℕ → List ℕ → D → D → Result T E → Type 0
 WritesOnly honest history at bytes old new result = honest old → Writes at bytes (history old) (history new) result
+
+-- On an honest device: what succeeded is one write, within this place.
+abbrev pub WritesIn : {D T E : Type 0} → (D → Type 0) → (D → History) → Layout → Place → D → D → Result T E → Type 0
+WritesIn honest history l place old new result = honest old → OnOk result (WroteIn l place (history old) (history new))
 
 -- On an honest device: whatever the states were, one place takes this step.
 abbrev pub StepsAt : {D T E : Type 0} → (D → Type 0) → (D → History) → Layout → Place → (State → State) → D → D → Result T E → Type 0

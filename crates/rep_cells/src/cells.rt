@@ -6,7 +6,7 @@ ghost use Rattle.rep_layout.specs.Places.{body_len, offset_of, gate_of, need_of}
 ghost use Rattle.rep_cells.specs.Readings.{IsPlace, IsCell, IsArea};
 ghost use Rattle.rep_cells.specs.States.{Unknown, filling, opening, closing, writing};
 ghost use Rattle.rep_cells.specs.Known.{Assigns, found};
-ghost use Rattle.rep_cells.specs.Calls.{gate, WritesOnly, StepsAt, Settles, ReadsPlace, ShowsPlace, ReadsBody, ReadsOpened};
+ghost use Rattle.rep_cells.specs.Calls.{gate, WritesOnly, WritesIn, StepsAt, Settles, ReadsPlace, ShowsPlace, ReadsBody, ReadsOpened};
 
 use rep_disk::{Disk, DiskFault};
 use rep_layout::{GATE, Layout, Place};
@@ -82,6 +82,7 @@ impl<D: Disk> Cells<D> {
         ensures call { IsCall D.size D.failures D.honest (disk_of self.old) (disk_of self.new) result }
         ensures layout { layout_of self.new ≡ layout_of self.old }
         ensures written { WritesOnly D.honest D.history (offset_of (layout_of self.old) cell) body.now (disk_of self.old) (disk_of self.new) result }
+        ensures inside { WritesIn D.honest D.history (layout_of self.old) cell (disk_of self.old) (disk_of self.new) result }
         ensures states { StepsAt D.honest D.history (layout_of self.old) cell (filling body.now) (disk_of self.old) (disk_of self.new) result }
     {
         self.disk.write_at(self.layout.offset(cell), body)
@@ -94,6 +95,7 @@ impl<D: Disk> Cells<D> {
         ensures call { IsCall D.size D.failures D.honest (disk_of self.old) (disk_of self.new) result }
         ensures layout { layout_of self.new ≡ layout_of self.old }
         ensures written { WritesOnly D.honest D.history (gate_of (layout_of self.old) cell) (gate 0xA5) (disk_of self.old) (disk_of self.new) result }
+        ensures inside { WritesIn D.honest D.history (layout_of self.old) cell (disk_of self.old) (disk_of self.new) result }
         ensures states { StepsAt D.honest D.history (layout_of self.old) cell opening (disk_of self.old) (disk_of self.new) result }
     {
         self.disk
@@ -107,6 +109,7 @@ impl<D: Disk> Cells<D> {
         ensures call { IsCall D.size D.failures D.honest (disk_of self.old) (disk_of self.new) result }
         ensures layout { layout_of self.new ≡ layout_of self.old }
         ensures written { WritesOnly D.honest D.history (gate_of (layout_of self.old) cell) (gate 0) (disk_of self.old) (disk_of self.new) result }
+        ensures inside { WritesIn D.honest D.history (layout_of self.old) cell (disk_of self.old) (disk_of self.new) result }
         ensures states { StepsAt D.honest D.history (layout_of self.old) cell closing (disk_of self.old) (disk_of self.new) result }
     {
         self.disk
@@ -120,6 +123,7 @@ impl<D: Disk> Cells<D> {
         ensures call { IsCall D.size D.failures D.honest (disk_of self.old) (disk_of self.new) result }
         ensures layout { layout_of self.new ≡ layout_of self.old }
         ensures written { WritesOnly D.honest D.history (offset_of (layout_of self.old) area) body.now (disk_of self.old) (disk_of self.new) result }
+        ensures inside { WritesIn D.honest D.history (layout_of self.old) area (disk_of self.old) (disk_of self.new) result }
         ensures states { StepsAt D.honest D.history (layout_of self.old) area (writing body.now) (disk_of self.old) (disk_of self.new) result }
     {
         self.disk.write_at(self.layout.offset(area), body)

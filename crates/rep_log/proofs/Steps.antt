@@ -15,7 +15,7 @@ use Rattle.rep_layout.specs.declared.place.Place.{Place}
 use Rattle.rep_layout.specs.declared.place.Place.TheVariants.{Log}
 use Rattle.rep_layout.specs.Places.{log_of, TurnsAreTaken}
 use Rattle.rep_cells.specs.States.{State, States, filling, opening, closing}
-use Rattle.rep_cells.specs.Calls.{WritesOnly, Stepped, StepsAt}
+use Rattle.rep_cells.specs.Calls.{WritesOnly, WritesIn, Stepped, StepsAt}
 use Rattle.rep_log.specs.declared.phase.Phase.{Phase}
 use Rattle.rep_log.specs.declared.phase.Phase.TheVariants.{Resting, Closing as is_closing, Filling as is_filling, Filled as is_filled, Opening as is_opening}
 use Rattle.rep_log.specs.declared.phase.Step.TheVariants.{Recycle, Seal, Full}
@@ -67,12 +67,13 @@ pub step_is :
     {D : Type 0} → TurnsAreTaken → (honest : D → Type 0) (history : D → History) (l : Layout) (log : Standing) (phase : Phase) (coming : List Judged → List Judged) (at : ℕ) (bytes : List ℕ) (old new : D)
     (step : State → State) (result : Result (Unit {0}) Refusal)
     → busy phase ≡ 1 → IsDueFor l log phase coming step → IfErr result (λ e. e ≡ DiskFault)
-    → WritesOnly honest history at bytes old new (fault_of result) → StepsAt honest history l (log_of l log.next) step old new (fault_of result)
+    → WritesOnly honest history at bytes old new (fault_of result) → WritesIn honest history l (log_of l log.next) old new (fault_of result) → StepsAt honest history l (log_of l log.next) step old new (fault_of result)
     → IsStep honest history l log (record log { phase = phase }) (record log { phase = phase }) coming at bytes old new result
-step_is turns honest history l log phase coming at bytes old new step result writes due only written steps = record {
+step_is turns honest history l log phase coming at bytes old new step result writes due only written inside steps = record {
   stands = refl;
   fault = only;
   written = λ h. record { done = ok_as result _ (written h).done; failed = err_as result _ only (written h).failed };
+  inside = λ h. ok_as result _ (inside h);
   steps = λ h s first blocks sealed assigns is.
       let stepped = steps h s assigns in
       let is_due = due s first blocks sealed is in
@@ -185,12 +186,13 @@ pub step_at :
     {D : Type 0} → TurnsAreTaken → (honest : D → Type 0) (history : D → History) (l : Layout) (log after : Standing) (phase : Phase) (coming : List Judged → List Judged) (place : Place) (at : Place → ℕ) (bytes : List ℕ) (old new : D)
     (step : State → State) (answer : Result (Unit {0}) Fault) (result : Result (Unit {0}) Refusal)
     → busy phase ≡ 1 → IsDueFor l log phase coming step → IfErr result (λ e. e ≡ DiskFault) → place ≡ log_of l log.next → after ≡ record log { phase = phase } → fault_of result ≡ answer
-    → WritesOnly honest history (at place) bytes old new answer → StepsAt honest history l place step old new answer
+    → WritesOnly honest history (at place) bytes old new answer → WritesIn honest history l place old new answer → StepsAt honest history l place step old new answer
     → IsStep honest history l log after (record log { phase = phase }) coming (at (log_of l log.next)) bytes old new result
-step_at {D} turns honest history l log after phase coming place at bytes old new step answer result writes due only there stands fault written steps =
+step_at {D} turns honest history l log after phase coming place at bytes old new step answer result writes due only there stands fault written inside steps =
     subst (λ (x : Standing). IsStep honest history l log x (record log { phase = phase }) coming (at (log_of l log.next)) bytes old new result) (sym stands)
     (step_is turns honest history l log phase coming (at (log_of l log.next)) bytes old new step result writes due only
     (subst (λ (r : Result (Unit {0}) Fault). WritesOnly honest history (at (log_of l log.next)) bytes old new r) (sym fault) (subst (λ (p : Place). WritesOnly honest history (at p) bytes old new answer) there written))
+    (subst (λ (r : Result (Unit {0}) Fault). WritesIn honest history l (log_of l log.next) old new r) (sym fault) (subst (λ (p : Place). WritesIn honest history l p old new answer) there inside))
     (subst (λ (r : Result (Unit {0}) Fault). StepsAt honest history l (log_of l log.next) step old new r) (sym fault) (subst (λ (p : Place). StepsAt honest history l p step old new answer) there steps)))
 
 -- the same to a standing that is said otherwise

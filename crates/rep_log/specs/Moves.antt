@@ -8,10 +8,11 @@ use Rattle.rep_disk.specs.History.{History}
 use Rattle.rep_layout.specs.declared.place.Layout.{Layout}
 use Rattle.rep_layout.specs.declared.place.Place.{Place}
 use Rattle.rep_layout.specs.declared.place.Place.TheVariants.{Log}
+use Rattle.rep_layout.specs.Places.{log_of}
 use Rattle.rep_cells.specs.States.{States, Syncs}
 use Rattle.rep_cells.specs.Known.{Assigns}
 pub use Rattle.rep_cells.specs.Faults.{fault_of}
-use Rattle.rep_cells.specs.Calls.{Reaches, WritesOnly}
+use Rattle.rep_cells.specs.Calls.{Reaches, WritesOnly, WritesIn}
 use Rattle.rep_log.specs.declared.phase.Phase.{Phase}
 use Rattle.rep_log.specs.declared.phase.Phase.TheVariants.{Resting, Closing, Filling, Filled, Opening}
 use Rattle.rep_log.specs.declared.phase.Step.{Step}
@@ -120,13 +121,14 @@ pub record Steps {T E : Type 0} (l : Layout) (old new : History) (s : States) (l
   pub log_is : LogIs l log first blocks sealed states
   pub reaches : Reaches l old new states states result
 
--- A step that is due: the log stands so after it, also where it failed; it writes these bytes at this offset and no others; it
--- refuses the device's fault alone; and on an honest device, whatever the log held before, it holds it during the call and
+-- A step that is due: the log stands so after it, also where it failed; it writes these bytes at this offset and no others, in
+-- the next block's cell; it refuses the device's fault alone; and on an honest device, whatever the log held before, it holds it during the call and
 -- after it, with this block in writing.
 pub record IsStep {D T : Type 0} (honest : D → Type 0) (history : D → History) (l : Layout) (before after to : Standing) (coming : List Judged → List Judged) (at : ℕ) (bytes : List ℕ) (old new : D) (result : Result T Refusal) : Type 0 where
   pub stands : after ≡ to
   pub fault : IfErr result (λ e. e ≡ DiskFault)
   pub written : WritesOnly honest history at bytes old new result
+  pub inside : WritesIn honest history l (log_of l before.next) old new result
   pub steps :
       honest old → (s : States) (first : ℕ) (blocks : List (List Judged)) (sealed : List Judged) → Assigns l (history old) s → LogIs l before first blocks sealed s
       → Steps l (history old) (history new) s after first blocks (coming sealed) result
