@@ -3,7 +3,7 @@
 use rep_cells::Cells;
 use rep_disk::{Disk, DiskFault, FaultOnce, Loss, MemDisk};
 use rep_layout::{LOG_BODY, Layout, PAGE_BODY, Place, Slot};
-use std::alloc::Global;
+use std::alloc::{AllocError, Global};
 use std::test::Fail;
 
 /// Four cells of the log and two pages: 103,424 bytes.
@@ -26,11 +26,11 @@ enum Step {
 }
 
 /// The way of a cell.
-const WAY: [Step; 5] = [Step::Fill, Step::Sync, Step::Open, Step::Sync, Step::Close];
+const WAY: &[Step] = &[Step::Fill, Step::Sync, Step::Open, Step::Sync, Step::Close];
 
 /// What the cell reads as after a stop behind each of those steps: whether it is its body, with
 /// what is pending kept, dropped and torn.
-const LEFT: [[bool; 3]; 5] = [
+const LEFT: &[[bool; 3]] = &[
     [false, false, false],
     [false, false, false],
     [true, false, false],
@@ -96,8 +96,8 @@ fn cells_on<D: Disk + Drop>(disk: D) -> Result<Cells<D>, Fail> {
 
 /// The device behind so many steps of the way, and a stop.
 fn stopped(alloc: Global, steps: usize, loss: Loss) -> Result<MemDisk, Fail> {
-    let mut cells = cells_on(MemDisk::new(alloc, SIZE)?)?;
     let way = WAY.get(..steps).ok_or("no such step")?;
+    let mut cells = cells_on(MemDisk::new(alloc, SIZE)?)?;
     if act_all(&mut cells, way) != steps {
         return Err(Fail::new("a step failed"));
     }
@@ -121,17 +121,24 @@ fn a_stop_leaves_a_cell_as_its_step_says(rt: HostRuntime) -> Result<(), Fail> {
             stop(rt.alloc(), steps, Loss::Drop)?,
             stop(rt.alloc(), steps, Loss::Junk)?,
         ];
-        assert_eq!(rt; (steps, found), (steps, left));
+        assert_eq!(rt; (steps, found), (steps, *left));
     }
     Ok(())
+}
+
+/// Goes the way on a device that fails its fourth call: how many steps succeed, how often the device has failed, and
+/// whether the cell then reads as its body.
+fn go_with_a_fault(alloc: Global) -> Result<((usize, u64), Option<bool>), Fail> {
+    let mut cells = cells_on(FaultOnce::new(MemDisk::new(alloc, SIZE)?, 3))?;
+    let found = (act_all(&mut cells, WAY), cells.disk().failures());
+    Ok((found, has_body(&mut cells)))
 }
 
 // The way has five calls; the fourth fails, and the fifth is never made.
 #[test]
 fn a_fault_is_answered_and_other_places_stay(rt: HostRuntime) -> Result<(), Fail> {
-    let mut cells = cells_on(FaultOnce::new(MemDisk::new(rt.alloc(), SIZE)?, 3))?;
-    let found = (act_all(&mut cells, &WAY), cells.disk().failures());
-    assert_eq!(rt; (found, has_body(&mut cells)), ((3, 1), Some(true)));
+    let found = go_with_a_fault(rt.alloc())?;
+    assert_eq!(rt; found, ((3, 1), Some(true)));
     Ok(())
 }
 
@@ -157,21 +164,39 @@ fn write_all(cells: &mut Cells<MemDisk>, byte: u8) -> bool {
         && cells.sync().is_ok()
 }
 
-#[test]
-fn areas_read_as_they_were_written(rt: HostRuntime) -> Result<(), Fail> {
-    let mut cells = cells_on(MemDisk::new(rt.alloc(), SIZE)?)?;
+/// Writes the last area of blank cells: whether it reads as zeros before, whether it is written, whether it then reads as
+/// what was written, and the last byte of the device.
+fn write_last(alloc: Global) -> Result<(Option<bool>, bool, Option<bool>, Option<u8>), Fail> {
+    let mut cells = cells_on(MemDisk::new(alloc, SIZE)?)?;
     let before = reads_as(&mut cells, 0);
     let is_written = write_all(&mut cells, 7);
-    let found = (before, is_written, reads_as(&mut cells, 7));
-    assert_eq!(rt; found, (Some(true), true, Some(true)));
-    assert_eq!(rt; cells.disk().bytes().last(), Some(&7));
+    let after = reads_as(&mut cells, 7);
+    Ok((
+        before,
+        is_written,
+        after,
+        cells.disk().bytes().last().copied(),
+    ))
+}
+
+#[test]
+fn areas_read_as_they_were_written(rt: HostRuntime) -> Result<(), Fail> {
+    let found = write_last(rt.alloc())?;
+    assert_eq!(rt; found, (Some(true), true, Some(true), Some(7)));
     Ok(())
+}
+
+/// The size of the device that comes back where cells are made on one of so many bytes; None where they are made.
+fn size_that_comes_back(alloc: Global, size: usize) -> Result<Option<usize>, AllocError> {
+    match Cells::new(MemDisk::new(alloc, size)?, LAYOUT) {
+        Ok(_) => Ok(None),
+        Err(disk) => Ok(Some(disk.size())),
+    }
 }
 
 #[test]
 fn a_device_that_is_too_small_comes_back(rt: HostRuntime) -> Result<(), Fail> {
-    let made = Cells::new(MemDisk::new(rt.alloc(), SIZE - 1)?, LAYOUT);
-    let size = made.err().map(|disk| disk.size());
+    let size = size_that_comes_back(rt.alloc(), SIZE - 1)?;
     assert_eq!(rt; size, Some(SIZE - 1));
     Ok(())
 }

@@ -29,7 +29,7 @@ struct Case {
     junk: [u8; 4],
 }
 
-const CASES: [Case; 10] = [
+const CASES: &[Case] = &[
     Case {
         name: "a write is pending",
         steps: &[Step::Write(1, &[7, 8])],
@@ -154,9 +154,15 @@ fn left_by(case: Case, loss: Loss) -> [u8; 4] {
     }
 }
 
+/// Whether the calls of the case fail that are to fail, and whether a stop behind them leaves what is wanted, and all of it
+/// stable.
+fn stopped(alloc: Global, case: Case, loss: Loss) -> Result<(bool, (bool, bool)), Fail> {
+    let (mut disk, right) = asked(alloc, case)?;
+    Ok((right, leaves(&mut disk, loss, left_by(case, loss))))
+}
+
 fn stop(rt: &(impl Abort + AllocGlobal), case: Case, loss: Loss) -> Result<(), Fail> {
-    let (mut disk, right) = asked(rt.alloc(), case)?;
-    let found = (right, leaves(&mut disk, loss, left_by(case, loss)));
+    let found = stopped(rt.alloc(), case, loss)?;
     assert_eq!(rt;
         (case.name, loss, found),
         (case.name, loss, (true, (true, true)))
@@ -164,14 +170,19 @@ fn stop(rt: &(impl Abort + AllocGlobal), case: Case, loss: Loss) -> Result<(), F
     Ok(())
 }
 
-#[test]
-fn a_stop_leaves_what_the_loss_says(rt: HostRuntime) -> Result<(), Fail> {
-    for case in CASES {
+/// Compares what each loss leaves behind the calls of each case.
+fn stop_each(rt: &(impl Abort + AllocGlobal), cases: &[Case]) -> Result<(), Fail> {
+    for case in cases {
         for loss in [Loss::Keep, Loss::Drop, Loss::Junk] {
-            stop(&rt, case, loss)?;
+            stop(rt, *case, loss)?;
         }
     }
     Ok(())
+}
+
+#[test]
+fn a_stop_leaves_what_the_loss_says(rt: HostRuntime) -> Result<(), Fail> {
+    stop_each(&rt, CASES)
 }
 
 /// Fills these bytes from the offset 2 on.
@@ -198,8 +209,23 @@ fn look_at(disk: &FuseDisk<MemDisk>, left: [u8; 4]) -> (u64, u64, bool) {
     )
 }
 
+/// Makes four calls on a device that passes so many of them: which of them succeed, and what was read; how often the
+/// device has failed, and the one inside it, and whether that reads as these bytes, as which it also comes back.
+fn fused(
+    alloc: Global,
+    calls: u64,
+    left: [u8; 4],
+) -> Result<(([bool; 4], [u8; 2]), (u64, u64, bool), bool), Fail> {
+    let mut disk = FuseDisk::new(MemDisk::new(alloc, 4)?, calls);
+    let mut out = [5; 2];
+    let answers = ask_four(&mut disk, &mut out);
+    let inside = look_at(&disk, left);
+    let comes_back = disk.into_inner().bytes() == left.as_slice();
+    Ok(((answers, out), inside, comes_back))
+}
+
 /// By the number of the calls that pass: which of four calls succeed, what was read, and what is left inside.
-const FUSES: [(u64, [bool; 4], [u8; 2], [u8; 4]); 4] = [
+const FUSES: &[(u64, [bool; 4], [u8; 2], [u8; 4])] = &[
     (0, [false, false, false, false], [5, 5], [0, 0, 0, 0]),
     (1, [true, false, false, false], [5, 5], [0, 0, 7, 8]),
     (2, [true, true, false, false], [7, 8], [0, 0, 7, 8]),
@@ -209,13 +235,13 @@ const FUSES: [(u64, [bool; 4], [u8; 2], [u8; 4]); 4] = [
 #[test]
 fn a_fuse_passes_its_calls_and_no_more(rt: HostRuntime) -> Result<(), Fail> {
     for (calls, succeed, read, left) in FUSES {
-        let mut disk = FuseDisk::new(MemDisk::new(rt.alloc(), 4)?, calls);
-        let mut out = [5; 2];
-        let answers = ask_four(&mut disk, &mut out);
-        assert_eq!(rt; (calls, answers, out), (calls, succeed, read));
-        let failures = 4u64.saturating_sub(calls);
-        assert_eq!(rt; (calls, look_at(&disk, left)), (calls, (failures, 0, true)));
-        assert!(rt; disk.into_inner().bytes() == left.as_slice());
+        let (answers, inside, comes_back) = fused(rt.alloc(), *calls, *left)?;
+        assert_eq!(rt; (*calls, answers), (*calls, (*succeed, *read)));
+        let failures = 4u64.saturating_sub(*calls);
+        assert_eq!(rt;
+            (*calls, inside, comes_back),
+            (*calls, (failures, 0, true), true)
+        );
     }
     Ok(())
 }
@@ -229,15 +255,19 @@ fn ask_three<D: Disk>(disk: &mut D) -> [bool; 3] {
     ]
 }
 
+/// Makes three calls on a device of one byte that fails the second: which of them succeed, how often it has failed, its
+/// size, and whether it reads as this byte inside.
+fn fault_once(alloc: Global, byte: u8) -> Result<([bool; 3], u64, usize, bool), Fail> {
+    let mut disk = FaultOnce::new(MemDisk::new(alloc, 1)?, 1);
+    let answers = ask_three(&mut disk);
+    let is_byte = disk.inner().bytes() == [byte].as_slice();
+    Ok((answers, disk.failures(), disk.size(), is_byte))
+}
+
 #[test]
 fn one_fault_comes_once(rt: HostRuntime) -> Result<(), Fail> {
-    let mut disk = FaultOnce::new(MemDisk::new(rt.alloc(), 1)?, 1);
-    let answers = ask_three(&mut disk);
-    assert_eq!(rt;
-        (answers, disk.failures(), disk.size()),
-        ([true, false, true], 1, 1)
-    );
-    assert_eq!(rt; disk.inner().bytes(), [9].as_slice());
+    let found = fault_once(rt.alloc(), 9)?;
+    assert_eq!(rt; found, ([true, false, true], 1, 1, true));
     Ok(())
 }
 
@@ -289,13 +319,29 @@ fn read_cut(rt: &HostRuntime, path: &str) -> Result<([bool; 2], u64, u64), Fail>
     Ok((answers, failures, disk.into_file().metadata()?.len()))
 }
 
+/// What was written to a file, read from it, and read once it was cut.
+type Kept = ([bool; 3], (usize, bool, [u8; 4]), ([bool; 2], u64, u64));
+
+/// Makes a file at this path, writes to it, reads it, cuts it, reads it again, and removes it.
+fn keep_at(rt: &HostRuntime, path: &str) -> Result<Kept, Fail> {
+    let written = write_file(rt, path)?;
+    let read = read_file(rt, path)?;
+    let cut = read_cut(rt, path)?;
+    fs::remove_file(rt, path)?;
+    Ok((written, read, cut))
+}
+
+/// The same at a path of this process.
+fn keep(rt: &HostRuntime) -> Result<Kept, Fail> {
+    let path = new_path(rt)?;
+    keep_at(rt, path.as_str())
+}
+
 #[test]
 fn a_file_keeps_what_was_written(rt: HostRuntime) -> Result<(), Fail> {
-    let path = new_path(&rt)?;
-    let path = path.as_str();
-    assert_eq!(rt; write_file(&rt, path)?, [true; 3]);
-    assert_eq!(rt; read_file(&rt, path)?, (4, true, [0, 7, 8, 0]));
-    assert_eq!(rt; read_cut(&rt, path)?, ([false, true], 1, 2));
-    fs::remove_file(&rt, path)?;
+    let (written, read, cut) = keep(&rt)?;
+    assert_eq!(rt; written, [true; 3]);
+    assert_eq!(rt; read, (4, true, [0, 7, 8, 0]));
+    assert_eq!(rt; cut, ([false, true], 1, 2));
     Ok(())
 }

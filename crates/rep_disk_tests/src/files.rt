@@ -169,26 +169,38 @@ fn count_failed(answers: [bool; 4]) -> u64 {
     count
 }
 
-/// Makes the calls on a file that fails its call of this number: which of them succeed, whether as many failures were
-/// counted as failed, and what the file was asked for. Without a fault the bytes are those that were written.
-fn ask_noted(rt: &impl Abort, fault: usize) -> Result<([bool; 4], bool, [Asked; 7]), Fail> {
+/// Which of the calls succeed, whether as many failures were counted as failed, and what the file was asked for.
+type Answer = ([bool; 4], bool, [Asked; 7]);
+
+/// Makes the calls on a file that fails its call of this number. Gives also the bytes that were read, and those of the
+/// file.
+fn ask_noted(fault: usize) -> Result<(Answer, ([u8; 4], [u8; SIZE])), Fail> {
     let mut disk = noted_disk(fault)?;
     let mut out = [5; 4];
     let answers = ask_four(&mut disk, &mut out);
     let is_counted = disk.failures() == count_failed(answers);
     let file = disk.into_file();
+    let bytes = file.bytes.get();
+    Ok(((answers, is_counted, file.asked.get()), (out, bytes)))
+}
+
+/// Compares what the file is asked for, and the bytes where no call fails: they are those that were written.
+fn is_asked(
+    rt: &impl Abort,
+    (fault, succeed, asked): (usize, [bool; 4], [Asked; 7]),
+) -> Result<(), Fail> {
+    let (found, bytes) = ask_noted(fault)?;
+    assert_eq!(rt; (fault, found), (fault, (succeed, true, asked)));
     if fault == NO_FAULT {
-        let found = (out, file.bytes.get());
-        assert_eq!(rt; found, ([0, 7, 8, 9], [0, 0, 0, 7, 8, 9, 0, 0]));
+        assert_eq!(rt; bytes, ([0, 7, 8, 9], [0, 0, 0, 7, 8, 9, 0, 0]));
     }
-    Ok((answers, is_counted, file.asked.get()))
+    Ok(())
 }
 
 #[test]
 fn a_file_is_asked_for_all_bytes_and_each_sync(rt: HostRuntime) -> Result<(), Fail> {
-    for (fault, succeed, asked) in CASES {
-        let found = ask_noted(&rt, fault)?;
-        assert_eq!(rt; (fault, found), (fault, (succeed, true, asked)));
+    for case in CASES {
+        is_asked(&rt, case)?;
     }
     Ok(())
 }

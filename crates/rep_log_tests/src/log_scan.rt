@@ -1,8 +1,8 @@
 //! What a scan takes for a log, and what it refuses, each at a byte of its own.
 
 use crate::log_bench::{
-    CELL_0, CELL_1, CELL_2, CELL_3, CORRUPT, GATE, LAYOUT, Look, SIZE, at_rest, before, bench_of,
-    block_of, changed, failures, finds, found_in, look_at, opened, scan, take_up,
+    Bench, CELL_0, CELL_1, CELL_2, CELL_3, CORRUPT, Found, GATE, LAYOUT, Look, SIZE, at_rest,
+    before, bench_of, changed, finds, found_in, look_of, opened, refused_by, take_up,
 };
 use rep_disk::MemDisk;
 use rep_layout::Layout;
@@ -22,7 +22,7 @@ const SECOND: usize = 78;
 type Case = (&'static str, u32, &'static [(usize, u8)]);
 
 // Of the block 0 there are two records, of the seqnos 1 and 2; of the block 1 one, of the seqno 3.
-const FAULTS: [Case; 22] = [
+const FAULTS: &[Case] = &[
     ("no record", 0, &[(CELL_0 + 17, 0)]),
     ("a record too few", 0, &[(CELL_0 + 17, 1)]),
     ("a record too many", 0, &[(CELL_0 + 17, 3)]),
@@ -82,8 +82,7 @@ fn scan_bytes(
     position: u64,
 ) -> Result<(Look, usize), Refusal> {
     let mut cells = take_up(MemDisk::from_bytes(alloc, bytes)?, LAYOUT)?;
-    let (log, items) = scan(alloc, &mut cells, start, position)?;
-    Ok((look_at(&log), items.len()))
+    look_of(alloc, &mut cells, start, position)
 }
 
 /// What a scan of the bytes answers once these are changed.
@@ -97,13 +96,23 @@ fn scan_changed(
     scan_bytes(alloc, &bytes, u64::from(start), before(start))
 }
 
+/// Compares that the log of these bytes is corrupt once it is changed so.
+fn is_corrupt(rt: &(impl Abort + AllocGlobal), bytes: &[u8], (name, start, edits): Case) {
+    let answer = scan_changed(rt.alloc(), bytes, edits, start);
+    assert_eq!(rt; (name, answer), (name, Err(CORRUPT)));
+}
+
+/// Compares that the log of these bytes is corrupt once it is changed as each case says.
+fn are_corrupt(rt: &(impl Abort + AllocGlobal), bytes: &[u8], cases: &[Case]) {
+    for case in cases {
+        is_corrupt(rt, bytes, *case);
+    }
+}
+
 #[test]
 fn each_kind_of_fault_is_a_corrupt_log(rt: HostRuntime) -> Result<(), Fail> {
     let bytes = bytes_of(rt.alloc(), 3)?;
-    for (name, start, edits) in FAULTS {
-        let answer = scan_changed(rt.alloc(), &bytes, edits, start);
-        assert_eq!(rt; (name, answer), (name, Err(CORRUPT)));
-    }
+    are_corrupt(&rt, &bytes, FAULTS);
     Ok(())
 }
 
@@ -122,7 +131,7 @@ const LAST: u64 = 1 << 60;
 
 /// Of blank bytes, the first number that is scanned and the position behind which its block begins, and whether that
 /// is a log.
-const BLANK: [(u64, u64, bool); 11] = [
+const BLANK: &[(u64, u64, bool)] = &[
     (0, 0, true),
     (4, 4, true),
     (5, 4, false),
@@ -147,17 +156,31 @@ fn empty_at(start: u64, position: u64) -> Look {
     }
 }
 
+/// Compares what a scan of the blank bytes answers.
+fn is_blank(
+    rt: &(impl Abort + AllocGlobal),
+    blank: &[u8],
+    (start, position, is_log): (u64, u64, bool),
+) {
+    let wanted = if is_log {
+        Ok((empty_at(start, position), 0))
+    } else {
+        Err(CORRUPT)
+    };
+    answers(rt, blank, (start, position), wanted);
+}
+
+/// Compares what each scan of the blank bytes answers.
+fn are_blank(rt: &(impl Abort + AllocGlobal), blank: &[u8]) {
+    for case in BLANK {
+        is_blank(rt, blank, *case);
+    }
+}
+
 #[test]
 fn a_scan_keeps_start_and_position(rt: HostRuntime) -> Result<(), Fail> {
     let blank = vec![in rt.alloc(); 0; SIZE]?;
-    for (start, position, is_log) in BLANK {
-        let wanted = if is_log {
-            Ok((empty_at(start, position), 0))
-        } else {
-            Err(CORRUPT)
-        };
-        answers(&rt, &blank, (start, position), wanted);
-    }
+    are_blank(&rt, &blank);
     Ok(())
 }
 
@@ -171,7 +194,6 @@ fn a_scan_from_another_position_is_corrupt(rt: HostRuntime) -> Result<(), Fail> 
 }
 
 /// Logs of changed bytes, of so many blocks, and the block behind the last that is found.
-#[derive(Clone, Copy)]
 struct Sound {
     name: &'static str,
     blocks: u32,
@@ -181,7 +203,7 @@ struct Sound {
     edits: &'static [(usize, u8)],
 }
 
-const SOUND: [Sound; 10] = [
+const SOUND: &[Sound] = &[
     Sound {
         name: "no cell open",
         blocks: 0,
@@ -264,25 +286,40 @@ const SOUND: [Sound; 10] = [
     },
 ];
 
+/// The bytes of such a log.
+fn changed_log(alloc: Global, sound: &Sound) -> Result<Vec<u8>, Fail> {
+    let bytes = bytes_of(alloc, sound.blocks)?;
+    Ok(changed(alloc, &bytes, sound.edits)?)
+}
+
+/// What is found in such a log.
+fn found_as(alloc: Global, sound: &Sound) -> Result<Found, Fail> {
+    let bytes = changed_log(alloc, sound)?;
+    Ok(found_in(alloc, &bytes, sound.start, sound.next)?)
+}
+
 /// Compares what is found in such a log.
-fn is_sound(rt: &(impl Abort + AllocGlobal), sound: Sound) -> Result<(), Fail> {
-    let bytes = bytes_of(rt.alloc(), sound.blocks)?;
-    let bytes = changed(rt.alloc(), &bytes, sound.edits)?;
-    let found = found_in(rt.alloc(), &bytes, sound.start, sound.next)?;
+fn is_sound(rt: &(impl Abort + AllocGlobal), sound: &Sound) -> Result<(), Fail> {
     let look = Look {
         due: sound.due,
         ..at_rest(sound.start, sound.next)
     };
+    let found = found_as(rt.alloc(), sound)?;
     assert_eq!(rt; (sound.name, found), (sound.name, (look, true)));
+    Ok(())
+}
+
+/// Compares what is found in each of such logs.
+fn are_sound(rt: &(impl Abort + AllocGlobal), logs: &[Sound]) -> Result<(), Fail> {
+    for sound in logs {
+        is_sound(rt, sound)?;
+    }
     Ok(())
 }
 
 #[test]
 fn what_is_no_fault_is_found_as_a_log(rt: HostRuntime) -> Result<(), Fail> {
-    for sound in SOUND {
-        is_sound(&rt, sound)?;
-    }
-    Ok(())
+    are_sound(&rt, SOUND)
 }
 
 /// Fills the fourth cell with this byte.
@@ -292,13 +329,32 @@ fn fill(bytes: &mut [u8], byte: u8) {
     }
 }
 
-/// Appends the fourth block to the log of these bytes, and compares what is then found.
+/// The log of these bytes.
+fn bench_on(alloc: Global, bytes: &[u8]) -> Result<Bench<MemDisk>, Refusal> {
+    let (bench, _) = opened(alloc, MemDisk::from_bytes(alloc, bytes)?, LAYOUT, 0)?;
+    Ok(bench)
+}
+
+/// The bytes of the log of these bytes, once the fourth block is appended to it.
+fn with_a_fourth(alloc: Global, bytes: &[u8]) -> Result<Vec<u8>, Fail> {
+    let mut bench = bench_on(alloc, bytes)?;
+    bench.append_block(3)?;
+    Ok(Vec::from_slice(alloc, bench.bytes())?)
+}
+
+/// Appends the fourth block to the log of these bytes, and compares what is found before and then.
 fn takes_a_fourth(rt: &(impl Abort + AllocGlobal), bytes: &[u8]) -> Result<(), Fail> {
     finds(rt, bytes, 0, 3)?;
-    let disk = MemDisk::from_bytes(rt.alloc(), bytes)?;
-    let (mut bench, _) = opened(rt.alloc(), disk, LAYOUT, 0)?;
-    bench.append(&block_of(3)?)?;
-    finds(rt, bench.bytes(), 0, 4)?;
+    let after = with_a_fourth(rt.alloc(), bytes)?;
+    Ok(finds(rt, &after, 0, 4)?)
+}
+
+/// Compares that a log of these bytes takes a fourth block, whatever its fourth cell is filled with.
+fn takes_a_fourth_over_any(rt: &(impl Abort + AllocGlobal), bytes: &mut [u8]) -> Result<(), Fail> {
+    for byte in [0x00, 0x01, 0xEE, 0xFF] {
+        fill(bytes, byte);
+        takes_a_fourth(rt, bytes)?;
+    }
     Ok(())
 }
 
@@ -307,23 +363,18 @@ fn takes_a_fourth(rt: &(impl Abort + AllocGlobal), bytes: &[u8]) -> Result<(), F
 #[test]
 fn closed_cells_may_hold_any_bytes(rt: HostRuntime) -> Result<(), Fail> {
     let mut bytes = bytes_of(rt.alloc(), 3)?;
-    for byte in [0x00, 0x01, 0xEE, 0xFF] {
-        fill(&mut bytes, byte);
-        takes_a_fourth(&rt, &bytes)?;
-    }
-    Ok(())
+    takes_a_fourth_over_any(&rt, &mut bytes)
 }
 
 /// What a log of so many cells is refused by on a device of so many bytes, and how often that failed.
 fn scan_of(alloc: Global, cells: u32, size: usize) -> Result<(Option<Refusal>, u64), Refusal> {
     let layout = Layout { cells, pages: 0 };
     let mut device = take_up(MemDisk::new(alloc, size)?, layout)?;
-    let refusal = scan(alloc, &mut device, 0, 0).err();
-    Ok((refusal, failures(&device)))
+    Ok(refused_by(alloc, &mut device))
 }
 
 /// Of 54,272 bytes and 8,192 for each cell.
-const DEVICES: [(u32, usize, Option<Refusal>); 4] = [
+const DEVICES: &[(u32, usize, Option<Refusal>)] = &[
     (0, 54_272, Some(Refusal::BadParams)),
     (1, 62_464, None),
     (1_024, 8_442_880, None),
@@ -333,8 +384,8 @@ const DEVICES: [(u32, usize, Option<Refusal>); 4] = [
 #[test]
 fn a_log_has_1_to_1024_cells(rt: HostRuntime) -> Result<(), Fail> {
     for (cells, size, refusal) in DEVICES {
-        let found = scan_of(rt.alloc(), cells, size)?;
-        assert_eq!(rt; (cells, found), (cells, (refusal, 0)));
+        let found = scan_of(rt.alloc(), *cells, *size)?;
+        assert_eq!(rt; (*cells, found), (*cells, (*refusal, 0)));
     }
     Ok(())
 }

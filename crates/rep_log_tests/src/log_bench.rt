@@ -41,7 +41,7 @@ pub(crate) enum Call {
 }
 
 /// The way of a block into a cell in which an earlier one stands open.
-pub(crate) const WAY: [Call; 6] = [
+pub(crate) const WAY: &[Call] = &[
     Call::Recycle,
     Call::Sync,
     Call::Seal,
@@ -51,7 +51,7 @@ pub(crate) const WAY: [Call; 6] = [
 ];
 
 /// The way of a block into a cell in which none stands open.
-pub(crate) const NEW_WAY: [Call; 4] = [Call::Seal, Call::Sync, Call::Gate, Call::Sync];
+pub(crate) const NEW_WAY: &[Call] = &[Call::Seal, Call::Sync, Call::Gate, Call::Sync];
 
 /// What a log says of itself.
 #[derive(Clone, Copy, Debug, PartialEq, Eq)]
@@ -115,13 +115,19 @@ pub(crate) fn item(seqno: u64) -> Result<Judged, Refusal> {
     })
 }
 
+/// Whether this is the item of the seqno.
+fn is_item(found: &Judged, seqno: u64) -> Result<bool, Refusal> {
+    let wanted = item(seqno)?;
+    Ok(*found == wanted)
+}
+
 /// Whether these are the records of the blocks from `start` on up to `next`.
 fn are(items: &[Judged], start: u32, next: u32) -> Result<bool, Refusal> {
     let first = before(start);
     let last = before(next);
     let mut right = items.len() as u64 == last.saturating_sub(first);
     for (found, position) in items.iter().zip(first..last) {
-        right = right && *found == item(position.saturating_add(1))?;
+        right = right && is_item(found, position.saturating_add(1))?;
     }
     Ok(right)
 }
@@ -163,9 +169,46 @@ pub(crate) fn scan<D: Disk>(
     Log::scan(alloc, cells, start, position)
 }
 
+/// What a log says of itself that a scan of the cells finds, and how many records are found.
+pub(crate) fn look_of<D: Disk>(
+    alloc: Global,
+    cells: &mut Cells<D>,
+    start: u64,
+    position: u64,
+) -> Result<(Look, usize), Refusal> {
+    let (log, items) = scan(alloc, cells, start, position)?;
+    Ok((look_at(&log), items.len()))
+}
+
 /// How often the device has failed.
 pub(crate) fn failures<D: Disk>(cells: &Cells<D>) -> u64 {
     cells.disk().failures()
+}
+
+/// What a scan of the cells from their first block on is refused by, and how often the device has then failed.
+pub(crate) fn refused_by<D: Disk>(alloc: Global, cells: &mut Cells<D>) -> (Option<Refusal>, u64) {
+    let refusal = scan(alloc, cells, 0, 0).err();
+    (refusal, failures(cells))
+}
+
+fn recycle<D: Disk>(log: &mut Log, cells: &mut Cells<D>) -> Result<(), Refusal> {
+    log.recycle(cells)
+}
+
+fn seal<D: Disk>(log: &mut Log, cells: &mut Cells<D>, block: &BlockBuilder) -> Result<(), Refusal> {
+    log.seal(cells, block)
+}
+
+fn open_gate<D: Disk>(log: &mut Log, cells: &mut Cells<D>) -> Result<(), Refusal> {
+    log.gate(cells)
+}
+
+/// Syncs the device, and tells the log of it: how many records that made durable.
+fn sync<D: Disk>(log: &mut Log, cells: &mut Cells<D>) -> Result<u16, Refusal> {
+    match cells.sync() {
+        Ok(()) => Ok(log.synced()),
+        Err(DiskFault) => Err(Refusal::DiskFault),
+    }
 }
 
 /// One call, and how many records it made durable.
@@ -176,13 +219,10 @@ pub(crate) fn make<D: Disk>(
     block: &BlockBuilder,
 ) -> Result<u16, Refusal> {
     match call {
-        Call::Recycle => log.recycle(cells)?,
-        Call::Seal => log.seal(cells, block)?,
-        Call::Gate => log.gate(cells)?,
-        Call::Sync => match cells.sync() {
-            Ok(()) => return Ok(log.synced()),
-            Err(DiskFault) => return Err(Refusal::DiskFault),
-        },
+        Call::Recycle => recycle(log, cells)?,
+        Call::Seal => seal(log, cells, block)?,
+        Call::Gate => open_gate(log, cells)?,
+        Call::Sync => return sync(log, cells),
     }
     Ok(0)
 }
@@ -217,9 +257,15 @@ impl<D: Disk> Bench<D> {
     /// records became durable.
     pub(crate) fn append(&mut self, block: &BlockBuilder) -> Result<u16, Refusal> {
         match self.log.step_due() {
-            Step::Recycle => self.make_all(&WAY, block),
-            _ => self.make_all(&NEW_WAY, block),
+            Step::Recycle => self.make_all(WAY, block),
+            _ => self.make_all(NEW_WAY, block),
         }
+    }
+
+    /// Appends the block of this number.
+    pub(crate) fn append_block(&mut self, block: u32) -> Result<u16, Fail> {
+        let records = block_of(block)?;
+        Ok(self.append(&records)?)
     }
 
     /// Has the log need the blocks from this one on.
@@ -234,9 +280,7 @@ impl<D: Disk> Bench<D> {
 
     /// What a scan of the same cells finds from this block on: what that log says of itself, and how many records.
     pub(crate) fn scanned(&mut self, alloc: Global, start: u32) -> Result<(Look, usize), Refusal> {
-        let from = u64::from(start);
-        let (log, items) = scan(alloc, &mut self.cells, from, before(start))?;
-        Ok((look_at(&log), items.len()))
+        look_of(alloc, &mut self.cells, u64::from(start), before(start))
     }
 
     /// Gives the device back.
@@ -271,13 +315,19 @@ pub(crate) fn new_bench(alloc: Global) -> Result<Bench<MemDisk>, Fail> {
     Ok(bench)
 }
 
+/// Appends so many blocks to a log without a block, and has it need the last two of them.
+fn append_all(bench: &mut Bench<MemDisk>, blocks: u32) -> Result<(), Fail> {
+    for block in 0..blocks {
+        bench.append_block(block)?;
+        bench.start_at(u64::from(block).saturating_sub(1));
+    }
+    Ok(())
+}
+
 /// A log to which so many blocks were appended, and which needs the last two of them.
 pub(crate) fn bench_of(alloc: Global, blocks: u32) -> Result<Bench<MemDisk>, Fail> {
     let mut bench = new_bench(alloc)?;
-    for block in 0..blocks {
-        bench.append(&block_of(block)?)?;
-        bench.start_at(u64::from(block).saturating_sub(1));
-    }
+    append_all(&mut bench, blocks)?;
     Ok(bench)
 }
 
@@ -289,6 +339,19 @@ pub(crate) fn start_of(blocks: u32) -> u32 {
 /// What a log says of itself, and whether its records are those of some blocks.
 pub(crate) type Found = (Look, bool);
 
+/// What a scan of the cells finds from this block on, whose records are to be those of the blocks up to `next`, and the
+/// log.
+fn found_of<D: Disk>(
+    alloc: Global,
+    cells: &mut Cells<D>,
+    start: u32,
+    next: u32,
+) -> Result<(Log, Found), Refusal> {
+    let (log, items) = scan(alloc, cells, u64::from(start), before(start))?;
+    let found = (look_at(&log), are(&items, start, next)?);
+    Ok((log, found))
+}
+
 /// What is found on a device from this block on, whose records are to be those of the blocks up to `next`, and the log.
 pub(crate) fn found_on<D: Disk + Drop>(
     alloc: Global,
@@ -296,9 +359,9 @@ pub(crate) fn found_on<D: Disk + Drop>(
     start: u32,
     next: u32,
 ) -> Result<(Bench<D>, Found), Refusal> {
-    let (bench, items) = opened(alloc, disk, LAYOUT, start)?;
-    let found = (bench.look(), are(&items, start, next)?);
-    Ok((bench, found))
+    let mut cells = take_up(disk, LAYOUT)?;
+    let (log, found) = found_of(alloc, &mut cells, start, next)?;
+    Ok((Bench { log, cells }, found))
 }
 
 /// What is found in these bytes from this block on, whose records are to be those of the blocks up to `next`.
@@ -308,13 +371,24 @@ pub(crate) fn found_in(
     start: u32,
     next: u32,
 ) -> Result<Found, Refusal> {
-    let (_, found) = found_on(alloc, MemDisk::from_bytes(alloc, bytes)?, start, next)?;
+    let mut cells = take_up(MemDisk::from_bytes(alloc, bytes)?, LAYOUT)?;
+    let (_, found) = found_of(alloc, &mut cells, start, next)?;
     Ok(found)
 }
 
 /// Compares what a log says of itself.
 pub(crate) fn stands<D: Disk>(rt: &impl Abort, bench: &Bench<D>, wanted: Look) {
     assert_eq!(rt; bench.look(), wanted);
+}
+
+/// Compares what a call answered, and what the log then said of itself.
+fn answered(
+    rt: &impl Abort,
+    call: Call,
+    found: (Result<u16, Refusal>, Look),
+    wanted: (Result<u16, Refusal>, Look),
+) {
+    assert_eq!(rt; (call, found), (call, wanted));
 }
 
 /// Makes a call, and compares its answer, and what the log says of itself behind it.
@@ -326,7 +400,12 @@ pub(crate) fn makes<D: Disk>(
     wanted: (Result<u16, Refusal>, Look),
 ) {
     let answer = bench.make(call, block);
-    assert_eq!(rt; (call, (answer, bench.look())), (call, wanted));
+    answered(rt, call, (answer, bench.look()), wanted);
+}
+
+/// Compares what is found.
+pub(crate) fn is_found(rt: &impl Abort, found: Found, wanted: Found) {
+    assert_eq!(rt; found, wanted);
 }
 
 /// Compares what a scan of the bytes finds from each of these starts on: the durable records up to the next block.
@@ -338,7 +417,7 @@ pub(crate) fn finds(
 ) -> Result<(), Refusal> {
     for from in start..=next {
         let found = found_in(rt.alloc(), bytes, from, next)?;
-        assert_eq!(rt; found, (at_rest(from, next), true));
+        is_found(rt, found, (at_rest(from, next), true));
     }
     Ok(())
 }
