@@ -1,6 +1,6 @@
 # `make run` is the first thing to try, `make build` makes the proved program, and `make test` is all that CI runs.
 
-CRATES := rep_types rep_plain rep_forms rep_record rep_disk rep_layout rep_versions rep_pages rep_cells rep_log rep_steps rep_image \
+CRATES := rep_types rep_plain rep_forms rep_record rep_disk rep_layout rep_versions rep_pages rep_cells rep_pool rep_log rep_steps rep_image \
 	rep_checkpoint rep_cert rep_backlog rep_engine rep_recover rep_replica rep_saved rep_script replicad
 PROGRAM := crates/replicad/out/replicad
 # What `make bench` needs beside these: what times the certifier against the plain node, what times the versions of rows, and
@@ -38,7 +38,7 @@ gate-time: toolchain
 	@scripts/gate-time
 
 # Items judged in a second, for orders of 1,000, 10,000 and 100,000 items; what an item costs the certifier and the plain
-# node; what a version that is added and a look-up cost among few and among many; peeks in a second beside a publisher, and
+# node; what a version that is added and a look-up cost among few and among many; rows of pages, with a pool and without; peeks in a second beside a publisher, and
 # behind one lock; and on a file durable commits in a second beside the same writes alone, checkpoints, and openings.
 bench: toolchain
 	@scripts/build $(CRATES) $(TIMED)

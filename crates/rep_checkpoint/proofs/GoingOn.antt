@@ -12,7 +12,7 @@ use Rattle.rep_layout.specs.declared.place.Place.TheVariants.{Super, Window, Log
 use Rattle.rep_layout.specs.Supers.{super_bytes}
 use Rattle.rep_layout.specs.Windows.{window_bytes}
 use Rattle.rep_cells.specs.States.{States, State as StateOf, Pending, filling, opening, closing, Moves}
-use Rattle.rep_cells.specs.Calls.{WritesOnly, StepsAt}
+use Rattle.rep_cells.specs.Calls.{WritesOnly, WritesIn, StepsAt}
 use Rattle.rep_log.specs.Moves.{fault_of}
 use Rattle.rep_steps.specs.Standings.{part_refusal}
 use Rattle.rep_checkpoint.specs.declared.stage.Part.TheVariants.{Flushing, Saving, Ready, SuperFilling, SuperFilled, SuperOpening}
@@ -121,15 +121,17 @@ here l c refusal e = by (is_layout l _) e
 pub goes_on :
     {D : Type 0} (honest : D → Type 0) (history : D → History) (l : Layout) (c after : Standing) (old new : D) (answer : Result (Unit {0}) Fault) (result : Result (Unit {0}) Refusal)
     → next_refusal l c ≡ None → fault_of result ≡ answer → OnOk result (after ≡ gone_on c) → IfErr result (λ e. (e ≡ DiskFault) × (after ≡ c)) → IfErr result (λ e. e ≡ DiskFault)
-    → WritesOnly honest history (next_offset l c.base c.stage) (next_bytes c.stage) old new answer → StepsAt honest history l (next_place c.base c.stage) (next_step c.stage) old new answer
+    → WritesOnly honest history (next_offset l c.base c.stage) (next_bytes c.stage) old new answer → WritesIn honest history l (next_place c.base c.stage) old new answer → StepsAt honest history l (next_place c.base c.stage) (next_step c.stage) old new answer
     → GoesOn honest history l c after old new result
-goes_on {D} honest history l c after old new answer result due fault done failed only written steps =
+goes_on {D} honest history l c after old new answer result due fault done failed only written inside steps =
     let wrote = subst (λ (r : Result (Unit {0}) Fault). WritesOnly honest history (next_offset l c.base c.stage) (next_bytes c.stage) old new r) (sym fault) written in
+    let wrote_in = subst (λ (r : Result (Unit {0}) Fault). WritesIn honest history l (next_place c.base c.stage) old new r) (sym fault) inside in
     let stepped = subst (λ (r : Result (Unit {0}) Fault). StepsAt honest history l (next_place c.base c.stage) (next_step c.stage) old new r) (sym fault) steps in
     record {
       done = done;
       fault = failed;
       written = λ h. record { done = ok_as result _ (wrote h).done; failed = err_as result _ only (wrote h).failed };
+      inside = λ h. ok_as result _ (wrote_in h);
       steps = λ h size s x y assigns is.
           let step = stepped h s assigns in
           let then = gone size c.base c.stage x y s step.after (here l c _ due) is step.moves in

@@ -1,7 +1,6 @@
 -- A page that is read, and written elsewhere.
-use Rattle.std.proofs.Common.{◌≡◌, ◌≢◌, refl, sym, ap, subst, ◌∙◌, ℕ, ◌≤◌, inl, inr, List, replicate, Option, None, Some, Result, Ok, Err, IsOk, IfOk, IfErr, OnOk, arith}
-use Rattle.std.proofs.lemmas.Bool.{cases_lt}
-use Rattle.std.proofs.lemmas.List.{length-replicate, get_or-replicate, get_or_past}
+use Rattle.std.proofs.Common.{◌≡◌, ◌≢◌, refl, sym, ap, subst, ◌∙◌, ℕ, inl, inr, List, replicate, Option, Some, Result, Ok, Err, IfOk, IfErr, OnOk, arith}
+use Rattle.std.proofs.lemmas.List.{length-replicate}
 use Rattle.rep_types.specs.declared.key.Key.{Key}
 use Rattle.rep_types.specs.declared.refusal.Refusal.{Refusal}
 use Rattle.rep_types.specs.declared.refusal.Refusal.TheVariants.{DiskFault, Corrupt}
@@ -9,105 +8,61 @@ use Rattle.rep_types.specs.declared.refusal.Part.TheVariants.{Pages}
 use Rattle.rep_disk.specs.History.{History, Wrote, seen, IsImage as IsImageOf}
 use Rattle.rep_disk.specs.Moments.{LeavesOnly}
 use Rattle.rep_layout.specs.declared.super_body.SuperBody.{SuperBody}
-use Rattle.rep_layout.specs.declared.page_state.PageState.{PageState}
-use Rattle.rep_layout.specs.declared.page_state.PageState.TheVariants.{Nowhere, In}
+use Rattle.rep_layout.specs.declared.page_state.PageState.TheVariants.{In}
 use Rattle.rep_layout.specs.declared.place.Layout.{Layout}
 use Rattle.rep_layout.specs.declared.place.Slot.{Slot}
+use Rattle.rep_layout.specs.declared.place.Place.{Place}
 use Rattle.rep_layout.specs.declared.place.Place.TheVariants.{Page}
-use Rattle.rep_layout.specs.Places.{offset_of}
+use Rattle.rep_layout.specs.Places.{offset_of, layout_of}
+use Rattle.rep_layout.specs.Supers.{IsSuper}
 use Rattle.rep_layout.specs.Rows.{row_place}
-use Rattle.rep_cells.specs.Readings.{reading_of}
-use Rattle.rep_cells.specs.States.{State, States, Shows, IsSure, writing}
+use Rattle.rep_cells.specs.Readings.{IsPlace, reading_of}
+use Rattle.rep_cells.specs.States.{State, States, Stable, Shows, writing}
 use Rattle.rep_cells.specs.Known.{Assigns}
-use Rattle.rep_cells.specs.Calls.{Writes, WritesOnly, StepsAt, Stepped, ReadsPlace, ShowsPlace}
+use Rattle.rep_cells.specs.Calls.{Writes, WritesOnly, WritesIn, StepsAt, Stepped}
 use Rattle.rep_cells.specs.Laws.{ImagesReadAsAllowed}
-use Rattle.rep_disk.specs.declared.disk.DiskFault.{DiskFault as Fault}
+use Rattle.rep_cells.proofs.Reading.{shown}
 use Rattle.rep_versions.specs.Versions.{Kept}
 use Rattle.rep_log.specs.Moves.{fault_of}
 use Rattle.rep_pages.specs.declared.page.Page.{Page as PageBody}
 use Rattle.rep_pages.specs.Slots.{state_of_page, spare_slot}
-use Rattle.rep_pages.specs.Pages.{IsPageBody, IsFirstRow, IsPage}
-use Rattle.rep_pages.specs.Rows.{Rows, row_at}
+use Rattle.rep_pages.specs.Pages.{IsPageBody, IsFirstRow, IsPage, PagesAreTold}
 use Rattle.rep_pages.specs.Images.{row_of, IsImage}
-use Rattle.rep_image.specs.Bases.{IsPageOf}
-use Rattle.rep_checkpoint.specs.Calls.{AreAt, IsAbsentPage, WritesImage}
-use Rattle.rep_checkpoint.specs.Pages.{IsStable, AreRows, ReadsPage, PutsPage, IsPageAt, MovesPage}
+use Rattle.rep_pool.specs.Pools.{Pooled, IsFree, PoolsGoOn}
+use Rattle.rep_pool.specs.BasePages.{IsBadPage, HasPage, GivesPage, IsPooled, GoesOn, GoesOnIf}
+use Rattle.rep_pool.proofs.Pages.{is_page}
+use Rattle.rep_checkpoint.specs.Calls.{AreAt, WritesImage}
+use Rattle.rep_checkpoint.specs.Pages.{IsStable, AreRows, PutsPage, IsPageAt, MovesPage}
 use Rattle.rep_checkpoint.proofs.GoingOn.{ok_as, err_as}
-use Rattle.rep_checkpoint.proofs.Spelled.{spelled_in, not_bad}
+use Rattle.rep_checkpoint.proofs.Spelled.{not_bad}
 
 -- ---- a page of the base
 
--- a page that is in no slot has no row
-nowhere : (state : PageState) → ((slot : Slot) → state ≡ In slot → ⊥) → state ≡ Nowhere
-nowhere Nowhere none = refl
-nowhere (In slot) none = absurd (none slot refl)
+-- what a page's place reads as, where its bytes are stable
+stable_reads : (l : Layout) (h : History) (b : SuperBody) (s : States) (number : ℕ) (slot : Slot) (body bytes : List ℕ) → IsSuper b → l ≡ layout_of b.params → Assigns l h s → state_of_page b number ≡ In slot → s (Page number slot) ≡ Stable body
+    → reading_of l (seen h) (Page number slot) ≡ Some bytes → bytes ≡ body
+stable_reads l h b s number slot body bytes super here assigns there is reads =
+    let place : IsPlace l (Page number slot) = subst (λ (k : Layout). IsPlace k (Page number slot)) (sym here) (is_page b super number slot there) in
+    let shows : Some bytes ≡ Some body = subst (λ (state : State). Shows state (Some bytes)) is (shown l h s (Page number slot) (Some bytes) assigns place (sym reads)) in
+    cc
 
-no_row : (index : ℕ) → row_at (replicate 63 None) index ≡ None
-no_row index = elim (cases_lt index 63) [
-  | inl lt ↦ get_or-replicate 63 index None None lt
-  | inr le ↦ get_or_past (replicate 63 None) index None (omega (arith, le, length-replicate {A = Option (List ℕ)} 63 None))
-]
+-- what is read of a base that stands
+module _ (told : PagesAreTold) (l : Layout) (h : History) (b : SuperBody) (s : States) (content : Key → Option (List ℕ)) (number : ℕ) (super : IsSuper b) (here : l ≡ layout_of b.params) (assigns : Assigns l h s) (have : IsStable b content s) where
+  -- is its content
+  pub read_rows : (page : PageBody) → HasPage (reading_of l (seen h)) b number page → AreRows b.params.rows number content page
+  read_rows page (inl is) key row there =
+      let stands = have.pages number is.slot is.there in
+      let same : is.body ≡ stands.0 = stable_reads l h b s number is.slot stands.0 is.body super here assigns is.there stands.1 is.shown in
+      let page_is : stands.2.page ≡ page = told b.params.rows stands.2.page page stands.0 stands.2.is_page (subst (IsPageBody b.params.rows page) same is.is_page) in
+      subst (AreRows b.params.rows number content) page_is stands.2.rows key row there
+  read_rows page (inr is) key row there = have.absent key row (ap (state_of_page b) there ∙ is.nowhere) ∙ sym (is.rows (row_place b.params.rows key).index)
 
-pub absent_rows : (b : SuperBody) (s : States) (content : Key → Option (List ℕ)) (number : ℕ) (page : PageBody) → page.rows ≡ replicate 63 None → ((slot : Slot) → state_of_page b number ≡ In slot → ⊥) → IsStable b content s → AreRows b.params.rows number content page
-absent_rows b s content number page rows none have key row there =
-    have.absent key row (ap (state_of_page b) there ∙ nowhere (state_of_page b number) none) ∙ sym (ap (λ (rs : Rows). row_of b.params.rows rs key) rows ∙ no_row (row_place b.params.rows key).index)
-
-pub absent_page : (b : SuperBody) (number : ℕ) (page : PageBody) → page.number ≡ number → page.rows ≡ replicate 63 None → ((slot : Slot) → state_of_page b number ≡ In slot → ⊥) → IsAbsentPage b number page
-absent_page b number page is rows none = record {
-  nowhere = nowhere (state_of_page b number) none;
-  is_it = is;
-  rows = λ index. ap (λ (rs : Rows). row_at rs index) rows ∙ no_row index;
-}
-
--- what is read of a page's place is that page
-pub page_read : (b : SuperBody) (s : States) (content : Key → Option (List ℕ)) (number : ℕ) (slot : Slot) (bytes : List ℕ) → IsStable b content s → state_of_page b number ≡ In slot
-    → (IsSure (s (Page number slot)) → Shows (s (Page number slot)) (Some bytes)) → IsPageOf b number content bytes
-page_read b s content number slot bytes have is shown =
-    let page = have.pages number slot is in
-    let sure : IsSure (s (Page number slot)) = subst IsSure (sym page.1) tt in
-    let shows : Some bytes ≡ Some page.0 = subst (λ (state : State). Shows state (Some bytes)) page.1 (shown sure) in
-    let same : bytes ≡ page.0 = cc in
-    subst (IsPageOf b number content) (sym same) page.2
-
--- what is said of an answer that came
-if_came : {T E : Type 0} (result : Result T E) (P : Type 0) → IsOk result → IfOk result (λ _. P) → P
-if_came (Ok x) P ok h = h
-if_came (Err e) P ok h = absurd cc
-
--- the body that a reader takes
-pub record Takes (b : SuperBody) (number : ℕ) (bytes : List ℕ) (result : Result PageBody Refusal) : Type 0 where
-  pub found : IfOk result (λ page. IsPageBody b.params.rows page bytes × (page.number ≡ number) × (page.position ≤ b.position))
-  pub only : (page : PageBody) → IsPageBody b.params.rows page bytes → page.number ≡ number → page.position ≤ b.position → result ≡ Ok page
-
-taken : (b : SuperBody) (number : ℕ) (content : Key → Option (List ℕ)) (bytes : List ℕ) (result : Result PageBody Refusal) → Takes b number bytes result → IsPageOf b number content bytes → (page : PageBody) × (result ≡ Ok page) × AreRows b.params.rows number content page
-taken b number content bytes result takes is = (is.page, takes.only is.page is.is_page is.is_it is.earlier, is.rows)
-
-number_in : (b : SuperBody) (number : ℕ) (bytes : List ℕ) (result : Result PageBody Refusal) → IfOk result (λ page. IsPageBody b.params.rows page bytes × (page.number ≡ number) × (page.position ≤ b.position)) → IfOk result (λ page. page.number ≡ number)
-number_in b number bytes (Ok page) h = h.1
-number_in b number bytes (Err e) h = tt
-
-pub reads :
-    {D : Type 0} (honest : D → Type 0) (history : D → History) (l : Layout) (b : SuperBody) (number : ℕ) (slot : Slot) (bytes : List ℕ) (old : D) (answer : Result (Unit {0}) Fault) (result : Result PageBody Refusal)
-    → state_of_page b number ≡ In slot → IsOk answer → ReadsPlace honest history l (Page number slot) old answer (λ _. Some bytes) → ShowsPlace honest history l (Page number slot) old answer (λ _. Some bytes) → Takes b number bytes result
-    → ReadsPage honest history l b number old result
-reads honest history l b number slot bytes old answer result there ok read shown takes = record {
-  number_is = number_in b number bytes result takes.found;
-  read = λ h s content assigns have.
-      let t = taken b number content bytes result takes (page_read b s content number slot bytes have there (λ sure. if_came answer _ ok (shown h s assigns sure))) in
-      subst (λ (r : Result PageBody Refusal). IfOk r (AreRows b.params.rows number content)) (sym t.1) t.2;
-  whole = λ h s content assigns have e.
-      let t = taken b number content bytes result takes (page_read b s content number slot bytes have there (λ sure. if_came answer _ ok (shown h s assigns sure))) in
-      let no = sym e ∙ t.1 in
-      absurd cc;
-  spelled = λ h readable. spelled_in (reading_of l (seen (history old))) b number slot bytes result there (sym (if_came answer _ ok (read h (readable slot there)))) takes.found;
-  corrupt = λ h readable e. record {
-    slot = slot;
-    there = there;
-    body = bytes;
-    shown = sym (if_came answer _ ok (read h (readable slot there)));
-    none = λ page is_page is_it earlier. let no = sym e ∙ takes.only page is_page is_it earlier in absurd cc;
-  };
-}
+  -- and of the form
+  pub never_bad : IsBadPage (reading_of l (seen h)) b number → ⊥
+  never_bad bad =
+      let stands = have.pages number bad.slot bad.there in
+      let same : bad.body ≡ stands.0 = stable_reads l h b s number bad.slot stands.0 bad.body super here assigns bad.there stands.1 bad.shown in
+      bad.none stands.2.page (subst (IsPageBody b.params.rows stands.2.page) (sym same) stands.2.is_page) stands.2.is_it stands.2.earlier
 
 -- ---- a page that is written elsewhere
 
@@ -116,9 +71,9 @@ same_moments h = record { later = omega arith; since = λ t image le since. inl 
 
 -- it wasn't read
 pub not_read :
-    {D : Type 0} → ImagesReadAsAllowed → (honest : D → Type 0) (history : D → History) (l : Layout) (b : SuperBody) (kept : Kept) (position number : ℕ) (old new : D) (result : Result PageBody Refusal) (e : Refusal)
-    → (honest old → history new ≡ history old) → ReadsPage honest history l b number old result → result ≡ Err e → MovesPage {T = Unit {0}} honest history l b kept position number old new (Err e)
-not_read allowed honest history l b kept position number old new result e same read is = record {
+    {D : Type 0} → ImagesReadAsAllowed → PagesAreTold → (honest : D → Type 0) (history : D → History) (l : Layout) (b : SuperBody) (kept : Kept) (position number : ℕ) (old new : D) (pool : Pooled) (result : Result PageBody Refusal) (e : Refusal)
+    → IsSuper b → l ≡ layout_of b.params → IsPooled honest history b.params.rows l old pool → (honest old → history new ≡ history old) → GivesPage honest history l b number old pool result → result ≡ Err e → MovesPage {T = Unit {0}} honest history l b kept position number old new (Err e)
+not_read allowed told honest history l b kept position number old new pool result e super here pooled same gives is = record {
   written = λ h. record { bytes = replicate 4096 0; size = length-replicate {A = ℕ} 4096 0; writes = record { done = tt; failed = inl (same h) } };
   puts = λ h s x y assigns have at. record {
     states = s;
@@ -130,11 +85,11 @@ not_read allowed honest history l b kept position number old new result e same r
       moments = subst (λ (k : History). LeavesOnly (history old) k (IsImageOf k)) (sym (same h)) (same_moments (history old));
     };
   };
-  whole = λ h s content assigns have f. read.whole h s content assigns have (is ∙ ap Err (same_error f));
+  whole = λ h s content assigns have f. never_bad told l (history old) b s content number super here assigns have ((gives h (pooled h)).corrupt (is ∙ ap Err (same_error f)));
   spelled = λ h readable. record {
     done = tt;
     bad = λ bad. refl;
-    corrupt = λ f. (read.corrupt h readable (is ∙ ap Err (same_error f)), same h);
+    corrupt = λ f. ((gives h (pooled h)).corrupt (is ∙ ap Err (same_error f)), same h);
   };
 }
   where
@@ -166,12 +121,13 @@ never_corrupt (Ok x) only e = absurd cc
 never_corrupt (Err e) only f = absurd cc
 
 pub moved :
-    {D : Type 0} (honest : D → Type 0) (history : D → History) (l : Layout) (b : SuperBody) (kept : Kept) (position number : ℕ) (old mid new : D) (read : Result PageBody Refusal) (was page : PageBody) (result : Result (Unit {0}) Refusal)
-    → (honest old → honest mid) → (honest old → history mid ≡ history old) → ReadsPage honest history l b number old read → read ≡ Ok was → IsImage b.params.rows kept position was page
+    {D : Type 0} → PagesAreTold → (honest : D → Type 0) (history : D → History) (l : Layout) (b : SuperBody) (kept : Kept) (position number : ℕ) (old mid new : D) (pool : Pooled) (read : Result PageBody Refusal) (was page : PageBody) (result : Result (Unit {0}) Refusal)
+    → IsSuper b → l ≡ layout_of b.params → IsPooled honest history b.params.rows l old pool → (honest old → honest mid) → (honest old → history mid ≡ history old) → was.number ≡ number → GivesPage honest history l b number old pool read → read ≡ Ok was → IsImage b.params.rows kept position was page
     → PutsPage honest history l b page (spare_slot (state_of_page b page.number)) mid new (fault_of result) → IfErr result (λ e. e ≡ DiskFault) → MovesPage honest history l b kept position number old new result
-moved {D} honest history l b kept position number old mid new read was page result stays same reads is image puts only =
-    let reads_was : ReadsPage honest history l b number old (Ok was) = subst (λ (r : Result PageBody Refusal). ReadsPage honest history l b number old r) is reads in
-    let number_is : page.number ≡ number = image.number ∙ reads_was.number_is in
+moved {D} told honest history l b kept position number old mid new pool read was page result super here pooled stays same is_it gives is image puts only =
+    let number_is : page.number ≡ number = image.number ∙ is_it in
+    let has : honest old → HasPage (reading_of l (seen (history old))) b number was = λ h.
+    subst (λ (r : Result PageBody Refusal). IfOk r (HasPage (reading_of l (seen (history old))) b number)) is (gives h (pooled h)).page in
     let written = subst (λ n. WritesOnly honest history (offset_of l (Page n (spare_slot (state_of_page b n)))) puts.bytes mid new (fault_of result)) number_is puts.written in
     let states = subst (λ n. StepsAt honest history l (Page n (spare_slot (state_of_page b n))) (writing puts.bytes) mid new (fault_of result)) number_is puts.states in
     let wrote : honest old → Writes (offset_of l (Page number (spare_slot (state_of_page b number)))) puts.bytes (history old) (history new) result = λ h.
@@ -184,14 +140,14 @@ moved {D} honest history l b kept position number old mid new read was page resu
           record {
             states = step.after;
             elsewhere = step.moves.elsewhere;
-            there = all_ok result (puts.bytes, step.moves.there, page_at b kept position number x y was page puts.bytes reads_was.number_is (reads_was.read h s x assigns have) at image puts.is_page);
+            there = all_ok result (puts.bytes, step.moves.there, page_at b kept position number x y was page puts.bytes is_it (read_rows told l (history old) b s x number super here assigns have was (has h)) at image puts.is_page);
             reaches = record { ok = ok_as result _ step.reaches.ok; images = step.reaches.images; moments = step.reaches.moments };
           };
       whole = λ h s content assigns have. never_corrupt result only;
       spelled = λ h readable. record {
         done = then_ok result (history new ≡ Wrote (offset_of l (Page number (spare_slot (state_of_page b number)))) puts.bytes (history old)) (WritesImage l b kept position number (history old) (history new))
-            (λ is_written. record { was = was; has = reads_was.spelled h readable; page = page; image = image; bytes = puts.bytes; spelled = puts.is_page; written = is_written }) (wrote h).done;
-        bad = λ bad. absurd (not_bad (reading_of l (seen (history old))) b number was (reads_was.spelled h readable) bad);
+            (λ is_written. record { was = was; has = has h; page = page; image = image; bytes = puts.bytes; spelled = puts.is_page; written = is_written }) (wrote h).done;
+        bad = λ bad. absurd (not_bad (reading_of l (seen (history old))) b number was (has h) bad);
         corrupt = λ e. absurd (never_corrupt result only e);
       };
     }
@@ -203,3 +159,14 @@ moved {D} honest history l b kept position number old mid new read was page resu
     then_ok : (r : Result (Unit {0}) Refusal) (P Q : Type 0) → (P → Q) → OnOk r P → OnOk r Q
     then_ok (Ok x) P Q f h = f h
     then_ok (Err e) P Q f h = tt
+
+-- ---- the pool
+
+-- a pool that a page was taken of agrees with the device behind the page's write
+pub written_agrees :
+    {D : Type 0} → PoolsGoOn → (honest : D → Type 0) (history : D → History) (rows : List ℕ) (l : Layout) (old mid new : D) (before after : Pooled) (number : ℕ) (place : Place) (slot : Slot) (result : Result (Unit {0}) Refusal)
+    → (honest new → honest mid) → GoesOn honest history rows l old mid before after → IsFree (Page number slot) after → place ≡ Page number slot → WritesIn honest history l place mid new (fault_of result) → IfErr result (λ e. e ≡ DiskFault)
+    → GoesOnIf honest history rows l old new before after result
+written_agrees go honest history rows l old mid new before after number place slot (Ok x) was goes free at inside only = λ no pooled h.
+    go.written rows l (history mid) (history new) after place (inside (was h)) (subst (λ (p : Place). IsFree p after) (sym at) free) (goes pooled (was h))
+written_agrees go honest history rows l old mid new before after number place slot (Err e) was goes free at inside only = λ no pooled h. absurd (no (ap Err only))

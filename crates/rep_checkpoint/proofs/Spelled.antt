@@ -1,6 +1,5 @@
 -- What the bytes of a page's slot say.
-use Rattle.std.proofs.Common.{◌≡◌, inl, inr, ℕ, ◌≤◌, List, Some, Result, Ok, Err, sym, ap, subst, ◌∙◌, IfOk}
-use Rattle.rep_types.specs.declared.refusal.Refusal.{Refusal}
+use Rattle.std.proofs.Common.{◌≡◌, inl, inr, ℕ, List, Some, sym, ap, subst, ◌∙◌}
 use Rattle.rep_layout.specs.declared.super_body.SuperBody.{SuperBody}
 use Rattle.rep_layout.specs.declared.page_state.PageState.TheVariants.{Nowhere, In}
 use Rattle.rep_layout.specs.declared.place.Slot.{Slot}
@@ -10,13 +9,7 @@ use Rattle.rep_pages.specs.declared.page.Page.{Page as PageBody}
 use Rattle.rep_pages.specs.Slots.{state_of_page}
 use Rattle.rep_pages.specs.Pages.{IsPageBody, PagesAreTold}
 use Rattle.rep_pages.specs.Rows.{row_at}
-use Rattle.rep_checkpoint.specs.Calls.{IsBadPage, HasPage}
-
--- what a reader took of the slot is what the bytes there spell
-pub spelled_in : (r : Reading) (b : SuperBody) (number : ℕ) (slot : Slot) (bytes : List ℕ) (result : Result PageBody Refusal) → state_of_page b number ≡ In slot → r (Page number slot) ≡ Some bytes
-    → IfOk result (λ page. IsPageBody b.params.rows page bytes × (page.number ≡ number) × (page.position ≤ b.position)) → IfOk result (HasPage r b number)
-spelled_in r b number slot bytes (Ok page) there shown found = inl (record { slot = slot; there = there; body = bytes; shown = shown; is_page = found.0; is_it = found.1; earlier = found.2 })
-spelled_in r b number slot bytes (Err e) there shown found = tt
+use Rattle.rep_pool.specs.BasePages.{IsBadPage, HasPage}
 
 -- ---- they say one thing
 

@@ -1,5 +1,5 @@
 -- What the checkpoint's calls do on an honest device, and what the caller owes them.
-use Rattle.std.specs.Prelude.{◌≡◌, ◌≢◌, ◌⊎◌, ℕ, ◌≤◌, if◌then◌else◌, List, length, Option, None, Some, Result, Err, IsErr, OnOk, IfErr}
+use Rattle.std.specs.Prelude.{◌≡◌, ◌≢◌, ◌⊎◌, ℕ, ◌≤◌, if◌then◌else◌, List, length, Option, None, Result, Err, IsErr, OnOk, IfErr}
 use Rattle.rep_types.specs.declared.key.Key.{Key}
 use Rattle.rep_types.specs.declared.refusal.Refusal.{Refusal}
 use Rattle.rep_types.specs.declared.refusal.Refusal.TheVariants.{DiskFault, Corrupt}
@@ -13,20 +13,18 @@ use Rattle.rep_layout.specs.declared.place.Layout.{Layout}
 use Rattle.rep_layout.specs.declared.place.Place.{Place}
 use Rattle.rep_layout.specs.declared.place.Place.TheVariants.{Super, Window, Log, Page}
 use Rattle.rep_layout.specs.declared.place.TheConstants.{PAGE_BODY}
-use Rattle.rep_layout.specs.declared.place.Slot.{Slot}
-use Rattle.rep_layout.specs.declared.page_state.PageState.TheVariants.{Nowhere, In}
 use Rattle.rep_layout.specs.Places.{offset_of, gate_of}
 use Rattle.rep_layout.specs.Supers.{super_bytes}
 use Rattle.rep_layout.specs.Windows.{window_bytes}
 use Rattle.rep_cells.specs.States.{States, State as StateOf, filling, opening, closing, writing, Syncs}
-use Rattle.rep_cells.specs.Readings.{Reading, reading_of}
-use Rattle.rep_cells.specs.Known.{Assigns, IsReadable}
-use Rattle.rep_cells.specs.Calls.{gate, Writes, WritesOnly, Reaches}
+use Rattle.rep_cells.specs.Readings.{reading_of}
+use Rattle.rep_cells.specs.Known.{Assigns}
+use Rattle.rep_cells.specs.Calls.{gate, Writes, WritesOnly, WritesIn, Reaches}
 use Rattle.rep_pages.specs.declared.page.Page.{Page as PageBody}
 use Rattle.rep_pages.specs.Slots.{state_of_page, spare_slot}
 use Rattle.rep_pages.specs.Pages.{IsPageBody}
-use Rattle.rep_pages.specs.Rows.{row_at}
 use Rattle.rep_pages.specs.Images.{IsImage}
+use Rattle.rep_pool.specs.BasePages.{IsPageReadable, IsBadPage, HasPage}
 use Rattle.rep_versions.specs.Versions.{Kept, version_at, IsRowAt}
 use Rattle.rep_checkpoint.specs.declared.stage.Part.TheVariants.{Flushing, Ready, SuperFilled}
 use Rattle.rep_checkpoint.specs.declared.stage.Stage.{Stage}
@@ -94,13 +92,14 @@ pub record IsRefused {D T : Type 0} (e : Refusal) (before after : Standing) (old
   pub checkpoint : after ≡ before
   pub disk : new ≡ old
 
--- The write that comes next: of exactly these bytes at this offset. The checkpoint stands behind it where it succeeds, and otherwise
+-- The write that comes next: of exactly these bytes at this offset, in that place. The checkpoint stands behind it where it succeeds, and otherwise
 -- the device failed, and the checkpoint stands as it did. On an honest device it stands behind it during the call too, and in all
 -- that a stop or the failure leaves.
 pub record GoesOn {D T : Type 0} (honest : D → Type 0) (history : D → History) (l : Layout) (before after : Standing) (old new : D) (result : Result T Refusal) : Type 0 where
   pub done : OnOk result (after ≡ gone_on before)
   pub fault : IfErr result (λ e. (e ≡ DiskFault) × (after ≡ before))
   pub written : WritesOnly honest history (next_offset l before.base before.stage) (next_bytes before.stage) old new result
+  pub inside : WritesIn honest history l (next_place before.base before.stage) old new result
   pub steps : honest old → (size : ℕ) (s : States) (x y : State) → Assigns l (history old) s → CheckpointIs size before x y s
       → Steps size l (history old) (history new) s (gone_on before) (gone_on before) x y result
 
@@ -111,38 +110,6 @@ pub record WritesPage {T E : Type 0} (at : ℕ) (old new : History) (result : Re
   pub bytes : List ℕ
   pub size : length bytes ≡ PAGE_BODY
   pub writes : Writes at bytes old new result
-
--- No write that failed lies in the slot in which the superblock has the page.
-abbrev pub IsPageReadable : Layout → History → SuperBody → ℕ → Type 0
-IsPageReadable l h b number = (slot : Slot) → state_of_page b number ≡ In slot → IsReadable l h (Page number slot)
-
--- In the slot in which the superblock has the page a reading has no such page.
-pub record IsBadPage (r : Reading) (b : SuperBody) (number : ℕ) : Type 0 where
-  pub slot : Slot
-  pub there : state_of_page b number ≡ In slot
-  pub body : List ℕ
-  pub shown : r (Page number slot) ≡ Some body
-  pub none : (page : PageBody) → IsPageBody b.params.rows page body → page.number ≡ number → page.position ≤ b.position → ⊥
-
--- There it has this one: the bytes spell it, and it is of that number and of a position not above the superblock's.
-pub record IsSpelledPage (r : Reading) (b : SuperBody) (number : ℕ) (page : PageBody) : Type 0 where
-  pub slot : Slot
-  pub there : state_of_page b number ≡ In slot
-  pub body : List ℕ
-  pub shown : r (Page number slot) ≡ Some body
-  pub is_page : IsPageBody b.params.rows page body
-  pub is_it : page.number ≡ number
-  pub earlier : page.position ≤ b.position
-
--- The superblock has it in no slot, and it has no row.
-pub record IsAbsentPage (b : SuperBody) (number : ℕ) (page : PageBody) : Type 0 where
-  pub nowhere : state_of_page b number ≡ Nowhere
-  pub is_it : page.number ≡ number
-  pub rows : (index : ℕ) → row_at page.rows index ≡ None
-
--- the superblock's page, as a reading has it
-abbrev pub HasPage : Reading → SuperBody → ℕ → PageBody → Type 0
-HasPage r b number page = IsSpelledPage r b number page ⊎ IsAbsentPage b number page
 
 -- The page that the bytes have was written as the versions make it at the position, into the slot in which the superblock hasn't it.
 pub record WritesImage (l : Layout) (b : SuperBody) (kept : Kept) (position number : ℕ) (old new : History) : Type 0 where

@@ -24,7 +24,7 @@ use Rattle.rep_checkpoint.specs.Next.{Next}
 use Rattle.rep_checkpoint.specs.Standing.{Standing, spare_side, stage_of}
 use Rattle.rep_checkpoint.specs.Moves.{begun, flushed, gone_on, after_sync, is_opening, found_at, next_refusal_at}
 use Rattle.rep_checkpoint.specs.States.{CheckpointIs}
-use Rattle.rep_checkpoint.specs.Calls.{IsBadPage, HasPage}
+use Rattle.rep_pool.specs.BasePages.{IsBadPage, HasPage}
 
 -- ---- what an image has as its base
 

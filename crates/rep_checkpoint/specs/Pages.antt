@@ -1,11 +1,11 @@
 -- What reading and writing a page do: work for `flush`.
-use Rattle.std.specs.Prelude.{◌≡◌, ◌≢◌, ℕ, List, length, Option, Result, Err, IfOk, OnOk}
+use Rattle.std.specs.Prelude.{◌≡◌, ◌≢◌, ℕ, List, length, Option, Result, Err, OnOk}
 use Rattle.rep_types.specs.declared.key.Key.{Key}
 use Rattle.rep_types.specs.declared.refusal.Refusal.{Refusal}
 use Rattle.rep_types.specs.declared.refusal.Refusal.TheVariants.{Corrupt}
 use Rattle.rep_types.specs.declared.refusal.Part.TheVariants.{Pages}
 use Rattle.rep_types.specs.Settings.{IsRow}
-use Rattle.rep_disk.specs.History.{History, seen}
+use Rattle.rep_disk.specs.History.{History}
 use Rattle.rep_layout.specs.declared.super_body.SuperBody.{SuperBody}
 use Rattle.rep_layout.specs.declared.place.Layout.{Layout}
 use Rattle.rep_layout.specs.declared.place.Slot.{Slot}
@@ -14,17 +14,17 @@ use Rattle.rep_layout.specs.declared.place.Place.{Place}
 use Rattle.rep_layout.specs.declared.place.Place.TheVariants.{Page}
 use Rattle.rep_layout.specs.Places.{offset_of}
 use Rattle.rep_layout.specs.Rows.{row_place}
-use Rattle.rep_cells.specs.Readings.{reading_of}
 use Rattle.rep_cells.specs.States.{States, Pending, Stable, writing}
 use Rattle.rep_cells.specs.Known.{Assigns}
-use Rattle.rep_cells.specs.Calls.{WritesOnly, StepsAt, Reaches}
+use Rattle.rep_cells.specs.Calls.{WritesOnly, WritesIn, StepsAt, Reaches}
+use Rattle.rep_pool.specs.BasePages.{IsPageReadable}
 use Rattle.rep_versions.specs.Versions.{Kept}
 use Rattle.rep_pages.specs.declared.page.Page.{Page as PageBody}
 use Rattle.rep_pages.specs.Slots.{state_of_page, spare_slot}
 use Rattle.rep_pages.specs.Pages.{IsPageBody}
 use Rattle.rep_pages.specs.Images.{row_of}
 use Rattle.rep_image.specs.Bases.{HaveContent}
-use Rattle.rep_checkpoint.specs.Calls.{AreAt, WritesPage, IsPageReadable, IsBadPage, HasPage, FlushesAsSpelled}
+use Rattle.rep_checkpoint.specs.Calls.{AreAt, WritesPage, FlushesAsSpelled}
 
 -- The pages of this superblock are stable, and of this content.
 abbrev pub IsStable : SuperBody → (Key → Option (List ℕ)) → States → Type 0
@@ -34,21 +34,13 @@ IsStable b content s = HaveContent b (λ number slot body. s (Page number slot) 
 abbrev pub AreRows : List ℕ → ℕ → (Key → Option (List ℕ)) → PageBody → Type 0
 AreRows rows number content page = (key : Key) → IsRow rows key → (row_place rows key).page ≡ number → content key ≡ row_of rows page.rows key
 
--- A page of the base is read: on an honest device that page; and whatever stands there, what the bytes have where no write failed in
--- its slot, and none only where they have none.
-pub record ReadsPage {D : Type 0} (honest : D → Type 0) (history : D → History) (l : Layout) (b : SuperBody) (number : ℕ) (old : D) (result : Result PageBody Refusal) : Type 0 where
-  pub number_is : IfOk result (λ page. page.number ≡ number)
-  pub read : honest old → (s : States) (content : Key → Option (List ℕ)) → Assigns l (history old) s → IsStable b content s → IfOk result (AreRows b.params.rows number content)
-  pub whole : honest old → (s : States) (content : Key → Option (List ℕ)) → Assigns l (history old) s → IsStable b content s → result ≢ Err (Corrupt Pages)
-  pub spelled : honest old → IsPageReadable l (history old) b number → IfOk result (HasPage (reading_of l (seen (history old))) b number)
-  pub corrupt : honest old → IsPageReadable l (history old) b number → result ≡ Err (Corrupt Pages) → IsBadPage (reading_of l (seen (history old))) b number
-
 -- These bytes, the spelling of the page, are written into its slot.
 pub record PutsPage {D T E : Type 0} (honest : D → Type 0) (history : D → History) (l : Layout) (b : SuperBody) (page : PageBody) (slot : Slot) (old new : D) (result : Result T E) : Type 0 where
   pub bytes : List ℕ
   pub is_page : IsPageBody b.params.rows page bytes
   pub size : length bytes ≡ PAGE_BODY
   pub written : WritesOnly honest history (offset_of l (Page page.number slot)) bytes old new result
+  pub inside : WritesIn honest history l (Page page.number slot) old new result
   pub states : StepsAt honest history l (Page page.number slot) (writing bytes) old new result
 
 -- The page of this number at this position, with rows of this content, as bytes.

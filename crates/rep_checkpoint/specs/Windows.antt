@@ -1,8 +1,7 @@
 -- The windows that a disk can hold, and how they go on with the order.
-use Rattle.std.specs.Prelude.{◌≡◌, ℕ, ◌+◌, ◌<◌, ◌≤◌, ◌^◌, List, [], length, map}
+use Rattle.std.specs.Prelude.{◌≡◌, ℕ, ◌+◌, ◌<◌, ◌≤◌, ◌^◌, [], length, map}
 use Rattle.std.specs.List.{AllByRecursion}
 use Rattle.std.specs.List.Sorted.{IsStrictlyIncreasing}
-use Rattle.rep_types.specs.Entries.{Entry}
 use Rattle.rep_types.specs.Settings.{Setting}
 use Rattle.rep_types.specs.Transactions.{Transaction, IsWithinLimits}
 use Rattle.rep_types.specs.declared.item.Item.TheVariants.{WriteSet}

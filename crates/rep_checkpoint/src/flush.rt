@@ -12,41 +12,21 @@ ghost use Rattle.rep_log.specs.Moves.{fault_of};
 ghost use Rattle.rep_pages.specs.Pages.{IsFirstRow, IsPage};
 ghost use Rattle.rep_pages.specs.Slots.{state_of_page, spare_slot};
 ghost use Rattle.rep_checkpoint.specs.Moves.{flush_refusal, flushed, position_in};
+ghost use Rattle.rep_pool.specs.Pools.{without_page};
+ghost use Rattle.rep_pool.specs.BasePages.{IsPooled, GoesOnIf};
 ghost use Rattle.rep_checkpoint.specs.Calls.{IsRefused, Flushes};
-ghost use Rattle.rep_checkpoint.specs.Pages.{ReadsPage, PutsPage, MovesPage};
+ghost use Rattle.rep_checkpoint.specs.Pages.{PutsPage, MovesPage};
 
 use crate::checkpoint::Checkpoint;
 use crate::going::is_here;
 use crate::stage::{Part, Stage, is_in};
 use rep_cells::{Cells, images_read_as_allowed, refusal_of};
 use rep_disk::Disk;
-use rep_layout::{Layout, PAGE_BODY, PageState, Place, SuperBody, row_places_are_told};
-use rep_pages::{Page, slot_of, spare_of};
+use rep_layout::{Layout, Place, SuperBody, row_places_are_told};
+use rep_pages::{Page, pages_are_told, spare_of};
+use rep_pool::{Pool, pools_go_on};
 use rep_types::Refusal;
 use rep_versions::Versions;
-
-/// The base's page of this number, which has no row where it is in no slot.
-fn read_page<D: Disk>(cells: &mut Cells<D>, base: &SuperBody, number: u32) -> Result<Page, Refusal>
-    requires super_body { IsSuper base.now }
-    requires layout { layout_of cells.old ≡ places_of base.now.params }
-    ensures call { IsCall D.size D.failures D.honest (disk_of cells.old) (disk_of cells.new) (fault_of result) }
-    ensures layout { layout_of cells.new ≡ layout_of cells.old }
-    ensures same { D.honest (disk_of cells.old) → D.history (disk_of cells.new) ≡ D.history (disk_of cells.old) }
-    ensures reads { ReadsPage D.honest D.history (layout_of cells.old) base.now number (disk_of cells.old) result }
-    ensures refused { IfErr result (λ e. (e ≡ DiskFault) ⊎ (e ≡ Corrupt Pages)) }
-{
-    let PageState::In(slot) = slot_of(base, number) else {
-        return Ok(Page::absent(number));
-    };
-    let mut room = [0; PAGE_BODY];
-    if cells
-        .read_area(Place::Page(number, slot), &mut room)
-        .is_err()
-    {
-        return Err(Refusal::DiskFault);
-    }
-    Page::read_body(base.params.schema(), number, base.position, &room)
-}
 
 /// Writes a page into the slot in which the base does not have it.
 fn put_page<D: Disk>(cells: &mut Cells<D>, base: &SuperBody, page: &Page) -> Result<(), Refusal>
@@ -66,9 +46,10 @@ fn put_page<D: Disk>(cells: &mut Cells<D>, base: &SuperBody, page: &Page) -> Res
 }
 
 /// Writes the base's page of this number, as it is at the position, into the slot in which the base does not
-/// have it.
+/// have it. The pool keeps nothing of the page from then on.
 fn move_page<D: Disk>(
     cells: &mut Cells<D>,
+    pool: &mut Pool,
     base: &SuperBody,
     versions: &Versions,
     position: u64,
@@ -79,11 +60,15 @@ fn move_page<D: Disk>(
     requires page { (first : Key) × IsFirstRow base.now.params.rows number first }
     ensures call { IsCall D.size D.failures D.honest (disk_of cells.old) (disk_of cells.new) (fault_of result) }
     ensures layout { layout_of cells.new ≡ layout_of cells.old }
-    ensures moves { MovesPage D.honest D.history (layout_of cells.old) base.now versions.now position number (disk_of cells.old) (disk_of cells.new) result }
+    ensures moves { IsPooled D.honest D.history base.now.params.rows (layout_of cells.old) (disk_of cells.old) pool.old → MovesPage D.honest D.history (layout_of cells.old) base.now versions.now position number (disk_of cells.old) (disk_of cells.new) result }
+    ensures agrees { GoesOnIf D.honest D.history base.now.params.rows (layout_of cells.old) (disk_of cells.old) (disk_of cells.new) pool.old pool.new result }
+    ensures without { pool.new ≡ without_page number pool.old }
     ensures refused { IfErr result (λ e. (e ≡ DiskFault) ⊎ (e ≡ Corrupt Pages)) }
 {
     images_read_as_allowed();
-    let old = match read_page(cells, base, number) {
+    pages_are_told();
+    pools_go_on();
+    let old = match pool.take_page(cells, base, number) {
         Ok(page) => page,
         Err(refusal) => return Err(refusal),
     };
@@ -131,8 +116,9 @@ impl Checkpoint {
     }
 
     /// Flushes a page that is left: writes its rows as the versions make them of the base's, at the next base's
-    /// position and not later, into the slot in which the base does not have it. One read of the device
-    /// where the base has the page in a slot, one write, and no memory.
+    /// position and not later, into the slot in which the base does not have it. One read of the device where the
+    /// base has the page in a slot and the pool does not keep it, one write, and no memory. The pool keeps nothing of
+    /// the page from then on.
     ///
     /// Refuses with `NotDue` where the page is not left, and on the places of other parameters; with `Corrupt`
     /// of the pages exactly where the base's page is not of the form, of its number, and of a position not above
@@ -142,6 +128,7 @@ impl Checkpoint {
     pub fn flush<D: Disk>(
         &mut self,
         cells: &mut Cells<D>,
+        pool: &mut Pool,
         versions: &Versions,
         page: u32,
     ) -> Result<(), Refusal>
@@ -150,13 +137,19 @@ impl Checkpoint {
         ensures refused { IfSome (flush_refusal (layout_of cells.old) self.old page) (λ e. IsRefused e self.old self.new (disk_of cells.old) (disk_of cells.new) result) }
         // A refusal, also the device's fault, leaves the checkpoint as it was.
         ensures unchanged { OnErr result (self.new ≡ self.old) }
-        ensures flushes { flush_refusal (layout_of cells.old) self.old page ≡ None → Flushes D.honest D.history (layout_of cells.old) versions.now page self.old self.new (disk_of cells.old) (disk_of cells.new) result }
+        // The base stays.
+        ensures base { self.new.base ≡ self.old.base }
+        ensures flushes { flush_refusal (layout_of cells.old) self.old page ≡ None → IsPooled D.honest D.history self.old.base.params.rows (layout_of cells.old) (disk_of cells.old) pool.old → Flushes D.honest D.history (layout_of cells.old) versions.now page self.old self.new (disk_of cells.old) (disk_of cells.new) result }
+        // Refused so it leaves the pool as it was; else the pool keeps nothing of the page, and it agrees with the device as before.
+        ensures kept { IfSome (flush_refusal (layout_of cells.old) self.old page) (λ _. pool.new ≡ pool.old) }
+        ensures without { flush_refusal (layout_of cells.old) self.old page ≡ None → pool.new ≡ without_page page pool.old }
+        ensures agrees { GoesOnIf D.honest D.history self.old.base.params.rows (layout_of cells.old) (disk_of cells.old) (disk_of cells.new) pool.old pool.new result }
     {
         if let Some(refusal) = self.flush_refusal(cells.layout(), page) {
             return Err(refusal);
         }
         let position = self.next_position();
-        match move_page(cells, &self.base, versions, position, page) {
+        match move_page(cells, pool, &self.base, versions, position, page) {
             Ok(()) => {
                 self.flushed(page);
                 Ok(())

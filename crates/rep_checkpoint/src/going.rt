@@ -7,7 +7,7 @@ ghost use Rattle.rep_layout.specs.Supers.{IsSuper, super_bytes};
 ghost use Rattle.rep_layout.specs.Windows.{IsWindowBody, window_bytes};
 ghost use Rattle.rep_cells.specs.Device.{disk_of, layout_of};
 ghost use Rattle.rep_cells.specs.States.{filling, writing};
-ghost use Rattle.rep_cells.specs.Calls.{WritesOnly, StepsAt};
+ghost use Rattle.rep_cells.specs.Calls.{WritesOnly, WritesIn, StepsAt};
 ghost use Rattle.rep_log.specs.Moves.{fault_of};
 ghost use Rattle.rep_checkpoint.specs.Next.{window_of};
 ghost use Rattle.rep_checkpoint.specs.Standing.{stage_of, IsCheckpoint};
@@ -70,6 +70,7 @@ fn put_window<D: Disk>(cells: &mut Cells<D>, side: Side, next: &NextBase) -> Res
     ensures call { IsCall D.size D.failures D.honest (disk_of cells.old) (disk_of cells.new) result }
     ensures layout { layout_of cells.new ≡ layout_of cells.old }
     ensures written { WritesOnly D.honest D.history (offset_of (layout_of cells.old) (Place.Window side)) (window_bytes (window_of next.now)) (disk_of cells.old) (disk_of cells.new) result }
+    ensures inside { WritesIn D.honest D.history (layout_of cells.old) (Place.Window side) (disk_of cells.old) (disk_of cells.new) result }
     ensures states { StepsAt D.honest D.history (layout_of cells.old) (Place.Window side) (writing (window_bytes (window_of next.now))) (disk_of cells.old) (disk_of cells.new) result }
 {
     let body = next.window_bytes();
@@ -82,6 +83,7 @@ fn put_super<D: Disk>(cells: &mut Cells<D>, side: Side, next: &NextBase) -> Resu
     ensures call { IsCall D.size D.failures D.honest (disk_of cells.old) (disk_of cells.new) result }
     ensures layout { layout_of cells.new ≡ layout_of cells.old }
     ensures written { WritesOnly D.honest D.history (offset_of (layout_of cells.old) (Place.Super side)) (super_bytes next.now.super) (disk_of cells.old) (disk_of cells.new) result }
+    ensures inside { WritesIn D.honest D.history (layout_of cells.old) (Place.Super side) (disk_of cells.old) (disk_of cells.new) result }
     ensures states { StepsAt D.honest D.history (layout_of cells.old) (Place.Super side) (filling (super_bytes next.now.super)) (disk_of cells.old) (disk_of cells.new) result }
 {
     let body = super_bytes(&next.superblock);
@@ -117,6 +119,7 @@ impl Checkpoint {
         ensures call { IsCall D.size D.failures D.honest (disk_of cells.old) (disk_of cells.new) result }
         ensures layout { layout_of cells.new ≡ layout_of cells.old }
         ensures written { WritesOnly D.honest D.history (next_offset (layout_of cells.old) self.now.base self.now.stage) (next_bytes self.now.stage) (disk_of cells.old) (disk_of cells.new) result }
+        ensures inside { WritesIn D.honest D.history (layout_of cells.old) (next_place self.now.base self.now.stage) (disk_of cells.old) (disk_of cells.new) result }
         ensures states { StepsAt D.honest D.history (layout_of cells.old) (next_place self.now.base self.now.stage) (next_step self.now.stage) (disk_of cells.old) (disk_of cells.new) result }
     {
         let side = spare_side(&self.base);
@@ -160,6 +163,8 @@ impl Checkpoint {
         ensures refused { IfSome (next_refusal (layout_of cells.old) self.old) (λ e. IsRefused e self.old self.new (disk_of cells.old) (disk_of cells.new) result) }
         // A refusal, also the device's fault, leaves the checkpoint as it was.
         ensures unchanged { OnErr result (self.new ≡ self.old) }
+        // The base stays.
+        ensures base { self.new.base ≡ self.old.base }
         ensures goes { next_refusal (layout_of cells.old) self.old ≡ None → GoesOn D.honest D.history (layout_of cells.old) self.old self.new (disk_of cells.old) (disk_of cells.new) result }
     {
         if let Some(refusal) = self.next_refusal(cells.layout()) {

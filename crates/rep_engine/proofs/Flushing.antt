@@ -38,7 +38,8 @@ use Rattle.rep_checkpoint.specs.declared.stage.Stage.TheVariants.{Off, Toward, R
 use Rattle.rep_checkpoint.specs.Next.{Next, is_in}
 use Rattle.rep_checkpoint.specs.Standing.{Standing as Checkpoint, stage_in, stage_of, IsNext, IsCheckpoint}
 use Rattle.rep_checkpoint.specs.Moves.{flushed, flushed_in, flush_refusal, position_in}
-use Rattle.rep_checkpoint.specs.Calls.{IsRefused, Flushes, IsPageReadable, FlushesAsSpelled, AreAt, Steps as CheckpointSteps}
+use Rattle.rep_pool.specs.BasePages.{IsPageReadable}
+use Rattle.rep_checkpoint.specs.Calls.{IsRefused, Flushes, FlushesAsSpelled, AreAt, Steps as CheckpointSteps}
 use Rattle.rep_checkpoint.specs.Laws.{TheStageIsTheFacts, TheCheckpointIsApart}
 use Rattle.rep_checkpoint.specs.States.{CheckpointIs}
 use Rattle.rep_checkpoint.specs.Nodes.{IsLedTo, StandsAs, VersionsLeadToTheState, NodesLeaveTheirFronts}

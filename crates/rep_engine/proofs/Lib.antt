@@ -18,3 +18,4 @@ pub mod Ending
 pub mod Checking
 pub mod Flushing
 pub mod Windows
+pub mod Pools

@@ -207,3 +207,9 @@ module _ {D : Type 0} (honest : D → Type 0) (history : D → History) (size fa
       → (n : Node) → Holds honest history failures n old → LeavesOnly (history old.disk) (history new.disk) (IsFrontAt Means n)
   logged_leaves sized nodes law apart result h n holds =
       log_leaves honest history size failures sized old n h.engine holds h.runs h.none new result h.call h.writes h.layout h.same_checkpoint h.same_kept h.same_block nodes law apart
+
+  -- what is so of every engine is so of it then
+  pub engine_then : (result : Result (Unit {0}) Refusal) → IsLogged honest history size failures old new result → IsEngine old.layout old.checkpoint new.log old.kept old.block
+  engine_then result h =
+      let due : IsWrite (due_of old.log) = is_write failures old h.engine h.none in
+      subst (λ (log : Log). IsEngine old.layout old.checkpoint log old.kept old.block) (sym (h.writes.stands ∙ written_is old.log (length old.block) due)) (engine_logged failures old h.engine (is_stale old.log) h.none)

@@ -1,5 +1,5 @@
 -- Reads of rows.
-use Rattle.std.proofs.Common.{◌≡◌, ◌⊎◌, inl, inr, ℕ, ◌+◌, ◌-◌, ◌≤◌, Bool, true, false, List, [], length, map, Option, None, Some, Result, Ok, Err, refl, sym, ap, subst, ◌∙◌, arith, IfOk, IfErr, IsOk}
+use Rattle.std.proofs.Common.{◌≡◌, ◌≢◌, ◌⊎◌, inl, inr, ℕ, ◌+◌, ◌-◌, ◌≤◌, Bool, true, false, List, [], length, map, Option, None, Some, Result, Ok, Err, refl, sym, ap, subst, ◌∙◌, arith, IfOk, IfErr}
 use Rattle.std.proofs.lemmas.Bool.Decides.{nat_tests}
 use Rattle.std.specs.Prelude.{is_some, if◌then◌else◌, not, nat_lt}
 use Rattle.rep_types.specs.declared.key.Key.{Key}
@@ -9,16 +9,21 @@ use Rattle.rep_types.specs.declared.refusal.Part.TheVariants.{Pages}
 use Rattle.rep_types.specs.declared.verdict.Verdict.TheVariants.{Commit}
 use Rattle.rep_types.specs.Settings.{Setting, has_row, IsRow}
 use Rattle.rep_disk.specs.Calls.{IsCall, Rises}
-use Rattle.rep_disk.specs.History.{History, stable, IsImage}
+use Rattle.rep_disk.specs.History.{History, seen, stable, IsImage}
 use Rattle.rep_layout.specs.declared.rows.RowPlace.{RowPlace}
 use Rattle.rep_layout.specs.Rows.{row_place}
-use Rattle.rep_layout.specs.declared.place.Slot.{Slot}
+use Rattle.rep_layout.specs.declared.place.Layout.{Layout}
 use Rattle.rep_layout.specs.declared.place.Place.TheVariants.{Page}
-use Rattle.rep_layout.specs.declared.page_state.PageState.TheVariants.{In}
 use Rattle.rep_layout.specs.declared.super_body.SuperBody.{SuperBody}
-use Rattle.rep_cells.specs.States.{States, State, Stable, Shows, IsSure}
+use Rattle.rep_layout.specs.Places.{layout_of}
+use Rattle.rep_layout.specs.Supers.{IsSuper}
+use Rattle.rep_cells.specs.Readings.{reading_of}
+use Rattle.rep_cells.specs.States.{States, Stable}
 use Rattle.rep_cells.specs.Known.{Assigns}
-use Rattle.rep_pages.specs.Slots.{state_of_page}
+use Rattle.rep_pages.specs.declared.page.Page.{Page as PageBody}
+use Rattle.rep_pages.specs.Pages.{PagesAreTold}
+use Rattle.rep_pages.specs.Rows.{row_at}
+use Rattle.rep_pool.specs.BasePages.{IsPageAsSpelled, row_of_page, IsRowOfPage}
 use Rattle.rep_versions.specs.declared.versions.At.{At}
 use Rattle.rep_versions.specs.Versions.{Kept, IsAnswer, IsRowAt, told}
 use Rattle.rep_versions.specs.Following.{AreVersionsOf, VersionsFollowTheItems, effect_of}
@@ -29,8 +34,9 @@ use Rattle.rep_steps.specs.Standings.{Standing, read_refusal}
 use Rattle.rep_steps.specs.Moves.{Moves}
 use Rattle.rep_steps.specs.Nodes.{Node, Steps, NodesStayNodes, state_at}
 use Rattle.rep_steps.specs.Images.{AreJudgedFrom}
-use Rattle.rep_image.specs.Bases.{HaveContent, IsPageOf}
+use Rattle.rep_image.specs.Bases.{HaveContent}
 use Rattle.rep_checkpoint.specs.Nodes.{StandsAs, VersionsLeadToTheState}
+use Rattle.rep_checkpoint.proofs.Reading.{read_rows, never_bad}
 use Rattle.rep_engine.specs.Engines.{Engine, facts_of}
 use Rattle.rep_engine.specs.Holding.{Stands, Holds, row}
 use Rattle.rep_engine.specs.Reading.{ReadsRow, halted_by}
@@ -41,17 +47,6 @@ use Rattle.rep_engine.proofs.Spelled.{row_inside}
 
 -- ---- a page of the base
 
--- what is read of a page's place is that page
-pub read_page : (b : SuperBody) (s : States) (content : Key → Option (List ℕ)) (number : ℕ) (slot : Slot) (bytes : List ℕ)
-    → HaveContent b (λ number slot body. s (Page number slot) ≡ Stable body) content → state_of_page b number ≡ In slot
-    → (IsSure (s (Page number slot)) → Shows (s (Page number slot)) (Some bytes)) → IsPageOf b number content bytes
-read_page b s content number slot bytes have is shown =
-    let page = have.pages number slot is in
-    let sure : IsSure (s (Page number slot)) = subst IsSure (sym page.1) tt in
-    let shows : Some bytes ≡ Some page.0 = subst (λ (state : State). Shows state (Some bytes)) page.1 (shown sure) in
-    let same : bytes ≡ page.0 = cc in
-    subst (IsPageOf b number content) (sym same) page.2
-
 -- where the row lies
 pub place_of : {schema : List ℕ} {found : Option RowPlace} (rows : List ℕ) (key : Key) (place : RowPlace) → schema ≡ rows → found ≡ (if has_row schema key then Some (row_place schema key) else None) → found ≡ Some place → IsRow rows key × (place ≡ row_place rows key)
 place_of rows key place same found is = by (has_row rows key) refl (subst (λ (schema : List ℕ). (if has_row schema key then Some (row_place schema key) else None) ≡ Some place) same (sym found ∙ is))
@@ -60,10 +55,23 @@ place_of rows key place same found is = by (has_row rows key) refl (subst (λ (s
     by true has e = (grind (arith, nat_tests), cc)
     by false has e = absurd cc
 
--- what is said of an answer that came
-pub if_ok : {T E : Type 0} (result : Result T E) (P : Type 0) → IsOk result → IfOk result (λ _. P) → P
-if_ok (Ok x) P ok h = h
-if_ok (Err e) P ok h = absurd cc
+-- what is read of a base that stands
+pub row_of_base :
+    PagesAreTold → (l : Layout) (h : History) (b : SuperBody) (s : States) (content : Key → Option (List ℕ)) (key : Key) (place : RowPlace) (result : Result (Option (List ℕ)) Refusal)
+    → IsSuper b → l ≡ layout_of b.params → Assigns l h s → HaveContent b (λ number slot body. s (Page number slot) ≡ Stable body) content → IsRow b.params.rows key → place ≡ row_place b.params.rows key → IsRowOfPage (reading_of l (seen h)) b place.page place.index result
+    → IfOk result (λ value. value ≡ content key) × (result ≢ Err (Corrupt Pages))
+row_of_base told l h b s content key place result super here assigns have inside at row = by row.page row.spelled row.row
+  where
+    by : (page : Result PageBody Refusal) → IsPageAsSpelled (reading_of l (seen h)) b place.page page → result ≡ row_of_page place.index page → IfOk result (λ value. value ≡ content key) × (result ≢ Err (Corrupt Pages))
+    by (Ok page) spelled is =
+        let rows = read_rows told l h b s content place.page super here assigns have page spelled.page in
+        let value : row_at page.rows place.index ≡ content key = ap (λ (p : RowPlace). row_at page.rows p.index) at ∙ sym (rows key inside (sym (ap (λ (p : RowPlace). p.page) at))) in
+        subst (λ (r : Result (Option (List ℕ)) Refusal). IfOk r (λ row. row ≡ content key) × (r ≢ Err (Corrupt Pages))) (sym is) (value, λ e. absurd cc)
+    by (Err e) spelled is =
+        subst (λ (r : Result (Option (List ℕ)) Refusal). IfOk r (λ row. row ≡ content key) × (r ≢ Err (Corrupt Pages))) (sym is) (tt, λ f. never_bad told l h b s content place.page super here assigns have (spelled.corrupt (as_page f)))
+      where
+        as_page : ◌≡◌ {A = Result (Option (List ℕ)) Refusal} (Err e) (Err (Corrupt Pages)) → ◌≡◌ {A = Result PageBody Refusal} (Err e) (Err (Corrupt Pages))
+        as_page f = cc
 
 -- ---- what the items made of a row
 

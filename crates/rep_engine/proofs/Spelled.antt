@@ -1,5 +1,5 @@
 -- What the bytes say of a row, and what is read of them.
-use Rattle.std.proofs.Common.{◌≡◌, inl, inr, ℕ, ◌≤◌, Bool, true, false, List, [], Option, None, Some, Result, Ok, Err, refl, sym, ap, subst, ◌∙◌, arith}
+use Rattle.std.proofs.Common.{◌≡◌, ℕ, Bool, true, false, List, Option, None, Some, Result, Ok, Err, refl, sym, ap, subst, ◌∙◌, arith}
 use Rattle.std.specs.Prelude.{if◌then◌else◌, not, nat_lt}
 use Rattle.std.proofs.lemmas.Bool.Decides.{nat_tests}
 use Rattle.rep_types.specs.declared.key.Key.{Key}
@@ -9,21 +9,15 @@ use Rattle.rep_types.specs.declared.refusal.Part.TheVariants.{Pages}
 use Rattle.rep_types.specs.Settings.{has_row, IsRow}
 use Rattle.rep_layout.specs.declared.rows.RowPlace.{RowPlace}
 use Rattle.rep_layout.specs.declared.super_body.SuperBody.{SuperBody}
-use Rattle.rep_layout.specs.declared.page_state.PageState.{PageState}
-use Rattle.rep_layout.specs.declared.page_state.PageState.TheVariants.{Nowhere, In}
-use Rattle.rep_layout.specs.declared.place.Slot.{Slot}
-use Rattle.rep_layout.specs.declared.place.Place.TheVariants.{Page}
 use Rattle.rep_layout.specs.Rows.{row_place}
 use Rattle.rep_cells.specs.Readings.{Reading}
 use Rattle.rep_versions.specs.declared.versions.At.{At}
 use Rattle.rep_versions.specs.Versions.{Kept, Version, IsNewest, IsAnswer, told}
 use Rattle.rep_versions.specs.Following.{VersionsFollowTheItems}
 use Rattle.rep_pages.specs.declared.page.Page.{Page as PageBody}
-use Rattle.rep_pages.specs.Slots.{state_of_page}
-use Rattle.rep_pages.specs.Pages.{IsPageBody}
 use Rattle.rep_pages.specs.Rows.{row_at}
 use Rattle.rep_steps.specs.Standings.{Standing, read_refusal}
-use Rattle.rep_checkpoint.specs.Calls.{IsBadPage, HasPage}
+use Rattle.rep_pool.specs.BasePages.{IsBadPage, HasPage, IsPageAsSpelled, row_of_page, IsRowOfPage}
 use Rattle.rep_checkpoint.specs.Laws.{BytesTellThePage}
 use Rattle.rep_engine.specs.Writing.{IsRowAsSpelled}
 use Rattle.rep_engine.specs.Reading.{IsOfTheBase, ReadsAt}
@@ -34,39 +28,25 @@ use Rattle.rep_engine.specs.Reading.{IsOfTheBase, ReadsAt}
 pub row_outside : (r : Reading) (b : SuperBody) (key : Key) → (IsRow b.params.rows key → ⊥) → IsRowAsSpelled r b key (Ok None)
 row_outside r b key out = record { row = record { inside = λ inside. absurd (out inside); outside = λ _. refl }; corrupt = λ e. absurd cc }
 
--- and so is a row whose page is in no slot
-no_slot : (state : PageState) → ((slot : Slot) → state ≡ In slot → ⊥) → state ≡ Nowhere
-no_slot Nowhere none = refl
-no_slot (In slot) none = absurd (none slot refl)
-
-pub row_nowhere : (r : Reading) (b : SuperBody) (key : Key) (place : RowPlace) → place ≡ row_place b.params.rows key → ((slot : Slot) → state_of_page b place.page ≡ In slot → ⊥) → IsRowAsSpelled r b key (Ok None)
-row_nowhere r b key place is none =
-    let empty : PageBody = record { number = (row_place b.params.rows key).page; position = 0; rows = [] } in
-    let nowhere : state_of_page b (row_place b.params.rows key).page ≡ Nowhere = ap (λ (p : RowPlace). state_of_page b p.page) (sym is) ∙ no_slot (state_of_page b place.page) none in record {
-      row = record { inside = λ inside. (empty, inr (record { nowhere = nowhere; is_it = refl; rows = λ index. refl }), refl); outside = λ _. refl };
+-- and a row of the schema is its page's
+pub row_spelled : (r : Reading) (b : SuperBody) (key : Key) (place : RowPlace) (result : Result (Option (List ℕ)) Refusal) → IsRow b.params.rows key → place ≡ row_place b.params.rows key → IsRowOfPage r b place.page place.index result → IsRowAsSpelled r b key result
+row_spelled r b key place result inside is row = by row.page row.spelled row.row
+  where
+    by : (page : Result PageBody Refusal) → IsPageAsSpelled r b place.page page → result ≡ row_of_page place.index page → IsRowAsSpelled r b key result
+    by (Ok page) spelled row_is = subst (IsRowAsSpelled r b key) (sym row_is) (record {
+      row = record {
+        inside = λ _. (page, subst (λ (p : RowPlace). HasPage r b p.page page) is spelled.page, ap (λ (p : RowPlace). row_at page.rows p.index) is);
+        outside = λ out. absurd (out inside);
+      };
       corrupt = λ e. absurd cc;
-    }
-
--- the page was read in its slot
-module _ (r : Reading) (b : SuperBody) (key : Key) (place : RowPlace) (slot : Slot) (bytes : List ℕ) (inside : IsRow b.params.rows key) (is : place ≡ row_place b.params.rows key) (there : state_of_page b place.page ≡ In slot)
-    (shown : r (Page place.page slot) ≡ Some bytes) where
-  -- and is of the form
-  pub row_there : (page : PageBody) (row : Option (List ℕ)) → IsPageBody b.params.rows page bytes → page.number ≡ place.page → page.position ≤ b.position → row ≡ row_at page.rows place.index → IsRowAsSpelled r b key (Ok row)
-  row_there page row is_page is_it earlier row_is =
-      let has : HasPage r b place.page page = inl (record { slot = slot; there = there; body = bytes; shown = shown; is_page = is_page; is_it = is_it; earlier = earlier }) in record {
-        row = record {
-          inside = λ _. (page, subst (λ (p : RowPlace). HasPage r b p.page page) is has, row_is ∙ ap (λ (p : RowPlace). row_at page.rows p.index) is);
-          outside = λ out. absurd (out inside);
-        };
-        corrupt = λ e. absurd cc;
-      }
-
-  -- or isn't
-  pub row_corrupt : (e : Refusal) → ((page : PageBody) → IsPageBody b.params.rows page bytes → page.number ≡ place.page → page.position ≤ b.position → ⊥) → IsRowAsSpelled r b key (Err e)
-  row_corrupt e none = record {
-    row = tt;
-    corrupt = λ _. (inside, subst (λ (p : RowPlace). IsBadPage r b p.page) is (record { slot = slot; there = there; body = bytes; shown = shown; none = none }));
-  }
+    })
+    by (Err e) spelled row_is = subst (IsRowAsSpelled r b key) (sym row_is) (record {
+      row = tt;
+      corrupt = λ f. (inside, subst (λ (p : RowPlace). IsBadPage r b p.page) is (spelled.corrupt (as_page f)));
+    })
+      where
+        as_page : ◌≡◌ {A = Result (Option (List ℕ)) Refusal} (Err e) (Err (Corrupt Pages)) → ◌≡◌ {A = Result PageBody Refusal} (Err e) (Err (Corrupt Pages))
+        as_page f = cc
 
 -- ---- at a position
 

@@ -10,9 +10,12 @@ use Rattle.rep_types.specs.declared.limits.TheConstants.{MAX_SEQNO}
 use Rattle.rep_record.specs.declared.limits.TheConstants.{MAX_RECORDS}
 use Rattle.rep_record.specs.Blocks.{SeqnosFrom}
 use Rattle.rep_record.specs.Fronts.{fitting}
+use Rattle.rep_disk.specs.History.{History}
 use Rattle.rep_layout.specs.declared.place.Layout.{Layout}
 use Rattle.rep_layout.specs.Places.{layout_of}
 use Rattle.rep_versions.specs.Versions.{Kept, Version, version_at, coded_version_key}
+use Rattle.rep_pool.specs.Pools.{Pooled}
+use Rattle.rep_pool.specs.BasePages.{IsPooled}
 use Rattle.rep_log.specs.declared.phase.Phase.{Phase}
 use Rattle.rep_log.specs.declared.phase.Phase.TheVariants.{Resting, Closing, Filling, Filled, Opening}
 use Rattle.rep_log.specs.Standing.{busy, Standing as Log}
@@ -30,6 +33,10 @@ pub record Engine (D : Type 0) : Type 0 where
   pub kept : Kept
   pub block : List Judged
   pub halted : Option Phase
+
+-- While the device has not failed, the pool agrees with it, if it is honest.
+abbrev pub PoolAgrees : {D : Type 0} → (D → Type 0) → (D → History) → Layout → Checkpoint → D → Option Phase → Pooled → Type 0
+PoolAgrees honest history l c disk halted pages = halted ≡ None → IsPooled honest history c.base.params.rows l disk pages
 
 -- as numbers
 abbrev pub Rest : Type 0

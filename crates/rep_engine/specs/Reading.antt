@@ -12,7 +12,7 @@ use Rattle.rep_cells.specs.Readings.{Reading}
 use Rattle.rep_versions.specs.Versions.{Kept, Version, version_at, IsNewest}
 use Rattle.rep_log.specs.declared.phase.Phase.{Phase}
 use Rattle.rep_log.specs.Moves.{fault_of}
-use Rattle.rep_checkpoint.specs.Calls.{IsBadPage}
+use Rattle.rep_pool.specs.BasePages.{IsBadPage}
 use Rattle.rep_engine.specs.Engines.{Engine}
 use Rattle.rep_engine.specs.Writing.{ReadsBase, IsRowIn, ReadsAsSpelled}
 

@@ -26,6 +26,7 @@ use rep_checkpoint::{
     versions_lead_to_the_state,
 };
 use rep_disk::Disk;
+use rep_pool::pools_go_on;
 use rep_steps::{judging_goes_on, nodes_stay_nodes};
 use rep_types::Refusal;
 
@@ -71,6 +72,7 @@ impl<D: Disk> Engine<D> {
         ensures goes { next_refusal self.old.layout self.old.checkpoint ≡ None → GoesOn D.honest D.history self.old.layout self.old.checkpoint self.new.checkpoint self.old.disk self.new.disk result }
         ensures unchanged { OnErr result (self.new.checkpoint ≡ self.old.checkpoint) }
     {
+        pools_go_on();
         let outcome = self.checkpoint.next(&mut self.cells);
         // For its clause: what holds of every checkpoint.
         self.checkpoint.base();

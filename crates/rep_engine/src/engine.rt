@@ -19,6 +19,7 @@ ghost use Rattle.rep_log.specs.Moves.{after_sync, started, fault_of, SyncsLog, S
 ghost use Rattle.rep_checkpoint.specs.Moves.{after_sync as checkpoint_after, is_opening};
 ghost use Rattle.rep_checkpoint.specs.Calls.{SyncsTo};
 ghost use Rattle.rep_checkpoint.specs.Standing.{due_in};
+ghost use Rattle.rep_pool.specs.BasePages.{IsPooled};
 ghost use Rattle.rep_engine.specs.Writing.{written_in, left_of, told_of, PrunesIf};
 ghost use Rattle.rep_engine.specs.Holding.{Holds, wrote, synced};
 
@@ -30,6 +31,7 @@ use rep_checkpoint::{
 use rep_disk::Disk;
 use rep_image::the_synced_log_is_the_facts;
 use rep_log::{Log, Phase, Step};
+use rep_pool::{Pool, pools_go_on};
 use rep_record::BlockBuilder;
 use rep_steps::{Replies, judging_goes_on, nodes_stay_nodes};
 use rep_types::{Gtid, Params, Refusal};
@@ -53,11 +55,16 @@ fn prune_if(versions: &mut Versions, rose: bool, position: u64)
 /// It takes judged items from a backlog, writes them into the log a block at a time, makes them durable, and
 /// reads rows from the base on. Each call makes at most one write or sync, and one read. Where the
 /// device fails, the engine is stopped, and refuses everything.
+///
+/// The pages of the base that were read last are kept, at most 64, so that the device is not asked for them again.
+/// No contract tells whether one is: what a kept page gives is what the device has.
 #[derive(Drop)]
 pub struct Engine<D: Disk> {
     /// Where a checkpoint takes its memory.
     pub(crate) alloc: Global,
     pub(crate) cells: Cells<D>,
+    /// The base's pages that were read last. It agrees with the device while that has not failed.
+    pub(crate) pool: Pool,
     pub(crate) checkpoint: Checkpoint,
     pub(crate) log: Log,
     pub(crate) versions: Versions,
@@ -73,7 +80,7 @@ impl<D: Disk> Model for Engine<D> {
     ghost use Rattle.std.specs.Prelude.{◌≡◌, map};
     ghost use Rattle.rep_types.specs.Replies.{reply_of};
     ghost use Rattle.rep_cells.specs.Device.{disk_of, layout_of};
-    ghost use Rattle.rep_engine.specs.Engines.{Engine as Contents, IsEngine, engine_code};
+    ghost use Rattle.rep_engine.specs.Engines.{Engine as Contents, IsEngine, PoolAgrees, engine_code};
 
     ghost Value = { Contents D };
 
@@ -81,25 +88,29 @@ impl<D: Disk> Model for Engine<D> {
 
     ghost view = { λ e. record { disk = disk_of e.cells; layout = layout_of e.cells; checkpoint = e.checkpoint; log = e.log; kept = e.versions; block = e.block; halted = e.halted } };
 
-    ghost invariant = { λ e. IsEngine (layout_of e.cells) e.checkpoint e.log e.versions e.block × (e.replies ≡ map reply_of e.block) };
+    ghost invariant = { λ e. IsEngine (layout_of e.cells) e.checkpoint e.log e.versions e.block × (e.replies ≡ map reply_of e.block) × PoolAgrees D.honest D.history (layout_of e.cells) e.checkpoint (disk_of e.cells) e.halted e.pool };
 }
 
 impl<D: Disk> Engine<D> {
     /// The engine over what an opening found on a device: the checkpoint at its base, the log behind the base,
-    /// and the versions of what its items wrote.
+    /// and the versions of what its items wrote. The pool keeps nothing yet: so it agrees with a device on which no write
+    /// has failed since the last sync that succeeded.
     pub fn open(
         alloc: Global,
         cells: Cells<D>,
+        pool: Pool,
         checkpoint: Checkpoint,
         log: Log,
         versions: Versions,
     ) -> Engine<D>
-        requires { IsEngine (layout_of cells) checkpoint log versions [] }
+        requires engine { IsEngine (layout_of cells) checkpoint log versions [] }
+        requires pool { IsPooled D.honest D.history checkpoint.base.params.rows (layout_of cells) (disk_of cells) pool }
         ensures { result ≡ record { disk = disk_of cells; layout = layout_of cells; checkpoint = checkpoint; log = log; kept = versions; block = []; halted = None } }
     {
         Engine {
             alloc,
             cells,
+            pool,
             checkpoint,
             log,
             versions,
@@ -167,6 +178,7 @@ impl<D: Disk> Engine<D> {
         nodes_stay_nodes();
         nodes_leave_their_fronts();
         the_log_is_apart();
+        pools_go_on();
         if self.halted.is_some() {
             return Err(Refusal::Stopped);
         }
@@ -242,6 +254,7 @@ impl<D: Disk> Engine<D> {
         the_synced_log_is_the_facts();
         versions_follow_the_items();
         judging_goes_on();
+        pools_go_on();
         if self.halted.is_some() {
             return Err(Refusal::Stopped);
         }

@@ -12,7 +12,8 @@ ghost use Rattle.rep_steps.specs.Nodes.{Node, Steps};
 ghost use Rattle.rep_steps.specs.Images.{IsFrontAt};
 ghost use Rattle.rep_image.specs.Meanings.{Means};
 ghost use Rattle.rep_checkpoint.specs.Moves.{flush_refusal, position_in};
-ghost use Rattle.rep_checkpoint.specs.Calls.{IsRefused, Flushes, IsPageReadable, FlushesAsSpelled};
+ghost use Rattle.rep_checkpoint.specs.Calls.{IsRefused, Flushes, FlushesAsSpelled};
+ghost use Rattle.rep_pool.specs.BasePages.{IsPageReadable};
 ghost use Rattle.rep_engine.specs.Engines.{facts_of};
 ghost use Rattle.rep_engine.specs.Holding.{Holds, wrote};
 ghost use Rattle.rep_engine.specs.Reading.{halted_by};
@@ -38,7 +39,9 @@ impl<D: Disk> Engine<D> {
         ensures flushes { flush_refusal self.old.layout self.old.checkpoint page ≡ None → Flushes D.honest D.history self.old.layout self.old.kept page self.old.checkpoint self.new.checkpoint self.old.disk self.new.disk result }
         ensures unchanged { OnErr result (self.new.checkpoint ≡ self.old.checkpoint) }
     {
-        let outcome = self.checkpoint.flush(&mut self.cells, &self.versions, page);
+        let outcome = self
+            .checkpoint
+            .flush(&mut self.cells, &mut self.pool, &self.versions, page);
         // For its clause: what holds of every checkpoint.
         self.checkpoint.base();
         if outcome == Err(Refusal::DiskFault) {

@@ -15,7 +15,7 @@ ghost use Rattle.rep_steps.specs.Moves.{Moves};
 ghost use Rattle.rep_steps.specs.Nodes.{Node, Steps};
 ghost use Rattle.rep_versions.specs.Versions.{IsAnswer};
 ghost use Rattle.rep_engine.specs.Engines.{facts_of};
-ghost use Rattle.rep_checkpoint.specs.Calls.{IsPageReadable};
+ghost use Rattle.rep_pool.specs.BasePages.{IsPageReadable};
 ghost use Rattle.rep_engine.specs.Reading.{ReadsRow, ReadsAt};
 ghost use Rattle.rep_engine.specs.Holding.{Holds, row};
 
@@ -59,7 +59,7 @@ impl<D: Disk> Engine<D> {
         requires { self.old.halted ≡ None }
         ensures read { ReadsRow D.size D.failures D.honest D.history key self.old self.new result }
     {
-        let row = base_row(&mut self.cells, self.checkpoint.base(), key);
+        let row = base_row(&mut self.cells, &mut self.pool, self.checkpoint.base(), key);
         if row == Err(Refusal::DiskFault) {
             self.halted = Some(self.log.phase());
         }
@@ -68,7 +68,8 @@ impl<D: Disk> Engine<D> {
 
     /// What stands under the key in the state after so many items, if anything does: of the versions behind
     /// the base the newest up to there, and below them all what the base's page has, by one read of the
-    /// device. It takes no memory.
+    /// device at most, and none where the page is kept of an earlier read. It is not refused for memory: where there is no
+    /// room to keep a page, it is not kept.
     ///
     /// Refuses with `Stopped` where the device has failed before; with `BadKey` outside the schema; with `NotYet`
     /// above what is durable; with `TooOld` below the base; with `DiskFault` where the device failed, and

@@ -5,20 +5,22 @@ ghost use Rattle.rep_types.specs.declared.refusal.Refusal.TheVariants.{DiskFault
 ghost use Rattle.rep_types.specs.declared.refusal.Part.TheVariants.{Pages};
 ghost use Rattle.rep_record.specs.Blocks.{first_seqno};
 ghost use Rattle.rep_disk.specs.Calls.{IsCall};
-ghost use Rattle.rep_layout.specs.Places.{layout_of as places_of};
+ghost use Rattle.rep_layout.specs.Places.{layout_of as places_of, log_of};
 ghost use Rattle.rep_layout.specs.Supers.{IsSuper};
 ghost use Rattle.rep_cells.specs.Device.{disk_of, layout_of};
+ghost use Rattle.rep_cells.specs.Calls.{WritesIn};
 ghost use Rattle.rep_log.specs.Standing.{due_of};
 ghost use Rattle.rep_log.specs.Moves.{fault_of};
 ghost use Rattle.rep_log.specs.declared.phase.Step.TheVariants.{Seal};
-ghost use Rattle.rep_pages.specs.Rows.{row_at};
+ghost use Rattle.rep_pool.specs.BasePages.{IsPooled, GoesOn};
 ghost use Rattle.rep_engine.specs.Writing.{IsWrite, WritesNext, ReadsBase, ReadsAsSpelled};
 
 use rep_cells::Cells;
 use rep_disk::Disk;
-use rep_layout::{PAGE_BODY, PageState, Place, SuperBody, page_of};
+use rep_layout::{SuperBody, page_of};
 use rep_log::{Log, Step};
-use rep_pages::{Page, slot_of};
+use rep_pages::pages_are_told;
+use rep_pool::Pool;
 use rep_record::BlockBuilder;
 use rep_types::{Key, Refusal, Value};
 
@@ -34,6 +36,7 @@ pub(crate) fn write_next<D: Disk>(
     requires due { IsWrite (due_of log.old) }
     ensures call { IsCall D.size D.failures D.honest (disk_of cells.old) (disk_of cells.new) (fault_of result) }
     ensures layout { layout_of cells.new ≡ layout_of cells.old }
+    ensures inside { WritesIn D.honest D.history (layout_of cells.old) (log_of (layout_of cells.old) log.old.next) (disk_of cells.old) (disk_of cells.new) result }
     ensures written { WritesNext D.honest D.history (layout_of cells.old) (due_of log.old) block.now log.old log.new (disk_of cells.old) (disk_of cells.new) result }
 {
     match log.step_due() {
@@ -44,19 +47,10 @@ pub(crate) fn write_next<D: Disk>(
     }
 }
 
-/// A copy of the page's row at this place.
-fn row_in(page: &Page, index: u32) -> Option<Value>
-    ensures { result ≡ row_at page.now.rows index }
-{
-    match page.rows.row(index) {
-        Some(value) => Some(value.copied()),
-        None => None,
-    }
-}
-
 /// What the row is at the base: what its page has, in the slot in which it stands.
 pub(crate) fn base_row<D: Disk>(
     cells: &mut Cells<D>,
+    pool: &mut Pool,
     superblock: &SuperBody,
     key: Key,
 ) -> Result<Option<Value>, Refusal>
@@ -65,24 +59,14 @@ pub(crate) fn base_row<D: Disk>(
     ensures call { IsCall D.size D.failures D.honest (disk_of cells.old) (disk_of cells.new) (fault_of result) }
     ensures layout { layout_of cells.new ≡ layout_of cells.old }
     ensures same { D.honest (disk_of cells.old) → D.history (disk_of cells.new) ≡ D.history (disk_of cells.old) }
-    ensures read { ReadsBase D.honest D.history (layout_of cells.old) superblock.now key (disk_of cells.old) result }
-    ensures spelled { ReadsAsSpelled D.honest D.history (layout_of cells.old) superblock.now key (disk_of cells.old) result }
+    ensures read { IsPooled D.honest D.history superblock.now.params.rows (layout_of cells.old) (disk_of cells.old) pool.old → ReadsBase D.honest D.history (layout_of cells.old) superblock.now key (disk_of cells.old) result }
+    ensures spelled { IsPooled D.honest D.history superblock.now.params.rows (layout_of cells.old) (disk_of cells.old) pool.old → ReadsAsSpelled D.honest D.history (layout_of cells.old) superblock.now key (disk_of cells.old) result }
+    ensures agrees { GoesOn D.honest D.history superblock.now.params.rows (layout_of cells.old) (disk_of cells.old) (disk_of cells.new) pool.old pool.new }
     ensures refused { IfErr result (λ e. (e ≡ DiskFault) ⊎ (e ≡ Corrupt Pages)) }
 {
+    pages_are_told();
     let Some(place) = page_of(superblock.params.schema(), key) else {
         return Ok(None);
     };
-    let PageState::In(slot) = slot_of(superblock, place.page) else {
-        return Ok(None);
-    };
-    let mut room = [0; PAGE_BODY];
-    let area = Place::Page(place.page, slot);
-    if cells.read_area(area, &mut room).is_err() {
-        return Err(Refusal::DiskFault);
-    }
-    let schema = superblock.params.schema();
-    match Page::read_body(schema, place.page, superblock.position, &room) {
-        Ok(page) => Ok(row_in(&page, place.index)),
-        Err(refusal) => Err(refusal),
-    }
+    pool.row(cells, superblock, place)
 }

@@ -1,20 +1,21 @@
 -- What is so of each page that is kept goes on being so.
-use Rattle.std.proofs.Common.{◌≡◌, ◌≢◌, refl, sym, ap, subst, ◌∙◌, ℕ, inl, inr, Bool, true, false, cond, List, Option, None, Some, Contains, nat_eq}
+use Rattle.std.proofs.Common.{◌≡◌, ◌≢◌, refl, sym, ap, subst, ◌∙◌, ℕ, inl, inr, Bool, true, false, cond, Option, None, Some, Contains, nat_eq, Result, Ok, Err, OnOk, OnErr}
 use Rattle.std.specs.Cmp.{nat_eq_equiv}
 use Rattle.std.specs.List.{IsDistinct}
-use Rattle.std.specs.Map.{keys_of, lookup}
+use Rattle.std.specs.Map.{keys_of, lookup, remove_entry}
 use Rattle.std.proofs.lemmas.Bool.{eqb-true}
 use Rattle.std.proofs.lemmas.Map.{lookup-remove_entry}
-use Rattle.lru.specs.LruCache.{lru_cache}
+use Rattle.lru.specs.LruCache.{LruCache, lru_cache, promoted, put_entries}
 use Rattle.lru.proofs.CallerLemmas.{Contains-lookup, Contains-promoted, Contains-put_entries, Contains-remove_entry}
 use Rattle.lru.proofs.Matching.{none_found}
 use Rattle.rep_layout.specs.declared.place.Slot.{Slot}
 use Rattle.rep_layout.specs.declared.place.Slot.TheVariants.{First, Second}
 use Rattle.rep_layout.specs.declared.place.Place.{Place}
-use Rattle.rep_layout.specs.declared.place.Place.TheVariants.{Page}
+use Rattle.rep_layout.specs.declared.place.Place.TheVariants.{Super, Window, Log, Page}
+use Rattle.rep_pages.specs.declared.page.Page.{Page as PageBody}
 use Rattle.rep_pool.specs.declared.pool.Kept.{Kept}
 use Rattle.rep_pool.specs.declared.pool.TheConstants.{POOL_PAGES}
-use Rattle.rep_pool.specs.Pools.{Pooled, is_slot, body_in, found, used, without_page, IsKept, AreEach}
+use Rattle.rep_pool.specs.Pools.{Pooled, is_slot, page_in, found, used, without_page, IsKept, AreEach, AreNumbered, IsFree}
 
 same_slot : (a b : Slot) → is_slot a b ≡ true → a ≡ b
 same_slot First First is = refl
@@ -25,13 +26,13 @@ same_slot Second Second is = refl
 -- ---- without a page
 
 -- nothing is kept of it
-pub gone : (number : ℕ) (pages : Pooled) → IsDistinct nat_eq (keys_of pages) → lookup (nat_eq number) (without_page number pages) ≡ None
+gone : (number : ℕ) (pages : Pooled) → IsDistinct nat_eq (keys_of pages) → lookup (nat_eq number) (without_page number pages) ≡ None
 gone number pages once =
     lookup-remove_entry nat_eq_equiv (nat_eq number) (λ x y is. ap (λ (n : ℕ). nat_eq n y) (eqb-true number x is)) number pages once
     ∙ ap (λ (b : Bool). cond b None (lookup (nat_eq number) pages)) (nat_eq_equiv.refl number)
 
 pub not_found_then : (number : ℕ) (slot : Slot) (pages : Pooled) → IsDistinct nat_eq (keys_of pages) → found number slot (without_page number pages) ≡ None
-not_found_then number slot pages once = ap (body_in slot) (gone number pages once)
+not_found_then number slot pages once = ap (page_in slot) (gone number pages once)
 
 other_there : (number : ℕ) (pages : Pooled) (other : ℕ) (kept : Kept) → IsDistinct nat_eq (keys_of pages) → Contains (without_page number pages) (other, kept) → other ≢ number
 other_there number pages other kept once there same =
@@ -39,45 +40,75 @@ other_there number pages other kept once there same =
     let yes : nat_eq number other ≡ true = ap (nat_eq number) same ∙ nat_eq_equiv.refl number in
     absurd cc
 
+-- the number of a page's place
+abbrev page_number : Place → ℕ
+page_number (Super side) = 0
+page_number (Window side) = 0
+page_number (Log cell) = 0
+page_number (Page number slot) = number
+
+-- nor of its slots
+pub free_then : (number : ℕ) (slot : Slot) (pages : Pooled) → IsDistinct nat_eq (keys_of pages) → IsFree (Page number slot) (without_page number pages)
+free_then number slot pages once other kept there same = other_there number pages other kept once there (ap page_number same)
+
 -- ---- each page
 
-module _ (Is : Place → List ℕ → Type 0) where
-  in_slot : (number : ℕ) (slot : Slot) (kept : Kept) (body : List ℕ) (b : Bool) → is_slot kept.slot slot ≡ b → cond b (Some kept.body) None ≡ Some body → Is (Page number kept.slot) kept.body → Is (Page number slot) body
-  in_slot number slot kept body true here same is =
-      let bytes : kept.body ≡ body = cc in
-      subst (Is (Page number slot)) bytes (subst (λ (s : Slot). Is (Page number s) kept.body) (same_slot kept.slot slot here) is)
-  in_slot number slot kept body false here same is = absurd cc
+module _ (Is : ℕ → Slot → PageBody → Type 0) where
+  in_slot : (number : ℕ) (slot : Slot) (kept : Kept) (page : PageBody) (b : Bool) → is_slot kept.slot slot ≡ b → cond b (Some kept.page) None ≡ Some page → Is number kept.slot kept.page → Is number slot page
+  in_slot number slot kept page true here same is =
+      let at : kept.page ≡ page = cc in
+      subst (Is number slot) at (subst (λ (s : Slot). Is number s kept.page) (same_slot kept.slot slot here) is)
+  in_slot number slot kept page false here same is = absurd cc
 
-  found_in : (number : ℕ) (slot : Slot) (pages : Pooled) (body : List ℕ) (o : Option Kept) → lookup (nat_eq number) pages ≡ o → body_in slot o ≡ Some body → AreEach Is pages → Is (Page number slot) body
-  found_in number slot pages body None at same each = absurd cc
-  found_in number slot pages body (Some kept) at same each =
+  found_in : (number : ℕ) (slot : Slot) (pages : Pooled) (page : PageBody) (o : Option Kept) → lookup (nat_eq number) pages ≡ o → page_in slot o ≡ Some page → AreEach Is pages → Is number slot page
+  found_in number slot pages page None at same each = absurd cc
+  found_in number slot pages page (Some kept) at same each =
       let was = Contains-lookup (nat_eq number) pages kept at in
-      let is : Is (Page number kept.slot) kept.body = subst (λ (n : ℕ). Is (Page n kept.slot) kept.body) (sym (eqb-true number was.0 was.2)) (each was.0 kept was.1) in
-      in_slot number slot kept body (is_slot kept.slot slot) refl same is
+      let is : Is number kept.slot kept.page = subst (λ (n : ℕ). Is n kept.slot kept.page) (sym (eqb-true number was.0 was.2)) (each was.0 kept was.1) in
+      in_slot number slot kept page (is_slot kept.slot slot) refl same is
 
   -- what is found is one of them
-  pub found_is : (number : ℕ) (slot : Slot) (pages : Pooled) (body : List ℕ) → found number slot pages ≡ Some body → AreEach Is pages → Is (Page number slot) body
-  found_is number slot pages body same each = found_in number slot pages body (lookup (nat_eq number) pages) refl same each
+  pub found_is : (number : ℕ) (slot : Slot) (pages : Pooled) (page : PageBody) → found number slot pages ≡ Some page → AreEach Is pages → Is number slot page
+  found_is number slot pages page same each = found_in number slot pages page (lookup (nat_eq number) pages) refl same each
 
   -- a page that is used is one of them
   pub used_each : (number : ℕ) (pages : Pooled) → AreEach Is pages → AreEach Is (used number pages)
   used_each number pages each n kept there = each n kept (Contains-promoted (nat_eq number) pages (n, kept) there)
 
-  -- so are those beside one that is kept anew
-  pub kept_each : (number : ℕ) (kept : Kept) (before after : Pooled) → IsKept number kept before after → Is (Page number kept.slot) kept.body → AreEach Is before → AreEach Is after
-  kept_each number kept before after (inr stays) is each n other there = each n other (subst (λ (pages : Pooled). Contains pages (n, other)) stays.0 there)
-  kept_each number kept before after (inl put) is each n other there = elim (Contains-put_entries nat_eq (lru_cache before POOL_PAGES) number kept (n, other) (subst (λ (pages : Pooled). Contains pages (n, other)) put there)) [
+  -- so are those beside one that is put
+  put_each : (number : ℕ) (kept : Kept) (old : LruCache ℕ Kept) → Is number kept.slot kept.page → AreEach Is old.entries → AreEach Is (put_entries nat_eq old number kept)
+  put_each number kept old is each n other there = elim (Contains-put_entries nat_eq old number kept (n, other) there) [
     | inl was ↦ each n other was
     | inr new ↦ (
         let same : n ≡ number = elim new.1 [
           | inl at ↦ at
           | inr at ↦ sym (eqb-true number n at.2)
         ] in
-        subst (λ (m : ℕ). Is (Page m other.slot) other.body) (sym same) (subst (λ (k : Kept). Is (Page number k.slot) k.body) (sym new.0) is))
+        subst (λ (m : ℕ). Is m other.slot other.page) (sym same) (subst (λ (k : Kept). Is number k.slot k.page) (sym new.0) is))
   ]
 
-  -- and those beside one that goes, where what is so of the slots of every other page goes on
-  pub without_each : (Then : Place → List ℕ → Type 0) (number : ℕ) (pages : Pooled) → IsDistinct nat_eq (keys_of pages) → AreEach Is pages
-      → ((other : ℕ) (slot : Slot) (body : List ℕ) → other ≢ number → Is (Page other slot) body → Then (Page other slot) body) → AreEach Then (without_page number pages)
-  without_each Then number pages once each goes_on n kept there =
-      goes_on n kept.slot kept.body (other_there number pages n kept once there) (each n kept (Contains-remove_entry (nat_eq number) pages (n, kept) there))
+  pub kept_each : (number : ℕ) (kept : Kept) (before after : Pooled) → IsKept number kept before after → Is number kept.slot kept.page → AreEach Is before → AreEach Is after
+  kept_each number kept before after (inr stays) is each n other there = each n other (subst (λ (pages : Pooled). Contains pages (n, other)) stays.0 there)
+  kept_each number kept before after (inl put) is each n other there = put_each number kept (lru_cache before POOL_PAGES) is each n other (subst (λ (pages : Pooled). Contains pages (n, other)) put there)
+
+  -- and those beside one that goes
+  pub without_each : (number : ℕ) (pages : Pooled) → AreEach Is pages → AreEach Is (without_page number pages)
+  without_each number pages each n kept there = each n kept (Contains-remove_entry (nat_eq number) pages (n, kept) there)
+
+-- ---- what holds of every pool
+
+abbrev Holds : LruCache ℕ Kept → Type 0
+Holds cache = (cache.cap ≡ POOL_PAGES) × AreNumbered cache.entries
+
+abbrev is_numbered : ℕ → Slot → PageBody → Type 0
+is_numbered number slot page = page.number ≡ number
+
+pub promoted_holds : (number : ℕ) (old new : LruCache ℕ Kept) → new ≡ lru_cache (promoted (nat_eq number) old.entries) old.cap → Holds old → Holds new
+promoted_holds number old new is holds = subst Holds (sym is) (holds.0, used_each is_numbered number old.entries holds.1)
+
+pub removed_holds : (number : ℕ) (old new : LruCache ℕ Kept) → new ≡ lru_cache (remove_entry (nat_eq number) old.entries) old.cap → Holds old → Holds new
+removed_holds number old new is holds = subst Holds (sym is) (holds.0, without_each is_numbered number old.entries holds.1)
+
+pub put_holds : {T E : Type 0} (number : ℕ) (kept : Kept) (old new : LruCache ℕ Kept) (result : Result T E) → kept.page.number ≡ number → OnOk result (new ≡ lru_cache (put_entries nat_eq old number kept) old.cap) → OnErr result (new ≡ old) → Holds old → Holds new
+put_holds number kept old new (Ok x) same done failed holds = subst Holds (sym done) (holds.0, put_each is_numbered number kept old same holds.1)
+put_holds number kept old new (Err e) same done failed holds = subst Holds (sym failed) holds

@@ -1,78 +1,62 @@
--- What is given of a page is what its slot has.
-use Rattle.std.proofs.Common.{◌≡◌, refl, sym, subst, ◌∙◌, ℕ, Bool, true, false, List, Option, None, Some, IfSome, Result, Ok, Err, IfOk, IfErr, OnOk}
+-- What is given of a page that is kept, or isn't.
+use Rattle.std.proofs.Common.{◌≡◌, ◌⊎◌, inr, refl, sym, subst, ◌∙◌, ℕ, List, Option, None, Some, Result, Ok, Err, IfErr, OnOk, OnErr}
 use Rattle.rep_types.specs.declared.refusal.Refusal.{Refusal}
-use Rattle.rep_types.specs.declared.refusal.Refusal.TheVariants.{DiskFault}
-use Rattle.rep_disk.specs.declared.disk.DiskFault.{DiskFault as Fault}
+use Rattle.rep_types.specs.declared.refusal.Refusal.TheVariants.{DiskFault, Corrupt}
+use Rattle.rep_types.specs.declared.refusal.Part.TheVariants.{Pages}
 use Rattle.rep_disk.specs.History.{History, seen}
+use Rattle.rep_layout.specs.declared.super_body.SuperBody.{SuperBody}
+use Rattle.rep_layout.specs.declared.page_state.PageState.TheVariants.{In}
 use Rattle.rep_layout.specs.declared.place.Layout.{Layout}
 use Rattle.rep_layout.specs.declared.place.Slot.{Slot}
-use Rattle.rep_layout.specs.declared.place.Place.{Place}
-use Rattle.rep_layout.specs.declared.place.Place.TheVariants.{Page}
-use Rattle.rep_cells.specs.Readings.{IsPlace, reading_of}
-use Rattle.rep_cells.specs.Known.{IsReadable}
-use Rattle.rep_cells.specs.Faults.{fault_of}
-use Rattle.rep_cells.specs.Calls.{ReadsPlace}
-use Rattle.rep_pool.specs.Pools.{Pooled, found, used, IsKept, AreEach, IsAsRead, GivesAsRead}
-use Rattle.rep_pool.proofs.Each.{found_is, used_each, kept_each}
+use Rattle.rep_cells.specs.Readings.{reading_of}
+use Rattle.rep_pages.specs.declared.page.Page.{Page as PageBody}
+use Rattle.rep_pages.specs.Slots.{state_of_page}
+use Rattle.rep_pages.specs.Pages.{PagesAreTold}
+use Rattle.rep_pool.specs.Pools.{Pooled, found, used, IsAsRead, IsSpelled, Agrees}
+use Rattle.rep_pool.specs.BasePages.{IsRowUpTo, IsRowOfPage}
+use Rattle.rep_pool.proofs.Each.{found_is}
+use Rattle.rep_pool.proofs.GoingOn.{used_agrees}
+use Rattle.rep_pool.proofs.Pages.{kept_row}
 
-on_ok : {T E : Type 0} (result : Result T E) (P : Type 0) → P → OnOk result P
-on_ok (Ok x) P h = h
-on_ok (Err e) P h = tt
+-- what is kept is as the slot has it
+pub found_spelled : (rows : List ℕ) (l : Layout) (h : History) (number : ℕ) (slot : Slot) (pages : Pooled) (page : PageBody) → found number slot pages ≡ Some page → Agrees rows l h pages → IsSpelled rows (reading_of l (seen h)) number slot page
+found_spelled rows l h number slot pages page is agrees = (found_is (IsAsRead rows l h) number slot pages page is agrees.each).1
 
--- ---- what was kept
+module _ (number index position : ℕ) (slot : Slot) (before after : Pooled) (result : Option (Result (Option (List ℕ)) Refusal))
+    (given : (page : PageBody) → found number slot before ≡ Some page → (row : Result (Option (List ℕ)) Refusal) × (result ≡ Some row) × IsRowUpTo position page index row × OnOk row (after ≡ used number before) × OnErr row (after ≡ before))
+    (none : found number slot before ≡ None → (result ≡ None) × (after ≡ before)) where
+  -- a row that was given is of a page that was kept
+  of_kept : (o : Option PageBody) (row : Result (Option (List ℕ)) Refusal) → found number slot before ≡ o → result ≡ Some row
+      → (page : PageBody) × (found number slot before ≡ Some page) × IsRowUpTo position page index row × OnOk row (after ≡ used number before) × OnErr row (after ≡ before)
+  of_kept None row is came = let never : None ≡ Some row = sym (none is).0 ∙ came in absurd cc
+  of_kept (Some page) row is came =
+      let g = given page is in
+      let same : g.0 ≡ row = let e : Some g.0 ≡ Some row = sym g.1 ∙ came in cc in
+      (page, is, subst (IsRowUpTo position page index) same g.2, subst (λ (r : Result (Option (List ℕ)) Refusal). OnOk r (after ≡ used number before)) same g.3, subst (λ (r : Result (Option (List ℕ)) Refusal). OnErr r (after ≡ before)) same g.4)
 
-given_in : (number : ℕ) (before after : Pooled) (out : List ℕ) (gave : Bool) (o : Option (List ℕ))
-    → IfSome o (λ body. (gave ≡ true) × (out ≡ body) × (after ≡ used number before)) → (o ≡ None → (gave ≡ false) × (after ≡ before)) → gave ≡ true
-    → (body : List ℕ) × (o ≡ Some body) × (out ≡ body) × (after ≡ used number before)
-given_in number before after out gave (Some body) kept none is = (body, refl, kept.1, kept.2)
-given_in number before after out gave None kept none is = let never = sym is ∙ (none refl).0 in absurd cc
+  pub row_kept : (row : Result (Option (List ℕ)) Refusal) → result ≡ Some row → (page : PageBody) × (found number slot before ≡ Some page) × IsRowUpTo position page index row × OnOk row (after ≡ used number before) × OnErr row (after ≡ before)
+  row_kept row came = of_kept (found number slot before) row refl came
 
--- what was given was kept
-pub given : (number : ℕ) (slot : Slot) (before after : Pooled) (out : List ℕ) (gave : Bool)
-    → IfSome (found number slot before) (λ body. (gave ≡ true) × (out ≡ body) × (after ≡ used number before)) → (found number slot before ≡ None → (gave ≡ false) × (after ≡ before)) → gave ≡ true
-    → (body : List ℕ) × (found number slot before ≡ Some body) × (out ≡ body) × (after ≡ used number before)
-given number slot before after out gave kept none is = given_in number before after out gave (found number slot before) kept none is
+  -- where none was given, nothing was kept
+  not_of_kept : (o : Option PageBody) → found number slot before ≡ o → ((row : Result (Option (List ℕ)) Refusal) → result ≡ Some row → ⊥) → (found number slot before ≡ None) × (after ≡ before)
+  not_of_kept None is never = (is, (none is).1)
+  not_of_kept (Some page) is never = let g = given page is in absurd (never g.0 g.1)
 
-not_given_in : (number : ℕ) (before after : Pooled) (out : List ℕ) (gave : Bool) (o : Option (List ℕ))
-    → IfSome o (λ body. (gave ≡ true) × (out ≡ body) × (after ≡ used number before)) → (o ≡ None → (gave ≡ false) × (after ≡ before)) → gave ≡ false → after ≡ before
-not_given_in number before after out gave (Some body) kept none is = let never = sym is ∙ kept.0 in absurd cc
-not_given_in number before after out gave None kept none is = (none refl).1
+  pub not_kept : ((row : Result (Option (List ℕ)) Refusal) → result ≡ Some row → ⊥) → (found number slot before ≡ None) × (after ≡ before)
+  not_kept never = not_of_kept (found number slot before) refl never
 
--- and where nothing was, the pool is as it was
-pub not_given : (number : ℕ) (slot : Slot) (before after : Pooled) (out : List ℕ) (gave : Bool)
-    → IfSome (found number slot before) (λ body. (gave ≡ true) × (out ≡ body) × (after ≡ used number before)) → (found number slot before ≡ None → (gave ≡ false) × (after ≡ before)) → gave ≡ false → after ≡ before
-not_given number slot before after out gave kept none is = not_given_in number before after out gave (found number slot before) kept none is
+-- the row of a kept page is the base's
+pub given_row :
+    PagesAreTold → (l : Layout) (h : History) (b : SuperBody) (number index : ℕ) (slot : Slot) (pages : Pooled) (page : PageBody) (row : Result (Option (List ℕ)) Refusal) → state_of_page b number ≡ In slot → found number slot pages ≡ Some page → IsRowUpTo b.position page index row → Agrees b.params.rows l h pages
+    → IsRowOfPage (reading_of l (seen h)) b number index row
+given_row told l h b number index slot pages page row there is up agrees = kept_row told (reading_of l (seen h)) b number index slot page row (found_spelled b.params.rows l h number slot pages page is agrees) there up
 
-pub kept_agree :
-    {D : Type 0} (T F : Type 0) (honest : D → Type 0) (history : D → History) (l : Layout) (number : ℕ) (slot : Slot) (old : D) (before : Pooled) (body out : List ℕ) (result : Result T F)
-    → found number slot before ≡ Some body → out ≡ body → GivesAsRead honest history l (Page number slot) old before (used number before) out result
-kept_agree T F honest history l number slot old before body out result is same = λ h agree.
-    let here : IsAsRead l (history old) (Page number slot) body = found_is (IsAsRead l (history old)) number slot before body is agree in
-    (on_ok result _ (subst (IsAsRead l (history old) (Page number slot)) (sym same) here), used_each (IsAsRead l (history old)) number before agree)
+-- and the pool agrees as before
+pub given_agrees : (rows : List ℕ) (l : Layout) (h : History) (number : ℕ) (before after : Pooled) (row : Result (Option (List ℕ)) Refusal) → OnOk row (after ≡ used number before) → OnErr row (after ≡ before) → Agrees rows l h before → Agrees rows l h after
+given_agrees rows l h number before after (Ok row) was stays agrees = subst (Agrees rows l h) (sym was) (used_agrees rows l h number before agrees)
+given_agrees rows l h number before after (Err e) was stays agrees = subst (Agrees rows l h) (sym stays) agrees
 
--- ---- what was read
-
--- what is said of the device's answer is said of the refusal that it is
-pub if_answered : {T : Type 0} (result : Result T Refusal) (answer : Result (Unit {0}) Fault) (P : Type 0) → fault_of result ≡ answer → IfOk answer (λ _. P) → IfOk result (λ _. P)
-if_answered (Ok x) (Ok y) P same h = h
-if_answered (Ok x) (Err e) P same h = absurd cc
-if_answered (Err e) answer P same h = tt
-
--- what is so of the pages, whether the one that was read is kept or the device failed
-each_read :
-    {T : Type 0} (Is : Place → List ℕ → Type 0) (number : ℕ) (slot : Slot) (out : List ℕ) (before after : Pooled) (result : Result T Refusal)
-    → OnOk result (IsKept number (record { slot = slot; body = out }) before after) → IfErr result (λ e. (e ≡ DiskFault) × (after ≡ before)) → OnOk result (Is (Page number slot) out) → AreEach Is before → AreEach Is after
-each_read Is number slot out before after (Ok x) kept failed is each = kept_each Is number (record { slot = slot; body = out }) before after kept is each
-each_read Is number slot out before after (Err e) kept failed is each = subst (AreEach Is) (sym failed.1) each
-
-as_read : {T E : Type 0} (result : Result T E) (there readable : Type 0) (reading : Option (List ℕ)) (out : List ℕ) → (readable → IfOk result (λ _. Some out ≡ reading)) → OnOk result (there → readable → reading ≡ Some out)
-as_read (Ok x) there readable reading out h = λ is r. sym (h r)
-as_read (Err e) there readable reading out h = tt
-
-pub read_agree :
-    {D T : Type 0} (honest : D → Type 0) (history : D → History) (l : Layout) (number : ℕ) (slot : Slot) (old : D) (before after : Pooled) (out : List ℕ) (result : Result T Refusal)
-    → ReadsPlace honest history l (Page number slot) old result (λ _. Some out) → OnOk result (IsKept number (record { slot = slot; body = out }) before after) → IfErr result (λ e. (e ≡ DiskFault) × (after ≡ before))
-    → GivesAsRead honest history l (Page number slot) old before after out result
-read_agree honest history l number slot old before after out result read kept failed = λ h agree.
-    let is = as_read result (IsPlace l (Page number slot)) (IsReadable l (history old) (Page number slot)) (reading_of l (seen (history old)) (Page number slot)) out (read h) in
-    (is, each_read (IsAsRead l (history old)) number slot out before after result kept failed is agree)
+-- it is refused where it is of a later position
+pub refused_kept : (position index : ℕ) (page : PageBody) (row : Result (Option (List ℕ)) Refusal) → IsRowUpTo position page index row → IfErr row (λ e. (e ≡ DiskFault) ⊎ (e ≡ Corrupt Pages))
+refused_kept position index page (Ok row) up = tt
+refused_kept position index page (Err e) up = inr up.later.0

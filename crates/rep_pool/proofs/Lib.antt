@@ -1,3 +1,4 @@
 mod Each
 mod Given
-mod Pages
+mod GoingOn
+pub mod Pages

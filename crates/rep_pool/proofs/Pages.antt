@@ -1,10 +1,11 @@
 -- A page of a base is what its bytes say.
-use Rattle.std.proofs.Common.{◌≡◌, refl, sym, ap, subst, ◌∙◌, ℕ, ◌<◌, ◌≤◌, ◌⊎◌, inl, inr, List, length, replicate, Option, None, Some, IfSome, Result, Ok, Err, IfOk, arith}
+use Rattle.std.proofs.Common.{◌≡◌, refl, sym, ap, subst, ◌∙◌, ℕ, ◌<◌, ◌≤◌, ◌⊎◌, inl, inr, List, [], length, replicate, Option, None, Some, Result, Ok, Err, IsOk, IfOk, arith}
 use Rattle.std.proofs.lemmas.Bool.{cases_lt}
 use Rattle.std.proofs.lemmas.Bool.Decides.{nat_tests}
 use Rattle.std.proofs.lemmas.List.{length-replicate, get_or-replicate, get_or_past}
 use Rattle.rep_types.specs.declared.refusal.Refusal.{Refusal}
-use Rattle.rep_disk.specs.History.{History, seen}
+use Rattle.rep_disk.specs.declared.disk.DiskFault.{DiskFault as Fault}
+use Rattle.rep_disk.specs.History.{History, seen, failed}
 use Rattle.rep_layout.specs.declared.super_body.SuperBody.{SuperBody}
 use Rattle.rep_layout.specs.Places.{layout_of}
 use Rattle.rep_layout.specs.Supers.{IsSuper}
@@ -12,30 +13,32 @@ use Rattle.rep_layout.specs.declared.page_state.PageState.{PageState}
 use Rattle.rep_layout.specs.declared.page_state.PageState.TheVariants.{Nowhere, In}
 use Rattle.rep_layout.specs.declared.place.Slot.{Slot}
 use Rattle.rep_layout.specs.declared.place.Layout.{Layout}
-use Rattle.rep_layout.specs.declared.place.Place.{Place}
 use Rattle.rep_layout.specs.declared.place.Place.TheVariants.{Page}
 use Rattle.rep_cells.specs.Readings.{Reading, IsPlace, reading_of}
-use Rattle.rep_cells.specs.States.{State, States, Stable, Shows}
-use Rattle.rep_cells.specs.Known.{Assigns}
-use Rattle.rep_cells.proofs.Reading.{shown}
+use Rattle.rep_cells.specs.Known.{IsReadable}
+use Rattle.rep_cells.specs.Calls.{ReadsPlace}
 use Rattle.rep_pages.specs.declared.page.Page.{Page as PageBody}
 use Rattle.rep_pages.specs.Slots.{state_of_page}
-use Rattle.rep_pages.specs.Pages.{IsPageBody}
+use Rattle.rep_pages.specs.Pages.{IsPageBody, PagesAreTold}
 use Rattle.rep_pages.specs.Rows.{Rows, row_at}
-use Rattle.rep_pool.specs.BasePages.{HasPage, IsPageAsSpelled, stable_body, stable_in}
+use Rattle.rep_pool.specs.Pools.{IsSpelled}
+use Rattle.rep_pool.specs.BasePages.{HasPage, IsPageAsSpelled, ReadsPage, IsRowUpTo, IsRowOfPage}
 
 -- in one slot it stands
 pub same_slot : (b : SuperBody) (number : ℕ) (slot other : Slot) → state_of_page b number ≡ In slot → state_of_page b number ≡ In other → slot ≡ other
 same_slot b number slot other is at = cc
 
--- what is kept without its bytes
-pub without_bytes : (A B C : Type 0) (out : List ℕ) (o : Option (List ℕ)) → IfSome o (λ body. A × (out ≡ body) × B × C) → IfSome o (λ body. B × C)
-without_bytes A B C out (Some body) h = (h.2, h.3)
-without_bytes A B C out None h = tt
+-- a page that is in a slot is there
+pub is_page : (b : SuperBody) → IsSuper b → (number : ℕ) (slot : Slot) → state_of_page b number ≡ In slot → IsPlace (layout_of b.params) (Page number slot)
+is_page b super number slot there = by (cases_lt number (length b.pages.items))
+  where
+    by : ((number < length b.pages.items) ⊎ (length b.pages.items ≤ number)) → IsPlace (layout_of b.params) (Page number slot)
+    by (inl lt) = grind (arith, nat_tests, lt, super.pages)
+    by (inr le) = let none = sym there ∙ get_or_past b.pages.items number Nowhere le in absurd cc
 
 -- ---- a page that is in no slot has no row
 
-nowhere : (state : PageState) → ((slot : Slot) → state ≡ In slot → ⊥) → state ≡ Nowhere
+pub nowhere : (state : PageState) → ((slot : Slot) → state ≡ In slot → ⊥) → state ≡ Nowhere
 nowhere Nowhere none = refl
 nowhere (In slot) none = absurd (none slot refl)
 
@@ -51,6 +54,12 @@ absent_as r b number page is rows none = record {
   corrupt = λ e. absurd cc;
 }
 
+-- and its rows are those of a page without any
+pub absent_row : (r : Reading) (b : SuperBody) (number index : ℕ) → ((slot : Slot) → state_of_page b number ≡ In slot → ⊥) → IsRowOfPage r b number index (Ok None)
+absent_row r b number index none =
+    let page : PageBody = record { number = number; position = 0; rows = replicate 63 None } in
+    record { page = Ok page; spelled = absent_as r b number page refl refl none; row = ap Ok (sym (no_row index)) }
+
 -- ---- a page that is in one is what the bytes there say
 
 -- the body that a reader takes
@@ -63,7 +72,7 @@ spelled_in : (r : Reading) (b : SuperBody) (number : ℕ) (slot : Slot) (bytes :
 spelled_in r b number slot bytes (Ok page) there shown found = inl (record { slot = slot; there = there; body = bytes; shown = shown; is_page = found.0; is_it = found.1; earlier = found.2 })
 spelled_in r b number slot bytes (Err e) there shown found = tt
 
-pub taken_as : (r : Reading) (b : SuperBody) (number : ℕ) (slot : Slot) (bytes : List ℕ) (result : Result PageBody Refusal) → state_of_page b number ≡ In slot → r (Page number slot) ≡ Some bytes → Takes b number bytes result → IsPageAsSpelled r b number result
+taken_as : (r : Reading) (b : SuperBody) (number : ℕ) (slot : Slot) (bytes : List ℕ) (result : Result PageBody Refusal) → state_of_page b number ≡ In slot → r (Page number slot) ≡ Some bytes → Takes b number bytes result → IsPageAsSpelled r b number result
 taken_as r b number slot bytes result there shown takes = record {
   page = spelled_in r b number slot bytes result there shown takes.found;
   corrupt = λ e. record {
@@ -75,20 +84,54 @@ taken_as r b number slot bytes result there shown takes = record {
   };
 }
 
--- the bytes that are stable
-pub stable_there : (s : States) (number : ℕ) (slot : Slot) (body bytes : List ℕ) → s (Page number slot) ≡ Stable body → bytes ≡ body → stable_in s (Page number slot) ≡ Some bytes
-stable_there s number slot body bytes is same = ap stable_body is ∙ ap Some (sym same)
+-- what is said of an answer that came
+if_came : {T E : Type 0} (result : Result T E) (P : Type 0) → IsOk result → IfOk result (λ _. P) → P
+if_came (Ok x) P ok h = h
+if_came (Err e) P ok h = absurd cc
 
--- a page that is in a slot is there
-pub is_page : (b : SuperBody) → IsSuper b → (number : ℕ) (slot : Slot) → state_of_page b number ≡ In slot → IsPlace (layout_of b.params) (Page number slot)
-is_page b super number slot there = by (cases_lt number (length b.pages.items))
-  where
-    by : ((number < length b.pages.items) ⊎ (length b.pages.items ≤ number)) → IsPlace (layout_of b.params) (Page number slot)
-    by (inl lt) = grind (arith, nat_tests, lt, super.pages)
-    by (inr le) = let none = sym there ∙ get_or_past b.pages.items number Nowhere le in absurd cc
+-- where no write has failed each place is readable
+readable : (l : Layout) (h : History) (number : ℕ) (slot : Slot) → failed h ≡ [] → IsReadable l h (Page number slot)
+readable l h number slot none = rw none (tt, tt)
 
--- what reads as these bytes where others are stable are those
-pub stable_reads : (l : Layout) (h : History) (s : States) (place : Place) (body out : List ℕ) → Assigns l h s → IsPlace l place → s place ≡ Stable body → reading_of l (seen h) place ≡ Some out → out ≡ body
-stable_reads l h s place body out assigns there is reads =
-    let shows : Some out ≡ Some body = subst (λ (state : State). Shows state (Some out)) is (shown l h s place (Some out) assigns there (sym reads)) in
-    cc
+-- so it is read
+pub reads :
+    {D : Type 0} (honest : D → Type 0) (history : D → History) (l : Layout) (b : SuperBody) (number : ℕ) (slot : Slot) (bytes : List ℕ) (old : D) (answer : Result (Unit {0}) Fault) (result : Result PageBody Refusal)
+    → state_of_page b number ≡ In slot → IsOk answer → ReadsPlace honest history l (Page number slot) old answer (λ _. Some bytes) → Takes b number bytes result → ReadsPage honest history l b number old result
+reads honest history l b number slot bytes old answer result there ok read takes = λ h none.
+    taken_as (reading_of l (seen (history old))) b number slot bytes result there (sym (if_came answer _ ok (read h (readable l (history old) number slot none)))) takes
+
+-- a page that the bytes spell, in the slot in which the base has it
+pub spelled_at : (r : Reading) (b : SuperBody) (number : ℕ) (slot : Slot) (page : PageBody) → HasPage r b number page → state_of_page b number ≡ In slot → IsSpelled b.params.rows r number slot page
+spelled_at r b number slot page (inl is) there =
+    let same = same_slot b number is.slot slot is.there there in
+    record { body = is.body; shown = ap (λ (s : Slot). r (Page number s)) (sym same) ∙ is.shown; is_page = is.is_page; is_it = is.is_it }
+spelled_at r b number slot page (inr is) there = let never : Nowhere ≡ In slot = sym is.nowhere ∙ there in absurd cc
+
+-- ---- a page that is kept
+
+-- it is the base's where it was not written for a later position
+pub kept_page : (r : Reading) (b : SuperBody) (number : ℕ) (slot : Slot) (page : PageBody) → IsSpelled b.params.rows r number slot page → state_of_page b number ≡ In slot → page.position ≤ b.position → IsPageAsSpelled r b number (Ok page)
+kept_page r b number slot page is there le = record {
+  page = inl (record { slot = slot; there = there; body = is.body; shown = is.shown; is_page = is.is_page; is_it = is.is_it; earlier = le });
+  corrupt = λ e. absurd cc;
+}
+
+-- and else there is none
+pub later_page : PagesAreTold → (r : Reading) (b : SuperBody) (number : ℕ) (slot : Slot) (page : PageBody) (e : Refusal) → IsSpelled b.params.rows r number slot page → state_of_page b number ≡ In slot → (page.position ≤ b.position → ⊥) → IsPageAsSpelled r b number (Err e)
+later_page told r b number slot page e is there later = record {
+  page = tt;
+  corrupt = λ _. record {
+    slot = slot;
+    there = there;
+    body = is.body;
+    shown = is.shown;
+    none = λ other is_page is_it earlier. later (subst (λ (p : PageBody). p.position ≤ b.position) (told b.params.rows other page is.body is_page is.is_page) earlier);
+  };
+}
+
+-- its row
+pub kept_row :
+    PagesAreTold → (r : Reading) (b : SuperBody) (number index : ℕ) (slot : Slot) (page : PageBody) (row : Result (Option (List ℕ)) Refusal) → IsSpelled b.params.rows r number slot page → state_of_page b number ≡ In slot
+    → IsRowUpTo b.position page index row → IsRowOfPage r b number index row
+kept_row told r b number index slot page (Ok row) is there up = record { page = Ok page; spelled = kept_page r b number slot page is there up.row.1; row = ap Ok up.row.0 }
+kept_row told r b number index slot page (Err e) is there up = record { page = Err e; spelled = later_page told r b number slot page e is there up.later.1; row = refl }

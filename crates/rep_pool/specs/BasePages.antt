@@ -1,22 +1,21 @@
 -- A page of a base: what the bytes say in the slot in which a superblock has it.
-use Rattle.std.specs.Prelude.{◌≡◌, ◌⊎◌, ℕ, ◌≤◌, List, Option, None, Some, Result, Err, IfOk}
+use Rattle.std.specs.Prelude.{◌≡◌, ◌≢◌, ◌⊎◌, ℕ, ◌≤◌, List, [], Option, None, Some, Result, Ok, Err, IfOk, IfErr}
 use Rattle.rep_types.specs.declared.refusal.Refusal.{Refusal}
-use Rattle.rep_types.specs.declared.refusal.Refusal.TheVariants.{Corrupt}
+use Rattle.rep_types.specs.declared.refusal.Refusal.TheVariants.{DiskFault, Corrupt}
 use Rattle.rep_types.specs.declared.refusal.Part.TheVariants.{Pages}
-use Rattle.rep_disk.specs.History.{History, seen}
+use Rattle.rep_disk.specs.History.{History, seen, failed}
 use Rattle.rep_layout.specs.declared.super_body.SuperBody.{SuperBody}
 use Rattle.rep_layout.specs.declared.place.Layout.{Layout}
 use Rattle.rep_layout.specs.declared.place.Slot.{Slot}
 use Rattle.rep_layout.specs.declared.place.Place.TheVariants.{Page}
 use Rattle.rep_layout.specs.declared.page_state.PageState.TheVariants.{Nowhere, In}
 use Rattle.rep_cells.specs.Readings.{Reading, reading_of}
-use Rattle.rep_cells.specs.States.{State, States, Stable}
-use Rattle.rep_cells.specs.Known.{Assigns, IsReadable}
+use Rattle.rep_cells.specs.Known.{IsReadable}
 use Rattle.rep_pages.specs.declared.page.Page.{Page as PageBody}
 use Rattle.rep_pages.specs.Slots.{state_of_page}
 use Rattle.rep_pages.specs.Pages.{IsPageBody}
 use Rattle.rep_pages.specs.Rows.{row_at}
-use Rattle.rep_pool.specs.Pools.{Pooled, IsKept, Agree}
+use Rattle.rep_pool.specs.Pools.{Pooled, IsKept, Agrees}
 
 -- ---- what a reading has of a page
 
@@ -57,34 +56,47 @@ pub record IsPageAsSpelled (r : Reading) (b : SuperBody) (number : ℕ) (result 
   pub page : IfOk result (HasPage r b number)
   pub corrupt : result ≡ Err (Corrupt Pages) → IsBadPage r b number
 
--- ---- what is stable
+-- ---- what is given
 
--- the bytes that a state says are stable
-abbrev pub stable_body : State → Option (List ℕ)
-stable_body (Stable body) = Some body
-stable_body state = None
+-- A page is read: on an honest device on which no write has failed since the last sync that succeeded, its bytes decide.
+abbrev pub ReadsPage : {D : Type 0} → (D → Type 0) → (D → History) → Layout → SuperBody → ℕ → D → Result PageBody Refusal → Type 0
+ReadsPage honest history l b number old result = honest old → failed (history old) ≡ [] → IsPageAsSpelled (reading_of l (seen (history old))) b number result
 
--- each place with the bytes that are stable there
-abbrev pub stable_in : States → Reading
-stable_in s place = stable_body (s place)
+-- So they do where the pool agrees with the device.
+abbrev pub GivesPage : {D : Type 0} → (D → Type 0) → (D → History) → Layout → SuperBody → ℕ → D → Pooled → Result PageBody Refusal → Type 0
+GivesPage honest history l b number old before result = honest old → Agrees b.params.rows l (history old) before → IsPageAsSpelled (reading_of l (seen (history old))) b number result
 
--- In the slot in which the superblock has the page bytes are stable.
-abbrev pub IsPageStable : States → SuperBody → ℕ → Type 0
-IsPageStable s b number = (slot : Slot) → state_of_page b number ≡ In slot → (body : List ℕ) × (s (Page number slot) ≡ Stable body)
+-- the row at this place of a page that is given
+abbrev pub row_of_page : ℕ → Result PageBody Refusal → Result (Option (List ℕ)) Refusal
+row_of_page index (Ok page) = Ok (row_at page.rows index)
+row_of_page index (Err e) = Err e
 
--- ---- what the pool gives
+-- The row at this place of a page that is kept: it is given exactly where the page was not written for a position above this one.
+pub record IsRowUpTo (position : ℕ) (page : PageBody) (index : ℕ) (result : Result (Option (List ℕ)) Refusal) : Type 0 where
+  pub row : IfOk result (λ row. (row ≡ row_at page.rows index) × (page.position ≤ position))
+  pub later : IfErr result (λ e. (e ≡ Corrupt Pages) × (page.position ≤ position → ⊥))
 
--- Some bytes were read of the slot, and are kept, if there was room.
+-- The row is that of the page that the bytes spell.
+pub record IsRowOfPage (r : Reading) (b : SuperBody) (number index : ℕ) (result : Result (Option (List ℕ)) Refusal) : Type 0 where
+  pub page : Result PageBody Refusal
+  pub spelled : IsPageAsSpelled r b number page
+  pub row : result ≡ row_of_page index page
+
+abbrev pub GivesRow : {D : Type 0} → (D → Type 0) → (D → History) → Layout → SuperBody → ℕ → ℕ → D → Pooled → Result (Option (List ℕ)) Refusal → Type 0
+GivesRow honest history l b number index old before result = honest old → Agrees b.params.rows l (history old) before → IsRowOfPage (reading_of l (seen (history old))) b number index result
+
+-- The pool agrees with the device, if that is honest.
+abbrev pub IsPooled : {D : Type 0} → (D → Type 0) → (D → History) → List ℕ → Layout → D → Pooled → Type 0
+IsPooled honest history rows l disk pages = honest disk → Agrees rows l (history disk) pages
+
+-- It does so afterwards, if it did.
+abbrev pub GoesOn : {D : Type 0} → (D → Type 0) → (D → History) → List ℕ → Layout → D → D → Pooled → Pooled → Type 0
+GoesOn honest history rows l old new before after = IsPooled honest history rows l old before → IsPooled honest history rows l new after
+
+-- So it does unless the device failed.
+abbrev pub GoesOnIf : {D T : Type 0} → (D → Type 0) → (D → History) → List ℕ → Layout → D → D → Pooled → Pooled → Result T Refusal → Type 0
+GoesOnIf honest history rows l old new before after result = result ≢ Err DiskFault → GoesOn honest history rows l old new before after
+
+-- Some page of the slot was read, and is kept, if there was room.
 abbrev pub IsKeptAnew : ℕ → Slot → Pooled → Pooled → Type 0
-IsKeptAnew number slot before after = (body : List ℕ) × IsKept number (record { slot = slot; body = body }) before after
-
--- On an honest device, where each page in the pool is as its slot has it: what the device reads as decides, where no write failed in the
--- slot, and each page still is as its slot has it.
-abbrev pub GivesBasePage : {D : Type 0} → (D → Type 0) → (D → History) → Layout → SuperBody → ℕ → D → Pooled → Pooled → Result PageBody Refusal → Type 0
-GivesBasePage honest history l b number old before after result =
-    honest old → Agree l (history old) before → (IsPageReadable l (history old) b number → IsPageAsSpelled (reading_of l (seen (history old))) b number result) × Agree l (history old) after
-
--- So do the bytes that are stable in the slot, in whatever states.
-abbrev pub GivesStablePage : {D : Type 0} → (D → Type 0) → (D → History) → Layout → SuperBody → ℕ → D → Pooled → Result PageBody Refusal → Type 0
-GivesStablePage honest history l b number old before result =
-    honest old → Agree l (history old) before → (s : States) → Assigns l (history old) s → IsPageStable s b number → IsPageAsSpelled (stable_in s) b number result
+IsKeptAnew number slot before after = (page : PageBody) × IsKept number (record { slot = slot; page = page }) before after

@@ -1,15 +1,18 @@
 -- What a pool keeps, and what is so of it.
-use Rattle.std.specs.Prelude.{◌≡◌, ◌≢◌, ◌⊎◌, ℕ, List, Bool, true, false, cond, Option, None, Some, Contains, nat_eq, Result, OnOk}
+use Rattle.std.specs.Prelude.{◌≡◌, ◌≢◌, ◌⊎◌, ℕ, ◌≤◌, List, [], length, Bool, true, false, cond, Option, None, Some, Contains, nat_eq}
 use Rattle.std.specs.Map.{lookup, remove_entry}
 use Rattle.lru.specs.LruCache.{lru_cache, promoted, put_entries}
-use Rattle.rep_disk.specs.History.{History, seen}
+use Rattle.rep_disk.specs.History.{History, Synced, seen, stable, failed}
 use Rattle.rep_layout.specs.declared.place.Layout.{Layout}
 use Rattle.rep_layout.specs.declared.place.Slot.{Slot}
 use Rattle.rep_layout.specs.declared.place.Slot.TheVariants.{First, Second}
 use Rattle.rep_layout.specs.declared.place.Place.{Place}
 use Rattle.rep_layout.specs.declared.place.Place.TheVariants.{Page}
-use Rattle.rep_cells.specs.Readings.{IsPlace, reading_of}
-use Rattle.rep_cells.specs.Known.{IsReadable}
+use Rattle.rep_layout.specs.Places.{need_of}
+use Rattle.rep_cells.specs.Readings.{Reading, IsPlace, reading_of}
+use Rattle.rep_cells.specs.Calls.{WroteIn}
+use Rattle.rep_pages.specs.declared.page.Page.{Page as PageBody}
+use Rattle.rep_pages.specs.Pages.{IsPageBody}
 use Rattle.rep_pool.specs.declared.pool.Kept.{Kept}
 use Rattle.rep_pool.specs.declared.pool.TheConstants.{POOL_PAGES}
 
@@ -26,13 +29,13 @@ is_slot Second First = false
 is_slot Second Second = true
 
 -- what was kept, where it is of this slot
-abbrev pub body_in : Slot → Option Kept → Option (List ℕ)
-body_in slot None = None
-body_in slot (Some kept) = cond (is_slot kept.slot slot) (Some kept.body) None
+abbrev pub page_in : Slot → Option Kept → Option PageBody
+page_in slot None = None
+page_in slot (Some kept) = cond (is_slot kept.slot slot) (Some kept.page) None
 
 -- what is kept of the page as this slot had it
-abbrev pub found : ℕ → Slot → Pooled → Option (List ℕ)
-found number slot pages = body_in slot (lookup (nat_eq number) pages)
+abbrev pub found : ℕ → Slot → Pooled → Option PageBody
+found number slot pages = page_in slot (lookup (nat_eq number) pages)
 
 -- the page of this number in front
 abbrev pub used : ℕ → Pooled → Pooled
@@ -52,25 +55,41 @@ IsKept number kept before after = (after ≡ with_page number kept before) ⊎ (
 
 -- ---- what is so of each page that is kept
 
--- Of each page this is so of its place and its bytes.
-abbrev pub AreEach : (Place → List ℕ → Type 0) → Pooled → Type 0
-AreEach Is pages = (number : ℕ) (kept : Kept) → Contains pages (number, kept) → Is (Page number kept.slot) kept.body
+-- Of each page this is so of its number, its slot, and what it was there.
+abbrev pub AreEach : (ℕ → Slot → PageBody → Type 0) → Pooled → Type 0
+AreEach Is pages = (number : ℕ) (kept : Kept) → Contains pages (number, kept) → Is number kept.slot kept.page
 
--- The place, if there is one, reads as these bytes, unless a write failed in it.
-abbrev pub IsAsRead : Layout → History → Place → List ℕ → Type 0
-IsAsRead l h place body = IsPlace l place → IsReadable l h place → reading_of l (seen h) place ≡ Some body
+-- It has the number by which it is kept.
+abbrev pub AreNumbered : Pooled → Type 0
+AreNumbered pages = AreEach (λ number slot page. page.number ≡ number) pages
 
--- Each page is as its slot has it, but where a write failed in the slot. It speaks of slots, whatever base there is.
-abbrev pub Agree : Layout → History → Pooled → Type 0
-Agree l h pages = AreEach (IsAsRead l h) pages
+-- In the slot a reading has this page: the bytes there spell it, and it is of that number.
+pub record IsSpelled (rows : List ℕ) (r : Reading) (number : ℕ) (slot : Slot) (page : PageBody) : Type 0 where
+  pub body : List ℕ
+  pub shown : r (Page number slot) ≡ Some body
+  pub is_page : IsPageBody rows page body
+  pub is_it : page.number ≡ number
 
--- Every slot of another page reads as it did, and where a write failed in it one had failed before.
-abbrev pub StayElsewhere : ℕ → Layout → History → History → Type 0
-StayElsewhere number l before after = (other : ℕ) (slot : Slot) → other ≢ number → IsPlace l (Page other slot)
-    → (reading_of l (seen after) (Page other slot) ≡ reading_of l (seen before) (Page other slot)) × (IsReadable l after (Page other slot) → IsReadable l before (Page other slot))
+-- There is such a slot, and it reads as the page.
+abbrev pub IsAsRead : List ℕ → Layout → History → ℕ → Slot → PageBody → Type 0
+IsAsRead rows l h number slot page = IsPlace l (Page number slot) × IsSpelled rows (reading_of l (seen h)) number slot page
 
--- ---- a page that is asked for
+-- The pool agrees with a device that has room for the places, and on which no write has failed since the last sync that succeeded: each
+-- page that is kept is as its slot has it. It speaks of slots, whatever base there is.
+pub record Agrees (rows : List ℕ) (l : Layout) (h : History) (pages : Pooled) : Type 0 where
+  pub fits : need_of l ≤ length (stable h)
+  pub unfailed : failed h ≡ []
+  pub each : AreEach (IsAsRead rows l h) pages
 
--- On an honest device, where each page is as its slot has it: so is what is given, whether it was kept or not, and each page still.
-abbrev pub GivesAsRead : {D T E : Type 0} → (D → Type 0) → (D → History) → Layout → Place → D → Pooled → Pooled → List ℕ → Result T E → Type 0
-GivesAsRead honest history l place old before after out result = honest old → Agree l (history old) before → OnOk result (IsAsRead l (history old) place out) × Agree l (history old) after
+-- ---- how it goes on
+
+-- No page is kept of this place.
+abbrev pub IsFree : Place → Pooled → Type 0
+IsFree place pages = (number : ℕ) (kept : Kept) → Contains pages (number, kept) → Page number kept.slot ≢ place
+
+-- A pool that keeps nothing agrees with a device that has room for the places, and on which no write has failed since the last sync that
+-- succeeded. A pool that agrees with a device does so behind a write in a place of which no page is kept, and behind a sync.
+pub record PoolsGoOn : Type 0 where
+  pub begins : (rows : List ℕ) (l : Layout) (h : History) → need_of l ≤ length (stable h) → failed h ≡ [] → Agrees rows l h []
+  pub written : (rows : List ℕ) (l : Layout) (old new : History) (pages : Pooled) (place : Place) → WroteIn l place old new → IsFree place pages → Agrees rows l old pages → Agrees rows l new pages
+  pub synced : (rows : List ℕ) (l : Layout) (h : History) (pages : Pooled) → Agrees rows l h pages → Agrees rows l (Synced h) pages

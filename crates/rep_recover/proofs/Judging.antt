@@ -9,7 +9,7 @@ use Rattle.rep_types.specs.declared.value.Write.{Write}
 use Rattle.rep_types.specs.Windows.{Window as WindowOf}
 use Rattle.rep_types.specs.Settings.{Setting}
 use Rattle.rep_types.specs.Items.{is_write_set, writes_of}
-use Rattle.rep_types.specs.Order.{State, counts, extended, judge, judged_next, window_after}
+use Rattle.rep_types.specs.Order.{State, counts, extended, judge, window_after}
 use Rattle.std.specs.FinMap.{empty}
 use Rattle.rep_versions.specs.Versions.{Kept, IsAdded}
 use Rattle.rep_versions.specs.Following.{AreVersionsOf, effect_of, VersionsFollowTheItems}

@@ -5,6 +5,7 @@ ghost use Rattle.rep_disk.specs.History.{seen};
 ghost use Rattle.rep_disk.specs.Calls.{IsCall};
 ghost use Rattle.rep_layout.specs.Places.{need_of};
 ghost use Rattle.rep_cells.specs.Device.{disk_of, layout_of};
+ghost use Rattle.rep_pool.specs.BasePages.{IsPooled};
 ghost use Rattle.rep_checkpoint.specs.Moves.{found_at};
 ghost use Rattle.rep_engine.specs.Engines.{IsEngine};
 ghost use Rattle.rep_recover.specs.Looking.{fault_in};
@@ -17,6 +18,7 @@ use rep_cert::Certifier;
 use rep_checkpoint::{Checkpoint, nodes_leave_their_fronts, the_base_is_found};
 use rep_disk::Disk;
 use rep_engine::Engine;
+use rep_pool::{Pool, pools_go_on};
 use rep_steps::openings_open_the_order;
 use rep_types::Refusal;
 use std::alloc::Global;
@@ -24,8 +26,9 @@ use std::alloc::Global;
 impl<D: Disk> Opened<D> {
     /// The engine on what was found, with the checkpoint at the base, and the certifier beside it. The items go:
     /// log, versions and certifier have what is needed of them.
-    fn start(self, alloc: Global) -> (Engine<D>, Certifier)
-        requires { IsEngine (layout_of self.cells) (found_at self.superblock self.both) self.log self.versions [] }
+    fn start(self, alloc: Global, pool: Pool) -> (Engine<D>, Certifier)
+        requires pool { IsPooled D.honest D.history self.superblock.params.rows (layout_of self.cells) (disk_of self.cells) pool }
+        requires engine { IsEngine (layout_of self.cells) (found_at self.superblock self.both) self.log self.versions [] }
         ensures engine { result.0 ≡ engine_of (disk_of self.cells) (layout_of self.cells) self.superblock self.both self.log self.versions }
         ensures certifier { result.1 ≡ self.certifier }
     {
@@ -39,8 +42,16 @@ impl<D: Disk> Opened<D> {
             ..
         } = self;
         let checkpoint = Checkpoint::open(superblock, both);
-        let engine = Engine::open(alloc, cells, checkpoint, log, versions);
+        let engine = Engine::open(alloc, cells, pool, checkpoint, log, versions);
         (engine, certifier)
+    }
+
+    /// Gives the device back.
+    fn into_disk(self) -> D
+        ensures { result ≡ disk_of self.cells }
+    {
+        let Opened { cells, .. } = self;
+        cells.into_disk()
     }
 }
 
@@ -67,6 +78,10 @@ pub fn open_disk<D: Disk>(alloc: Global, disk: D) -> Result<(Engine<D>, Certifie
     the_base_is_found();
     nodes_leave_their_fronts();
     openings_open_the_order();
+    pools_go_on();
     let opened = read_disk(alloc, disk)?;
-    Ok(opened.start(alloc))
+    match Pool::new(alloc) {
+        Ok(pool) => Ok(opened.start(alloc, pool)),
+        Err(refusal) => Err((opened.into_disk(), refusal)),
+    }
 }

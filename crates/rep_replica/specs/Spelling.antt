@@ -10,7 +10,8 @@ use Rattle.rep_steps.specs.declared.event.Event.TheVariants.{Flush, Read}
 use Rattle.rep_steps.specs.declared.answer.Answer.{Answer}
 use Rattle.rep_steps.specs.declared.answer.Answer.TheVariants.{Wrote, Row, Refused}
 use Rattle.rep_checkpoint.specs.Moves.{position_in}
-use Rattle.rep_checkpoint.specs.Calls.{IsPageReadable, FlushesAsSpelled}
+use Rattle.rep_pool.specs.BasePages.{IsPageReadable}
+use Rattle.rep_checkpoint.specs.Calls.{FlushesAsSpelled}
 use Rattle.rep_engine.specs.Reading.{ReadsAt}
 use Rattle.rep_replica.specs.Replicas.{Replica}
 

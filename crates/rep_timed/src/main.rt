@@ -1,88 +1,43 @@
-//! Adds versions of rows and looks rows up among them, as often as its command line says: what
-//! `make bench` times.
+//! What `make bench` times: versions of rows that are added and looked up, and rows of pages that are read.
 #![tactic(auto)]
 
-ghost use Rattle.std.specs.Prelude.{◌<◌};
+mod pages;
+mod versions;
 
 use anyhow::{Context, Result};
-use arrayvec::ArrayVec;
-use rep_types::{Item, Key, Refusal, Value, Write, WriteSet};
-use rep_versions::{At, Versions};
-use std::alloc::Global;
+use rep_disk::FileDisk;
+use rep_layout::need;
 use std::env;
+use std::fs::Files;
 use std::rt::Env;
-
-/// How many rows an item writes.
-const WRITES: u32 = 10;
-
-/// How far apart the rows of an item lie. So there are ten times as many rows.
-const APART: u32 = 25_800;
-
-/// The first row of the item of a seqno: another one each time until all were written.
-fn first_row(seqno: u64) -> u32
-    ensures { result < 25800 }
-{
-    (seqno % u64::from(APART) * 7_919 % u64::from(APART)) as u32
-}
-
-/// The item of a seqno, which writes ten rows.
-fn item(seqno: u64) -> Result<WriteSet, Refusal> {
-    let first = first_row(seqno);
-    let mut writes: ArrayVec<Write, 10> = ArrayVec::new();
-    for i in 0..WRITES {
-        writes.push(Write {
-            key: Key {
-                table: 0,
-                row: first + APART * i,
-            },
-            value: Some(Value::new(&seqno.to_be_bytes())?),
-        });
-    }
-    WriteSet::new(1, 1, 0, &[], &writes)
-}
-
-/// Versions of so many items.
-fn versions(alloc: Global, items: u64) -> Result<Versions, Refusal> {
-    let mut versions = Versions::new(alloc);
-    for seqno in 0..items {
-        versions.add(seqno, &Item::WriteSet(item(seqno)?))?;
-    }
-    Ok(versions)
-}
-
-/// How many of so many look-ups find a version: each of a row that an item wrote, at its seqno.
-fn found(versions: &Versions, items: u64, reads: u64) -> u64 {
-    let mut found = 0u64;
-    for read in 0..reads {
-        let seqno = (read % 1_000_003 * 7_919).checked_rem(items).unwrap_or(0);
-        let row = first_row(seqno) + APART * (read % u64::from(WRITES)) as u32;
-        if versions.at(Key { table: 0, row }, seqno) != At::Below {
-            found = found.saturating_add(1);
-        }
-    }
-    found
-}
 
 /// As many times as the first word of the command line says: the versions of as many items as the
 /// second says, and as many look-ups among them as the third says.
-fn run<R: Env + Print + AllocGlobal>(rt: &R) -> Result<()> {
+///
+/// Or where the first word is `pages` or `pool`: writes 4,096 pages on a new file at the path that the second word is, and reads them in
+/// turn, as many as the third word says, as often as the fourth says.
+fn main(rt: HostRuntime) -> Result<()> {
     let alloc = rt.alloc();
-    let mut words = env::args(rt)?.skip(1);
-    let rounds = words.next().context("no number of rounds")?.parse::<u64>()?;
-    let items = words.next().context("no number of items")?.parse::<u64>()?;
-    let reads = words
-        .next()
-        .context("no number of look-ups")?
-        .parse::<u64>()?;
-    let mut all = 0u64;
-    for _ in 0..rounds {
-        let versions = versions(alloc, items)?;
-        all = all.saturating_add(found(&versions, items, reads));
+    let mut words = env::args(&rt)?.skip(1);
+    let first = words.next().context("no number of rounds")?;
+    let second = words.next().context("no number of items")?;
+    let third = words.next().context("no number of look-ups")?;
+    let is_pooled = first.as_str() == "pool";
+    if !is_pooled && first.as_str() != "pages" {
+        let rounds = first.parse::<u64>()?;
+        let all = versions::found_in_rounds(
+            alloc,
+            rounds,
+            second.parse::<u64>()?,
+            third.parse::<u64>()?,
+        )?;
+        rt.println(format_args!("{all} found"))?;
+        return Ok(());
     }
+    let reads = words.next().context("no number of reads")?.parse::<u64>()?;
+    let size = need(&pages::params()?) as usize;
+    let disk = FileDisk::create(&rt, &second, size)?;
+    let all = pages::found_on(alloc, disk, is_pooled, third.parse::<u32>()?, reads)?;
     rt.println(format_args!("{all} found"))?;
     Ok(())
-}
-
-fn main(rt: HostRuntime) -> Result<()> {
-    run(&rt)
 }

@@ -5,7 +5,7 @@ use Rattle.rep_layout.specs.declared.place.Place.TheVariants.{Page}
 use Rattle.rep_layout.specs.Places.{offset_of}
 use Rattle.rep_cells.specs.Device.{disk_of, layout_of}
 use Rattle.rep_cells.specs.States.{writing}
-use Rattle.rep_cells.specs.Calls.{WritesOnly, StepsAt}
+use Rattle.rep_cells.specs.Calls.{WritesOnly, WritesIn, StepsAt}
 use Rattle.rep_pages.specs.Slots.{state_of_page, spare_slot}
 use Rattle.rep_pages.specs.Pages.{IsPageBody}
 use Rattle.rep_checkpoint.proofs.flush.put_page.Goals as goal
@@ -28,6 +28,8 @@ returns-clause-puts g c =
       written = subst (λ (r : Result (Unit {0}) Fault). WritesOnly honest history (offset_of l (Page number spare)) c.in-Some.body.items old new r) (sym c.refusal_of.ensures.fault)
           (subst (λ (sl : Slot). WritesOnly honest history (offset_of l (Page number sl)) c.in-Some.body.items old new c.write_area.result) slot
           (subst (λ (b : List ℕ). WritesOnly honest history (offset_of l (Page number c.spare_of-slot.result)) b old new c.write_area.result) bytes c.write_area.ensures.written));
+      inside = subst (λ (r : Result (Unit {0}) Fault). WritesIn honest history l (Page number spare) old new r) (sym c.refusal_of.ensures.fault)
+          (subst (λ (sl : Slot). WritesIn honest history l (Page number sl) old new c.write_area.result) slot c.write_area.ensures.inside);
       states = subst (λ (r : Result (Unit {0}) Fault). StepsAt honest history l (Page number spare) (writing c.in-Some.body.items) old new r) (sym c.refusal_of.ensures.fault)
           (subst (λ (sl : Slot). StepsAt honest history l (Page number sl) (writing c.in-Some.body.items) old new c.write_area.result) slot
           (subst (λ (b : List ℕ). StepsAt honest history l (Page number c.spare_of-slot.result) (writing b) old new c.write_area.result) bytes c.write_area.ensures.states));

@@ -26,7 +26,7 @@ same_versions g c =
 
 pub invariant_of-self : goal.invariant_of-self
 invariant_of-self g c =
-    (subst (λ (kept : Kept). IsEngine (layout_of c.self.inside.cells) c.self.inside.checkpoint c.self.inside.log kept c.self.inside.block) (sym (same_versions g c)) c.self.invariant.0, c.self.invariant.1)
+    (subst (λ (kept : Kept). IsEngine (layout_of c.self.inside.cells) c.self.inside.checkpoint c.self.inside.log kept c.self.inside.block) (sym (same_versions g c)) c.self.invariant.0, c.self.invariant.1, c.self.invariant.2)
 
 on_err : {T : Type 0} (result : Result T Refusal) (P : Type 0) → P → OnErr result P
 on_err (Ok x) P p = tt
@@ -86,6 +86,7 @@ invariant_of-self-then-count-gt0 g c = (
   engine_then g c,
   c.add_replies.ensures ∙ ap (λ (rs : List Reply). rs ++ map reply_of (take c.next_items-count.result c.args.backlog.now)) c.self.invariant.1
       ∙ sym (ap (map reply_of) (block_then g c) ∙ map-append reply_of c.self.inside.block (take c.next_items-count.result c.args.backlog.now)),
+  c.self.invariant.2,
 )
 
 pub returns-then-count-gt0-clause-holds : goal.returns-then-count-gt0-clause-holds

@@ -7,7 +7,8 @@ use Rattle.rep_steps.specs.Nodes.{Steps}
 use Rattle.rep_steps.specs.Standings.{flush_refusal}
 use Rattle.rep_checkpoint.specs.Standing.{stage_of, IsCheckpoint}
 use Rattle.rep_checkpoint.specs.Moves.{position_in}
-use Rattle.rep_checkpoint.specs.Calls.{IsPageReadable, FlushesAsSpelled}
+use Rattle.rep_pool.specs.BasePages.{IsPageReadable}
+use Rattle.rep_checkpoint.specs.Calls.{FlushesAsSpelled}
 use Rattle.rep_engine.specs.Engines.{Engine, IsEngine, facts_of}
 use Rattle.rep_engine.specs.Holding.{Holds, wrote}
 use Rattle.rep_engine.proofs.Answering.{runs_of}

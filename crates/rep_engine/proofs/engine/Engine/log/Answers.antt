@@ -3,19 +3,21 @@ use Rattle.std.proofs.Common.{◌≡◌, Option, None, Some, refl, sym, ap, subs
 use Rattle.rep_disk.specs.Moments.{LeavesOnly}
 use Rattle.rep_log.specs.declared.phase.Phase.{Phase}
 use Rattle.rep_log.specs.Standing.{due_of}
-use Rattle.rep_cells.specs.Device.{disk_of}
+use Rattle.rep_layout.specs.declared.place.Layout.{Layout}
+use Rattle.rep_cells.specs.Device.{disk_of, layout_of}
 use Rattle.rep_steps.specs.declared.event.Event.TheVariants.{Log as to_log}
 use Rattle.rep_steps.specs.Standings.{log_refusal}
 use Rattle.rep_steps.specs.Moves.{Moves}
 use Rattle.rep_steps.specs.Nodes.{Node, Steps}
 use Rattle.rep_steps.specs.Images.{IsFrontAt}
 use Rattle.rep_image.specs.Meanings.{Means}
-use Rattle.rep_engine.specs.Engines.{Engine, facts_of}
+use Rattle.rep_engine.specs.Engines.{Engine, IsEngine, facts_of}
 use Rattle.rep_engine.specs.Writing.{written_in}
 use Rattle.rep_engine.specs.Holding.{Holds, wrote}
+use Rattle.rep_engine.proofs.Pools.{pooled_as, pooled_beside}
 use Rattle.rep_engine.proofs.Steps.{refused_log}
 use Rattle.rep_engine.proofs.Answering.{inside, none_of, runs_of, on_ok, halted_err, halted_ok}
-use Rattle.rep_engine.proofs.Logs.{IsLogged, halted_after, logged_moves, logged_steps, logged_leaves}
+use Rattle.rep_engine.proofs.Logs.{IsLogged, halted_after, logged_moves, logged_steps, logged_leaves, engine_then}
 use Rattle.rep_engine.proofs.engine.Engine.log.Goals as goal
 use Rattle.rep_engine.proofs.engine.Engine.log.Goals.{After-write_next-written}
 
@@ -71,6 +73,18 @@ pub returns-then-is_err-clause-leaves : goal.returns-then-is_err-clause-leaves
 returns-then-is_err-clause-leaves g c = λ n holds. leaves g (goal.at.returns-then-is_err-clause-leaves g c).After-write_next-written _ (failed g c) n holds
 
 -- ---- where it was done
+
+pub invariant_of-self-else-is_err : goal.invariant_of-self-else-is_err
+invariant_of-self-else-is_err g c =
+    let at = (goal.at.invariant_of-self-else-is_err g c).After-write_next-written in
+    let halted = none_of c.self.inside.halted c.if-is_some.ensures ∙ halted_ok c.write_next-written.result c.self.inside.log.phase c.if-is_err.ensures.value in (
+      subst (λ (l : Layout). IsEngine l c.self.inside.checkpoint c.write_next-written.new.log c.self.inside.versions c.self.inside.block) (sym c.write_next-written.ensures.layout)
+          (engine_then g.D.Disk.honest g.D.Disk.history g.D.Disk.size g.D.Disk.failures _ _ c.write_next-written.result (written g at c.self.inside.halted halted)),
+      c.self.invariant.1,
+      λ runs. pooled_as g.D.Disk.honest g.D.Disk.history (layout_of c.self.inside.cells) (layout_of c.write_next-written.new.cells) c.self.inside.checkpoint.base c.self.inside.checkpoint.base (disk_of c.write_next-written.new.cells) c.self.inside.pool c.write_next-written.ensures.layout refl
+          (pooled_beside c.pools_go_on.ensures g.D.Disk.honest g.D.Disk.history c.self.inside.checkpoint.base.params.rows (layout_of c.self.inside.cells) _ (disk_of c.self.inside.cells) (disk_of c.write_next-written.new.cells) c.self.inside.pool c.write_next-written.result (λ number slot e. absurd cc)
+          c.write_next-written.ensures.call.was_honest c.write_next-written.ensures.inside c.if-is_err.ensures.negation (c.self.invariant.2 runs)),
+    )
 
 done : (g : _) (c : goal.Else-is_err g) → c.self.inside.halted ≡ halted_after c.write_next-written.result c.self.inside.log.phase
 done g c = none_of c.self.inside.halted c.if-is_some.ensures ∙ halted_ok c.write_next-written.result c.self.inside.log.phase c.if-is_err.ensures.value

@@ -1,10 +1,11 @@
-use Rattle.std.proofs.Common.{ap, subst, ◌∙◌}
+use Rattle.std.proofs.Common.{refl, ap, subst, ◌∙◌}
 use Rattle.rep_log.specs.Moves.{started, StartsLater}
 use Rattle.rep_layout.specs.declared.super_body.SuperBody.{SuperBody}
-use Rattle.rep_cells.specs.Device.{layout_of}
+use Rattle.rep_cells.specs.Device.{disk_of, layout_of}
 use Rattle.rep_checkpoint.specs.Calls.{SyncsTo}
 use Rattle.rep_engine.specs.Engines.{Engine}
 use Rattle.rep_engine.specs.Writing.{PrunesIf}
+use Rattle.rep_engine.proofs.Pools.{pooled_as}
 use Rattle.rep_engine.proofs.Syncing.{engine_raised}
 use Rattle.rep_engine.proofs.engine.Engine.raise.Goals as goal
 
@@ -15,6 +16,7 @@ invariant_of-self g c = (
       (subst (λ (b : SuperBody). PrunesIf c.synced-rose.result b.position c.self.inside.versions c.prune_if.new.versions) c.base-base.ensures.base c.prune_if.ensures)
       (c.start_at.ensures.after ∙ ap (λ (b : SuperBody). started b.start c.self.inside.log) c.base-base.ensures.base),
   c.self.invariant.1,
+  λ runs. pooled_as g.D.Disk.honest g.D.Disk.history (layout_of c.self.inside.cells) (layout_of c.self.inside.cells) c.self.inside.checkpoint.base c.synced-rose.new.self.base (disk_of c.self.inside.cells) c.self.inside.pool refl c.synced-rose.ensures.params (c.self.invariant.2 runs),
 )
 
 pub returns-clause-states : goal.returns-clause-states

@@ -6,6 +6,7 @@ use Rattle.rep_types.specs.declared.refusal.Refusal.TheVariants.{DiskFault}
 use Rattle.rep_checkpoint.specs.Standing.{Standing as Checkpoint}
 use Rattle.rep_versions.specs.Versions.{Kept}
 use Rattle.rep_cells.specs.Device.{disk_of, layout_of}
+use Rattle.rep_layout.specs.declared.place.Layout.{Layout}
 use Rattle.rep_log.specs.Moves.{after_sync, started}
 use Rattle.rep_checkpoint.specs.Moves.{after_sync as checkpoint_after, is_opening}
 use Rattle.rep_checkpoint.specs.Calls.{SyncsTo}
@@ -15,8 +16,9 @@ use Rattle.rep_steps.specs.declared.answer.Answer.TheVariants.{Synced}
 use Rattle.rep_steps.specs.Moves.{Moves}
 use Rattle.rep_steps.specs.Images.{IsFrontAt}
 use Rattle.rep_image.specs.Meanings.{Means}
-use Rattle.rep_engine.specs.Engines.{Engine, facts_of}
+use Rattle.rep_engine.specs.Engines.{Engine, IsEngine, facts_of}
 use Rattle.rep_engine.specs.Holding.{Holds}
+use Rattle.rep_engine.proofs.Pools.{pooled_as, pooled_synced}
 use Rattle.rep_engine.proofs.Answering.{inside, none_of}
 use Rattle.rep_engine.proofs.Syncs.{IsSynced, GoesOn, synced_moves, sync_leaves, sync_halts, sync_holds}
 use Rattle.rep_engine.proofs.engine.Engine.sync.Goals as goal
@@ -41,6 +43,15 @@ returns-then-is_err-clause-steps g c = λ n holds.
     c.nodes_stay_nodes.ensures (c.sync.ensures.call.cause (sym c.if-is_err.ensures.value)) (record { halted = ap Some c.phase.ensures; checkpoint = refl; log = refl; block = refl })
 
 -- ---- where it was done
+
+pub invariant_of-self-else-is_err : goal.invariant_of-self-else-is_err
+invariant_of-self-else-is_err g c = (
+  subst (λ (l : Layout). IsEngine l c.self.inside.checkpoint c.self.inside.log c.self.inside.versions c.self.inside.block) (sym c.sync.ensures.layout) c.self.invariant.0,
+  c.self.invariant.1,
+  λ runs. pooled_as g.D.Disk.honest g.D.Disk.history (layout_of c.self.inside.cells) (layout_of c.sync.new.self) c.self.inside.checkpoint.base c.self.inside.checkpoint.base (disk_of c.sync.new.self) c.self.inside.pool c.sync.ensures.layout refl
+      (pooled_synced c.pools_go_on.ensures g.D.Disk.honest g.D.Disk.history c.self.inside.checkpoint.base.params.rows (layout_of c.self.inside.cells) (disk_of c.self.inside.cells) (disk_of c.sync.new.self) c.self.inside.pool c.sync.result
+      c.sync.ensures.call.was_honest c.sync.ensures.synced c.if-is_err.ensures.negation (c.self.invariant.2 runs)),
+)
 
 done : (g : _) (c : goal.After-raise g) → IsSynced g.D.Disk.honest g.D.Disk.history g.D.Disk.size g.D.Disk.failures
     (inside c.self.inside.cells c.self.inside.checkpoint c.self.inside.log c.self.inside.versions c.self.inside.block c.self.inside.halted) c.raise.new.self (Ok c.settle-replies.result) c.sync.result

@@ -2,13 +2,13 @@ use Rattle.std.proofs.Common.{◌≤◌, length, refl, sym, ap, subst, ◌∙◌
 use Rattle.rep_steps.specs.declared.event.Event.TheVariants.{Sync}
 use Rattle.rep_steps.specs.declared.answer.Answer.{Answer}
 use Rattle.rep_steps.specs.Moves.{opening}
-use Rattle.rep_engine.specs.Engines.{phase_at}
+use Rattle.rep_engine.specs.Engines.{phase_at, facts_of as engine_facts}
 use Rattle.rep_engine.specs.Holding.{synced}
 use Rattle.rep_replica.specs.Replicas.{Replica}
 use Rattle.rep_replica.specs.Holding.{IsStep}
 use Rattle.rep_log.specs.Moves.{after_sync, started}
 use Rattle.rep_replica.specs.Settling.{outcome_of}
-use Rattle.rep_replica.proofs.Keeping.{runs_inside}
+use Rattle.rep_replica.proofs.Keeping.{runs_inside, sync_keeps, replica_keeps}
 use Rattle.rep_replica.proofs.Settling.{synced_done}
 use Rattle.rep_replica.proofs.Refusing.{left_by_synced, refused_left}
 use Rattle.rep_replica.proofs.Stepping.{as_step, sync_step, opening_within}
@@ -20,13 +20,24 @@ old g c = record { engine = c.self.inside.engine; backlog = c.self.inside.backlo
 abbrev new : (g : _) (c : goal.After-synced g) → Replica g.row.D.Denot
 new g c = record { engine = c.sync.new.self; backlog = c.self.inside.backlog; certifier = c.self.inside.certifier; stopped = c.self.inside.stopped }
 
-pub returns-clause-step : goal.returns-clause-step
-returns-clause-step g c =
+-- what a sync opens was gathered
+told : (g : _) (c : goal.After-synced g) → opening (phase_at c.self.inside.engine.log.phase c.self.inside.engine.halted) ≤ length c.self.inside.engine.block
+told g c =
     let e = c.self.inside.engine in
     let runs = runs_inside c.self.view_is c.requires.running in
+    subst (λ phase. opening phase ≤ length e.block) (sym (ap (phase_at e.log.phase) runs.1)) (opening_within e.log.phase e.block c.durable-durable.ensures.engine.whole)
+
+pub invariant_of-self : goal.invariant_of-self
+invariant_of-self g c =
+    let runs = runs_inside c.self.view_is c.requires.running in
+    replica_keeps (engine_facts g.D.Disk.failures c.self.inside.engine) (engine_facts g.D.Disk.failures c.sync.new.self) c.self.inside.backlog c.self.inside.certifier.current c.self.inside.stopped runs.0
+    (sync_keeps (engine_facts g.D.Disk.failures c.self.inside.engine) (engine_facts g.D.Disk.failures c.sync.new.self) (synced c.sync.result) (told g c) c.sync.ensures.moves) c.self.invariant
+
+pub returns-clause-step : goal.returns-clause-step
+returns-clause-step g c =
+    let runs = runs_inside c.self.view_is c.requires.running in
     let params = c.sync.ensures.params in
-    let told = subst (λ phase. opening phase ≤ length e.block) (sym (ap (phase_at e.log.phase) runs.1)) (opening_within e.log.phase e.block c.durable-durable.ensures.engine.whole) in
-    let step = sync_step g.D.Disk.honest g.D.Disk.history g.D.Disk.failures c.nodes_stay_nodes.ensures c.judging_goes_on.ensures c.parts_step_as_the_whole.ensures (old g c) (new g c) (synced c.sync.result) params refl refl refl runs.0 told
+    let step = sync_step g.D.Disk.honest g.D.Disk.history g.D.Disk.failures c.nodes_stay_nodes.ensures c.judging_goes_on.ensures c.parts_step_as_the_whole.ensures (old g c) (new g c) (synced c.sync.result) params refl refl refl runs.0 (told g c)
     (record { moves = c.sync.ensures.moves; steps = c.sync.ensures.steps; leaves = c.sync.ensures.leaves }) in
     subst (λ (r : Replica g.row.D.Denot). IsStep g.D.Disk.honest g.D.Disk.history g.D.Disk.failures r Sync c.synced.result (new g c)) c.self.view_is
     (subst (λ (a : Answer). IsStep g.D.Disk.honest g.D.Disk.history g.D.Disk.failures (old g c) Sync a (new g c)) (sym c.synced.ensures)
