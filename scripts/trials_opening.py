@@ -328,10 +328,26 @@ def rows_that_no_page_has(_):
     yield trial
 
 
+def calls_of_an_opening(program):
+    """How many calls of its device the opening of a disk with a page makes: so many that a fault at the next one isn't met."""
+    text = with_a_page("").text()
+    return next(n for n in range(100) if last_line(program, text + "fail once %d\nopen\n" % n).startswith("open "))
+
+
+def a_page_that_is_read_again(program):
+    """The device passes the calls of the opening and one read: a page is asked of it once, and its rows then come of the pool."""
+    trial = with_a_page("a page that is read again")
+    trial.say("fail from %d" % (calls_of_an_opening(program) + 1), "armed")
+    opens(trial, 1, 1)
+    for row, wanted in ((1, "value 62"), (1, "value 62"), (0, "absent"), (62, "absent"), (1, "value 62")):
+        trial.say("read 0/%d 1" % row, wanted)
+    trial.say("failures", "failures 0")
+    yield trial
+
+
 def a_read_that_meets_a_fault(program):
     """It stops the node, and the row is there once the device serves."""
-    text = with_a_page("").text()
-    call = next(n for n in range(100) if last_line(program, text + "fail once %d\nopen\n" % n).startswith("open "))
+    call = calls_of_an_opening(program)
     trial = with_a_page("a read that meets a fault")
     trial.say("fail once %d" % call, "armed")
     opens(trial, 1, 1)
@@ -390,6 +406,7 @@ TRIALS = [
     ("the base can stand at the last seqno", base_at_the_last),
     ("rows are those of the base until they are written", rows_until_they_are_written),
     ("rows that no page has are absent", rows_that_no_page_has),
+    ("a page is asked of the device once", a_page_that_is_read_again),
     ("a read that meets a fault stops the replica", a_read_that_meets_a_fault),
     ("a fault at each call of an opening changes nothing", refused_openings),
     ("a fault at each call of a formatting is told", refused_formats),
