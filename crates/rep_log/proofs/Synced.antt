@@ -3,6 +3,7 @@ use Rattle.std.proofs.Common.{◌≡◌, ◌≢◌, ℕ, ◌+◌, ◌-◌, ◌%�
 use Rattle.std.specs.Prelude.{min, max, slice_set}
 use Rattle.std.proofs.lemmas.Bool.{cases_eq}
 use Rattle.rep_types.specs.declared.judged.Judged.{Judged}
+use Rattle.rep_types.specs.declared.limits.TheConstants.{MAX_SEQNO}
 use Rattle.rep_record.specs.Blocks.{block_bytes}
 use Rattle.rep_layout.specs.declared.place.Layout.{Layout}
 use Rattle.rep_layout.specs.declared.place.Place.TheVariants.{Log}
@@ -12,7 +13,7 @@ use Rattle.rep_log.specs.declared.phase.Phase.{Phase}
 use Rattle.rep_log.specs.declared.phase.Phase.TheVariants.{Resting, Closing, Filling, Filled, Opening}
 use Rattle.rep_log.specs.Tail.{IsBlockFrom, Stand, seqno_after, cell_in}
 use Rattle.rep_log.specs.Standing.{Standing, stands_at, index_of, busy, AtRest, IsDue, StandsOpen, LogIs}
-use Rattle.rep_log.specs.Moves.{synced_in, after_sync, blocks_synced, started, SyncsLog, StartsLater}
+use Rattle.rep_log.specs.Moves.{synced_in, after_sync, blocks_synced, started, restarted, SyncsLog, StartsLater, Restarts}
 use Rattle.rep_log.proofs.Blocks.{cell_is, stand_moved, stand_behind, stand_more, seqno_more, seqno_rest, stays_below}
 use Rattle.rep_log.proofs.Cells.{log_is, index_small}
 use Rattle.rep_log.proofs.Images.{later}
@@ -152,3 +153,20 @@ log_started log start l s first blocks sealed is =
       rest = is.rest;
       due = is.due;
     }
+
+-- ---- behind a state from elsewhere
+
+pub log_restarted : (log : Standing) (seqno : ℕ) → log.next < seqno → seqno ≤ MAX_SEQNO + 1 → Restarts seqno log (restarted seqno log)
+log_restarted log seqno later limit l s first blocks sealed resting is = record {
+  cells = is.cells;
+  some = is.some;
+  known = is.known;
+  starts = later;
+  limit = limit;
+  live = tt;
+  next = omega arith;
+  seqno = refl;
+  room = omega (arith, ap busy resting, is.some);
+  rest = λ i lt other. is.rest i lt (λ one. absurd (omega (arith, one, ap busy resting)));
+  due = subst (λ (p : Phase). IsDue p l (log.next % l.cells) log.next seqno [] (s (log_of l log.next))) (sym resting) tt;
+}

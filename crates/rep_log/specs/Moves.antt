@@ -111,6 +111,10 @@ durable_by (Opening n) = n
 abbrev pub started : ℕ → Standing → Standing
 started start log = record log { start = max log.start (min start log.next) }
 
+-- from the next block on, whose first record is to have this seqno
+abbrev pub restarted : ℕ → Standing → Standing
+restarted seqno log = record log { start = log.next; seqno = seqno }
+
 -- ---- what becomes of the states
 
 -- A call on the log: there are states that differ from those before it in the log's cells alone, in which the log stands as it
@@ -144,3 +148,9 @@ abbrev pub StartsLater : Standing → Standing → Type 0
 StartsLater before after =
     (l : Layout) (s : States) (first : ℕ) (blocks : List (List Judged)) (sealed : List Judged) → LogIs l before first blocks sealed s
     → LogIs l after (seqno_after first (take (after.start - before.start) blocks)) (drop (after.start - before.start) blocks) sealed s
+
+-- Whatever the log held, behind a state from elsewhere it holds nothing: its blocks are those of an earlier lap.
+abbrev pub Restarts : ℕ → Standing → Standing → Type 0
+Restarts seqno before after =
+    (l : Layout) (s : States) (first : ℕ) (blocks : List (List Judged)) (sealed : List Judged) → before.phase ≡ Resting → LogIs l before first blocks sealed s
+    → LogIs l after seqno [] [] s

@@ -11,7 +11,7 @@ ghost use Rattle.rep_cells.specs.Readings.{IsCell, reading_of};
 ghost use Rattle.rep_cells.specs.Calls.{gate, WritesOnly};
 ghost use Rattle.rep_log.specs.Tail.{IsBlockFrom, IsOfForm};
 ghost use Rattle.rep_log.specs.Standing.{index_of, due_of};
-ghost use Rattle.rep_log.specs.Moves.{unless_recycle, unless_seal, unless_gate, recycle_refusal, seal_refusal, gate_refusal, fault_of, recycled, sealed_as, gated, after_sync, durable_by, started, IsRefused, IsStep, SyncsLog, StartsLater};
+ghost use Rattle.rep_log.specs.Moves.{unless_recycle, unless_seal, unless_gate, recycle_refusal, seal_refusal, gate_refusal, fault_of, recycled, sealed_as, gated, after_sync, durable_by, started, restarted, IsRefused, IsStep, SyncsLog, StartsLater, Restarts};
 ghost use Rattle.rep_log.specs.Scanning.{HasCells, Finds, IsScanned, RefusesLog, rests_as};
 
 use crate::phase::{Phase, Step};
@@ -336,5 +336,34 @@ impl Log {
         ensures log { StartsLater self.old self.new }
     {
         self.raise(start)
+    }
+
+    /// Moves the start to the next block, whose first record is to have this seqno.
+    fn leave(&mut self, seqno: u64)
+        requires resting { self.old.phase ≡ Phase.Resting }
+        requires later { self.old.next < seqno }
+        requires limit { seqno ≤ MAX_SEQNO + 1 }
+        ensures after { self.new ≡ restarted seqno self.old }
+    {
+        let Log {
+            start,
+            next,
+            seqno: following,
+            ..
+        } = self;
+        *start = *next;
+        *following = seqno;
+    }
+
+    /// Lets all blocks go and goes on behind a state that came from elsewhere: the next block keeps its number and
+    /// its cell, and its first record is to have this seqno.
+    pub fn restart(&mut self, seqno: u64)
+        requires resting { self.old.phase ≡ Phase.Resting }
+        requires later { self.old.next < seqno }
+        requires limit { seqno ≤ MAX_SEQNO + 1 }
+        ensures after { self.new ≡ restarted seqno self.old }
+        ensures log { Restarts seqno self.old self.new }
+    {
+        self.leave(seqno)
     }
 }
