@@ -75,19 +75,20 @@ left_of l c page e = is_left page c.stage (here l c _ e)
 
 -- ---- in the states
 
-module _ (size : ℕ) (b : SuperBody) (next : Next) (x y : State) (s t : States) (page : ℕ) (left : is_in next.left page ≡ true) (base : IsBase size b x s) (toward : IsToward b next Flushing y s)
-    (elsewhere : (other : Place) → other ≢ Page page (spare_slot (state_of_page b page)) → t other ≡ s other) where
-  -- the base doesn't name the slot
-  spare_of_base : (number : ℕ) (slot : Slot) → state_of_page b number ≡ In slot → Page number slot ≢ Page page (spare_slot (state_of_page b page))
-  spare_of_base number slot there e =
-      spare_apart (state_of_page b page) (ap In (sym (ap slot_in e)) ∙ sym there ∙ ap (state_of_page b) (ap page_number e))
+-- the base doesn't name the slot that it doesn't use
+spare_of_base : (b : SuperBody) (page number : ℕ) (slot : Slot) → state_of_page b number ≡ In slot → Page number slot ≢ Page page (spare_slot (state_of_page b page))
+spare_of_base b page number slot there e = spare_apart (state_of_page b page) (ap In (sym (ap slot_in e)) ∙ sym there ∙ ap (state_of_page b) (ap page_number e))
 
-  -- and of the next base only this page lies there
+-- so it stays where that is written
+pub base_stays : (size : ℕ) (b : SuperBody) (x : State) (s t : States) (page : ℕ) → IsBase size b x s → ((other : Place) → other ≢ Page page (spare_slot (state_of_page b page)) → t other ≡ s other) → IsBase size b x t
+base_stays size b x s t page base elsewhere =
+    base_as (elsewhere _ (λ e. absurd cc)) (elsewhere _ (λ e. absurd cc)) (λ number slot there. elsewhere _ (spare_of_base b page number slot there)) base
+
+module _ (b : SuperBody) (next : Next) (y : State) (s t : States) (page : ℕ) (left : is_in next.left page ≡ true) (toward : IsToward b next Flushing y s)
+    (elsewhere : (other : Place) → other ≢ Page page (spare_slot (state_of_page b page)) → t other ≡ s other) where
+  -- of the next base only this page lies there
   spare_of_next : (number : ℕ) (slot : Slot) → is_in next.left number ≡ false → Page number slot ≢ Page page (spare_slot (state_of_page b page))
   spare_of_next number slot out e = true≢false (sym left ∙ ap (is_in next.left) (sym (ap page_number e)) ∙ out)
-
-  pub base_stays : IsBase size b x t
-  base_stays = base_as (elsewhere _ (λ e. absurd cc)) (elsewhere _ (λ e. absurd cc)) (λ number slot there. elsewhere _ (spare_of_base number slot there)) base
 
   pub flushing_stays : IsFlushing next y t
   flushing_stays = record {
@@ -157,8 +158,8 @@ flushes {D} honest history l kept page c after position old new result due posit
       steps = λ h size s x y assigns is at_is.
           let is_here : CheckpointIs size stand x y s = subst (λ (v : Standing). CheckpointIs size v x y s) (sym same) is in
           let put = moves.puts h s x.content y.content assigns is.base.content (subst (λ p. Rattle.rep_checkpoint.specs.Calls.AreAt c.base.params.rows kept p x.content y.content) (sym position_is) at_is) in
-          let base = base_stays size c.base next x y s put.states page left.left is.base is_here.beside put.elsewhere in
-          let during : CheckpointIs size stand x y put.states = record { base = base; beside = toward_stays size c.base next x y s put.states page left.left is.base is_here.beside put.elsewhere } in
+          let base = base_stays size c.base x s put.states page is.base put.elsewhere in
+          let during : CheckpointIs size stand x y put.states = record { base = base; beside = toward_stays c.base next y s put.states page left.left is_here.beside put.elsewhere } in
           record {
             states = put.states;
             elsewhere = λ i. put.elsewhere (Log i) (λ e. absurd cc);
@@ -166,7 +167,7 @@ flushes {D} honest history l kept page c after position old new result due posit
             after_is = after_ok result _ _
                 (λ (p : (body : List ℕ) × (put.states (Page page (spare_slot (state_of_page c.base page))) ≡ Pending body) × IsPageAt c.base.params.rows page position y.content body).
                 subst (λ (v : Standing). CheckpointIs size (flushed page v) x y put.states) same
-                (record { base = base; beside = flushed_page size c.base next x y s put.states page left.left is.base is_here.beside put.elsewhere p.0 p.1 (subst (λ n. IsPageAt c.base.params.rows page n y.content p.0) at p.2) })) put.there;
+                (record { base = base; beside = flushed_page c.base next y s put.states page left.left is_here.beside put.elsewhere p.0 p.1 (subst (λ n. IsPageAt c.base.params.rows page n y.content p.0) at p.2) })) put.there;
             reaches = put.reaches;
           };
       whole = λ h size s x y assigns is. moves.whole h s x.content assigns is.base.content;

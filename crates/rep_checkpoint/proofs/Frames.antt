@@ -14,13 +14,14 @@ use Rattle.rep_layout.specs.declared.place.Slot.TheVariants.{First, Second}
 use Rattle.rep_layout.specs.declared.place.Place.{Place}
 use Rattle.rep_layout.specs.declared.place.Place.TheVariants.{Super, Window, Log, Page}
 use Rattle.rep_layout.specs.Places.{side_of, TurnsAreTaken}
-use Rattle.rep_layout.specs.Supers.{super_bytes}
-use Rattle.rep_cells.specs.States.{State as StateOf, States}
+use Rattle.rep_layout.specs.Supers.{IsSuper, super_bytes}
+use Rattle.rep_layout.specs.Windows.{IsWindowBody}
+use Rattle.rep_cells.specs.States.{State as StateOf, States, Opening}
 use Rattle.rep_pages.specs.Slots.{state_of_page, spare_slot}
 use Rattle.rep_image.specs.Bases.{other, HaveContent}
 use Rattle.rep_checkpoint.specs.declared.stage.Part.{Part}
 use Rattle.rep_checkpoint.specs.declared.stage.Part.TheVariants.{Flushing, Saving, Ready, SuperFilling, SuperFilled, SuperOpening}
-use Rattle.rep_checkpoint.specs.Next.{Next}
+use Rattle.rep_checkpoint.specs.Next.{Next, window_of}
 use Rattle.rep_checkpoint.specs.Standing.{spare_side}
 use Rattle.rep_checkpoint.specs.States.{IsBase, IsFlushing, IsSaving, IsSaved, IsFar, IsToward, IsWritten, cell_in}
 
@@ -134,6 +135,30 @@ entries_are size position is = ap (λ (w : WindowOf). w.entries) is
 
 pub fixed_by : {v : WindowOf} {es : List Entry} (size position : ℕ) → v ≡ fixed size position es → v ≡ fixed size position v.entries
 fixed_by size position is = is ∙ ap (λ (fs : List Entry). fixed size position fs) (sym (ap (λ (w : WindowOf). w.entries) is))
+
+-- The next base is stable, and its superblock's gate opens: what a sync and an image need of it, of whatever cluster it is.
+pub record IsOpening (base : SuperBody) (next : Next) (y : State) (s : States) : Type 0 where
+  pub is_super : IsSuper next.super
+  pub number : next.super.number ≡ base.number + 1
+  pub params : next.super.params ≡ base.params
+  pub is_window : IsWindowBody next.super.params (window_of next)
+  pub position : y.position ≡ next.super.position
+  pub entries : y.kept ≡ fixed next.super.params.window next.super.position next.entries
+  pub saved : IsSaved (spare_side base) next y s
+  pub cell : s (Super (spare_side base)) ≡ Opening (super_bytes next.super)
+
+-- a checkpoint's next base is one
+pub toward_opens : (base : SuperBody) (next : Next) (y : State) (s : States) → IsToward base next SuperOpening y s → IsOpening base next y s
+toward_opens base next y s h = record {
+  is_super = h.follows.is_super;
+  number = h.follows.number;
+  params = h.follows.params;
+  is_window = h.follows.is_window;
+  position = h.position;
+  entries = h.entries;
+  saved = h.far;
+  cell = h.cell;
+}
 
 -- the next base comes as far as its window, its pages and its superblock's cell do
 pub toward_as : {base : SuperBody} {next : Next} {y : State} {s t : States} (part to : Part) → IsToward base next part y s → IsFar to (spare_side base) next y t → t (Super (spare_side base)) ≡ cell_in to (super_bytes next.super) → IsToward base next to y t

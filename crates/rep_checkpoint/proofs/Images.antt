@@ -26,17 +26,17 @@ use Rattle.rep_checkpoint.specs.declared.stage.Stage.TheVariants.{Off, Toward, R
 use Rattle.rep_checkpoint.specs.Next.{Next}
 use Rattle.rep_checkpoint.specs.Standing.{Standing, spare_side}
 use Rattle.rep_checkpoint.specs.Moves.{is_opening, found_at}
-use Rattle.rep_checkpoint.specs.States.{IsBase, IsToward, IsRetiring, StandsBeside, CheckpointIs}
+use Rattle.rep_checkpoint.specs.States.{IsBase, IsRetiring, StandsBeside, CheckpointIs}
 use Rattle.rep_checkpoint.specs.Laws.{HasBase, IsOneOf, TheBaseInEveryImage, TheBaseStandsStill, TheBaseIsFound}
-use Rattle.rep_checkpoint.proofs.Frames.{entries_are, fixed_by, next_side, other_again, content_as}
+use Rattle.rep_checkpoint.proofs.Frames.{entries_are, fixed_by, next_side, other_again, content_as, IsOpening, toward_opens}
 
 -- what a place may read as whose state is this
-reads_as : (state to : StateOf) (reading : Option (List ℕ)) → state ≡ to → Allows state reading → Allows to reading
+pub reads_as : (state to : StateOf) (reading : Option (List ℕ)) → state ≡ to → Allows state reading → Allows to reading
 reads_as state to reading e h = subst (λ (t : StateOf). Allows t reading) e h
 
 -- ---- the superblock beside the base
 
-lesser_none : (size number : ℕ) (side : Side) (reading : Option (List ℕ)) → reading ≡ None → IsLesser size side number reading
+pub lesser_none : (size number : ℕ) (side : Side) (reading : Option (List ℕ)) → reading ≡ None → IsLesser size side number reading
 lesser_none size number side reading e = subst (IsLesser size side number) (sym e) tt
 
 lesser_some : (size number : ℕ) (side : Side) (b : SuperBody) (reading : Option (List ℕ)) → reading ≡ Some (super_bytes b) → IsSuperAt size side b → b.number < number → IsLesser size side number reading
@@ -84,7 +84,7 @@ is_page b super number slot there = by (cases_lt number (length b.pages.items))
 contents : (b : SuperBody) (x : State) (s : States) (r : Reading) → IsSuper b → Allowed (layout_of b.params) s r → HaveContent b (λ number slot body. s (Page number slot) ≡ Stable body) x.content → HasContent r b x.content
 contents b x s r super allowed h = content_as (λ number slot body there e. reads_as _ (Stable body) _ e (allowed (Page number slot) (is_page b super number slot there))) h
 
-base_in : (size : ℕ) (b : SuperBody) (x : State) (s : States) (r : Reading) → Allowed (layout_of b.params) s r → IsBase size b x s → IsLesser size (spare_side b) b.number (r (Super (spare_side b))) → HasBase size r b x
+pub base_in : (size : ℕ) (b : SuperBody) (x : State) (s : States) (r : Reading) → Allowed (layout_of b.params) s r → IsBase size b x s → IsLesser size (spare_side b) b.number (r (Super (spare_side b))) → HasBase size r b x
 base_in size b x s r allowed h lesser = record {
   chosen = record { stands = reads_as _ (Opened (super_bytes b)) _ h.opened (allowed (Super (side_of b.number)) refl); is_super = h.is_super; lesser = lesser };
   position = h.position;
@@ -93,28 +93,27 @@ base_in size b x s r allowed h lesser = record {
 }
 
 -- the next base, where its gate is open
-next_in : TurnsAreTaken → (size : ℕ) (b : SuperBody) (next : Next) (x y : State) (s : States) (r : Reading) → Allowed (layout_of b.params) s r → IsBase size b x s → IsToward b next SuperOpening y s → r (Super (spare_side b)) ≡ Some (super_bytes next.super)
+pub next_in : TurnsAreTaken → (size : ℕ) (b : SuperBody) (next : Next) (x y : State) (s : States) (r : Reading) → Allowed (layout_of b.params) s r → IsBase size b x s → IsOpening b next y s → r (Super (spare_side b)) ≡ Some (super_bytes next.super)
     → HasBase size r next.super y
-next_in turns size b next x y s r allowed base toward shows =
+next_in turns size b next x y s r allowed base opening shows =
     let n = next.super in
-    let follows = toward.follows in
-    let side : side_of n.number ≡ spare_side b = next_side turns b n follows.number in
+    let side : side_of n.number ≡ spare_side b = next_side turns b n opening.number in
     let back : spare_side n ≡ side_of b.number = ap other side ∙ other_again (side_of b.number) in
     let shown : r (Super (spare_side n)) ≡ Some (super_bytes b) = ap (λ (d : Side). r (Super d)) back ∙ reads_as _ (Opened (super_bytes b)) _ base.opened (allowed (Super (side_of b.number)) refl) in
-    let saved : r (Window (spare_side b)) ≡ Some _ = reads_as _ (Stable _) _ toward.far.window (allowed (Window (spare_side b)) refl) in
+    let saved : r (Window (spare_side b)) ≡ Some _ = reads_as _ (Stable _) _ opening.saved.window (allowed (Window (spare_side b)) refl) in
     record {
       chosen = record {
         stands = ap (λ (d : Side). r (Super d)) side ∙ shows;
-        is_super = record { is_super = follows.is_super; here = refl; fits = subst (λ (p : Setting). need_of (layout_of p) ≤ size) (sym follows.params) base.is_super.fits };
-        lesser = lesser_some size n.number (spare_side n) b (r (Super (spare_side n))) shown (subst (λ (d : Side). IsSuperAt size d b) (sym back) base.is_super) (omega (arith, follows.number));
+        is_super = record { is_super = opening.is_super; here = refl; fits = subst (λ (p : Setting). need_of (layout_of p) ≤ size) (sym opening.params) base.is_super.fits };
+        lesser = lesser_some size n.number (spare_side n) b (r (Super (spare_side n))) shown (subst (λ (d : Side). IsSuperAt size d b) (sym back) base.is_super) (omega (arith, opening.number));
       };
-      position = toward.position;
+      position = opening.position;
       window = record {
-        stands = ap (λ (d : Side). r (Window d)) side ∙ saved ∙ ap (λ entries. Some (window_bytes (window n.number n.position entries))) (sym (entries_are n.params.window n.position toward.entries));
-        is_window = subst (λ entries. IsWindowBody n.params (window n.number n.position entries)) (sym (entries_are n.params.window n.position toward.entries)) follows.is_window;
-        is_fixed = fixed_by n.params.window n.position toward.entries;
+        stands = ap (λ (d : Side). r (Window d)) side ∙ saved ∙ ap (λ entries. Some (window_bytes (window n.number n.position entries))) (sym (entries_are n.params.window n.position opening.entries));
+        is_window = subst (λ entries. IsWindowBody n.params (window n.number n.position entries)) (sym (entries_are n.params.window n.position opening.entries)) opening.is_window;
+        is_fixed = fixed_by n.params.window n.position opening.entries;
       };
-      content = contents n y s r follows.is_super (subst (λ (p : Setting). Allowed (layout_of p) s r) (sym follows.params) allowed) toward.far.content;
+      content = contents n y s r opening.is_super (subst (λ (p : Setting). Allowed (layout_of p) s r) (sym opening.params) allowed) opening.saved.content;
     }
 
 -- the base is one of both
@@ -136,7 +135,7 @@ told turns size b (Toward next SuperFilling) x y s r allowed is = still_in size 
 told turns size b (Toward next SuperFilled) x y s r allowed is = still_in size (record { base = b; stage = Toward next SuperFilled }) x y s r allowed refl is
 told turns size b (Toward next SuperOpening) x y s r allowed is = elim (reads_as _ _ _ is.beside.cell (allowed (Super (spare_side b)) refl)) [
   | inl none ↦ (b, x, inl (refl, refl), base_in size b x s r allowed is.base (lesser_none size b.number (spare_side b) (r (Super (spare_side b))) none))
-  | inr some ↦ (next.super, y, inr (next, refl, refl, refl), next_in turns size b next x y s r allowed is.base is.beside some)
+  | inr some ↦ (next.super, y, inr (next, refl, refl, refl), next_in turns size b next x y s r allowed is.base (toward_opens b next y s is.beside) some)
 ]
 told turns size b (Retiring written) x y s r allowed is = still_in size (record { base = b; stage = Retiring written }) x y s r allowed refl is
 

@@ -164,6 +164,17 @@ module _ (n : Node) (size : ℕ) (c : Standing) (log : Log) (blocks : List (List
   follows : (next : Next) → c.stage ≡ Toward next SuperOpening → IsNext c.base next
   follows next stage = (subst (λ (t : Stage). StandsBeside size c.base t stands.goal s) stage stands.checkpoint.beside).follows
 
+-- an image that has the base which stands means the items that it holds behind that
+pub still_ends : JudgingGoesOn → LogsEndInTheirNode → (image : List ℕ) (n : Node) (c : Standing) (log : Log) (blocks : List (List Judged)) (sealed : List Judged) (s : States) (h : IsNode n) (stands : StandsAs n (length image) c log blocks sealed s)
+    → (b : SuperBody) (x : State) → b ≡ c.base → x ≡ n.base → HasBase (length image) (reading_of (layout_of c.base.params) image) b x
+    → (held : List (List Judged)) → MayHold log.phase blocks sealed held → HoldsFrom (reading_of (layout_of c.base.params) image) (layout_of c.base.params) log.start (c.base.position + 1) held → IsEndOf Means n image
+still_ends goes logs_end image n c log blocks sealed s h stands b x b_is x_is has held may holds =
+    let r = reading_of (layout_of c.base.params) image in
+    let led = to_base n (length image) c log blocks sealed s h stands in
+    let here = subst (λ (y : State). HasBase (length image) r c.base y) x_is (subst (λ (d : SuperBody). HasBase (length image) r d x) b_is has) in
+    is_end goes logs_end image n c log blocks sealed s h stands c.base n.base refl refl led held may
+    (means goes logs_end image n c log blocks sealed s h stands c.base n.base refl refl led held may r refl here holds)
+
 pub leave_ends : JudgingGoesOn → LogsEndInTheirNode → TheBaseInEveryImage → TheLogInEveryImage → NodesLeaveTheirEnds
 leave_ends goes logs_end base law image n c log blocks sealed s h stands allowed =
     let l = layout_of c.base.params in
@@ -173,11 +184,7 @@ leave_ends goes logs_end base law image n c log blocks sealed s h stands allowed
     let b = told.0 in
     let x = told.1 in
     elim told.2 [
-      | inl still ↦
-          let led = subst (λ (y : State). IsLedTo n log blocks b y) (sym still.1) (subst (λ (d : SuperBody). IsLedTo n log blocks d n.base) (sym still.0) (to_base n (length image) c log blocks sealed s h stands)) in
-          let params : b.params ≡ c.base.params = ap (λ (d : SuperBody). d.params) still.0 in
-          is_end goes logs_end image n c log blocks sealed s h stands b x (ap (λ (d : SuperBody). d.uuid) still.0) params led logs.0 logs.1
-          (means goes logs_end image n c log blocks sealed s h stands b x (ap (λ (d : SuperBody). d.uuid) still.0) params led logs.0 logs.1 r (ap (λ (p : Setting). reading_of (layout_of p) image) (sym params)) told.3 logs.2)
+      | inl still ↦ still_ends goes logs_end image n c log blocks sealed s h stands b x still.0 still.1 told.3 logs.0 logs.1 logs.2
       | inr next ↦
           let led = subst (λ (y : State). IsLedTo n log blocks b y) (sym next.3) (subst (λ (d : SuperBody). IsLedTo n log blocks d stands.goal) (sym next.2) (stands.toward next.0 SuperOpening next.1)) in
           let after = follows n (length image) c log blocks sealed s h stands next.0 next.1 in

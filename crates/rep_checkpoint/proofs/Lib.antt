@@ -7,6 +7,11 @@ pub mod Images
 pub mod Spelled
 pub mod Reading
 pub mod Flushing
+pub mod ComingBegins
+pub mod ComingPages
+pub mod ComingCalls
+pub mod ComingOn
+pub mod ComingImages
 pub mod Apart
 pub mod Facts
 pub mod Leaving
@@ -14,3 +19,5 @@ pub mod Settling
 pub mod Rows
 pub mod Touched
 pub mod Windows
+pub mod Arriving
+pub mod ArrivingImages

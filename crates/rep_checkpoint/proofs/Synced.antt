@@ -17,13 +17,13 @@ use Rattle.rep_checkpoint.specs.declared.stage.Stage.TheVariants.{Off, Toward, R
 use Rattle.rep_checkpoint.specs.Next.{Next}
 use Rattle.rep_checkpoint.specs.Standing.{Standing, spare_side, IsCheckpoint}
 use Rattle.rep_checkpoint.specs.Moves.{after_sync, synced_in}
-use Rattle.rep_checkpoint.specs.States.{IsBase, IsWritten, IsFlushing, IsSaving, IsSaved, IsToward, IsFar, cell_in, CheckpointIs}
+use Rattle.rep_checkpoint.specs.States.{IsBase, IsWritten, IsFlushing, IsSaving, IsSaved, IsFar, cell_in, CheckpointIs}
 use Rattle.rep_checkpoint.specs.Calls.{synced_base, SyncsTo}
-use Rattle.rep_checkpoint.proofs.Frames.{entries_are, fixed_by, other_again, next_side, content_as, toward_as}
+use Rattle.rep_checkpoint.proofs.Frames.{entries_are, fixed_by, other_again, next_side, content_as, toward_as, IsOpening, toward_opens}
 
 -- ---- what is written is stable
 
-base_synced : (size : ℕ) (b : SuperBody) (x : State) (s t : States) → Syncs s t → IsBase size b x s → IsBase size b x t
+pub base_synced : (size : ℕ) (b : SuperBody) (x : State) (s t : States) → Syncs s t → IsBase size b x s → IsBase size b x t
 base_synced size b x s t syncs h = record {
   is_super = h.is_super;
   position = h.position;
@@ -38,20 +38,20 @@ now_stable : (body : List ℕ) (a b : StateOf) → b ≡ synced a → IsWritten 
 now_stable body a b e (inl pending) = e ∙ ap synced pending
 now_stable body a b e (inr stable) = e ∙ ap synced stable
 
-flushing_synced : (next : Next) (y : State) (s t : States) → Syncs s t → IsFlushing next y s → IsFlushing next y t
+pub flushing_synced : (next : Next) (y : State) (s t : States) → Syncs s t → IsFlushing next y s → IsFlushing next y t
 flushing_synced next y s t syncs h = record {
   pages = λ number slot out there. let page = h.pages number slot out there in (page.0, inr (now_stable page.0 _ _ (syncs _) page.1), page.2);
   absent = h.absent;
   outside = h.outside;
 }
 
-saving_synced : (side : Side) (next : Next) (y : State) (s t : States) → Syncs s t → IsSaving side next y s → IsSaved side next y t
+pub saving_synced : (side : Side) (next : Next) (y : State) (s t : States) → Syncs s t → IsSaving side next y s → IsSaved side next y t
 saving_synced side next y s t syncs h = record {
   window = now_stable _ _ _ (syncs _) h.window;
   content = content_as (λ number slot body there e. now_stable body _ _ (syncs _) e) h.content;
 }
 
-saved_synced : (side : Side) (next : Next) (y : State) (s t : States) → Syncs s t → IsSaved side next y s → IsSaved side next y t
+pub saved_synced : (side : Side) (next : Next) (y : State) (s t : States) → Syncs s t → IsSaved side next y s → IsSaved side next y t
 saved_synced side next y s t syncs h = record {
   window = syncs _ ∙ ap synced h.window;
   content = content_as (λ number slot body there e. syncs _ ∙ ap synced e) h.content;
@@ -59,25 +59,37 @@ saved_synced side next y s t syncs h = record {
 
 -- ---- the next base is the base
 
-module _ (turns : TurnsAreTaken) (size : ℕ) (b : SuperBody) (next : Next) (x y : State) (s : States) (base : IsBase size b x s) (toward : IsToward b next SuperOpening y s) where
+module _ (turns : TurnsAreTaken) (size : ℕ) (b : SuperBody) (next : Next) (x y z : State) (s t : States) (base : IsBase size b x s) (opening : IsOpening b next y s) (syncs : Syncs s t) where
   abbrev n : SuperBody
   n = next.super
 
   abbrev side : side_of n.number ≡ spare_side b
-  side = next_side turns b n toward.follows.number
+  side = next_side turns b n opening.number
 
   abbrev back : spare_side n ≡ side_of b.number
   back = ap other side ∙ other_again (side_of b.number)
 
-  pub risen : (t : States) → Syncs s t → IsBase size n y t
-  risen t syncs = record {
-    is_super = record { is_super = toward.follows.is_super; here = refl; fits = subst (λ (p : Setting). need_of (layout_of p) ≤ size) (sym toward.follows.params) base.is_super.fits };
-    position = toward.position;
-    opened = ap (λ (d : Side). t (Super d)) side ∙ syncs _ ∙ ap synced toward.cell;
-    saved = ap (λ (d : Side). t (Window d)) side ∙ syncs _ ∙ ap synced toward.far.window ∙ ap (λ entries. Stable (window_bytes (window n.number n.position entries))) (sym (entries_are n.params.window n.position toward.entries));
-    is_window = subst (λ entries. IsWindowBody n.params (window n.number n.position entries)) (sym (entries_are n.params.window n.position toward.entries)) toward.follows.is_window;
-    is_fixed = fixed_by n.params.window n.position toward.entries;
-    content = content_as (λ number slot body there e. syncs _ ∙ ap synced e) toward.far.content;
+  abbrev entries : y.kept.entries ≡ next.entries
+  entries = entries_are n.params.window n.position opening.entries
+
+  -- and the superblock before it is to be closed
+  pub risen : CheckpointIs size (record { base = n; stage = Retiring false }) y z t
+  risen = record {
+    base = record {
+      is_super = record { is_super = opening.is_super; here = refl; fits = subst (λ (p : Setting). need_of (layout_of p) ≤ size) (sym opening.params) base.is_super.fits };
+      position = opening.position;
+      opened = ap (λ (d : Side). t (Super d)) side ∙ syncs _ ∙ ap synced opening.cell;
+      saved = ap (λ (d : Side). t (Window d)) side ∙ syncs _ ∙ ap synced opening.saved.window ∙ ap (λ es. Stable (window_bytes (window n.number n.position es))) (sym entries);
+      is_window = subst (λ es. IsWindowBody n.params (window n.number n.position es)) (sym entries) opening.is_window;
+      is_fixed = fixed_by n.params.window n.position opening.entries;
+      content = content_as (λ number slot body there e. syncs _ ∙ ap synced e) opening.saved.content;
+    };
+    beside = record {
+      before = b;
+      is_super = subst (λ (d : Side). IsSuperAt size d b) (sym back) base.is_super;
+      lesser = omega (arith, opening.number);
+      cell = ap (λ (d : Side). t (Super d)) back ∙ syncs _ ∙ ap synced base.opened;
+    };
   }
 
 -- ---- a sync
@@ -98,15 +110,7 @@ synced_to turns size b (Toward next Saving) x y s t syncs is = toward_synced siz
 synced_to turns size b (Toward next Ready) x y s t syncs is = toward_synced size b next Ready Ready x y s t syncs is refl (saved_synced (spare_side b) next y s t syncs is.beside.far)
 synced_to turns size b (Toward next SuperFilling) x y s t syncs is = toward_synced size b next SuperFilling SuperFilled x y s t syncs is refl (saved_synced (spare_side b) next y s t syncs is.beside.far)
 synced_to turns size b (Toward next SuperFilled) x y s t syncs is = toward_synced size b next SuperFilled SuperFilled x y s t syncs is refl (saved_synced (spare_side b) next y s t syncs is.beside.far)
-synced_to turns size b (Toward next SuperOpening) x y s t syncs is = record {
-  base = risen turns size b next x y s is.base is.beside t syncs;
-  beside = record {
-    before = b;
-    is_super = subst (λ (d : Side). IsSuperAt size d b) (sym (back turns size b next x y s is.base is.beside)) is.base.is_super;
-    lesser = omega (arith, is.beside.follows.number);
-    cell = ap (λ (d : Side). t (Super d)) (back turns size b next x y s is.base is.beside) ∙ syncs _ ∙ ap synced is.base.opened;
-  };
-}
+synced_to turns size b (Toward next SuperOpening) x y s t syncs is = risen turns size b next x y y s t is.base (toward_opens b next y s is.beside) syncs
 synced_to turns size b (Retiring false) x y s t syncs is = record {
   base = base_synced size b x s t syncs is.base;
   beside = record { before = is.beside.before; is_super = is.beside.is_super; lesser = is.beside.lesser; cell = syncs _ ∙ ap synced is.beside.cell };

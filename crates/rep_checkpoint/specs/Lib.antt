@@ -5,5 +5,8 @@ pub mod States
 pub mod Calls
 pub mod Pages
 pub mod Laws
+pub mod Coming
+pub mod Installing
 pub mod Nodes
+pub mod Arriving
 pub mod Windows

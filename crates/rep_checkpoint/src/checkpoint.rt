@@ -18,7 +18,7 @@ use std::alloc::Global;
 use std::marker::Model;
 
 /// The greatest number of pages, as the length of a list.
-const PAGES: usize = MAX_PAGES as usize;
+pub(crate) const PAGES: usize = MAX_PAGES as usize;
 
 /// Where the checkpoint of a disk stands: the base, which a superblock names, and how far the next one is.
 ///

@@ -29,7 +29,11 @@ use rep_types::Refusal;
 use rep_versions::Versions;
 
 /// Writes a page into the slot in which the base does not have it.
-fn put_page<D: Disk>(cells: &mut Cells<D>, base: &SuperBody, page: &Page) -> Result<(), Refusal>
+pub(crate) fn put_page<D: Disk>(
+    cells: &mut Cells<D>,
+    base: &SuperBody,
+    page: &Page,
+) -> Result<(), Refusal>
     requires layout { layout_of cells.old ≡ places_of base.now.params }
     requires page { (first : Key) × IsPage base.now.params.rows first page.now }
     ensures call { IsCall D.size D.failures D.honest (disk_of cells.old) (disk_of cells.new) (fault_of result) }

@@ -65,7 +65,11 @@ impl NextBase {
 }
 
 /// Writes the window of the next base on this side.
-fn put_window<D: Disk>(cells: &mut Cells<D>, side: Side, next: &NextBase) -> Result<(), DiskFault>
+pub(crate) fn put_window<D: Disk>(
+    cells: &mut Cells<D>,
+    side: Side,
+    next: &NextBase,
+) -> Result<(), DiskFault>
     requires { IsWindowBody next.now.super.params (window_of next.now) }
     ensures call { IsCall D.size D.failures D.honest (disk_of cells.old) (disk_of cells.new) result }
     ensures layout { layout_of cells.new ≡ layout_of cells.old }
@@ -78,7 +82,11 @@ fn put_window<D: Disk>(cells: &mut Cells<D>, side: Side, next: &NextBase) -> Res
 }
 
 /// Writes the superblock of the next base on this side, behind its closed gate.
-fn put_super<D: Disk>(cells: &mut Cells<D>, side: Side, next: &NextBase) -> Result<(), DiskFault>
+pub(crate) fn put_super<D: Disk>(
+    cells: &mut Cells<D>,
+    side: Side,
+    next: &NextBase,
+) -> Result<(), DiskFault>
     requires { IsSuper next.now.super }
     ensures call { IsCall D.size D.failures D.honest (disk_of cells.old) (disk_of cells.new) result }
     ensures layout { layout_of cells.new ≡ layout_of cells.old }

@@ -3,6 +3,8 @@
 ghost use Rattle.rep_checkpoint.specs.Nodes.{NodesLeaveTheirEnds, NodesLeaveTheirFronts, NodesSettle, VersionsLeadToTheState};
 ghost use Rattle.rep_checkpoint.specs.Laws.{TheBaseInEveryImage, TheBaseStandsStill, TheBaseIsFound, TheLogIsApart, TheCheckpointIsApart, TheStageIsTheFacts, BytesTellThePage};
 ghost use Rattle.rep_checkpoint.specs.Windows.{WindowsGoOn};
+ghost use Rattle.rep_checkpoint.specs.Installing.{InstallationsSettle, TheOldBaseOrTheSnapshot};
+ghost use Rattle.rep_checkpoint.specs.Arriving.{InstallationsLeaveTheOldOrTheNew, InstallationsMakeTheNode, InstallationsCanBeDropped, InstallationsStandBeside};
 
 use rep_image::{logs_end_in_their_node, the_synced_log_is_the_facts};
 use rep_layout::{row_places_are_told, turns_are_taken};
@@ -101,3 +103,48 @@ pub fn the_bytes_tell_the_page()
 {
     pages_are_told();
 }
+
+/// A sync that succeeds makes stable what was written of a snapshot; where the gate of its superblock was opened, that is the base, and
+/// the superblock before it is to be closed.
+pub fn installations_settle()
+    ensures { InstallationsSettle }
+{
+    turns_are_taken();
+}
+
+/// In every image, so after a stop, while a snapshot is installed, the base is the one that stands, or the snapshot while its superblock's
+/// gate opens; and it is whole: superblock, window and pages.
+pub fn the_old_base_or_the_snapshot()
+    ensures { TheOldBaseOrTheSnapshot }
+{
+    turns_are_taken();
+}
+
+/// Where a node stands on a device beside which a snapshot is installed, every image means what it may mean of the node, or, while the
+/// gate of the snapshot's superblock opens, the snapshot: rows, GTID and window, and no item behind it.
+pub fn installations_leave_the_old_or_the_new()
+    ensures { InstallationsLeaveTheOldOrTheNew }
+{
+    judging_goes_on();
+    logs_end_in_their_node();
+    the_old_base_or_the_snapshot();
+    the_log_in_every_image();
+}
+
+/// A sync that succeeds leaves the node as it stands beside the snapshot; where the gate of the snapshot's superblock was opened, the node
+/// that the snapshot makes stands there, with an empty log that goes on behind it.
+pub fn installations_make_the_node()
+    ensures { InstallationsMakeTheNode }
+{
+    installations_settle();
+}
+
+/// Until its superblock is written a snapshot can be dropped: the node stands as it did.
+pub fn installations_can_be_dropped()
+    ensures { InstallationsCanBeDropped }
+{}
+
+/// A snapshot can begin beside a node whose log rests, and a call that writes what comes next of it leaves the node as it stands.
+pub fn installations_stand_beside()
+    ensures { InstallationsStandBeside }
+{}

@@ -1,0 +1,72 @@
+-- The write that comes next of a snapshot.
+use Rattle.std.proofs.Common.{◌≡◌, sym, ap, subst, ◌∙◌, ℕ, Result, OnOk, OnErr, IfErr}
+use Rattle.rep_types.specs.declared.refusal.Refusal.{Refusal}
+use Rattle.rep_types.specs.declared.refusal.Refusal.TheVariants.{DiskFault}
+use Rattle.rep_types.specs.Order.{State}
+use Rattle.rep_disk.specs.History.{History}
+use Rattle.rep_disk.specs.declared.disk.DiskFault.{DiskFault as Fault}
+use Rattle.rep_layout.specs.declared.super_body.SuperBody.{SuperBody}
+use Rattle.rep_layout.specs.declared.place.Layout.{Layout}
+use Rattle.rep_layout.specs.declared.place.Place.TheVariants.{Super, Log}
+use Rattle.rep_layout.specs.Supers.{super_bytes}
+use Rattle.rep_cells.specs.States.{States, filling, opening, Moves}
+use Rattle.rep_cells.specs.Calls.{WritesOnly, WritesIn, StepsAt}
+use Rattle.rep_log.specs.Moves.{fault_of}
+use Rattle.rep_checkpoint.specs.declared.stage.Part.{Part}
+use Rattle.rep_checkpoint.specs.declared.stage.Part.TheVariants.{Flushing, Saving, Ready, SuperFilling, SuperFilled, SuperOpening}
+use Rattle.rep_checkpoint.specs.declared.stage.Stage.TheVariants.{Toward}
+use Rattle.rep_checkpoint.specs.Next.{Next}
+use Rattle.rep_checkpoint.specs.Standing.{spare_side}
+use Rattle.rep_checkpoint.specs.Moves.{next_part}
+use Rattle.rep_checkpoint.specs.States.{IsBase, IsFar, cell_in}
+use Rattle.rep_checkpoint.specs.Calls.{next_place, next_step, next_offset, next_bytes}
+use Rattle.rep_checkpoint.specs.Coming.{Coming, IsDue, InstallationIs, gone}
+use Rattle.rep_checkpoint.specs.Installing.{InstallsNext}
+use Rattle.rep_checkpoint.proofs.Frames.{saved_as}
+use Rattle.rep_checkpoint.proofs.GoingOn.{super_base, window_base, all_flushed, no_log, ok_as, err_as, if_ok}
+
+-- it comes as far as its window, its pages and its superblock's cell do, beside a base that stays
+pub coming_as : {size : ℕ} {base : SuperBody} {next : Next} {x y : State} {s t : States} (part to : Part) → InstallationIs size base (record { next = next; part = part }) x y s
+    → IsBase size base x t → IsFar to (spare_side base) next y t → t (Super (spare_side base)) ≡ cell_in to (super_bytes next.super) → InstallationIs size base (record { next = next; part = to }) x y t
+coming_as part to h stands far cell = record { stands = stands; coming = h.coming; position = h.position; entries = h.entries; far = far; cell = cell }
+
+-- what comes next was written
+goes : (size : ℕ) (base : SuperBody) (next : Next) (part : Part) (x y : State) (s t : States) → IsDue part → InstallationIs size base (record { next = next; part = part }) x y s
+    → Moves s t (next_place base (Toward next part)) (next_step (Toward next part)) → InstallationIs size base (record { next = next; part = next_part part }) x y t
+goes size base next Flushing x y s t due is moves =
+    coming_as Flushing Saving is (window_base is.stands _ moves) (all_flushed next y s t (spare_side base) is.coming.none (λ number slot there. moves.elsewhere _ (λ e. absurd cc)) moves.there is.far) (moves.elsewhere _ (λ e. absurd cc) ∙ is.cell)
+goes size base next Saving x y s t due is moves = absurd due
+goes size base next Ready x y s t due is moves =
+    coming_as Ready SuperFilling is (super_base is.stands _ moves) (saved_as (moves.elsewhere _ (λ e. absurd cc)) (λ number slot there. moves.elsewhere _ (λ e. absurd cc)) is.far) (moves.there ∙ ap (filling (super_bytes next.super)) is.cell)
+goes size base next SuperFilling x y s t due is moves = absurd due
+goes size base next SuperFilled x y s t due is moves =
+    coming_as SuperFilled SuperOpening is (super_base is.stands _ moves) (saved_as (moves.elsewhere _ (λ e. absurd cc)) (λ number slot there. moves.elsewhere _ (λ e. absurd cc)) is.far) (moves.there ∙ ap opening is.cell)
+goes size base next SuperOpening x y s t due is moves = absurd due
+
+-- as the call makes it
+pub goes_next :
+    {D : Type 0} (honest : D → Type 0) (history : D → History) (l : Layout) (base : SuperBody) (before after : Coming) (old new : D) (answer : Result (Unit {0}) Fault) (result : Result (Unit {0}) Refusal)
+    → IsDue before.part → fault_of result ≡ answer → OnOk result (after ≡ gone before) → OnErr result (after ≡ before) → IfErr result (λ e. e ≡ DiskFault)
+    → WritesOnly honest history (next_offset l base (Toward before.next before.part)) (next_bytes (Toward before.next before.part)) old new answer → WritesIn honest history l (next_place base (Toward before.next before.part)) old new answer
+    → StepsAt honest history l (next_place base (Toward before.next before.part)) (next_step (Toward before.next before.part)) old new answer → InstallsNext honest history l base before after old new result
+goes_next {D} honest history l base before after old new answer result due fault done failed only written inside steps =
+    let stage = Toward before.next before.part in
+    let wrote = subst (λ (r : Result (Unit {0}) Fault). WritesOnly honest history (next_offset l base stage) (next_bytes stage) old new r) (sym fault) written in
+    let wrote_in = subst (λ (r : Result (Unit {0}) Fault). WritesIn honest history l (next_place base stage) old new r) (sym fault) inside in
+    let stepped = subst (λ (r : Result (Unit {0}) Fault). StepsAt honest history l (next_place base stage) (next_step stage) old new r) (sym fault) steps in
+    record {
+      done = done;
+      fault = failed;
+      written = λ h. record { done = ok_as result _ (wrote h).done; failed = err_as result _ only (wrote h).failed };
+      inside = λ h. ok_as result _ (wrote_in h);
+      steps = λ h size s x y assigns is.
+          let step = stepped h s assigns in
+          let then = goes size base before.next before.part x y s step.after due is step.moves in
+          record {
+            states = step.after;
+            elsewhere = λ n. step.moves.elsewhere (Log n) (no_log base stage n);
+            during_is = then;
+            after_is = if_ok result _ then;
+            reaches = record { ok = ok_as result _ step.reaches.ok; images = step.reaches.images; moments = step.reaches.moments };
+          };
+    }

@@ -1,0 +1,74 @@
+-- What the calls that install a snapshot do on an honest device, and what follows from how it stands.
+use Rattle.std.specs.Prelude.{◌≡◌, ◌⊎◌, ℕ, true, Result, OnOk, OnErr}
+use Rattle.rep_types.specs.Order.{State}
+use Rattle.rep_types.specs.Windows.{fixed}
+use Rattle.rep_disk.specs.History.{History}
+use Rattle.rep_layout.specs.declared.super_body.SuperBody.{SuperBody}
+use Rattle.rep_layout.specs.declared.place.Layout.{Layout}
+use Rattle.rep_layout.specs.declared.place.Place.TheVariants.{Log, Page}
+use Rattle.rep_layout.specs.Places.{layout_of, offset_of}
+use Rattle.rep_cells.specs.Readings.{Reading}
+use Rattle.rep_cells.specs.States.{States, Allowed, Syncs}
+use Rattle.rep_cells.specs.Known.{Assigns}
+use Rattle.rep_cells.specs.Calls.{WritesOnly, WritesIn, Reaches}
+use Rattle.rep_pages.specs.Rows.{Rows}
+use Rattle.rep_pages.specs.Slots.{state_of_page, spare_slot}
+use Rattle.rep_checkpoint.specs.declared.stage.Part.TheVariants.{SuperOpening}
+use Rattle.rep_checkpoint.specs.declared.stage.Stage.TheVariants.{Toward}
+use Rattle.rep_checkpoint.specs.Standing.{Standing}
+use Rattle.rep_checkpoint.specs.Moves.{found_at}
+use Rattle.rep_checkpoint.specs.States.{CheckpointIs}
+use Rattle.rep_checkpoint.specs.Calls.{next_place, next_offset, next_bytes, WritesPage}
+use Rattle.rep_checkpoint.specs.Laws.{HasBase}
+use Rattle.rep_checkpoint.specs.Coming.{Coming, InstallationIs, blank, placed, with_page, gone, settled}
+
+-- ---- the calls
+
+-- No device is touched: where a checkpoint stands that is off, a snapshot without a page has come.
+abbrev pub BeginsToInstall : Standing → Coming → Type 0
+BeginsToInstall c i = (size : ℕ) (s : States) (x z : State) → CheckpointIs size c x z s
+    → InstallationIs size c.base i x (blank i.next.super.position (fixed i.next.super.params.window i.next.super.position i.next.entries)) s
+
+-- A call: there are states in which each cell of the log is as it was. The snapshot stands in them as it does during the call, and so
+-- in all that a stop during it leaves; where it succeeds, it then stands in them as it does after it.
+pub record Installs {T E : Type 0} (size : ℕ) (l : Layout) (old new : History) (s : States) (base : SuperBody) (during after : Coming) (x y z : State) (result : Result T E) : Type 0 where
+  pub states : States
+  pub elsewhere : (n : ℕ) → states (Log n) ≡ s (Log n)
+  pub during_is : InstallationIs size base during x y states
+  pub after_is : OnOk result (InstallationIs size base after x z states)
+  pub reaches : Reaches l old new states states result
+
+-- The write that comes next: of exactly these bytes at this offset, in that place. The snapshot is as far as that where it succeeds, and
+-- else as far as it was, and the device failed.
+pub record InstallsNext {D T E : Type 0} (honest : D → Type 0) (history : D → History) (l : Layout) (base : SuperBody) (before after : Coming) (old new : D) (result : Result T E) : Type 0 where
+  pub done : OnOk result (after ≡ gone before)
+  pub fault : OnErr result (after ≡ before)
+  pub written : WritesOnly honest history (next_offset l base (Toward before.next before.part)) (next_bytes (Toward before.next before.part)) old new result
+  pub inside : WritesIn honest history l (next_place base (Toward before.next before.part)) old new result
+  pub steps : honest old → (size : ℕ) (s : States) (x y : State) → Assigns l (history old) s → InstallationIs size base before x y s
+      → Installs size l (history old) (history new) s base (gone before) (gone before) x y y result
+
+-- A page came: it was written into the slot that the base doesn't use, and the snapshot brings its rows too.
+pub record InstallsPage {D T E : Type 0} (honest : D → Type 0) (history : D → History) (l : Layout) (base : SuperBody) (page : ℕ) (rows : Rows) (before after : Coming) (old new : D) (result : Result T E) : Type 0 where
+  pub done : OnOk result (after ≡ placed base page before)
+  pub fault : OnErr result (after ≡ before)
+  pub written : honest old → WritesPage (offset_of l (Page page (spare_slot (state_of_page base page)))) (history old) (history new) result
+  pub steps : honest old → (size : ℕ) (s : States) (x y : State) → Assigns l (history old) s → InstallationIs size base before x y s
+      → Installs size l (history old) (history new) s base before (placed base page before) x y (with_page base.params.rows page rows y) result
+
+-- ---- laws
+
+-- A sync makes it stable; and where its superblock's gate was opened, it is the base, and the superblock before it is to be retired.
+pub record InstallationsSettle : Type 0 where
+  pub goes_on : (size : ℕ) (base : SuperBody) (i : Coming) (x y : State) (s t : States) → (i.part ≡ SuperOpening → ⊥) → Syncs s t → InstallationIs size base i x y s → InstallationIs size base (settled i) x y t
+  pub ends : (size : ℕ) (base : SuperBody) (i : Coming) (x y z : State) (s t : States) → i.part ≡ SuperOpening → Syncs s t → InstallationIs size base i x y s → CheckpointIs size (found_at i.next.super true) y z t
+
+-- The base is the one that stands, or the snapshot while its gate opens.
+abbrev pub IsOldOrNew : SuperBody → Coming → State → State → SuperBody → State → Type 0
+IsOldOrNew base i x y b z = ((b ≡ base) × (z ≡ x)) ⊎ ((i.part ≡ SuperOpening) × (b ≡ i.next.super) × (z ≡ y))
+
+-- In every image the base is the one that stands, or the snapshot while its gate opens, whole: superblock, window and pages.
+abbrev pub TheOldBaseOrTheSnapshot : Type 0
+TheOldBaseOrTheSnapshot =
+    (size : ℕ) (l : Layout) (s : States) (r : Reading) (base : SuperBody) (i : Coming) (x y : State) → l ≡ layout_of base.params → InstallationIs size base i x y s → Allowed l s r
+    → (b : SuperBody) × (z : State) × IsOldOrNew base i x y b z × HasBase size r b z
