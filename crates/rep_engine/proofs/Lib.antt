@@ -19,3 +19,6 @@ pub mod Checking
 pub mod Flushing
 pub mod Windows
 pub mod Pools
+pub mod Asking
+pub mod Donating
+pub mod DonorPages

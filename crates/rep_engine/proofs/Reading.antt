@@ -35,12 +35,13 @@ use Rattle.rep_steps.specs.Moves.{Moves}
 use Rattle.rep_steps.specs.Nodes.{Node, Steps, NodesStayNodes, state_at}
 use Rattle.rep_steps.specs.Images.{AreJudgedFrom}
 use Rattle.rep_image.specs.Bases.{HaveContent}
-use Rattle.rep_checkpoint.specs.Nodes.{StandsAs, VersionsLeadToTheState}
+use Rattle.rep_checkpoint.specs.Nodes.{VersionsLeadToTheState}
 use Rattle.rep_checkpoint.proofs.Reading.{read_rows, never_bad}
 use Rattle.rep_engine.specs.Engines.{Engine, facts_of}
 use Rattle.rep_engine.specs.Holding.{Stands, Holds, row}
 use Rattle.rep_engine.specs.Reading.{ReadsRow, halted_by}
 use Rattle.rep_engine.proofs.Steps.{done_moves, fault_moves, corrupt_moves, done_steps, fault_steps, halted_at, halted_node}
+use Rattle.rep_engine.proofs.Asking.{facts_asked, holds_asked}
 use Rattle.rep_engine.proofs.Logs.{rises_by}
 use Rattle.rep_engine.proofs.Standing.{same_front}
 use Rattle.rep_engine.proofs.Spelled.{row_inside}
@@ -104,15 +105,12 @@ module _ {D : Type 0} (honest : D → Type 0) (history : D → History) (size fa
   pub row_moves : (value : Option (List ℕ)) (new : Engine D) → facts_of failures new ≡ facts_of failures old → Moves (facts_of failures old) (Read key at) (Row value) (facts_of failures new)
   row_moves value new same = done_moves (facts_of failures old) (Read key at) (record { verdict = Commit; stale = false; left = []; row = value }) (facts_of failures new) (ap is_some runs) none same
 
-  facts_stay : (disk : D) → failures disk ≡ failures old.disk → facts_of failures (record old { disk = disk; halted = None }) ≡ facts_of failures old
-  facts_stay disk same = rw same (rw runs refl)
-
   facts_halt : (disk : D) → facts_of failures (record old { disk = disk; halted = Some old.log.phase }) ≡ halted_at (failures disk) (facts_of failures old)
   facts_halt disk = rw runs refl
 
   base_moves : (result : Result (Option (List ℕ)) Refusal) (disk : D) → IsCall size failures honest old.disk disk (fault_of result) → IfErr result (λ e. (e ≡ DiskFault) ⊎ (e ≡ Corrupt Pages))
       → Moves (facts_of failures old) (Read key at) (row result) (facts_of failures (record old { disk = disk; halted = halted_by old.log.phase result }))
-  base_moves (Ok value) disk call refused = row_moves value (record old { disk = disk; halted = None }) (facts_stay disk (call.no_cause refl))
+  base_moves (Ok value) disk call refused = row_moves value (record old { disk = disk; halted = None }) (facts_asked failures old runs disk (call.no_cause refl))
   base_moves (Err e) disk call (inl fault) =
       let rises : Rises (failures old.disk) (failures disk) = rises_by (Option (List ℕ)) e fault call in
       subst (λ (f : Refusal). Moves (facts_of failures old) (Read key at) (Refused f) (facts_of failures (record old { disk = disk; halted = halted_by {T = Option (List ℕ)} old.log.phase (Err f) }))) (sym fault)
@@ -120,7 +118,7 @@ module _ {D : Type 0} (honest : D → Type 0) (history : D → History) (size fa
   base_moves (Err e) disk call (inr corrupt) =
       let same : failures disk ≡ failures old.disk = (subst (λ (f : Refusal). IsCall size failures honest old.disk disk (fault_of {T = Option (List ℕ)} (Err f))) corrupt call).no_cause refl in
       subst (λ (f : Refusal). Moves (facts_of failures old) (Read key at) (Refused f) (facts_of failures (record old { disk = disk; halted = halted_by {T = Option (List ℕ)} old.log.phase (Err f) }))) (sym corrupt)
-      (corrupt_moves (facts_of failures old) (Read key at) _ (ap is_some runs) none refl (facts_stay disk same))
+      (corrupt_moves (facts_of failures old) (Read key at) _ (ap is_some runs) none refl (facts_asked failures old runs disk same))
 
   pub reads_moves : (result : Result (Option (List ℕ)) Refusal) (new : Engine D) → ReadsRow size failures honest history key old new result → Moves (facts_of failures old) (Read key at) (row result) (facts_of failures new)
   reads_moves result new h = subst (λ e. Moves (facts_of failures old) (Read key at) (row result) (facts_of failures e)) (sym h.after) (base_moves result new.disk h.call h.refused)
@@ -149,24 +147,7 @@ module _ {D : Type 0} (honest : D → Type 0) (history : D → History) (size fa
         subst (λ v. Steps n (Read key at) (Row v) n) (sym (value_is ∙ row_is law lead n old.kept key at answer behind there.stands.judged outside (row_inside n.facts key at none_here) there.versions is))
         (done_steps n (Read key at) runs_on none_here)
 
-    -- the engine after a read of the device
-    held_after : (disk : D) → honest disk → failures disk ≡ failures old.disk → history disk ≡ history old.disk → Holds honest history failures n (record old { disk = disk; halted = None })
-    held_after disk is_honest same past = record {
-      is_honest = is_honest;
-      facts = holds.facts ∙ sym (facts_stay disk same);
-      node = holds.node;
-      runs = λ on. record {
-        states = there.states;
-        assigns = subst (λ h. Assigns old.layout h there.states) (sym past) there.assigns;
-        blocks = there.blocks;
-        sealed = there.sealed;
-        stands = subst (λ h. StandsAs n (length (stable h)) old.checkpoint old.log there.blocks there.sealed there.states) (sym past) there.stands;
-        versions = there.versions;
-        gates = there.gates;
-      };
-      images = λ image here. holds.images image (subst (λ h. IsImage h image) past here);
-    }
-
+    -- the engine whose device failed
     halted_then : NodesStayNodes → (disk : D) → honest disk → Rises (failures old.disk) (failures disk) → history disk ≡ history old.disk
         → Steps n (Read key at) (Refused DiskFault) (halted_node (failures disk) n) × Holds honest history failures (halted_node (failures disk) n) (record old { disk = disk; halted = Some old.log.phase })
     halted_then nodes disk is_honest rises past =
@@ -186,7 +167,7 @@ module _ {D : Type 0} (honest : D → Type 0) (history : D → History) (size fa
         → IfOk result (λ value. value ≡ n.base.content key) × (result ≡ Err (Corrupt Pages) → ⊥)
         → (m : Node) × Steps n (Read key at) (row result) m × Holds honest history failures m (record old { disk = disk; halted = halted_by old.log.phase result })
     base_steps nodes answer is below (Ok value) disk call past refused read =
-        (n, row_steps answer value is (read.0 ∙ sym below), held_after disk (call.stays_honest holds.is_honest) (call.no_cause refl) past)
+        (n, row_steps answer value is (read.0 ∙ sym below), holds_asked failures old runs disk (call.no_cause refl) honest history n holds (call.stays_honest holds.is_honest) past)
     base_steps nodes answer is below (Err e) disk call past (inl fault) read =
         let rises : Rises (failures old.disk) (failures disk) = rises_by (Option (List ℕ)) e fault call in
         let stops = halted_then nodes disk (call.stays_honest holds.is_honest) rises past in (

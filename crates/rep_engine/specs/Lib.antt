@@ -3,4 +3,5 @@ pub mod Writing
 pub mod Holding
 pub mod Accepting
 pub mod Reading
+pub mod Donating
 pub mod Checking

@@ -3,13 +3,14 @@
 ghost use Rattle.rep_engine.specs.Holding.{LeavesItsEnds};
 ghost use Rattle.rep_engine.specs.Checking.{CertifiersHoldWindows};
 ghost use Rattle.rep_engine.specs.Accepting.{AcceptedItemsAreAFront};
+ghost use Rattle.rep_engine.specs.Donating.{TheTailIsTold};
 
 use crate::engine::Engine;
 use rep_cells::images_read_as_allowed;
 use rep_cert::gives_its_window;
 use rep_checkpoint::{nodes_leave_their_ends, windows_go_on};
 use rep_disk::Disk;
-use rep_record::fronts_are_determined;
+use rep_record::{blocks_are_told, fronts_are_determined};
 
 /// Where an engine on an honest device is not stopped, every image of the device means a front of what the
 /// engine stands for that ends exactly at what is durable, or, while the gate of a block is opening, at that with
@@ -38,4 +39,11 @@ pub fn accepted_items_are_a_front()
     ensures { AcceptedItemsAreAFront }
 {
     fronts_are_determined();
+}
+
+/// The blocks behind the base of a node are one list: so those of several calls are blocks of the same.
+pub fn the_tail_is_told()
+    ensures { TheTailIsTold }
+{
+    blocks_are_told();
 }

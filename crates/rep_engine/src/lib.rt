@@ -4,6 +4,7 @@
 
 mod accept;
 mod check;
+mod donor;
 mod engine;
 mod flush;
 mod laws;
@@ -13,4 +14,5 @@ mod write;
 pub use engine::Engine;
 pub use laws::{
     accepted_items_are_a_front, certifiers_hold_windows, running_engines_leave_their_ends,
+    the_tail_is_told,
 };

@@ -1,0 +1,63 @@
+-- What a donor reads of an engine that stands for a node: the base, its window and its pages.
+use Rattle.std.proofs.Common.{◌≡◌, ℕ, List, None, Some, Result, Ok, Err, refl, sym, ap, subst, ◌∙◌, IfOk, IsOk}
+use Rattle.rep_types.specs.declared.refusal.Refusal.{Refusal}
+use Rattle.rep_types.specs.declared.refusal.Refusal.TheVariants.{Corrupt}
+use Rattle.rep_types.specs.declared.refusal.Part.TheVariants.{Pages as in_pages}
+use Rattle.rep_types.specs.Entries.{Entry}
+use Rattle.rep_disk.specs.History.{History, seen}
+use Rattle.rep_layout.specs.declared.place.Place.{Place}
+use Rattle.rep_layout.specs.declared.place.Place.TheVariants.{Window}
+use Rattle.rep_layout.specs.declared.super_body.SuperBody.{SuperBody}
+use Rattle.rep_layout.specs.Places.{side_of}
+use Rattle.rep_layout.specs.Windows.{Window as WindowBody, window, window_bytes, IsWindowBody}
+use Rattle.rep_cells.specs.Readings.{reading_of}
+use Rattle.rep_cells.specs.States.{States, IsSure, Shows}
+use Rattle.rep_cells.specs.Known.{Assigns}
+use Rattle.rep_pages.specs.declared.page.Page.{Page as PageBody}
+use Rattle.rep_pages.specs.Pages.{PagesAreTold}
+use Rattle.rep_pool.specs.BasePages.{IsPageAsSpelled}
+use Rattle.rep_steps.specs.Nodes.{Node}
+use Rattle.rep_checkpoint.proofs.Reading.{read_rows, never_bad}
+use Rattle.rep_engine.specs.Engines.{Engine, IsEngine}
+use Rattle.rep_engine.specs.Holding.{Stands, Holds}
+use Rattle.rep_engine.specs.Donating.{IsBasePage}
+
+-- What is so of what was read is so where it was.
+pub if_read : {T E P : Type 0} (result : Result T E) → IsOk result → IfOk result (λ _. P) → P
+if_read (Ok x) ok h = h
+if_read (Err e) ok h = absurd cc
+
+module _ {D : Type 0} (honest : D → Type 0) (history : D → History) (failures : D → ℕ) (within old : Engine D) (is : within ≡ old) (engine : IsEngine within.layout within.checkpoint within.log within.kept within.block) (runs : within.halted ≡ None)
+    (n : Node) (holds : Holds honest history failures n old) where
+  before : Holds honest history failures n within
+  before = subst (Holds honest history failures n) (sym is) holds
+
+  there : Stands history n within
+  there = before.runs runs
+
+  -- What is read beside the superblock is the base's window.
+  pub window_read :
+      (b : SuperBody) (area : Place) (bytes : List ℕ) (result : Result WindowBody Refusal) → b ≡ within.checkpoint.base → area ≡ Window (side_of b.number) → (honest within.disk → (s : States) → Assigns within.layout (history within.disk) s → IsSure (s area) → Shows (s area) (Some bytes))
+      → ((entries : List Entry) → IsWindowBody b.params (window b.number b.position entries) → bytes ≡ window_bytes (window b.number b.position entries) → result ≡ Ok (window b.number b.position entries))
+      → result ≡ Ok (window b.number b.position n.base.kept.entries)
+  window_read b area bytes result b_is area_is shown only =
+      let base = there.stands.checkpoint.base in
+      let saved = ap there.states area_is ∙ ap (λ (x : SuperBody). there.states (Window (side_of x.number))) b_is ∙ base.saved in
+      let body : Some bytes ≡ Some (window_bytes (window within.checkpoint.base.number within.checkpoint.base.position n.base.kept.entries)) = subst (λ state. Shows state (Some bytes)) saved (shown before.is_honest there.states there.assigns (subst IsSure (sym saved) tt)) in
+      only n.base.kept.entries (subst (λ (x : SuperBody). IsWindowBody x.params (window x.number x.position n.base.kept.entries)) (sym b_is) base.is_window)
+      (cc (body, ap (λ (x : SuperBody). window_bytes (window x.number x.position n.base.kept.entries)) b_is))
+
+  -- What is read of a page is the base's, and it is never corrupt.
+  module _ (told : PagesAreTold) (number : ℕ) (b : SuperBody) (b_is : b ≡ within.checkpoint.base) where
+    pub page_read : (page : PageBody) → page.number ≡ number → IsPageAsSpelled (reading_of within.layout (seen (history within.disk))) b number (Ok page) → IsBasePage old.checkpoint.base n.base.content number page
+    page_read page number_is spelled =
+        let here = subst (λ (x : SuperBody). IsPageAsSpelled (reading_of within.layout (seen (history within.disk))) x number (Ok page)) b_is spelled in
+        subst (λ (e : Engine D). IsBasePage e.checkpoint.base n.base.content number page) is (record {
+          is_it = number_is;
+          rows = read_rows told within.layout (history within.disk) within.checkpoint.base there.states n.base.content number engine.checkpoint.is_super engine.layout there.assigns there.stands.checkpoint.base.content page here.page;
+        })
+
+    pub page_whole : IsPageAsSpelled (reading_of within.layout (seen (history within.disk))) b number (Err (Corrupt in_pages)) → ⊥
+    page_whole spelled =
+        let here = subst (λ (x : SuperBody). IsPageAsSpelled (reading_of within.layout (seen (history within.disk))) x number (Err (Corrupt in_pages))) b_is spelled in
+        never_bad told within.layout (history within.disk) within.checkpoint.base there.states n.base.content number engine.checkpoint.is_super engine.layout there.assigns there.stands.checkpoint.base.content (here.corrupt refl)

@@ -1,0 +1,31 @@
+use Rattle.std.proofs.Common.{◌≡◌, Ok, Result, IfOk, IsOk, rules, refl, sym, ap, subst}
+use Rattle.rep_types.specs.declared.refusal.Refusal.{Refusal}
+use Rattle.rep_layout.specs.declared.place.Place.TheVariants.{Window as in_window_area}
+use Rattle.rep_layout.specs.Windows.{Window, window}
+use Rattle.rep_steps.specs.Nodes.{Node}
+use Rattle.rep_engine.specs.Holding.{Holds}
+use Rattle.rep_engine.proofs.Answering.{none_of}
+use Rattle.rep_engine.proofs.Asking.{holds_read}
+use Rattle.rep_engine.proofs.DonorPages.{if_read, window_read}
+use Rattle.rep_engine.proofs.engine.Engine.base_window.Goals as goal
+use Rattle.rep_engine.proofs.engine.Engine.base_window.Goals.{After-window_in}
+
+-- what was read is the base's window
+read : (g : _) (c : After-window_in g) (n : Node) → Holds g.D.Disk.honest g.D.Disk.history g.D.Disk.failures n c.args.self.now
+    → c.window_in.result ≡ Ok (window c.base-base.result.now.number c.base-base.result.now.position n.base.kept.entries)
+read g c n holds =
+    let ok : IsOk c.read_area.result = search rules in
+    window_read g.D.Disk.honest g.D.Disk.history g.D.Disk.failures _ c.args.self.now c.self.view_is c.self.invariant.0 (none_of c.self.inside.halted c.if-is_some.ensures) n holds
+    c.base-base.result.now (in_window_area c.of.result) c.read_area.new.room c.window_in.result c.base-base.ensures.base (ap in_window_area c.of.ensures)
+    (λ honest s assigns sure. if_read c.read_area.result ok (c.read_area.ensures.shown honest s assigns sure)) c.window_in.ensures.only
+
+pub returns-clause-holds : goal.returns-clause-holds
+returns-clause-holds g c = λ n holds other.
+    let ok : IsOk c.read_area.result = search rules in
+    holds_read g.D.Disk.size g.D.Disk.failures g.D.Disk.honest g.D.Disk.history _ c.args.self.now _ _ c.read_area.result c.self.view_is (none_of c.self.inside.halted c.if-is_some.ensures) c.read_area.ensures.layout c.read_area.ensures.call ok c.read_area.ensures.same n holds
+
+pub returns-clause-window : goal.returns-clause-window
+returns-clause-window g c = λ n holds. subst (λ (r : Result Window Refusal). IfOk r (λ w. w.entries ≡ n.base.kept.entries)) (sym (read g c n holds)) refl
+
+pub returns-clause-whole : goal.returns-clause-whole
+returns-clause-whole g c = λ n holds corrupt. let was = read g c n holds in absurd cc
