@@ -35,12 +35,20 @@ use Rattle.rep_engine.proofs.Accepting.{added_at}
 
 -- ---- how many come
 
-pub accepted_some : (phase : Phase) (block js more : List Judged) → 0 < accepted_in phase block js → (accepted_in phase block js ≡ fitting block js) × IsWhole phase more
-accepted_some Resting block js more some = (refl, tt)
-accepted_some Closing block js more some = (refl, tt)
-accepted_some (Filling n) block js more some = absurd (omega (arith, some))
-accepted_some (Filled n) block js more some = absurd (omega (arith, some))
-accepted_some (Opening n) block js more some = absurd (omega (arith, some))
+pub accepted_some : (phase : Phase) (block js : List Judged) → 0 < accepted_in phase block js → accepted_in phase block js ≡ fitting block js
+accepted_some Resting block js some = refl
+accepted_some Closing block js some = refl
+accepted_some (Filling n) block js some = absurd (omega (arith, some))
+accepted_some (Filled n) block js some = absurd (omega (arith, some))
+accepted_some (Opening n) block js some = absurd (omega (arith, some))
+
+-- and where some come, no block is on its way yet
+pub gathers_whole : (phase : Phase) (block js more : List Judged) → 0 < accepted_in phase block js → 0 < length more → IsWhole phase more
+gathers_whole Resting block js more some any = tt
+gathers_whole Closing block js more some any = any
+gathers_whole (Filling n) block js more some any = absurd (omega (arith, some))
+gathers_whole (Filled n) block js more some any = absurd (omega (arith, some))
+gathers_whole (Opening n) block js more some any = absurd (omega (arith, some))
 
 pub gathering_some : (phase : Phase) (block js : List Judged) → 0 < accepted_in phase block js → is_gathering phase ≡ true
 gathering_some Resting block js some = refl
@@ -84,7 +92,7 @@ versions_more law base changes (j ∷ js) before after are follow adds =
     let rest = versions_more law base (changes ++ effect_of j ∷ []) js adds.0 after mid (subst (λ n. SeqnosFrom n js) (omega (arith, length-append changes (effect_of j ∷ []))) follow.1) adds.2 in
     subst (λ (c : List (List Write)). AreVersionsOf base c after) (append_assoc changes (effect_of j ∷ []) (map effect_of js)) rest
 
-length-effects : (js : List Judged) → length (map effect_of js) ≡ length js
+pub length-effects : (js : List Judged) → length (map effect_of js) ≡ length js
 length-effects [] = refl
 length-effects (j ∷ js) = let rest = length-effects js in omega (arith, rest)
 

@@ -22,3 +22,4 @@ pub mod Pools
 pub mod Asking
 pub mod Donating
 pub mod DonorPages
+pub mod Installing

@@ -103,7 +103,7 @@ module _ {D : Type 0} (failures : D → ℕ) (e : Engine D) (h : IsEngine e.layo
     whole : IsWhole phase e.block
 
   goes : (stale : Bool) (phase : Phase) → e.log.phase ≡ phase → log_refusal (facts_of failures e) phase ≡ None → Goes (logged (length e.block) stale phase)
-  goes true Resting at none = record { room = omega (arith, (free none).room); whole = tt }
+  goes true Resting at none = record { room = omega (arith, (free none).room); whole = (free none).some }
   goes false Resting at none = record { room = omega (arith, (free none).room); whole = record { all = refl; some = (free none).some } }
   goes stale Closing at none = absurd cc
   goes stale (Filling k) at none = absurd cc

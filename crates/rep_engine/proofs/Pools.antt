@@ -40,7 +40,7 @@ pooled_synced go honest history rows l old new pages (Ok x) was synced ok pooled
 pooled_synced go honest history rows l old new pages (Err e) was synced ok pooled = absurd cc
 
 -- and behind the checkpoint's next write, which is in no page
-not_next : (b : SuperBody) (stage : Stage) (number : ℕ) (slot : Slot) → Page number slot ≢ next_place b stage
+pub not_next : (b : SuperBody) (stage : Stage) (number : ℕ) (slot : Slot) → Page number slot ≢ next_place b stage
 not_next b Off number slot e = absurd cc
 not_next b (Toward next Flushing) number slot e = absurd cc
 not_next b (Toward next Saving) number slot e = absurd cc

@@ -91,7 +91,7 @@ started_later : (log : Log) (start : ℕ) → log.start ≤ start → start ≤ 
 started_later log start above le = ap (λ i. record log { start = i }) (omega (arith, above, le))
 
 -- versions up to the base are gone
-within_pruned : (base position last : ℕ) (before after : Kept) → AreWithin base last before → IsPruned position before after → AreWithin position last after
+pub within_pruned : (base position last : ℕ) (before after : Kept) → AreWithin base last before → IsPruned position before after → AreWithin position last after
 within_pruned base position last before after h pruned key s version stands = by (nat_le s position) refl
   where
     by : (b : Bool) → nat_le s position ≡ b → (position < s) × (s ≤ last)

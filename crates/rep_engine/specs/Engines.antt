@@ -85,9 +85,10 @@ pub record HasAll (n : ℕ) (block : List Judged) : Type 0 where
   pub all : n ≡ length block
   pub some : 0 < n
 
+-- and a stale cell is closed only for what was gathered
 abbrev pub IsWhole : Phase → List Judged → Type 0
 IsWhole Resting block = Unit {0}
-IsWhole Closing block = Unit {0}
+IsWhole Closing block = 0 < length block
 IsWhole (Filling n) block = HasAll n block
 IsWhole (Filled n) block = HasAll n block
 IsWhole (Opening n) block = HasAll n block

@@ -5,3 +5,4 @@ pub mod Accepting
 pub mod Reading
 pub mod Donating
 pub mod Checking
+pub mod Installing

@@ -7,11 +7,13 @@ mod check;
 mod donor;
 mod engine;
 mod flush;
+mod install;
 mod laws;
 mod read;
 mod write;
 
 pub use engine::Engine;
+pub use install::Installation;
 pub use laws::{
     accepted_items_are_a_front, certifiers_hold_windows, running_engines_leave_their_ends,
     the_tail_is_told,

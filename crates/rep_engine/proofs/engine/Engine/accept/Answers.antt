@@ -1,5 +1,5 @@
-use Rattle.std.proofs.Common.{◌≡◌, ◌∙◌, ◌+◌, ◌<◌, List, [], ◌++◌, append-nil, map, length, take, Result, Ok, Err, refl, sym, ap, subst, arith, OnErr}
-use Rattle.std.proofs.lemmas.List.{map-append}
+use Rattle.std.proofs.Common.{◌≡◌, ◌∙◌, ◌+◌, ◌<◌, List, [], ◌++◌, append-nil, map, length, length-append, take, Result, Ok, Err, refl, sym, ap, subst, arith, OnErr}
+use Rattle.std.proofs.lemmas.List.{map-append, length-take-le}
 use Rattle.rep_types.specs.declared.judged.Judged.{Judged}
 use Rattle.rep_types.specs.declared.reply.Reply.{Reply}
 use Rattle.rep_types.specs.declared.refusal.Refusal.{Refusal}
@@ -11,8 +11,8 @@ use Rattle.rep_versions.specs.Versions.{Kept}
 use Rattle.rep_engine.specs.Engines.{Engine, IsEngine, IsWhole, durable_of, facts_of}
 use Rattle.rep_engine.specs.Accepting.{ComeNext, AddsItems, accepted_in}
 use Rattle.rep_engine.specs.Holding.{Holds}
-use Rattle.rep_engine.proofs.Accepting.{engine_accepted}
-use Rattle.rep_engine.proofs.Accepts.{accepted_some, accepted_few, length-replies, holds_more}
+use Rattle.rep_engine.proofs.Accepting.{engine_accepted, fitting_within}
+use Rattle.rep_engine.proofs.Accepts.{accepted_some, gathers_whole, accepted_few, length-replies, holds_more}
 use Rattle.rep_engine.proofs.engine.Engine.accept.Goals as goal
 
 -- ---- where a growth was refused
@@ -59,7 +59,7 @@ some_come g c = let some = c.if-count-gt0.true in let count = c.next_items-count
 
 count_is : (g : _) (c : goal.After-move_items g) → c.next_items-count.result ≡ fitting c.self.inside.block c.args.backlog.now
 count_is g c =
-    c.next_items-count.ensures.count ∙ (accepted_some c.args.self.now.log.phase c.args.self.now.block c.args.backlog.now [] (some_come g c)).0
+    c.next_items-count.ensures.count ∙ accepted_some c.args.self.now.log.phase c.args.self.now.block c.args.backlog.now (some_come g c)
     ∙ ap (λ (e : Engine g.row.D.Denot). fitting e.block c.args.backlog.now) (sym c.self.view_is)
 
 engine_then : (g : _) (c : goal.After-move_items g) → IsEngine (layout_of c.self.inside.cells) c.self.inside.checkpoint c.self.inside.log c.add_items.new.versions c.move_items.new.block
@@ -70,8 +70,11 @@ engine_then g c =
     let come = subst (λ (e : Engine g.row.D.Denot). ComeNext (facts_of g.D.Disk.failures e) js) (sym c.self.view_is) c.requires in
     let above = h.behind in
     let follow : SeqnosFrom (c.self.inside.log.seqno + length block) js = subst (λ n. SeqnosFrom n js) (omega (arith, above)) come.follow in
+    let size : length (take (fitting block js) js) ≡ fitting block js = length-take-le (fitting block js) js (fitting_within block js) in
+    let any : 0 < length (block ++ take (fitting block js) js) = omega (arith, length-append block (take (fitting block js) js), size, sym (count_is g c), c.if-count-gt0.true) in
     let whole : IsWhole c.self.inside.log.phase (block ++ take (fitting block js) js) =
-    subst (λ (e : Engine g.row.D.Denot). IsWhole e.log.phase (block ++ take (fitting block js) js)) (sym c.self.view_is) (accepted_some c.args.self.now.log.phase c.args.self.now.block js (block ++ take (fitting block js) js) (some_come g c)).1 in
+    subst (λ (e : Engine g.row.D.Denot). IsWhole e.log.phase (block ++ take (fitting block js) js)) (sym c.self.view_is)
+    (gathers_whole c.args.self.now.log.phase c.args.self.now.block js (block ++ take (fitting block js) js) (some_come g c) any) in
     let adds : AddsItems (take (fitting block js) js) c.self.inside.versions c.add_items.new.versions =
     subst (λ k. AddsItems (take k js) c.self.inside.versions c.add_items.new.versions) (count_is g c) c.in_ok-add_items.ensures.added in
     subst (λ (b : List Judged). IsEngine (layout_of c.self.inside.cells) c.self.inside.checkpoint c.self.inside.log c.add_items.new.versions b) (sym (taken g c))
