@@ -252,7 +252,9 @@ impl<D: Disk> Engine<D> {
 impl<D: Disk> Installation<D> {
     /// The position that the snapshot is at.
     pub fn position(&self) -> u64
-        ensures { result ≡ self.now.coming.next.super.position }
+        ensures position { result ≡ self.now.coming.next.super.position }
+        // What holds of every installation.
+        ensures beside { IsBeside self.now.engine.checkpoint self.now.engine.log self.now.engine.block self.now.coming × (self.now.coming.part ≡ Flushing) }
     {
         self.coming.position()
     }

@@ -4,6 +4,8 @@ pub mod Placing
 pub mod Keeping
 pub mod Joining
 pub mod Settling
+pub mod Retiring
+pub mod Installing
 pub mod LoggingOn
 pub mod Gathering
 pub mod Refusing

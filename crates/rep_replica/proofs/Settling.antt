@@ -62,7 +62,7 @@ check_done s Off = refl
 check_done s (Toward goal part) = refl
 check_done s (Retiring written) = refl
 
-answer_done : (s : Standing) (e : Event) (f : Found) → outcome_of (answer s e f) ≡ Ok tt
+pub answer_done : (s : Standing) (e : Event) (f : Found) → outcome_of (answer s e f) ≡ Ok tt
 answer_done s (Deliver seqno w) f = refl
 answer_done s Log f = refl
 answer_done s Sync f = refl

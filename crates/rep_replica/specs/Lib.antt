@@ -8,3 +8,4 @@ pub mod Reading
 pub mod Stopping
 pub mod Lives
 pub mod Settling
+pub mod Installing

@@ -1,6 +1,7 @@
 //! A replica: one node of the database on a disk, in one thread, as a state that events move.
 #![tactic(auto)]
 
+mod install;
 mod laws;
 mod open;
 mod replica;
@@ -8,6 +9,7 @@ mod run;
 mod settle;
 mod step;
 
+pub use install::Installation;
 pub use laws::{
     lives_follow_the_order, reads_forget_nothing, running_replicas_leave_their_ends,
     runs_are_joined, stopped_replicas_hold,

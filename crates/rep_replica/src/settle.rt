@@ -19,7 +19,7 @@ use rep_steps::{Answer, Event};
 use rep_types::{Item, Refusal};
 
 /// What came of a step.
-fn outcome(answer: &Answer) -> Result<(), Refusal>
+pub(crate) fn outcome(answer: &Answer) -> Result<(), Refusal>
     ensures { result ≡ outcome_of answer.now }
 {
     match answer {

@@ -1,0 +1,169 @@
+-- The two steps that retire a superblock: what they leave of a replica that waits for nothing else.
+use Rattle.std.proofs.Common.{◌≡◌, ◌⊎◌, inl, inr, ℕ, ◌+◌, ◌-◌, ◌≤◌, Bool, true, false, List, [], take, drop, Option, None, Some, Result, Ok, Err, IfErr, OnOk, refl, sym, ap, subst, ◌∙◌, arith}
+use Rattle.std.specs.Prelude.{MatchOption, if◌then◌else◌}
+use Rattle.rep_types.specs.declared.refusal.Refusal.{Refusal}
+use Rattle.rep_types.specs.declared.refusal.Refusal.TheVariants.{OutOfMemory, DiskFault, Corrupt}
+use Rattle.rep_types.specs.declared.refusal.Part.TheVariants.{Pages}
+use Rattle.rep_disk.specs.History.{History, Begins, Wrote as Written, Spoiled, Synced as Stable, IsImage}
+use Rattle.rep_disk.specs.Moments.{LeavesOnly, ImageSince, moment}
+use Rattle.rep_log.specs.declared.phase.Phase.TheVariants.{Resting}
+use Rattle.rep_steps.specs.declared.event.Event.{Event}
+use Rattle.rep_steps.specs.declared.event.Event.TheVariants.{Check, Sync}
+use Rattle.rep_steps.specs.declared.answer.Answer.{Answer}
+use Rattle.rep_steps.specs.declared.answer.Answer.TheVariants.{Refused}
+use Rattle.rep_steps.specs.Standings.{Standing, Stage, Off, Retiring, refusal, check_refusal}
+use Rattle.rep_steps.specs.Moves.{Found, Moves, Fails, answer, after, checked, takes_memory, reads_a_page, is_off}
+use Rattle.rep_steps.specs.Nodes.{Node, Steps, found, moved}
+use Rattle.rep_steps.specs.Images.{IsFrontAt}
+use Rattle.rep_image.specs.Meanings.{Means}
+use Rattle.rep_replica.specs.Replicas.{Replica, facts_of}
+use Rattle.rep_replica.specs.Holding.{Holds, IsStep}
+use Rattle.rep_replica.specs.Settling.{IsRunning, outcome_of}
+use Rattle.rep_replica.specs.Installing.{LeavesFronts}
+use Rattle.rep_replica.proofs.Settling.{refused_done, went_by, done_by, not_refused, answer_done, runs_on}
+use Rattle.rep_replica.proofs.Widening.{whole_front}
+
+-- ---- how a step comes out
+
+-- one that takes no memory and reads no page fails by its device alone, and that stops the replica
+pub fault_by : (s t : Standing) (e : Event) (a : Answer) → refusal s e ≡ None → takes_memory s e ≡ false → reads_a_page e ≡ false → Moves s e a t → IfErr (outcome_of a) (λ r. (r ≡ DiskFault) × (t.stopped ≡ true))
+fault_by s t e a none memory page m = elim (went_by s t e a none m) [
+  | inl went ↦ subst Stops (sym went.1) (subst (λ (o : Result (Unit {0}) Refusal). IfErr o (λ r. (r ≡ DiskFault) × (t.stopped ≡ true))) (sym (answer_done s e went.0)) tt)
+  | inr failed ↦ elim failed [
+    | inl why ↦ elim why [
+      | inl hungry ↦ absurd (let never : true ≡ false = sym hungry.0 ∙ memory in cc)
+      | inr fault ↦ subst Stops (sym fault.1) (refl, ap (λ (u : Standing). u.stopped) fault.3)
+    ]
+    | inr corrupt ↦ absurd (let never : true ≡ false = sym corrupt.0 ∙ page in cc)
+  ]
+]
+  where
+    Stops : Answer → Type 0
+    Stops b = IfErr (outcome_of b) (λ r. (r ≡ DiskFault) × (t.stopped ≡ true))
+
+-- one that is done makes of a node what its rule says
+pub steps_done : (n m : Node) (e : Event) (a : Answer) → refusal n.facts e ≡ None → outcome_of a ≡ Ok tt → Steps n e a m → m ≡ moved n e
+steps_done n m e a none done steps = by (subst (λ (o : Option Refusal). MatchOption o (((a ≡ answer n.facts e (found n e)) × (m ≡ moved n e)) ⊎ (Fails n.facts e a m.facts × (m ≡ record n { facts = m.facts }))) (λ r. (a ≡ Refused r) × (m ≡ n))) none steps)
+  where
+    by : ((a ≡ answer n.facts e (found n e)) × (m ≡ moved n e)) ⊎ (Fails n.facts e a m.facts × (m ≡ record n { facts = m.facts })) → m ≡ moved n e
+    by (inl went) = went.1
+    by (inr (inl hungry, same)) = absurd (refused_done OutOfMemory (sym (ap outcome_of hungry.1) ∙ done))
+    by (inr (inr fault, same)) = absurd (refused_done DiskFault (sym (ap outcome_of fault.1) ∙ done))
+
+-- ---- on any device
+
+module _ (s : Standing) (stage : s.stage ≡ Retiring false) (phase : s.phase ≡ Resting) (runs : s.stopped ≡ false) where
+  pub check_free : refusal s Check ≡ None
+  check_free = not_refused s Check runs (ap (check_refusal s) stage)
+
+  pub check_wants_none : takes_memory s Check ≡ false
+  check_wants_none = ap is_off stage
+
+  pub checked_facts : (t : Standing) (a : Answer) → Moves s Check a t → outcome_of a ≡ Ok tt → t ≡ record s { stage = Retiring true }
+  checked_facts t a m done = let d = done_by s t Check a check_free m done in d.1 ∙ ap (λ (st : Stage). record s { stage = checked s d.0.left st }) stage
+
+  pub synced_facts : (t u : Standing) (a : Answer) → t ≡ record s { stage = Retiring true } → Moves t Sync a u → outcome_of a ≡ Ok tt → u ≡ record s { stage = Off }
+  synced_facts t u a is m done =
+      let from : Moves (record s { stage = Retiring true }) Sync a u = subst (λ (x : Standing). Moves x Sync a u) is m in
+      let d = done_by (record s { stage = Retiring true }) u Sync a (not_refused (record s { stage = Retiring true }) Sync runs refl) from done in
+      let none : s.durable + 0 ≡ s.durable = omega arith in
+      let next : s.next + 0 ≡ s.next = omega arith in
+      d.1 ∙ rw phase (rw none (rw next refl))
+
+-- ---- of a node
+
+pub checked_node : (n : Node) → n.facts.stage ≡ Retiring false → moved n Check ≡ record n { facts = record n.facts { stage = Retiring true } }
+checked_node n stage = ap (λ (st : Stage). record n { facts = record n.facts { stage = checked n.facts (found n Check).left st } }) stage
+
+pub synced_node : (n : Node) → n.facts.phase ≡ Resting → moved (record n { facts = record n.facts { stage = Retiring true } }) Sync ≡ record n { facts = record n.facts { stage = Off } }
+synced_node n phase =
+    let none : n.facts.durable + 0 ≡ n.facts.durable = omega arith in
+    let next : n.facts.next + 0 ≡ n.facts.next = omega arith in
+    let past : n.facts.base - n.facts.base ≡ 0 = omega arith in
+    rw phase (rw none (rw next (rw past refl)))
+
+-- ---- what a stop leaves
+
+image_since : (h : History) (t : ℕ) (image : List ℕ) → IsImage h image → ImageSince h t image
+image_since (Begins bytes) t image here = here
+image_since (Written at bytes h) t image here = inl here
+image_since (Spoiled at junk h) t image here = inl here
+image_since (Stable h) t image here = inl here
+
+image_now : (h : History) (image : List ℕ) → ImageSince h (moment h) image → IsImage h image
+image_now (Begins bytes) image here = here
+image_now (Written at bytes h) image (inl here) = here
+image_now (Written at bytes h) image (inr before) = absurd (omega (arith, before.0))
+image_now (Spoiled at junk h) image (inl here) = here
+image_now (Spoiled at junk h) image (inr before) = absurd (omega (arith, before.0))
+image_now (Stable h) image (inl here) = here
+image_now (Stable h) image (inr before) = absurd (omega (arith, before.0))
+
+-- what each moment up to now leaves, now leaves too
+pub left_now : {P : List ℕ → Type 0} (old new : History) → LeavesOnly old new P → ((image : List ℕ) → IsImage old image → P image) → (image : List ℕ) → IsImage new image → P image
+left_now {P} old new leaves had image here = by (leaves.since (moment old) image (omega arith) (image_since new (moment old) image here))
+  where
+    by : ImageSince old (moment old) image ⊎ P image → P image
+    by (inl before) = had image (image_now old image before)
+    by (inr p) = p
+
+pub leaves_then : {P Q : List ℕ → Type 0} (first h new : History) → LeavesOnly first h P → LeavesOnly h new Q → ((image : List ℕ) → Q image → P image) → LeavesOnly first new P
+leaves_then {P} {Q} first h new a b f = record {
+  later = omega (arith, a.later, b.later);
+  since = λ t image le since. by t image le (b.since t image (omega (arith, le, a.later)) since);
+}
+  where
+    by : (t : ℕ) (image : List ℕ) → t ≤ moment first → ImageSince h t image ⊎ Q image → ImageSince first t image ⊎ P image
+    by t image le (inl before) = a.since t image le before
+    by t image le (inr q) = inr (f image q)
+
+-- a front of the node at another stage is one of the node
+pub front_at_stage : (n : Node) (stage : Stage) (image : List ℕ) → IsFrontAt Means (record n { facts = record n.facts { stage = stage } }) image → IsFrontAt Means n image
+front_at_stage n stage image f = record { meaning = f.meaning; reads = f.reads; end = f.end; least = f.least; front = record { uuid_is = f.front.uuid_is; setting_is = f.front.setting_is; past = f.front.past; order = f.front.order; within = f.front.within; base_is = f.front.base_is; tail_is = f.front.tail_is } }
+
+-- ---- of a replica
+
+module _ {D : Type 0} (honest : D → Type 0) (history : D → History) (failures : D → ℕ) (old mid : Replica D) (a : Answer) (step : IsStep honest history failures old Check a mid) (n : Node) (holds : Holds honest history failures n old) where
+  fronts : (image : List ℕ) → IsImage (history old.engine.disk) image → IsFrontAt Means n image
+  fronts image here = whole_front n old.engine.block holds.taken image (holds.engine.images image here)
+
+  -- a step leaves fronts of the node
+  pub step_fronts : LeavesFronts honest history n mid
+  step_fronts = record {
+    is_honest = (step.steps n holds).2.engine.is_honest;
+    images = left_now (history old.engine.disk) (history mid.engine.disk) (step.leaves n holds) fronts;
+  }
+
+  module _ (running : IsRunning old) (stage : (facts_of failures old).stage ≡ Retiring false) (phase : (facts_of failures old).phase ≡ Resting) (done : outcome_of a ≡ Ok tt) where
+    stage_is : n.facts.stage ≡ Retiring false
+    stage_is = ap (λ (s : Standing). s.stage) holds.facts ∙ stage
+
+    phase_is : n.facts.phase ≡ Resting
+    phase_is = ap (λ (s : Standing). s.phase) holds.facts ∙ phase
+
+    runs : n.facts.stopped ≡ false
+    runs = ap (λ (s : Standing). s.stopped) holds.facts ∙ runs_on failures old running
+
+    -- the node with its superblock written
+    abbrev written : Node
+    written = record n { facts = record n.facts { stage = Retiring true } }
+
+    pub holds_written : Holds honest history failures written mid
+    holds_written =
+        let went = step.steps n holds in
+        subst (λ (m : Node). Holds honest history failures m mid) (steps_done n went.0 Check a (check_free n.facts stage_is phase_is runs) done went.1 ∙ checked_node n stage_is) went.2
+
+    module _ (new : Replica D) (b : Answer) (second : IsStep honest history failures mid Sync b new) where
+      pub second_leaves : LeavesOnly (history old.engine.disk) (history new.engine.disk) (IsFrontAt Means n)
+      second_leaves = leaves_then (history old.engine.disk) (history mid.engine.disk) (history new.engine.disk) (step.leaves n holds) (second.leaves written holds_written) (λ image f. front_at_stage n (Retiring true) image f)
+
+      pub second_fronts : LeavesFronts honest history n new
+      second_fronts = record {
+        is_honest = (second.steps written holds_written).2.engine.is_honest;
+        images = left_now (history old.engine.disk) (history new.engine.disk) second_leaves fronts;
+      }
+
+      pub holds_retired : outcome_of b ≡ Ok tt → Holds honest history failures (record n { facts = record n.facts { stage = Off } }) new
+      holds_retired ended =
+          let went = second.steps written holds_written in
+          subst (λ (m : Node). Holds honest history failures m new) (steps_done written went.0 Sync b (not_refused written.facts Sync runs refl) ended went.1 ∙ synced_node n phase_is) went.2

@@ -1,0 +1,25 @@
+use Rattle.std.proofs.Common.{◌≡◌, Ok, Err, refl, sym, ap, ◌∙◌}
+use Rattle.rep_replica.proofs.Settling.{ok_of, on_ok}
+use Rattle.rep_replica.proofs.Retiring.{step_fronts, second_leaves, second_fronts, holds_retired}
+use Rattle.rep_replica.proofs.Installing.{on_err}
+use Rattle.rep_replica.proofs.replica.Replica.retire.Goals as goal
+
+pub returns-then-is_err-clause-fronts : goal.returns-then-is_err-clause-fronts
+returns-then-is_err-clause-fronts g c = λ n holds.
+    on_err c.outcome-checked.result (step_fronts g.D.Disk.honest g.D.Disk.history g.D.Disk.failures c.args.self.now c.check.new.self c.check.result c.check.ensures n holds)
+
+pub returns-clause-holds : goal.returns-clause-holds
+returns-clause-holds g c = λ n holds.
+    let done = sym c.outcome-checked.ensures ∙ ok_of c.outcome-checked.result c.if-is_err.ensures.value in
+    on_ok c.outcome.result (λ ok. holds_retired g.D.Disk.honest g.D.Disk.history g.D.Disk.failures c.args.self.now c.check.new.self c.check.result c.check.ensures n holds c.requires.running c.requires.retiring c.requires.resting done c.sync.new.self c.sync.result c.sync.ensures.step
+    (sym c.outcome.ensures ∙ ok))
+
+pub returns-clause-fronts : goal.returns-clause-fronts
+returns-clause-fronts g c = λ n holds.
+    let done = sym c.outcome-checked.ensures ∙ ok_of c.outcome-checked.result c.if-is_err.ensures.value in
+    on_err c.outcome.result (second_fronts g.D.Disk.honest g.D.Disk.history g.D.Disk.failures c.args.self.now c.check.new.self c.check.result c.check.ensures n holds c.requires.running c.requires.retiring c.requires.resting done c.sync.new.self c.sync.result c.sync.ensures.step)
+
+pub returns-clause-leaves : goal.returns-clause-leaves
+returns-clause-leaves g c = λ n holds.
+    let done = sym c.outcome-checked.ensures ∙ ok_of c.outcome-checked.result c.if-is_err.ensures.value in
+    second_leaves g.D.Disk.honest g.D.Disk.history g.D.Disk.failures c.args.self.now c.check.new.self c.check.result c.check.ensures n holds c.requires.running c.requires.retiring c.requires.resting done c.sync.new.self c.sync.result c.sync.ensures.step
