@@ -1,6 +1,6 @@
 //! How a snapshot that comes from another node is installed: it is made the next base beside the one that stands.
 
-ghost use Rattle.std.specs.Prelude.{◌≡◌, ◌≤◌, ◌<◌, true, length, replicate, IfErr};
+ghost use Rattle.std.specs.Prelude.{◌≡◌, ◌↔◌, ◌≤◌, ◌<◌, true, length, replicate, IfErr};
 ghost use Rattle.rep_types.specs.declared.key.Key.{Key};
 ghost use Rattle.rep_disk.specs.Calls.{IsCall};
 ghost use Rattle.rep_layout.specs.declared.page_state.PageState.TheVariants.{Nowhere};
@@ -25,8 +25,8 @@ use crate::stage::{NextBase, Part};
 use arrayvec::ArrayVec;
 use rep_cells::{Cells, refusal_of};
 use rep_disk::{Disk, DiskFault};
-use rep_layout::{PageState, Place, SuperBody, row_places_are_told};
-use rep_pages::{Page, PageRows, spare_of};
+use rep_layout::{PageState, Place, RowPlace, SuperBody, row_at, row_places_are_told};
+use rep_pages::{Page, PageRows, slot_of, spare_of};
 use rep_pool::{Pool, pools_go_on};
 use rep_types::{Entry, Refusal};
 use std::alloc::Global;
@@ -110,6 +110,18 @@ impl Installation {
         ensures { result ≡ self.now.next.super.position }
     {
         self.next.superblock.position
+    }
+
+    /// Whether this page can come: the schema has it, it has no row past the end of its table, and it did not come yet.
+    pub fn takes(&self, base: &SuperBody, page: u32, rows: &PageRows) -> bool
+        ensures { (result ≡ true) ↔ IsNewPage base.now self.now.next page rows.now }
+    {
+        // For its clause: what holds of every page's rows.
+        rows.row(0);
+        let schema = base.params.schema();
+        row_at(schema, RowPlace { page, index: 0 }).is_some()
+            && rows.end_with_the_table(schema, page)
+            && matches!(slot_of(&self.next.superblock, page), PageState::Nowhere)
     }
 
     /// Takes note of a page that came.

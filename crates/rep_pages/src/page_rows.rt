@@ -56,7 +56,9 @@ impl PageRows {
 
     /// What is stored in the row at this place; None where the row is absent, and from 63 on.
     pub fn row(&self, index: u32) -> Option<&Value>
-        ensures { option_map (λ value. value.now) result ≡ row_at self.now index }
+        ensures row { option_map (λ value. value.now) result ≡ row_at self.now index }
+        // What holds of every page's rows.
+        ensures size { length self.now ≡ 63 }
     {
         match self.rows.get(index as usize) {
             Some(row) => row.as_ref(),
