@@ -1,6 +1,6 @@
 //! How a snapshot that comes from another node is installed in a replica.
 
-ghost use Rattle.std.specs.Prelude.{◌≡◌, ◌⊎◌, ◌||◌, true, false, [], None, Some, Ok, Err, is_some, IfOk, IfErr, IfSome, OnOk, OnErr};
+ghost use Rattle.std.specs.Prelude.{◌≡◌, ◌↔◌, ◌⊎◌, ◌||◌, true, false, [], None, Some, Ok, Err, is_some, IfOk, IfErr, IfSome, OnOk, OnErr};
 ghost use Rattle.rep_types.specs.declared.refusal.Refusal.TheVariants.{Stopped, OutOfMemory, DiskFault};
 ghost use Rattle.rep_types.specs.Order.{State};
 ghost use Rattle.rep_disk.specs.Calls.{IsCall};
@@ -176,6 +176,13 @@ impl<D: Disk> Installation<D> {
         ensures { result ≡ is_some self.now.engine.halted }
     {
         self.engine.is_stopped()
+    }
+
+    /// Whether this page can come: the schema has it, it has no row past the end of its table, and it did not come yet.
+    pub fn takes(&self, page: u32, rows: &PageRows) -> bool
+        ensures { (result ≡ true) ↔ IsNewPage self.now.engine.checkpoint.base self.now.coming.next page rows.now }
+    {
+        self.engine.takes(page, rows)
     }
 
     /// Writes a page of the snapshot into the slot that the base does not use: one write, and no memory. Pages come once each, in any
