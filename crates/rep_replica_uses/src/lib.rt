@@ -2,9 +2,12 @@
 //! again, any number of times, and what it answers all the while follows one order.
 #![tactic(auto)]
 
+mod install;
+
 ghost use Rattle.std.specs.Prelude.{IfOk};
 ghost use Rattle.rep_replica_uses.specs.Living.{LivesOnce, LivesOn};
 
+pub use install::{Pages, bring, installed_nodes_go_on};
 use rep_disk::{Disk, images_of_a_moment, moments_of_calls};
 use rep_replica::{Replica, lives_follow_the_order, runs_are_joined, stopped_replicas_hold};
 use rep_steps::{Answer, Event};

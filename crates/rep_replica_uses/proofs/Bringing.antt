@@ -1,0 +1,267 @@
+-- A node that stands at a snapshot, and pages that come one after another.
+use Rattle.std.proofs.Common.{◌≡◌, ◌⊎◌, inl, inr, ℕ, zero, suc, ◌+◌, ◌-◌, ◌<◌, ◌≤◌, Bool, true, false, List, [], ◌∷◌, length, take, Option, None, Some, Result, Ok, Err, OnOk, OnErr, refl, sym, ap, subst, ◌∙◌, arith}
+use Rattle.std.specs.Prelude.{◌&&◌, ◌==◌, not, nat_le, if◌then◌else◌, IsOk, IsErr, IfSome, IfErr}
+use Rattle.std.proofs.lemmas.Bool.Decides.{nat_tests}
+use Rattle.std.proofs.lemmas.Slice.Eq.{bytes_eq-Decides}
+use Rattle.uuid.specs.Parts.{is_nil_bytes, zero_bytes}
+use Rattle.rep_types.specs.declared.judged.Judged.{Judged}
+use Rattle.rep_types.specs.declared.limits.TheConstants.{MAX_SEQNO, MAX_AHEAD}
+use Rattle.rep_types.specs.declared.item.Item.TheVariants.{WriteSet}
+use Rattle.rep_types.specs.declared.refusal.Refusal.{Refusal}
+use Rattle.rep_types.specs.declared.refusal.Refusal.TheVariants.{Undefined, Exhausted, OutOfOrder, Backlogged, Stopped, DiskFault}
+use Rattle.rep_types.specs.Settings.{Setting}
+use Rattle.rep_types.specs.Transactions.{Transaction}
+use Rattle.rep_types.specs.Windows.{Window}
+use Rattle.rep_types.specs.Order.{State, judge}
+use Rattle.rep_disk.specs.History.{History}
+use Rattle.rep_disk.specs.Moments.{LeavesOnly, ImageSince, moment}
+use Rattle.rep_layout.specs.Supers.{IsNil}
+use Rattle.rep_layout.specs.declared.super_body.SuperBody.{SuperBody}
+use Rattle.rep_pages.specs.Rows.{Rows}
+use Rattle.rep_steps.specs.declared.event.Event.TheVariants.{Deliver}
+use Rattle.rep_steps.specs.Standings.{Standing, Stage, Off, Toward, Retiring, delivered, delivery_refusal, refusal}
+use Rattle.rep_steps.specs.Moves.{is_off}
+use Rattle.rep_steps.specs.Nodes.{Node, state_at, reached}
+use Rattle.rep_steps.specs.Images.{IsFrontAt}
+use Rattle.rep_image.specs.Meanings.{Means}
+use Rattle.rep_checkpoint.specs.Coming.{Coming, blank, coming, placed, with_page}
+use Rattle.rep_engine.specs.Engines.{Engine}
+use Rattle.rep_engine.specs.Installing.{MeansEither, halted_node}
+use Rattle.rep_replica.specs.Replicas.{Replica}
+use Rattle.rep_replica.specs.Installing.{Bringing, HoldsBoth, Installs, IsInstalled}
+use Rattle.rep_replica_uses.specs.Bringing.{Brings, GoesOn, MeansOldOrNew, PutsAll, with_pages}
+
+-- ---- how it goes on
+
+both : (a b : Bool) → (a && b) ≡ true → (a ≡ true) × (b ≡ true)
+both true b e = (refl, e)
+both false b e = absurd (let never : false ≡ true = e in cc)
+
+empty : (js : List Judged) → (length js == 0) ≡ true → js ≡ []
+empty [] e = refl
+empty (j ∷ js) e = absurd (grind (arith, nat_tests, e))
+
+none_under_way : (stage : Stage) → is_off stage ≡ true → stage ≡ Off
+none_under_way Off e = refl
+none_under_way (Toward goal part) e = absurd (let never : false ≡ true = e in cc)
+none_under_way (Retiring written) e = absurd (let never : false ≡ true = e in cc)
+
+take_none : (k : ℕ) → take {A = Judged} k [] ≡ []
+take_none zero = refl
+take_none (suc k) = refl
+
+not_nil : (uuid : List ℕ) → (IsNil uuid → ⊥) → (b : Bool) → is_nil_bytes uuid ≡ b → b ≡ false
+not_nil uuid not true is = absurd (not ((bytes_eq-Decides uuid zero_bytes).0 is))
+not_nil uuid not false is = refl
+
+module _ (b : SuperBody) (y : State) (m : Node) (h : IsInstalled b y m) where
+  abbrev s : Standing
+  s = m.facts
+
+  none_ahead : s.ahead ≡ []
+  none_ahead = empty s.ahead (both (length s.ahead == 0) (is_off s.stage) h.quiet).0
+
+  all_there : delivered s ≡ y.position
+  all_there = omega (arith, ap length none_ahead, h.durable, h.position)
+
+  state_there : (k : ℕ) → state_at m k ≡ y
+  state_there k = ap (λ (js : List Judged). reached s.setting m.base (take (k - m.base.position) js)) h.none ∙ ap (reached s.setting m.base) (take_none (k - m.base.position)) ∙ h.base
+
+  free_by : (uuid : List ℕ) (n seqno : ℕ) (js : List Judged) → is_nil_bytes uuid ≡ false → (n == MAX_SEQNO) ≡ false → (seqno == n + 1) ≡ true → nat_le MAX_AHEAD (length js) ≡ false
+      → (if is_nil_bytes uuid then Some Undefined else if n == MAX_SEQNO then Some Exhausted else if not (seqno == n + 1) then Some (OutOfOrder (n + 1)) else if nat_le MAX_AHEAD (length js) then Some Backlogged else None) ≡ None
+  free_by uuid n seqno js nil most order few = rw nil (rw most (rw order (rw few refl)))
+
+  next_free : (IsNil s.uuid → ⊥) → y.position < MAX_SEQNO → (w : Transaction) → refusal s (Deliver (y.position + 1) w) ≡ None
+  next_free not below w =
+      ap (λ t. if t then Some Stopped else delivery_refusal s (y.position + 1)) h.running
+      ∙ free_by s.uuid (delivered s) (y.position + 1) s.ahead (not_nil s.uuid not (is_nil_bytes s.uuid) refl) (grind (arith, nat_tests, all_there, below)) (grind (arith, nat_tests, all_there)) (grind (arith, nat_tests, ap length none_ahead))
+
+  pub goes_on : GoesOn y m
+  goes_on = record {
+    rows = λ key. ap (λ (z : State). z.content key) (state_there y.position);
+    window = ap (λ (z : State). z.kept) (state_there s.durable);
+    next = next_free;
+    verdict = λ w. ap (λ (z : State). judge s.setting (delivered s) z.kept (WriteSet w)) (state_there (delivered s)) ∙ ap (λ k. judge s.setting k y.kept (WriteSet w)) all_there;
+    free = none_under_way s.stage (both (length s.ahead == 0) (is_off s.stage) h.quiet).1;
+  }
+
+-- ---- pages one after another
+
+leaves_then : {P : List ℕ → Type 0} (first h new : History) → LeavesOnly first h P → LeavesOnly h new P → LeavesOnly first new P
+leaves_then {P} first h new a b = record {
+  later = omega (arith, a.later, b.later);
+  since = λ t image le since. by t image le (b.since t image (omega (arith, le, a.later)) since);
+}
+  where
+    by : (t : ℕ) (image : List ℕ) → t ≤ moment first → ImageSince h t image ⊎ P image → ImageSince first t image ⊎ P image
+    by t image le (inl before) = a.since t image le before
+    by t image le (inr p) = inr p
+
+-- Some of the pages came, and these are left.
+pub record Put {D : Type 0} (honest : D → Type 0) (history : D → History) (failures : D → ℕ) (pages rest : List (ℕ × Rows)) (first now : Bringing D) : Type 0 where
+  pub uuid : now.coming.next.super.uuid ≡ first.coming.next.super.uuid
+  pub position : now.coming.next.super.position ≡ first.coming.next.super.position
+  pub params : now.engine.checkpoint.base.params ≡ first.engine.checkpoint.base.params
+  pub shape : now.coming.next.super.params ≡ first.coming.next.super.params
+  pub holds : (n : Node) (y : State) → HoldsBoth honest history failures n y first
+      → (z : State) × HoldsBoth honest history failures n z now × (with_pages first.engine.checkpoint.base.params.rows rest z ≡ with_pages first.engine.checkpoint.base.params.rows pages y)
+  pub leaves : (n : Node) (y : State) → HoldsBoth honest history failures n y first → LeavesOnly (history first.engine.disk) (history now.engine.disk) (IsFrontAt Means n)
+
+module _ {D : Type 0} (honest : D → Type 0) (history : D → History) (failures : D → ℕ) (pages : List (ℕ × Rows)) (first : Bringing D) where
+  pub put_none : (rest : List (ℕ × Rows)) → rest ≡ pages → Put honest history failures pages rest first first
+  put_none rest same = record {
+    uuid = refl;
+    position = refl;
+    params = refl;
+    shape = refl;
+    holds = λ n y h. (y, h, ap (λ (ps : List (ℕ × Rows)). with_pages first.engine.checkpoint.base.params.rows ps y) same);
+    leaves = λ n y h. record { later = omega arith; since = λ t image le since. inl since };
+  }
+
+  module _ (rest : List (ℕ × Rows)) (now new : Bringing D) (page : ℕ) (rows : Rows) (put : Put honest history failures pages ((page, rows) ∷ rest) first now) (still : new ≡ record now { engine = record now.engine { disk = new.engine.disk; halted = new.engine.halted }; coming = new.coming })
+      (leaves : (n : Node) (y : State) → HoldsBoth honest history failures n y now → LeavesOnly (history now.engine.disk) (history new.engine.disk) (IsFrontAt Means n)) where
+    same_params : new.engine.checkpoint.base.params ≡ first.engine.checkpoint.base.params
+    same_params = ap (λ (b : Bringing D). b.engine.checkpoint.base.params) still ∙ put.params
+
+    leaves_on : (n : Node) (y : State) → HoldsBoth honest history failures n y first → LeavesOnly (history first.engine.disk) (history new.engine.disk) (IsFrontAt Means n)
+    leaves_on n y h = leaves_then (history first.engine.disk) (history now.engine.disk) (history new.engine.disk) (put.leaves n y h) (leaves n (put.holds n y h).0 (put.holds n y h).1)
+
+    -- one more came
+    pub put_more : new.coming ≡ placed now.engine.checkpoint.base page now.coming → ((n : Node) (y : State) → HoldsBoth honest history failures n y now → HoldsBoth honest history failures n (with_page now.engine.checkpoint.base.params.rows page rows y) new) → Put honest history failures pages rest first new
+    put_more done holds = record {
+      uuid = ap (λ (i : Coming). i.next.super.uuid) done ∙ put.uuid;
+      position = ap (λ (i : Coming). i.next.super.position) done ∙ put.position;
+      params = same_params;
+      shape = ap (λ (i : Coming). i.next.super.params) done ∙ put.shape;
+      holds = λ n y h.
+          let was = put.holds n y h in
+          let z = with_page now.engine.checkpoint.base.params.rows page rows was.0 in
+          (z, holds n was.0 was.1, ap (λ (p : Setting). with_pages first.engine.checkpoint.base.params.rows rest (with_page p.rows page rows was.0)) put.params ∙ was.2);
+      leaves = leaves_on;
+    }
+
+    -- or it was refused
+    pub put_refused : (r : Refusal) → new.coming ≡ now.coming → ((n : Node) (y : State) → HoldsBoth honest history failures n y now → (m : Node) × (m.facts.setting ≡ n.facts.setting) × HoldsBoth honest history failures m y new) → PutsAll honest history failures pages first new (Err r)
+    put_refused r same holds = record {
+      uuid = ap (λ (i : Coming). i.next.super.uuid) same ∙ put.uuid;
+      position = ap (λ (i : Coming). i.next.super.position) same ∙ put.position;
+      params = same_params;
+      shape = ap (λ (i : Coming). i.next.super.params) same ∙ put.shape;
+      all = λ n y h. tt;
+      some = λ n y h.
+          let was = put.holds n y h in
+          let left = holds n was.0 was.1 in
+          (left.0, was.0, left.1, left.2);
+      leaves = leaves_on;
+    }
+
+  -- all came
+  pub put_all : (now : Bringing D) → Put honest history failures pages [] first now → PutsAll honest history failures pages first now (Ok tt)
+  put_all now put = record {
+    uuid = put.uuid;
+    position = put.position;
+    params = put.params;
+    shape = put.shape;
+    all = λ n y h. let was = put.holds n y h in subst (λ (z : State). HoldsBoth honest history failures n z now) was.2 was.1;
+    some = λ n y h. let was = put.holds n y h in (n, was.0, refl, was.1);
+    leaves = put.leaves;
+  }
+
+  -- one can't come
+  pub put_some : (rest : List (ℕ × Rows)) (now : Bringing D) (r : Refusal) → Put honest history failures pages rest first now → PutsAll honest history failures pages first now (Err r)
+  put_some rest now r put = record {
+    uuid = put.uuid;
+    position = put.position;
+    params = put.params;
+    shape = put.shape;
+    all = λ n y h. tt;
+    some = λ n y h. let was = put.holds n y h in (n, was.0, refl, was.1);
+    leaves = put.leaves;
+  }
+
+-- ---- how a page comes out
+
+pub ok_of : {P : Type 0} (result : Result (Unit {0}) Refusal) → IsOk result → OnOk result P → P
+ok_of (Ok x) ok h = h
+ok_of (Err e) ok h = absurd cc
+
+-- a page that was refused: the device had failed before, or did
+pub refused_page : {D A : Type 0} (honest : D → Type 0) (history : D → History) (failures : D → ℕ) (now new : Bringing D) (result : Result (Unit {0}) Refusal) (e : Refusal) → result ≡ Err e → (halted : Option A) → IfSome halted (λ _. (result ≡ Err Stopped) × (new ≡ now))
+    → (halted ≡ None → IfErr result (λ r. r ≡ DiskFault)) → ((n : Node) (y : State) → HoldsBoth honest history failures n y now → IfErr result (λ r. r ≡ DiskFault → HoldsBoth honest history failures (halted_node (failures new.engine.disk) n) y new))
+    → (n : Node) (y : State) → HoldsBoth honest history failures n y now → (m : Node) × (m.facts.setting ≡ n.facts.setting) × HoldsBoth honest history failures m y new
+refused_page {D} honest history failures now new result e is (Some phase) stopped runs halts n y h = (n, refl, subst (λ (b : Bringing D). HoldsBoth honest history failures n y b) (sym stopped.1) h)
+refused_page {D} honest history failures now new result e is None stopped runs halts n y h =
+    let fault : e ≡ DiskFault = subst (λ (r : Result (Unit {0}) Refusal). IfErr r (λ f. f ≡ DiskFault)) is (runs refl) in
+    (halted_node (failures new.engine.disk) n, refl, (subst (λ (r : Result (Unit {0}) Refusal). IfErr r (λ f. f ≡ DiskFault → HoldsBoth honest history failures (halted_node (failures new.engine.disk) n) y new)) is (halts n y h)) fault)
+
+pub same_coming : {A : Type 0} {a b : A} (result : Result (Unit {0}) Refusal) (e : Refusal) → result ≡ Err e → OnErr result (a ≡ b) → a ≡ b
+same_coming {A} {a} {b} result e is h = subst (λ (r : Result (Unit {0}) Refusal). OnErr r (a ≡ b)) is h
+
+pub by_err : (P : Result (Unit {0}) Refusal → Type 0) (result : Result (Unit {0}) Refusal) → IsErr result → ((r : Refusal) → P (Err r)) → P result
+by_err P (Ok x) err f = absurd cc
+by_err P (Err r) err f = f r
+
+pub none_left : {A : Type 0} (rest : List A) (n : ℕ) → n ≡ 0 → n ≡ length rest → rest ≡ []
+none_left [] n none size = refl
+none_left (x ∷ rest) n none size = absurd (omega (arith, none, size))
+
+-- ---- what comes of it all
+
+on_ok : {A B : Type 0} (result : Result (Unit {0}) Refusal) → OnOk result A → (A → B) → OnOk result B
+on_ok (Ok x) a f = f a
+on_ok (Err e) a f = tt
+
+leaves_as : {P Q : List ℕ → Type 0} (old new : History) → LeavesOnly old new P → ((image : List ℕ) → P image → Q image) → LeavesOnly old new Q
+leaves_as {P} {Q} old new l f = record { later = l.later; since = λ t image le since. by t image (l.since t image le since) }
+  where
+    by : (t : ℕ) (image : List ℕ) → ImageSince old t image ⊎ P image → ImageSince old t image ⊎ Q image
+    by t image (inl before) = inl before
+    by t image (inr p) = inr (f image p)
+
+leaves_both : {P Q R : List ℕ → Type 0} (old mid new : History) → LeavesOnly old mid P → LeavesOnly mid new Q → ((image : List ℕ) → P image → R image) → ((image : List ℕ) → Q image → R image) → LeavesOnly old new R
+leaves_both old mid new a b f h = leaves_then old mid new (leaves_as old mid a f) (leaves_as mid new b h)
+
+module _ {D : Type 0} (honest : D → Type 0) (history : D → History) (failures : D → ℕ) (n : Node) (uuid : List ℕ) (position : ℕ) (v : Window) (pages : List (ℕ × Rows)) (old : Replica D) (i k : Bringing D) (begun : (i.engine ≡ old.engine) × (i.coming ≡ coming old.engine.checkpoint.base uuid position old.engine.log.next v.entries))
+    (holds : HoldsBoth honest history failures n (blank position v) i) where
+  abbrev y : State
+  y = with_pages old.engine.checkpoint.base.params.rows pages (blank position v)
+
+  same_rows : with_pages i.engine.checkpoint.base.params.rows pages (blank position v) ≡ y
+  same_rows = ap (λ (e : Engine D). with_pages e.checkpoint.base.params.rows pages (blank position v)) begun.0
+
+  setting_is : i.coming.next.super.params ≡ n.facts.setting
+  setting_is = ap (λ (c : Coming). c.next.super.params) begun.1 ∙ ap (λ (e : Engine D). e.checkpoint.base.params) (sym begun.0) ∙ sym (ap (λ (s : Standing). s.setting) holds.engine.facts)
+
+  -- where all pages came and it took the place, or the device failed at that
+  pub brought : (new : Replica D) (result : Result (Unit {0}) Refusal) → PutsAll honest history failures pages i k (Ok tt) → ((z : State) → HoldsBoth honest history failures n z k → Installs honest history failures n z k new result) → Brings honest history failures n uuid y old new result
+  brought new result put installs =
+      let all = subst (λ (z : State). HoldsBoth honest history failures n z k) same_rows (put.all n (blank position v) holds) in
+      let came = installs y all in
+      let b = k.coming.next.super in
+      let uuid_is : b.uuid ≡ uuid = put.uuid ∙ ap (λ (c : Coming). c.next.super.uuid) begun.1 in
+      let before = subst (λ (e : Engine D). LeavesOnly (history e.disk) (history k.engine.disk) (IsFrontAt Means n)) begun.0 (put.leaves n (blank position v) holds) in
+      record {
+        done = on_ok result came.holds (λ h. (b, uuid_is, h.0, h.1, h.2));
+        leaves = leaves_both (history old.engine.disk) (history k.engine.disk) (history new.engine.disk) before came.leaves (λ image f. inl f) (λ image m. old_or_new b uuid_is (put.shape ∙ setting_is) image m);
+      }
+    where
+      old_or_new : (b : SuperBody) → b.uuid ≡ uuid → b.params ≡ n.facts.setting → (image : List ℕ) → MeansEither n b y image → MeansOldOrNew n uuid y image
+      old_or_new b at set image (inl f) = inl f
+      old_or_new b at set image (inr m) =
+          inr (subst (λ (u : List ℕ). Means image (record { uuid = u; setting = n.facts.setting; base = y; tail = [] })) at (subst (λ (p : Setting). Means image (record { uuid = b.uuid; setting = p; base = y; tail = [] })) set m))
+
+  -- where one didn't, and it was given up
+  pub dropped : (new : Replica D) (r : Refusal) → PutsAll honest history failures pages i k (Err r) → new.engine ≡ k.engine → Brings honest history failures n uuid y old new (Err r)
+  dropped new r put same =
+      let before = subst (λ (e : Engine D). LeavesOnly (history e.disk) (history k.engine.disk) (IsFrontAt Means n)) begun.0 (put.leaves n (blank position v) holds) in
+      record {
+        done = tt;
+        leaves = subst (λ (e : Engine D). LeavesOnly (history old.engine.disk) (history e.disk) (MeansOldOrNew n uuid y)) (sym same) (leaves_as (history old.engine.disk) (history k.engine.disk) before (λ image f. inl f));
+      }
+
+-- where it wasn't begun
+pub not_begun : {D : Type 0} (honest : D → Type 0) (history : D → History) (failures : D → ℕ) (n : Node) (uuid : List ℕ) (y : State) (old new : Replica D) (r : Refusal) → new ≡ old → Brings honest history failures n uuid y old new (Err r)
+not_begun {D} honest history failures n uuid y old new r same = record {
+  done = tt;
+  leaves = subst (λ (x : Replica D). LeavesOnly (history old.engine.disk) (history x.engine.disk) (MeansOldOrNew n uuid y)) (sym same) (record { later = omega arith; since = λ t image le since. inl since });
+}
