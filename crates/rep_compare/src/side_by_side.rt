@@ -9,6 +9,13 @@ use std::alloc::Global;
 use std::process::Abort;
 use std::test::Fail;
 
+/// Compares the two windows of a position: so many back from another.
+fn is_same(rt: &impl Abort, at: (u64, u64), held: &Window, expected: &Window) {
+    let found = (held.size(), held.floor(), held.entries());
+    let wanted = (expected.size(), expected.floor(), expected.entries());
+    assert_eq!(rt; (at, found), (at, wanted));
+}
+
 /// A plain node, and a certifier that was made at one of its positions and handed the same items.
 #[derive(Drop)]
 pub(crate) struct SideBySide {
@@ -119,11 +126,7 @@ impl SideBySide {
         let held = self.certifier.window_at(alloc, position)?;
         let place = (position - self.made_at) as usize;
         let expected = self.windows.get(place).ok_or("no such window")?;
-        assert_eq!(rt;
-            (held.size(), held.floor(), held.entries()),
-            (expected.size(), expected.floor(), expected.entries()),
-            "{back} back from {delivered}"
-        );
+        is_same(rt, (delivered, back), &held, expected);
         Ok(())
     }
 

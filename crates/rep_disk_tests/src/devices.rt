@@ -17,6 +17,8 @@ enum Step {
     Sync,
 }
 
+const LOSSES: &[Loss] = &[Loss::Keep, Loss::Drop, Loss::Junk];
+
 /// Calls on the bytes `FOUND`, of which the one of the number `fault` fails, and what each loss
 /// leaves then.
 #[derive(Clone, Copy)]
@@ -24,9 +26,7 @@ struct Case {
     name: &'static str,
     steps: &'static [Step],
     fault: u64,
-    keep: [u8; 4],
-    drop: [u8; 4],
-    junk: [u8; 4],
+    left: [[u8; 4]; 3],
 }
 
 const CASES: &[Case] = &[
@@ -34,81 +34,61 @@ const CASES: &[Case] = &[
         name: "a write is pending",
         steps: &[Step::Write(1, &[7, 8])],
         fault: NO_FAULT,
-        keep: [1, 7, 8, 4],
-        drop: [1, 2, 3, 4],
-        junk: [1, 0xEE, 0xEE, 4],
+        left: [[1, 7, 8, 4], [1, 2, 3, 4], [1, 0xEE, 0xEE, 4]],
     },
     Case {
         name: "a sync makes it stable",
         steps: &[Step::Write(1, &[7, 8]), Step::Sync],
         fault: NO_FAULT,
-        keep: [1, 7, 8, 4],
-        drop: [1, 7, 8, 4],
-        junk: [1, 7, 8, 4],
+        left: [[1, 7, 8, 4], [1, 7, 8, 4], [1, 7, 8, 4]],
     },
     Case {
         name: "a write that fails on purpose does not reach the disk",
         steps: &[Step::Write(1, &[7, 8])],
         fault: 0,
-        keep: [1, 2, 3, 4],
-        drop: [1, 2, 3, 4],
-        junk: [1, 2, 3, 4],
+        left: [[1, 2, 3, 4], [1, 2, 3, 4], [1, 2, 3, 4]],
     },
     Case {
         name: "a failed sync makes nothing stable",
         steps: &[Step::Write(1, &[7, 8]), Step::Sync],
         fault: 1,
-        keep: [1, 7, 8, 4],
-        drop: [1, 2, 3, 4],
-        junk: [1, 0xEE, 0xEE, 4],
+        left: [[1, 7, 8, 4], [1, 2, 3, 4], [1, 0xEE, 0xEE, 4]],
     },
     Case {
         name: "the sync after a failed one makes all stable",
         steps: &[Step::Write(1, &[7, 8]), Step::Sync, Step::Sync],
         fault: 1,
-        keep: [1, 7, 8, 4],
-        drop: [1, 7, 8, 4],
-        junk: [1, 7, 8, 4],
+        left: [[1, 7, 8, 4], [1, 7, 8, 4], [1, 7, 8, 4]],
     },
     Case {
         name: "pending ranges overlap",
         steps: &[Step::Write(0, &[7, 8]), Step::Write(1, &[9, 9])],
         fault: NO_FAULT,
-        keep: [7, 9, 9, 4],
-        drop: [1, 2, 3, 4],
-        junk: [0xEE, 0xEE, 0xEE, 4],
+        left: [[7, 9, 9, 4], [1, 2, 3, 4], [0xEE, 0xEE, 0xEE, 4]],
     },
     Case {
         name: "a pending range overlaps what is stable",
         steps: &[Step::Write(0, &[7, 8]), Step::Sync, Step::Write(1, &[9])],
         fault: NO_FAULT,
-        keep: [7, 9, 3, 4],
-        drop: [7, 8, 3, 4],
-        junk: [7, 0xEE, 3, 4],
+        left: [[7, 9, 3, 4], [7, 8, 3, 4], [7, 0xEE, 3, 4]],
     },
     Case {
         name: "an empty write changes nothing",
         steps: &[Step::Write(2, &[]), Step::Write(4, &[])],
         fault: NO_FAULT,
-        keep: [1, 2, 3, 4],
-        drop: [1, 2, 3, 4],
-        junk: [1, 2, 3, 4],
+        left: [[1, 2, 3, 4], [1, 2, 3, 4], [1, 2, 3, 4]],
     },
     Case {
         name: "the last byte is written",
         steps: &[Step::Write(3, &[9])],
         fault: NO_FAULT,
-        keep: [1, 2, 3, 9],
-        drop: [1, 2, 3, 4],
-        junk: [1, 2, 3, 0xEE],
+        left: [[1, 2, 3, 9], [1, 2, 3, 4], [1, 2, 3, 0xEE]],
     },
     Case {
         name: "all bytes are written",
         steps: &[Step::Write(0, &[6, 7, 8, 9])],
         fault: NO_FAULT,
-        keep: [6, 7, 8, 9],
-        drop: [1, 2, 3, 4],
-        junk: [0xEE, 0xEE, 0xEE, 0xEE],
+        left: [[6, 7, 8, 9], [1, 2, 3, 4], [0xEE, 0xEE, 0xEE, 0xEE]],
     },
 ];
 
@@ -145,44 +125,36 @@ fn leaves(disk: &mut MemDisk, loss: Loss, left: [u8; 4]) -> (bool, bool) {
     (at_once, disk.bytes() == left.as_slice())
 }
 
-/// What this loss leaves.
-fn left_by(case: Case, loss: Loss) -> [u8; 4] {
-    match loss {
-        Loss::Keep => case.keep,
-        Loss::Drop => case.drop,
-        Loss::Junk => case.junk,
-    }
-}
-
-/// Whether the calls of the case fail that are to fail, and whether a stop behind them leaves what is wanted, and all of it
+/// Whether the calls of the case fail that are to fail, and whether a stop behind them leaves these bytes, and all of them
 /// stable.
-fn stopped(alloc: Global, case: Case, loss: Loss) -> Result<(bool, (bool, bool)), Fail> {
+fn stopped(
+    alloc: Global,
+    case: Case,
+    loss: Loss,
+    left: [u8; 4],
+) -> Result<(bool, (bool, bool)), Fail> {
     let (mut disk, right) = asked(alloc, case)?;
-    Ok((right, leaves(&mut disk, loss, left_by(case, loss))))
+    Ok((right, leaves(&mut disk, loss, left)))
 }
 
-fn stop(rt: &(impl Abort + AllocGlobal), case: Case, loss: Loss) -> Result<(), Fail> {
-    let found = stopped(rt.alloc(), case, loss)?;
-    assert_eq!(rt;
-        (case.name, loss, found),
-        (case.name, loss, (true, (true, true)))
-    );
-    Ok(())
-}
-
-/// Compares what each loss leaves behind the calls of each case.
-fn stop_each(rt: &(impl Abort + AllocGlobal), cases: &[Case]) -> Result<(), Fail> {
-    for case in cases {
-        for loss in [Loss::Keep, Loss::Drop, Loss::Junk] {
-            stop(rt, *case, loss)?;
-        }
+/// Compares what each loss leaves behind the calls of the case.
+fn stop_each(rt: &(impl Abort + AllocGlobal), case: Case) -> Result<(), Fail> {
+    for (loss, left) in LOSSES.iter().zip(case.left) {
+        let found = stopped(rt.alloc(), case, *loss, left)?;
+        assert_eq!(rt;
+            (case.name, *loss, found),
+            (case.name, *loss, (true, (true, true)))
+        );
     }
     Ok(())
 }
 
 #[test]
 fn a_stop_leaves_what_the_loss_says(rt: HostRuntime) -> Result<(), Fail> {
-    stop_each(&rt, CASES)
+    for case in CASES {
+        stop_each(&rt, *case)?;
+    }
+    Ok(())
 }
 
 /// Fills these bytes from the offset 2 on.

@@ -86,3 +86,14 @@ pub(crate) fn backlog(alloc: Global) -> Result<(u16, usize), Refusal> {
     let moved = backlog.drain(&mut BlockBuilder::new());
     Ok((moved, backlog.len()))
 }
+
+/// Prints how both judge, and what moves out of the backlog.
+pub(crate) fn show<R: Print + AllocGlobal>(rt: &R) -> anyhow::Result<()> {
+    let (committed, entries) = plain(rt.alloc())?;
+    rt.println(format_args!("plain node: {committed} committed, a window of {entries}"))?;
+    let (committed, entries) = certifier(rt.alloc())?;
+    rt.println(format_args!("certifier: {committed} committed, a window of {entries}"))?;
+    let (moved, left) = backlog(rt.alloc())?;
+    rt.println(format_args!("backlog: {moved} moved, {left} left"))?;
+    Ok(())
+}

@@ -44,3 +44,10 @@ pub(crate) fn device(alloc: Global) -> Result<([u8; 4], [u8; 4]), AllocError> {
     disk.crash(Loss::Drop);
     Ok((read, first_bytes(&disk)))
 }
+
+/// Prints what is read of the device, and what a stop leaves.
+pub(crate) fn show<R: Print + AllocGlobal>(rt: &R) -> anyhow::Result<()> {
+    let (read, left) = device(rt.alloc())?;
+    rt.println(format_args!("device: {read:?} read, {left:?} after a stop"))?;
+    Ok(())
+}

@@ -55,3 +55,10 @@ pub(crate) fn lock(alloc: Global) -> Result<(u64, usize), Refusal> {
     }
     Ok((ticket, home))
 }
+
+/// Prints the lock's first ticket, and what is at home in the end.
+pub(crate) fn show<R: Print + AllocGlobal>(rt: &R) -> anyhow::Result<()> {
+    let (ticket, values) = lock(rt.alloc())?;
+    rt.println(format_args!("lock: ticket {ticket}, {values} values at home"))?;
+    Ok(())
+}

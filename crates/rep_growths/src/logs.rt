@@ -78,3 +78,10 @@ pub(crate) fn log(alloc: Global) -> Result<(u64, usize), Refusal> {
     let (log, items) = scan(alloc, &mut cells)?;
     Ok((log.next(), items.len()))
 }
+
+/// Prints what is found of the log.
+pub(crate) fn show<R: Print + AllocGlobal>(rt: &R) -> anyhow::Result<()> {
+    let (next, records) = log(rt.alloc())?;
+    rt.println(format_args!("log: {records} records found, the next block is {next}"))?;
+    Ok(())
+}

@@ -147,3 +147,12 @@ pub(crate) fn replica(alloc: Global) -> Result<(u64, u64, usize, usize), Refusal
         answer => answer,
     }
 }
+
+/// Prints what the replica then is.
+pub(crate) fn show<R: Print + AllocGlobal>(rt: &R) -> anyhow::Result<()> {
+    let (base, durable, rows, entries) = replica(rt.alloc())?;
+    rt.println(format_args!(
+        "replica: base {base}, {durable} durable, {rows} rows read, a window of {entries}"
+    ))?;
+    Ok(())
+}

@@ -51,3 +51,10 @@ pub(crate) fn versions(alloc: Global) -> Result<(u64, usize), Refusal> {
     }
     Ok((found, pages(alloc, &versions)?.len()))
 }
+
+/// Prints how many rows have a version, and how many pages a change.
+pub(crate) fn show<R: Print + AllocGlobal>(rt: &R) -> anyhow::Result<()> {
+    let (found, pages) = versions(rt.alloc())?;
+    rt.println(format_args!("versions: {found} rows have one, {pages} pages a change"))?;
+    Ok(())
+}

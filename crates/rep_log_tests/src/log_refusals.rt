@@ -96,22 +96,38 @@ fn append_two(bench: &mut Bench<MemDisk>) -> Result<(), Fail> {
     Ok(())
 }
 
-/// What a full log refuses, by the number of the block. Another block than the next is never due.
-const FULL: &[(u32, (Call, Refusal))] = &[
-    (7, (Call::Recycle, Refusal::NotDue)),
-    (7, (Call::Seal, Refusal::LogFull)),
-    (7, (Call::Gate, Refusal::NotDue)),
-    (8, (Call::Seal, Refusal::NotDue)),
+/// A call that is refused, with the block of so many records behind a position.
+type Refused = ((u64, u16), (Call, Refusal));
+
+/// What a full log refuses of the block 7, which has the record behind the position 11, and of the block 8. Another block
+/// than the next is never due.
+const FULL: &[Refused] = &[
+    ((11, 1), (Call::Recycle, Refusal::NotDue)),
+    ((11, 1), (Call::Seal, Refusal::LogFull)),
+    ((11, 1), (Call::Gate, Refusal::NotDue)),
+    ((12, 2), (Call::Seal, Refusal::NotDue)),
 ];
 
-/// Compares that the call with the block of this number is refused.
+/// Compares that the call is refused.
 fn refuses_block(
     rt: &(impl Abort + AllocGlobal),
     bench: &mut Bench<MemDisk>,
-    (block, refused): (u32, (Call, Refusal)),
+    ((position, count), refused): Refused,
 ) -> Result<(), Fail> {
-    let records = block_of(block)?;
+    let records = block_behind(position, count)?;
     refuses(rt, &mut bench.log, &mut bench.cells, &records, refused)?;
+    Ok(())
+}
+
+/// Compares that each of these calls is refused.
+fn refuses_blocks(
+    rt: &(impl Abort + AllocGlobal),
+    bench: &mut Bench<MemDisk>,
+    blocks: &[Refused],
+) -> Result<(), Fail> {
+    for block in blocks {
+        refuses_block(rt, bench, *block)?;
+    }
     Ok(())
 }
 
@@ -121,9 +137,7 @@ fn refuses_while_full(
     rt: &(impl Abort + AllocGlobal),
     bench: &mut Bench<MemDisk>,
 ) -> Result<(), Fail> {
-    for refused in FULL {
-        refuses_block(rt, bench, *refused)?;
-    }
+    refuses_blocks(rt, bench, FULL)?;
     bench.start_at(4);
     let durable = bench.append_block(7)?;
     assert_eq!(rt; durable, 1);
@@ -137,31 +151,13 @@ fn a_full_log_refuses_each_call(rt: HostRuntime) -> Result<(), Fail> {
     refuses_while_full(&rt, &mut bench)
 }
 
-/// By their position and their count: the blocks that are not those of the seqno 6, which comes next.
-const OTHERS: &[(u64, u16)] = &[(0, 0), (4, 2), (6, 1), (0, 64)];
-
-/// Compares that the block of so many records behind this position is not sealed.
-fn seals_no_other(
-    rt: &(impl Abort + AllocGlobal),
-    bench: &mut Bench<MemDisk>,
-    (position, count): (u64, u16),
-) -> Result<(), Fail> {
-    let block = block_behind(position, count)?;
-    let refused = (Call::Seal, Refusal::NotDue);
-    refuses(rt, &mut bench.log, &mut bench.cells, &block, refused)?;
-    Ok(())
-}
-
-/// Compares that each of the other blocks is not sealed.
-fn seals_none_of_the_others(
-    rt: &(impl Abort + AllocGlobal),
-    bench: &mut Bench<MemDisk>,
-) -> Result<(), Fail> {
-    for other in OTHERS {
-        seals_no_other(rt, bench, *other)?;
-    }
-    Ok(())
-}
+/// The blocks that are not those of the seqno 6, which comes next.
+const OTHERS: &[Refused] = &[
+    ((0, 0), (Call::Seal, Refusal::NotDue)),
+    ((4, 2), (Call::Seal, Refusal::NotDue)),
+    ((6, 1), (Call::Seal, Refusal::NotDue)),
+    ((0, 64), (Call::Seal, Refusal::NotDue)),
+];
 
 /// Compares that a block of 64 records behind the position 5 is appended to a log that stands there.
 fn takes_64(rt: &impl Abort, bench: &mut Bench<MemDisk>) -> Result<(), Fail> {
@@ -176,7 +172,7 @@ fn takes_64(rt: &impl Abort, bench: &mut Bench<MemDisk>) -> Result<(), Fail> {
 #[test]
 fn only_the_block_of_the_next_seqno_is_sealed(rt: HostRuntime) -> Result<(), Fail> {
     let mut bench = bench_of(rt.alloc(), 3)?;
-    seals_none_of_the_others(&rt, &mut bench)?;
+    refuses_blocks(&rt, &mut bench, OTHERS)?;
     takes_64(&rt, &mut bench)
 }
 

@@ -10,6 +10,7 @@ use rep_log::{Phase, Step};
 use rep_record::BlockBuilder;
 use rep_types::Refusal;
 use std::alloc::{AllocError, Global};
+use std::ops::Range;
 use std::process::Abort;
 use std::test::Fail;
 
@@ -52,15 +53,15 @@ fn stopped(alloc: Global, block: u32, calls: usize, loss: Loss) -> Result<MemDis
     Ok(crashed(bench.into_disk(), loss))
 }
 
-/// Appends the next block to a log that needs those from `start` on, and compares what is then found.
+/// Appends the next block to a log that needs these, and compares what is then found.
 fn appends(
     rt: &(impl Abort + AllocGlobal),
     bench: &mut Bench<MemDisk>,
-    start: u32,
-    next: u32,
+    needed: Range<u32>,
 ) -> Result<(), Fail> {
-    bench.append_block(next)?;
-    Ok(finds(rt, bench.bytes(), start, next.saturating_add(1))?)
+    bench.append_block(needed.end)?;
+    let next = needed.end.saturating_add(1);
+    Ok(finds(rt, bench.bytes(), needed.start, next)?)
 }
 
 /// What a log at rest says of itself where this is due.
@@ -83,7 +84,7 @@ fn leaves(
     let next = block.saturating_add(u32::from(is_left));
     let (mut bench, found) = found_on(rt.alloc(), disk, start, next)?;
     is_found(rt, found, (due_at_rest(start, next, due), true));
-    appends(rt, &mut bench, start, next)
+    appends(rt, &mut bench, start..next)
 }
 
 /// Compares what each stop behind so many calls of the way of this block leaves.
@@ -191,13 +192,15 @@ fn look_in(phase: Phase) -> Look {
     }
 }
 
-/// Makes the calls of a way before the one of this index, and that one, which fails.
+/// The index of the call of a way that fails, and the phase in which the log then is.
+type Fault = (usize, Phase);
+
+/// Makes the calls of a way before the one that fails, and that one.
 fn fails_on_its_way(
     rt: &(impl Abort + AllocGlobal),
     bench: &mut Bench<Faulty>,
     records: &BlockBuilder,
-    index: usize,
-    phase: Phase,
+    (index, phase): Fault,
 ) -> Result<(), Refusal> {
     bench.make_all(way_before(index), records)?;
     match WAY.get(index) {
@@ -206,15 +209,14 @@ fn fails_on_its_way(
     }
 }
 
-/// Makes the calls of the fifth block's way up to the one of this index, which fails.
+/// Makes the calls of the fifth block's way up to the one that fails.
 fn fails_at(
     rt: &(impl Abort + AllocGlobal),
     bench: &mut Bench<Faulty>,
-    index: usize,
-    phase: Phase,
+    fault: Fault,
 ) -> Result<(), Fail> {
     let records = block_of(4)?;
-    Ok(fails_on_its_way(rt, bench, &records, index, phase)?)
+    Ok(fails_on_its_way(rt, bench, &records, fault)?)
 }
 
 /// Whether a scan finds the records from the block 2 on up to the block 4, once what is pending is dropped.
@@ -224,18 +226,18 @@ fn has_records(alloc: Global, bench: Bench<Faulty>) -> Result<bool, Refusal> {
     Ok(has_records)
 }
 
-/// Makes the call of this index on the fifth block's way fail, and answers whether the records are found then.
-fn faulted(rt: &(impl Abort + AllocGlobal), index: usize, phase: Phase) -> Result<bool, Fail> {
-    let call = (index as u64).saturating_add(1);
+/// Makes this call on the fifth block's way fail, and answers whether the records are found then.
+fn faulted(rt: &(impl Abort + AllocGlobal), fault: Fault) -> Result<bool, Fail> {
+    let call = (fault.0 as u64).saturating_add(1);
     let mut bench = faulty_bench(rt.alloc(), call)?;
-    fails_at(rt, &mut bench, index, phase)?;
+    fails_at(rt, &mut bench, fault)?;
     Ok(has_records(rt.alloc(), bench)?)
 }
 
-/// The way of the fifth block, of which the call of this index fails.
-fn fault(rt: &(impl Abort + AllocGlobal), index: usize, phase: Phase) -> Result<(), Fail> {
-    let has_records = faulted(rt, index, phase)?;
-    assert_eq!(rt; (index, has_records), (index, true));
+/// The way of the fifth block, of which this call fails.
+fn fault(rt: &(impl Abort + AllocGlobal), fault: Fault) -> Result<(), Fail> {
+    let has_records = faulted(rt, fault)?;
+    assert_eq!(rt; (fault.0, has_records), (fault.0, true));
     Ok(())
 }
 
@@ -244,7 +246,7 @@ fn a_fault_of_each_call_is_answered_and_leaves_the_durable_records(
     rt: HostRuntime,
 ) -> Result<(), Fail> {
     for (index, phase) in PHASES.iter().enumerate() {
-        fault(&rt, index, *phase)?;
+        fault(&rt, (index, *phase))?;
     }
     Ok(())
 }

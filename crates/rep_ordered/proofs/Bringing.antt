@@ -12,9 +12,9 @@ use Rattle.rep_ordered.specs.declared.view.GivenUp.{GivenUp}
 use Rattle.rep_ordered.specs.declared.view.Hold.{Hold}
 use Rattle.rep_ordered.specs.declared.view.Mind.{Mind}
 use Rattle.rep_ordered.specs.declared.rule.Opening.{Opening}
-use Rattle.rep_ordered.specs.Counts.{total}
+use Rattle.rep_ordered.specs.Counts.{total, busy}
 use Rattle.rep_ordered.specs.Views.{Every, held_at, except, on}
-use Rattle.rep_ordered.specs.Rule.{Kept}
+use Rattle.rep_ordered.specs.Rule.{Figures, Spelled, Station, Kept}
 use Rattle.rep_ordered.specs.Seats.{empty_slot}
 use Rattle.rep_ordered.specs.Steps.{brought}
 use Rattle.rep_ordered.proofs.Shapes.{Moment, Mine, Homes}
@@ -87,31 +87,26 @@ module _ {V E : Type 0} (law : List E → Type 0) (at_home : ℕ → ℕ → ℕ
   abbrev Rule : Opening V → Moment V E → Type 0
   Rule = Kept law at_home durable_of common_of
 
+  -- a station stays as it is where its slot does, if it is free
+  rehoused : {k : Opening V} {f : Figures E} {homes homes' : List (maybe.Option (Option V))} {count j w : ℕ} → Station law at_home durable_of common_of k f homes count j w
+      → (busy w ≡ 0 → get_elem? homes' j ≡ get_elem? homes j) → Station law at_home durable_of common_of k f homes' count j w
+  rehoused o same = record {
+    begun = o.begun;
+    within = o.within;
+    counts = o.counts;
+    counted = o.counted;
+    gone = o.gone;
+    home = λ free. let h = o.home free in record { value = h.value; there = same free ∙ h.there; keeps = h.keeps; backed = h.backed; covers = h.covers; common = h.common };
+  }
+
   -- where the slots of held stations alone have moved, the rule is kept
   rehomed : (k : Opening V) (s : Moment V E) (r : Rule k s) (homes : List (maybe.Option (Option V))) → length homes ≡ length s.homes → ((i : ℕ) → total (on i) s.views ≡ 0 → get_elem? homes i ≡ get_elem? s.homes i)
       → Rule k record { words = s.words; homes = homes; views = s.views }
   rehomed k s r homes long same = record {
     figures = r.figures;
-    spelled = let sp = r.spelled in record {
-      wide = sp.wide ∙ ap (λ (n : ℕ). n + 2) (sym long);
-      next_is = sp.next_is;
-      durable_is = sp.durable_is;
-      low = sp.low;
-      stop_bit = sp.stop_bit;
-      backed_up = sp.backed_up;
-      covered = sp.covered;
-      short = sp.short;
-      small = sp.small;
-    };
+    spelled = subst (λ (slots : ℕ). Spelled k r.figures s.words slots) (sym long) r.spelled;
     dealt = r.dealt;
-    each_station = λ j w e. let o = r.each_station j w e in record {
-      begun = o.begun;
-      within = o.within;
-      counts = o.counts;
-      counted = o.counted;
-      gone = o.gone;
-      home = λ free. let h = o.home free in record { value = h.value; there = same j (o.counts ∙ free) ∙ h.there; keeps = h.keeps; backed = h.backed; covers = h.covers; common = h.common };
-    };
+    each_station = λ j w e. let o = r.each_station j w e in rehoused o (λ free. same j (o.counts ∙ free));
     each_seat = λ i m at. let o = r.each_seat i m at in record {
       starts = o.starts;
       wholes = o.wholes;

@@ -1,5 +1,5 @@
 -- What a seat of a node has done.
-use Rattle.std.specs.Prelude.{◌≡◌, ℕ, ◌+◌, ◌≤◌, ◌⊎◌, IsFalse, List, [], ◌∷◌, ◌++◌, length, map}
+use Rattle.std.specs.Prelude.{◌≡◌, ℕ, ◌+◌, ◌<◌, ◌≤◌, ◌⊎◌, IsFalse, List, [], ◌∷◌, ◌++◌, length, map}
 use Rattle.rep_ordered.specs.declared.view.Joined.{Joined}
 use Rattle.rep_ordered.specs.declared.view.View.{View}
 use Rattle.rep_ordered.specs.Counts.{times, once_below}
@@ -16,9 +16,17 @@ use Rattle.rep_ordered_node.specs.Homes.{order_of, commits_first}
 abbrev pub IsSeat : View Home Done → Type 0
 IsSeat v = v.start ≡ length (order_of v.first) + 1
 
+-- what the seat then sees is lawful behind the order that the node was started from
+abbrev pub SeesLawful : View Home Done → View Home Done → Type 0
+SeesLawful v w = Sees (Legal (order_of v.first)) w
+
 -- the seat went on, sees a lawful history, and neither drew a number nor let anything join the history
 abbrev pub WentIdle : View Home Done → View Home Done → Type 0
-WentIdle v w = Went v w × (w.own ≡ v.own) × (w.joined ≡ v.joined) × Sees (Legal (order_of v.first)) w
+WentIdle v w = Went v w × (w.own ≡ v.own) × (w.joined ≡ v.joined) × SeesLawful v w
+
+-- the seat drew this number
+abbrev pub Drew : ℕ → View Home Done → Type 0
+Drew n v = 0 < times n v.own
 
 -- each number that the seat drew has passed the engine
 abbrev pub Passed : View Home Done → Type 0

@@ -1,11 +1,9 @@
 //! What makes items durable, and who waits for that.
 
 ghost use Rattle.std.specs.Prelude.{◌≡◌, ◌≤◌, IfOk, IfErr};
-ghost use Rattle.rep_ordered.specs.Views.{Later, Sees};
+ghost use Rattle.rep_ordered.specs.Views.{Later};
 ghost use Rattle.rep_ordered.specs.Seats.{IsFree};
-ghost use Rattle.rep_ordered_node.specs.Homes.{order_of};
-ghost use Rattle.rep_ordered_node.specs.Judging.{Legal};
-ghost use Rattle.rep_ordered_node.specs.Seats.{WentIdle};
+ghost use Rattle.rep_ordered_node.specs.Seats.{SeesLawful, WentIdle};
 
 use crate::done::Done;
 use crate::home::Home;
@@ -26,7 +24,7 @@ pub fn wait_durable<R: Wait>(
     requires lock { seat.old.lock ≡ lock.now }
     ensures lock { seat.new.lock ≡ seat.old.lock }
     ensures later { Later seat.old.view seat.new.view }
-    ensures sees { Sees (Legal (order_of seat.old.view.first)) seat.new.view }
+    ensures sees { SeesLawful seat.old.view seat.new.view }
     ensures durable { IfOk result (λ durable. (least ≤ durable) × (durable ≡ seat.new.view.durable)) }
     ensures stopped { IfErr result (λ refusal. (refusal ≡ Refusal.Stopped) × (seat.new.view.halted ≡ 1)) }
 {

@@ -10,8 +10,6 @@ mod home;
 mod keeping;
 mod runs;
 mod submitting;
-#[cfg(test)]
-mod tests;
 
 pub use certifier::Certifier;
 pub use done::Done;

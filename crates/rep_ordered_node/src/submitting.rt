@@ -2,13 +2,10 @@
 
 ghost use Rattle.std.specs.Prelude.{◌≡◌, ℕ, ◌+◌, ◌<◌, ◌≤◌, ◌∷◌, length, IfOk, IfErr, OnOk, List};
 ghost use Rattle.rep_ordered.specs.declared.view.Joined.{Joined};
-ghost use Rattle.rep_ordered.specs.Counts.{times};
-ghost use Rattle.rep_ordered.specs.Views.{OwnEntry, Sees, reached_at};
+ghost use Rattle.rep_ordered.specs.Views.{OwnEntry, reached_at};
 ghost use Rattle.rep_ordered.specs.Seats.{IsFree};
 ghost use Rattle.rep_ordered.specs.Going.{Went};
-ghost use Rattle.rep_ordered_node.specs.Homes.{order_of};
-ghost use Rattle.rep_ordered_node.specs.Judging.{Legal};
-ghost use Rattle.rep_ordered_node.specs.Seats.{IsSeat, PassedOrStopped, Joins, own_entry};
+ghost use Rattle.rep_ordered_node.specs.Seats.{Drew, IsSeat, PassedOrStopped, Joins, SeesLawful, own_entry};
 
 use crate::done::Done;
 use crate::home::Home;
@@ -28,14 +25,14 @@ fn certify<R: Wait>(
 ) -> Result<Done, Refusal>
     requires seat { IsSeat seat.old.view }
     requires free { IsFree lock.now 2 seat.old }
-    requires ticket { 0 < times ticket seat.old.view.own }
+    requires ticket { Drew ticket seat.old.view }
     requires room { ticket ≤ seat.old.view.durable + MAX_AHEAD }
     ensures lock { seat.new.lock ≡ seat.old.lock }
     ensures went { Went seat.old.view seat.new.view }
     ensures own { seat.new.view.own ≡ seat.old.view.own }
     ensures joined { IfOk result (λ done. (done.item ≡ item) × (done.seqno ≡ ticket) × (seat.new.view.joined ≡ own_entry done ∷ seat.old.view.joined)) }
     ensures none { IfErr result (λ refusal. seat.new.view.joined ≡ seat.old.view.joined) }
-    ensures stopped { IfErr result (λ refusal. (refusal ≡ Refusal.Stopped) × (seat.new.view.halted ≡ 1) × Sees (Legal (order_of seat.old.view.first)) seat.new.view) }
+    ensures stopped { IfErr result (λ refusal. (refusal ≡ Refusal.Stopped) × (seat.new.view.halted ≡ 1) × SeesLawful seat.old.view seat.new.view) }
 {
     let Home::Certifier(mut certifier) = lock.enter(rt, seat, 0, ticket)? else {
         unreachable!()
@@ -64,13 +61,13 @@ fn queue<R: Wait>(
 ) -> Result<(), Refusal>
     requires seat { IsSeat seat.old.view }
     requires free { IsFree lock.now 2 seat.old }
-    requires ticket { 0 < times done.seqno seat.old.view.own }
+    requires ticket { Drew done.seqno seat.old.view }
     requires judged { (others : List (Joined Done)) × (seat.old.view.joined ≡ own_entry done ∷ others) }
     ensures lock { seat.new.lock ≡ seat.old.lock }
     ensures went { Went seat.old.view seat.new.view }
     ensures own { (seat.new.view.own ≡ seat.old.view.own) × (seat.new.view.joined ≡ seat.old.view.joined) }
     ensures passed { OnOk result (done.seqno < reached_at 1 seat.new.view.reached) }
-    ensures stopped { IfErr result (λ refusal. (refusal ≡ Refusal.Stopped) × (seat.new.view.halted ≡ 1) × Sees (Legal (order_of seat.old.view.first)) seat.new.view) }
+    ensures stopped { IfErr result (λ refusal. (refusal ≡ Refusal.Stopped) × (seat.new.view.halted ≡ 1) × SeesLawful seat.old.view seat.new.view) }
 {
     let Home::Engine(mut engine) = lock.enter(rt, seat, 1, done.seqno)? else {
         unreachable!()
@@ -104,7 +101,7 @@ pub fn submit<R: Wait>(
     ensures went { Went seat.old.view seat.new.view }
     ensures drawn { length seat.new.view.own ≡ length seat.old.view.own + 1 }
     ensures joined { Joins item seat.old.view seat.new.view }
-    ensures sees { Sees (Legal (order_of seat.old.view.first)) seat.new.view }
+    ensures sees { SeesLawful seat.old.view seat.new.view }
     ensures stands { IfOk result (λ done. OwnEntry seat.new.view.start seat.new.view.seen seat.new.view.own (own_entry done)) }
     ensures receipt { IfOk result (λ done. (done.item ≡ item) × (seat.new.view.joined ≡ own_entry done ∷ seat.old.view.joined) × (done.seqno ≤ seat.new.view.durable) × (seat.old.view.start + length seat.old.view.seen ≤ done.seqno)) }
     ensures passed { PassedOrStopped seat.old.view → PassedOrStopped seat.new.view }

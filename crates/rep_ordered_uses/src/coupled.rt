@@ -7,7 +7,7 @@ ghost use Rattle.rep_ordered.specs.Going.{Went};
 ghost use Rattle.rep_ordered_uses.specs.Passing.{AllDone};
 
 use crate::passed::Passed;
-use crate::passing::{lock_of_lists, passed_counts};
+use crate::passing::{Way, lock_of_lists, pass_all, passed_counts};
 use rep_ordered::{OrderedLock, Seat};
 use rep_types::{MAX_SEQNO, Refusal};
 use std::alloc::Global;
@@ -57,30 +57,6 @@ pub fn pass_coupled<const START: u64, R: Wait>(
     Ok(())
 }
 
-/// Passes both stations with as many tickets, each inside both at once.
-pub fn pass_all_coupled<const START: u64, R: Wait>(
-    rt: &R,
-    lock: &OrderedLock<Passed<START>, u64>,
-    seat: &mut Seat<Passed<START>, u64>,
-    count: u64,
-) -> Result<(), Refusal>
-    requires lock { (seat.old.lock ≡ lock.now) × (stations_of lock.now ≡ 2) }
-    requires start { seat.old.view.start ≡ START }
-    requires free { seat.old.view.held ≡ [] }
-    requires allowance { count ≤ seat.old.view.allowance }
-    requires done { AllDone seat.old.view }
-    ensures lock { seat.new.lock ≡ seat.old.lock }
-    ensures went { Went seat.old.view seat.new.view }
-    ensures drawn { OnOk result (length seat.new.view.own ≡ length seat.old.view.own + count) }
-    ensures done { OnOk result (AllDone seat.new.view) }
-    ensures refused { IfErr result (λ refusal. (refusal ≡ Refusal.Stopped) ⊎ (refusal ≡ Refusal.OutOfMemory)) }
-{
-    for _ticket in 0..count {
-        pass_coupled(rt, lock, seat)?;
-    }
-    Ok(())
-}
-
 /// Counts so many times what has passed both stations, and says what it counted last.
 pub fn count_often<const START: u64, R: Wait>(
     rt: &R,
@@ -124,7 +100,7 @@ pub fn counts_beside<const START: u64, R: Threads + Wait + Sync>(
             requires { IsSync R.row × (passer.lock ≡ shared.now) × (stations_of shared.now ≡ 2) × (passer.view.start ≡ START) × (passer.view.held ≡ []) × (count ≤ passer.view.allowance) × AllDone passer.view }
             ensures { (result.0.lock ≡ passer.lock) × Went passer.view result.0.view × IfErr result.1 (λ refusal. (refusal ≡ Refusal.Stopped) ⊎ (refusal ≡ Refusal.OutOfMemory)) }
         {
-            let passed = pass_all_coupled(rt, shared, &mut passer, count);
+            let passed = pass_all(rt, shared, &mut passer, Way::Coupled, count);
             (passer, passed)
         },
         move || -> (Seat<Passed<START>, u64>, Result<(usize, usize), Refusal>)

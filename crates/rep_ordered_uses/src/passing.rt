@@ -7,6 +7,7 @@ ghost use Rattle.rep_ordered.specs.Seats.{seat_of, stations_of};
 ghost use Rattle.rep_ordered.specs.Going.{Went};
 ghost use Rattle.rep_ordered_uses.specs.Passing.{AllDone, numbers};
 
+use crate::coupled::pass_coupled;
 use crate::passed::Passed;
 use rep_ordered::{OrderedLock, Seat};
 use rep_types::{MAX_SEQNO, Refusal};
@@ -50,11 +51,19 @@ pub fn pass_one<const START: u64, R: Wait>(
     Ok(())
 }
 
-/// Passes both stations with as many tickets.
+/// How a ticket passes both stations: it leaves the first before it enters the second, or after.
+#[derive(Clone, Copy)]
+pub enum Way {
+    OneByOne,
+    Coupled,
+}
+
+/// Passes both stations with as many tickets, in this way.
 pub fn pass_all<const START: u64, R: Wait>(
     rt: &R,
     lock: &OrderedLock<Passed<START>, u64>,
     seat: &mut Seat<Passed<START>, u64>,
+    way: Way,
     count: u64,
 ) -> Result<(), Refusal>
     requires lock { (seat.old.lock ≡ lock.now) × (stations_of lock.now ≡ 2) }
@@ -69,7 +78,10 @@ pub fn pass_all<const START: u64, R: Wait>(
     ensures refused { IfErr result (λ refusal. (refusal ≡ Refusal.Stopped) ⊎ (refusal ≡ Refusal.OutOfMemory)) }
 {
     for _ticket in 0..count {
-        pass_one(rt, lock, seat)?;
+        match way {
+            Way::OneByOne => pass_one(rt, lock, seat)?,
+            Way::Coupled => pass_coupled(rt, lock, seat)?,
+        }
     }
     Ok(())
 }
@@ -126,7 +138,7 @@ pub fn pass_by<const START: u64, R: Threads + Wait + Sync>(
     ensures done { OnOk result.1 (AllDone result.0.view) }
 {
     if threads == 1 {
-        let passed = pass_all(rt, lock, &mut seat, count);
+        let passed = pass_all(rt, lock, &mut seat, Way::OneByOne, count);
         return (seat, passed);
     }
     let half = threads / 2;

@@ -15,7 +15,7 @@ use Rattle.rep_record.specs.Grammar.{IsParamsLine}
 use Rattle.rep_record.specs.Reading.{order_line, params_line}
 use Rattle.rep_record.proofs.TextLines.{are_lines}
 use Rattle.rep_script.specs.Judging.{Reading, said_by, items_of, text_of, with_line, with_params, line_reading, reading_of, reading}
-use Rattle.rep_script.specs.OrderText.{IsItem, IsOrderText}
+use Rattle.rep_script.specs.OrderText.{IsItem, AreOrderLines, IsOrderText}
 use Rattle.rep_script.proofs.SaidLines.{item_is_said, item_is_given, params_are_said, params_are_given, line_is_allowed, line_has_no_fault}
 
 -- the lines with words, without their line feeds
@@ -119,12 +119,7 @@ items_again (raw ∷ raws) number before L h =
 pub record AreText (before : ℕ) (raws : List (List ℕ)) (p : Setting) (L : Order) : Type 0 where
   pub small : before + total raws ≤ 67108864
   pub short : AllByRecursion IsShort raws
-  pub params : List ℕ
-  pub items : List (List ℕ)
-  pub whole : filled raws ≡ params ∷ items
-  pub is_params : IsParamsLine params p
-  pub allowed : IsTrue (is_setting p)
-  pub are_items : AllZip IsItem items L
+  pub lines : AreOrderLines (filled raws) p L
 
 -- where the text is read without a fault, the first line has none
 text_allowed : (number before : ℕ) (raw : List ℕ) (items : Order × Option Refusal) (later : Reading Item) (fault : Option Refusal) (p : Setting) (L : Order) →
@@ -142,28 +137,14 @@ text_found_more : (number before : ℕ) (raw : List ℕ) (raws : List (List ℕ)
     with_params (cond blank None (Some r)) items later ≡ reading_of p (L, None) → AreText before (raw ∷ raws) p L
 text_found_more number before raw raws items later true r p L b s short are_items rest e =
     let h = rest e in
-    record {
-      small = omega (arith, total_more raw raws, h.small);
-      short = (short, h.short);
-      params = h.params;
-      items = h.items;
-      whole = rw b h.whole;
-      is_params = h.is_params;
-      allowed = h.allowed;
-      are_items = h.are_items;
-    }
+    record { small = omega (arith, total_more raw raws, h.small); short = (short, h.short); lines = rw b h.lines }
 text_found_more number before raw raws items later false (Ok q) p L b s short are_items rest e =
     let h = are_items (ap (λ (r : Reading Item). (r.order, r.fault)) e) in
     let said = params_are_said number (without_feed raw) p (s ∙ ap (λ (r : Reading Item). Ok r.setting) e) in
     record {
       small = omega (arith, total_more raw raws, h.small);
       short = (short, h.short);
-      params = without_feed raw;
-      items = filled raws;
-      whole = rw b refl;
-      is_params = said.0;
-      allowed = said.1;
-      are_items = h.items;
+      lines = record { params = without_feed raw; items = filled raws; whole = rw b refl; is_params = said.0; allowed = said.1; are_items = h.items };
     }
 text_found_more number before raw raws items later false (Err fault) p L b s short are_items rest e =
     let same : Some fault ≡ None = ap (λ (r : Reading Item). r.fault) e in
@@ -184,70 +165,43 @@ text_found (raw ∷ raws) number before p L fits e =
     (items_found raws (number + 1) (before + length raw) L b.1) (text_found raws (number + 1) (before + length raw) p L b.1) a.1
 
 -- one more line of the text, by whether it has words
-text_again_more : (number : ℕ) (raw : List ℕ) (raws : List (List ℕ)) (items : Order × Option Refusal) (later : Reading Item) (blank : Bool) (p : Setting) (L : Order) (params : List ℕ) (lines : List (List ℕ)) →
-    cond (not blank) (without_feed raw ∷ filled raws) (filled raws) ≡ params ∷ lines → IsParamsLine params p → IsTrue (is_setting p) → AllZip IsItem lines L →
-    (AllZip IsItem (filled raws) L → items ≡ (L, None)) → (filled raws ≡ params ∷ lines → later ≡ reading_of p (L, None)) →
+text_again_more : (number : ℕ) (raw : List ℕ) (raws : List (List ℕ)) (items : Order × Option Refusal) (later : Reading Item) (blank : Bool) (p : Setting) (L : Order) →
+    AreOrderLines (cond (not blank) (without_feed raw ∷ filled raws) (filled raws)) p L →
+    (AllZip IsItem (filled raws) L → items ≡ (L, None)) → (AreOrderLines (filled raws) p L → later ≡ reading_of p (L, None)) →
     with_params (cond blank None (Some (params_line number (without_feed raw)))) items later ≡ reading_of p (L, None)
-text_again_more number raw raws items later true p L params lines whole is_params allowed are_items given rest = rest whole
-text_again_more number raw raws items later false p L params lines whole is_params allowed are_items given rest =
-    let first : params ≡ without_feed raw = cc in
-    let others : lines ≡ filled raws = cc in
+text_again_more number raw raws items later true p L h given rest = rest h
+text_again_more number raw raws items later false p L h given rest =
+    let whole : without_feed raw ∷ filled raws ≡ h.params ∷ h.items = h.whole in
+    let first : h.params ≡ without_feed raw = cc in
+    let others : h.items ≡ filled raws = cc in
     rw (
-      params_are_given number (without_feed raw) p (subst (λ line. IsParamsLine line p) first is_params) allowed,
-      given (subst (λ ls. AllZip IsItem ls L) others are_items),
+      params_are_given number (without_feed raw) p (subst (λ line. IsParamsLine line p) first h.is_params) h.allowed,
+      given (subst (λ ls. AllZip IsItem ls L) others h.are_items),
     ) refl
 
 -- lines that are the text are read without a fault
 pub text_again : (raws : List (List ℕ)) (number before : ℕ) (p : Setting) (L : Order) → AreText before raws p L → text_of order_line number before raws ≡ reading_of p (L, None)
 unfolding text_of
 text_again [] number before p L h =
-    let whole : [] ≡ h.params ∷ h.items = h.whole in
+    let whole : [] ≡ h.lines.params ∷ h.lines.items = h.lines.whole in
     absurd cc
 text_again (raw ∷ raws) number before p L h =
     let more = total_more raw raws in
     let small : before + length raw + total raws ≤ 67108864 = omega (arith, more, h.small) in
     rw (line_has_no_fault number before raw h.short.0 (omega (arith, more, h.small)))
-    (text_again_more number raw raws (items_of (number + 1) (before + length raw) raws) (text_of order_line (number + 1) (before + length raw) raws) (is_blank (without_feed raw)) p L h.params h.items
-    h.whole h.is_params h.allowed h.are_items
+    (text_again_more number raw raws (items_of (number + 1) (before + length raw) raws) (text_of order_line (number + 1) (before + length raw) raws) (is_blank (without_feed raw)) p L h.lines
     (λ items. items_again raws (number + 1) (before + length raw) L (record { small = small; short = h.short.1; items = items }))
-    (λ whole. text_again raws (number + 1) (before + length raw) p L (record {
-      small = small;
-      short = h.short.1;
-      params = h.params;
-      items = h.items;
-      whole = whole;
-      is_params = h.is_params;
-      allowed = h.allowed;
-      are_items = h.are_items;
-    })))
+    (λ lines. text_again raws (number + 1) (before + length raw) p L (record { small = small; short = h.short.1; lines = lines })))
 
 -- a text that is read without a fault is an order text
 pub order_text_found : (text : List ℕ) (p : Setting) (L : Order) → reading text ≡ reading_of p (L, None) → IsOrderText text p L
 order_text_found text p L e =
     let h = text_found (raw_lines text) 1 0 p L (omega arith) e in
-    record {
-      small = omega (arith, total_whole text, h.small);
-      short = h.short;
-      params = h.params;
-      items = h.items;
-      whole = h.whole;
-      is_params = h.is_params;
-      allowed = h.allowed;
-      are_items = h.are_items;
-    }
+    record { small = omega (arith, total_whole text, h.small); short = h.short; lines = h.lines }
 
 -- an order text is read without a fault
 pub order_text_again : (text : List ℕ) (p : Setting) (L : Order) → IsOrderText text p L → reading text ≡ reading_of p (L, None)
-order_text_again text p L h = text_again (raw_lines text) 1 0 p L (record {
-  small = omega (arith, total_whole text, h.small);
-  short = h.short;
-  params = h.params;
-  items = h.items;
-  whole = h.whole;
-  is_params = h.is_params;
-  allowed = h.allowed;
-  are_items = h.are_items;
-})
+order_text_again text p L h = text_again (raw_lines text) 1 0 p L (record { small = omega (arith, total_whole text, h.small); short = h.short; lines = h.lines })
 
 -- what is read is one
 pub order_text_one : (text : List ℕ) (p q : Setting) (L M : Order) → IsOrderText text p L → IsOrderText text q M → (p ≡ q) × (L ≡ M)

@@ -21,17 +21,20 @@ abbrev pub IsItem : List ℕ → Item → Type 0
 IsItem line (WriteSet w) = IsItemLine line w × IsWithinLimits w
 IsItem line (SetWindow c) = IsChangeLine line c × IsTrue (is_window_size c.size)
 
--- An order text: at most 67,108,864 bytes, lines of at most 4,096 bytes; the first line with words is a params line within the
--- limits, and each further one is an item.
-pub record IsOrderText (text : List ℕ) (p : Setting) (L : Order) : Type 0 where
-  pub small : length text ≤ 67108864
-  pub short : AllByRecursion (λ (raw : List ℕ). length (without_feed raw) ≤ 4096) (raw_lines text)
+-- The first of these lines is a params line within the limits, and each further one is an item.
+pub record AreOrderLines (lines : List (List ℕ)) (p : Setting) (L : Order) : Type 0 where
   pub params : List ℕ
   pub items : List (List ℕ)
-  pub whole : contents text ≡ params ∷ items
+  pub whole : lines ≡ params ∷ items
   pub is_params : IsParamsLine params p
   pub allowed : IsTrue (is_setting p)
   pub are_items : AllZip IsItem items L
+
+-- An order text: at most 67,108,864 bytes, lines of at most 4,096 bytes; those with words are a params line and items.
+pub record IsOrderText (text : List ℕ) (p : Setting) (L : Order) : Type 0 where
+  pub small : length text ≤ 67108864
+  pub short : AllByRecursion (λ (raw : List ℕ). length (without_feed raw) ≤ 4096) (raw_lines text)
+  pub lines : AreOrderLines (contents text) p L
 
 -- A text is read without a fault exactly where it is an order text, and as what it is; and no text is two order texts.
 pub record ReadingIsTheTextGrammar : Type 0 where

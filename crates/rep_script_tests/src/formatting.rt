@@ -5,6 +5,7 @@ use rep_disk::{Disk, FaultOnce, MemDisk};
 use rep_script::{format_text, opened, run_on_disk};
 use rep_types::{Params, Refusal};
 use std::alloc::Global;
+use std::process::Abort;
 use std::test::Fail;
 use uuid::Uuid;
 
@@ -22,6 +23,17 @@ fn formatted(
     Ok((disk, writer, end))
 }
 
+/// Formats a disk of so many bytes, and compares what a writer with this room takes, and how it ends.
+fn formats(
+    rt: &(impl Abort + AllocGlobal),
+    (size, room): (usize, usize),
+    wanted: (&[u8], Result<(), Refusal>),
+) -> Result<MemDisk, Refusal> {
+    let (disk, writer, end) = formatted(rt.alloc(), size, room)?;
+    wrote(rt, (&writer.taken, end), wanted);
+    Ok(disk)
+}
+
 /// The line of the state of the replica on the disk, and how it ends.
 fn state_on<D: Disk + Drop>(alloc: Global, disk: D) -> (Vec<u8>, Result<(), Refusal>) {
     let mut script: &[u8] = b"state";
@@ -32,23 +44,15 @@ fn state_on<D: Disk + Drop>(alloc: Global, disk: D) -> (Vec<u8>, Result<(), Refu
 
 #[test]
 fn a_disk_that_is_too_small_is_not_said_to_be_formatted(rt: HostRuntime) -> Result<(), Fail> {
-    let (_, writer, end) = formatted(rt.alloc(), 103_423, 100)?;
-    wrote(
-        &rt,
-        (&writer.taken, end),
-        (b"", Err(Refusal::TooSmall { need: 103_424 })),
-    );
+    let refusal = Refusal::TooSmall { need: 103_424 };
+    formats(&rt, (103_423, 100), (b"", Err(refusal)))?;
     Ok(())
 }
 
 #[test]
 fn a_disk_is_formatted_before_that_is_said(rt: HostRuntime) -> Result<(), Fail> {
-    let (disk, writer, end) = formatted(rt.alloc(), 103_424, 9)?;
-    wrote(
-        &rt,
-        (&writer.taken, end),
-        (b"formatted", Err(Refusal::StreamFault)),
-    );
+    let front = (b"formatted".as_slice(), Err(Refusal::StreamFault));
+    let disk = formats(&rt, (103_424, 9), front)?;
     let (written, end) = state_on(rt.alloc(), disk);
     wrote(
         &rt,

@@ -1,5 +1,6 @@
 -- What is found of a row is what a plain fold over the pairs makes of it.
 use Rattle.std.proofs.Common.{◌≡◌, ◌∙◌, refl, sym, ap, ℕ, ◌<◌, ◌≤◌, Bool, true, false, ◌==◌, nat_le, if◌then◌else◌, List, [], ◌∷◌, ◌++◌, fold, Option, None, Some, arith}
+use Rattle.std.specs.Prelude.{unwrap_or}
 use Rattle.std.specs.Option.{option_or}
 use mathlib.Core.Logic.{dite}
 use native.Mathlib.Decide.{ℕ_discrete}
@@ -16,21 +17,17 @@ use Rattle.rep_snap.specs.declared.peek.Peek.TheVariants.{Value, Absent, Cold}
 use Rattle.rep_snap.specs.Lists.{front_of, Ascends, written, written_by, left, IsNewestWrite, IsFound}
 use Rattle.rep_snap.specs.Laws.{rows_at, row_over, PeeksFollowTheFold}
 
--- what a version makes of a row
-abbrev over : Option (List ℕ) → Option Version → Option (List ℕ)
-over row None = row
-over row (Some version) = version
-
-over_write : (row : Option (List ℕ)) (w : Option Write) → overwritten row w ≡ over row (overlaid None w)
+-- what a write makes of a row is its version, or else the row as it was
+over_write : (row : Option (List ℕ)) (w : Option Write) → overwritten row w ≡ unwrap_or (overlaid None w) row
 over_write row None = refl
 over_write row (Some w) = refl
 
 -- the fold of one row
 abbrev row_at : Key → Option (List ℕ) → List Pair → ℕ → Option (List ℕ)
-row_at key row pairs s = fold (λ r pair. if nat_le pair.seqno s then over r (made_by pair.writes.items key) else r) row pairs
+row_at key row pairs s = fold (λ r pair. if nat_le pair.seqno s then unwrap_or (made_by pair.writes.items key) r else r) row pairs
 
 one_pair : (key : Key) (content : Key → Option (List ℕ)) (pair : Pair) (b : Bool)
-    → (if b then content_after content pair.writes.items else content) key ≡ (if b then over (content key) (made_by pair.writes.items key) else content key)
+    → (if b then content_after content pair.writes.items else content) key ≡ (if b then unwrap_or (made_by pair.writes.items key) (content key) else content key)
 one_pair key content pair true = over_write (content key) (latest (λ (write : Write). key_eq write.key key) pair.writes.items)
 one_pair key content pair false = refl
 
@@ -45,7 +42,7 @@ passed key below [] s row h le = refl
 passed key below (p ∷ pairs) s row h le =
     let lt = h.0 in
     let above : nat_le p.seqno s ≡ false = grind (arith, nat_tests, lt, le) in
-    ap (λ b. row_at key (if b then over row (made_by p.writes.items key) else row) pairs s) above ∙ passed key p.seqno pairs s row h.1 (omega (arith, lt, le))
+    ap (λ b. row_at key (if b then unwrap_or (made_by p.writes.items key) row else row) pairs s) above ∙ passed key p.seqno pairs s row h.1 (omega (arith, lt, le))
 
 rows_passed : (below : ℕ) (pairs : List Pair) (s : ℕ) (content : Key → Option (List ℕ)) → Ascends below pairs → s ≤ below → rows_at content pairs s ≡ content
 rows_passed below [] s content h le = refl
@@ -90,14 +87,14 @@ rest p pairs key m s h none n lt le = dite (ℕ_discrete p.seqno n)
 -- what the first pair makes of the row at both snapshots
 both : (p : Pair) (pairs : List Pair) (key : Key) (m s : ℕ) (row : Option (List ℕ)) → Ascends p.seqno pairs → m ≤ s → ((n : ℕ) → m < n → n ≤ s → written (p ∷ pairs) key n ≡ None)
     → (b c : Bool) → nat_le p.seqno s ≡ b → nat_le p.seqno m ≡ c
-    → (if b then over row (made_by p.writes.items key) else row) ≡ (if c then over row (made_by p.writes.items key) else row)
+    → (if b then unwrap_or (made_by p.writes.items key) row else row) ≡ (if c then unwrap_or (made_by p.writes.items key) row else row)
 both p pairs key m s row h le none true true i j = refl
 both p pairs key m s row h le none false false i j = refl
 both p pairs key m s row h le none false true i j = absurd (grind (arith, nat_tests, i, j, le))
 both p pairs key m s row h le none true false i j =
     let above : m < p.seqno = grind (arith, nat_tests, j) in
     let within : p.seqno ≤ s = grind (arith, nat_tests, i) in
-    ap (over row) (sym (first_wrote p pairs key p.seqno h refl) ∙ none p.seqno above within)
+    ap (λ o. unwrap_or o row) (sym (first_wrote p pairs key p.seqno h refl) ∙ none p.seqno above within)
 
 -- the row stays where no pair writes it
 flat : (key : Key) (below : ℕ) (pairs : List Pair) (m s : ℕ) (row : Option (List ℕ)) → Ascends below pairs → m ≤ s → ((n : ℕ) → m < n → n ≤ s → written pairs key n ≡ None)
@@ -105,17 +102,17 @@ flat : (key : Key) (below : ℕ) (pairs : List Pair) (m s : ℕ) (row : Option (
 flat key below [] m s row h le none = refl
 flat key below (p ∷ pairs) m s row h le none =
     ap (λ r. row_at key r pairs s) (both p pairs key m s row h.1 le none _ _ refl refl)
-    ∙ flat key p.seqno pairs m s (if nat_le p.seqno m then over row (made_by p.writes.items key) else row) h.1 le (rest p pairs key m s h.1 none)
+    ∙ flat key p.seqno pairs m s (if nat_le p.seqno m then unwrap_or (made_by p.writes.items key) row else row) h.1 le (rest p pairs key m s h.1 none)
 
 -- and is what a pair wrote at its seqno
 wrote : (key : Key) (below : ℕ) (pairs : List Pair) (m : ℕ) (row : Option (List ℕ)) (v : Version) → Ascends below pairs → written pairs key m ≡ Some v → row_at key row pairs m ≡ v
 wrote key below [] m row v h is = absurd (let none : None ≡ Some v = is in cc none)
 wrote key below (p ∷ pairs) m row v h is = dite (ℕ_discrete p.seqno m)
     (λ same. let here : nat_le p.seqno m ≡ true = grind (arith, nat_tests, same) in
-    ap (λ b. row_at key (if b then over row (made_by p.writes.items key) else row) pairs m) here
-    ∙ ap (λ o. row_at key (over row o) pairs m) (sym (first_wrote p pairs key m h.1 same) ∙ is)
+    ap (λ b. row_at key (if b then unwrap_or (made_by p.writes.items key) row else row) pairs m) here
+    ∙ ap (λ o. row_at key (unwrap_or o row) pairs m) (sym (first_wrote p pairs key m h.1 same) ∙ is)
     ∙ passed key p.seqno pairs m v h.1 (omega (arith, same)))
-    (λ other. wrote key p.seqno pairs m (if nat_le p.seqno m then over row (made_by p.writes.items key) else row) v h.1 (sym (others_wrote p pairs key m other) ∙ is))
+    (λ other. wrote key p.seqno pairs m (if nat_le p.seqno m then unwrap_or (made_by p.writes.items key) row else row) v h.1 (sym (others_wrote p pairs key m other) ∙ is))
 
 -- above the oldest snapshot what is left is what was written
 kept_above : (oldest n : ℕ) (o : Option Version) → oldest < n → (if nat_le n oldest then None else o) ≡ o

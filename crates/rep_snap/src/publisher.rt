@@ -73,42 +73,6 @@ fn first_shelf<A>(alloc: Global, basis: A, start: u64, seen: &Seen<Change, u64, 
 }
 
 impl<A: Admits + Again + Drop> Publisher<A> {
-    /// A publisher with an empty list and no readers, with room for so many.
-    fn open<R: Wait>(
-        alloc: Global,
-        rt: &R,
-        basis: A,
-        position: u64,
-        readers: usize,
-    ) -> Result<Publisher<A>, Refusal>
-        requires readers { (0 < readers) × (readers < 2 ^ 32) }
-        ensures started { IfOk result (λ p. p ≡ opened p.book basis position 0) }
-        ensures refused { IfErr result (λ e. e ≡ OutOfMemory) }
-    {
-        let (seen, mut pen, _second) = Seen::open(Start::alone(), 0, 0);
-        let head = Word::tracked(0, &mut pen);
-        let first = first_shelf(alloc, basis.again(), position, &seen);
-        let second = first_shelf(alloc, basis, position, &seen);
-        let opening = first.sight.again();
-        let Ok(writer) = Writer::new(alloc, first, second, readers) else {
-            return Err(Refusal::OutOfMemory);
-        };
-        let (writer, shown) = writer.publish_as::<Sees<A>, R>(rt);
-        match shown {
-            Ok(()) => Ok(Publisher {
-                writer,
-                head,
-                failed: false,
-                opening,
-                ready: Vec::new(alloc),
-            }),
-            Err(_) => {
-                drop(writer.take(rt));
-                Err(Refusal::OutOfMemory)
-            }
-        }
-    }
-
     /// A reader that has seen and was told nothing.
     fn newcomer(&mut self) -> Result<Reader<A>, Refusal>
         ensures same { self.new ≡ self.old }
@@ -143,6 +107,30 @@ impl<A: Admits + Again + Drop> Publisher<A> {
         Ok(made)
     }
 
+    /// The publisher with so many readers ready. Where a growth was refused it is ended.
+    fn with_ready<R: Wait>(
+        self,
+        alloc: Global,
+        rt: &R,
+        readers: usize,
+    ) -> Result<Publisher<A>, Refusal>
+        requires readers { 0 < readers }
+        ensures ready { IfOk result (λ p. p ≡ record self { ready = readers }) }
+        ensures refused { IfErr result (λ e. e ≡ OutOfMemory) }
+    {
+        let mut publisher = self;
+        match publisher.newcomers(alloc, readers) {
+            Ok(ready) => {
+                publisher.ready = ready;
+                Ok(publisher)
+            }
+            Err(refusal) => {
+                publisher.close(rt);
+                Err(refusal)
+            }
+        }
+    }
+
     /// A publisher with an empty list, which starts at this position, with so many readers ready.
     ///
     /// Refuses with `OutOfMemory` where a growth was refused.
@@ -157,17 +145,27 @@ impl<A: Admits + Again + Drop> Publisher<A> {
         ensures started { IfOk result (λ p. p ≡ opened p.book basis position readers) }
         ensures refused { IfErr result (λ e. e ≡ OutOfMemory) }
     {
-        let mut publisher = Publisher::open(alloc, rt, basis, position, readers)?;
-        match publisher.newcomers(alloc, readers) {
-            Ok(ready) => {
-                publisher.ready = ready;
-                Ok(publisher)
-            }
-            Err(refusal) => {
-                publisher.close(rt);
-                Err(refusal)
-            }
+        let (seen, mut pen, _second) = Seen::open(Start::alone(), 0, 0);
+        let head = Word::tracked(0, &mut pen);
+        let first = first_shelf(alloc, basis.again(), position, &seen);
+        let second = first_shelf(alloc, basis, position, &seen);
+        let opening = first.sight.again();
+        let Ok(writer) = Writer::new(alloc, first, second, readers) else {
+            return Err(Refusal::OutOfMemory);
+        };
+        let (writer, shown) = writer.publish_as::<Sees<A>, R>(rt);
+        if let Err(_) = shown {
+            drop(writer.take(rt));
+            return Err(Refusal::OutOfMemory);
         }
+        let publisher = Publisher {
+            writer,
+            head,
+            failed: false,
+            opening,
+            ready: Vec::new(alloc),
+        };
+        publisher.with_ready(alloc, rt, readers)
     }
 
     fn change<R: Wait>(mut self, rt: &R, change: Change) -> (Publisher<A>, Result<(), Refusal>)

@@ -1,6 +1,6 @@
 //! The same table behind one lock.
 
-use crate::threads::{AT_FIRST, Ended, KEPT, LAST, LOOKS, joined, right, row_of, value_of};
+use crate::threads::{AT_FIRST, LAST, LOOKS, Readers, joined, pruned_at, right, row_of, write_of};
 use arrayvec::ArrayVec;
 use rep_snap::Peek;
 use rep_types::{Key, MAX_WRITES, Refusal, Write};
@@ -20,10 +20,7 @@ struct Table {
 impl Table {
     fn put(&mut self, seqno: u64) -> Result<(), Refusal> {
         let mut writes: ArrayVec<Write, MAX_WRITES> = ArrayVec::new();
-        writes.push(Write {
-            key: row_of(seqno),
-            value: value_of(seqno),
-        });
+        writes.push(write_of(seqno));
         self.versions.add_writes(seqno, &writes)?;
         self.front = seqno;
         Ok(())
@@ -40,17 +37,17 @@ impl Table {
 }
 
 /// Looks rows up so many times, each at the front that was seen last, and says how many were right.
-fn watch<R: Wait>(rt: &R, table: &Mutex<Table>, times: u64, ended: &Ended) -> u64 {
+fn watch<R: Wait>(rt: &R, table: &Mutex<Table>, readers: &Readers) -> u64 {
     let mut front = table.lock(rt).front;
     let mut all = 0u64;
-    for time in 0..times {
+    for time in 0..readers.times {
         if time % LOOKS == LOOKS - 1 {
             front = table.lock(rt).front;
         }
         let answer = table.lock(rt).at(row_of(front), front);
         all = all.saturating_add(right(&answer, front));
     }
-    ended.one_more();
+    readers.one_has_ended();
     all
 }
 
@@ -60,55 +57,51 @@ fn add_many<R: Wait>(
     table: &Mutex<Table>,
     from: u64,
     to: u64,
-    ended: &Ended,
-    readers: u64,
+    readers: &Readers,
 ) -> Result<(), Refusal> {
     for seqno in from..to {
-        if ended.are(readers) {
+        if readers.have_ended() {
             break;
         }
         table.lock(rt).put(seqno)?;
-        if seqno % KEPT == 0 {
-            table.lock(rt).prune(seqno.saturating_sub(KEPT));
+        if let Some(position) = pruned_at(seqno) {
+            table.lock(rt).prune(position);
         }
     }
     Ok(())
 }
 
-/// Starts a reader in a thread of its own, where there are to be so many.
+/// Starts the reader of this number in a thread of its own, where there are to be so many.
 fn started<R: Threads + Wait + Copy + Send + 'static>(
     rt: &R,
     table: &Arc<Mutex<Table>>,
-    is_one: bool,
-    times: u64,
-    ended: &Ended,
+    readers: &Readers,
+    number: u64,
 ) -> Option<JoinHandle<u64>> {
     let table = Arc::try_clone(table).ok()?;
-    let ended = ended.for_reader(is_one)?;
+    let readers = readers.for_reader(number)?;
     let mine = *rt;
-    spawn(rt, move || watch(&mine, &table, times, &ended)).ok()
+    spawn(rt, move || watch(&mine, &table, &readers)).ok()
 }
 
-/// How many of the look-ups of so many readers were right, beside a thread that adds and prunes.
+/// How many of the readers' look-ups were right, beside a thread that adds and prunes.
 pub(crate) fn beside<R: Threads + Wait + Copy + Send + 'static>(
     rt: &R,
     alloc: Global,
-    readers: u64,
-    times: u64,
+    readers: &Readers,
 ) -> Result<u64, Refusal> {
-    let ended = Ended::none(alloc)?;
     let table = Table {
         versions: Versions::new(alloc),
         front: 0,
         oldest: 0,
     };
     let table = Arc::new(alloc, Mutex::new(table))?;
-    add_many(rt, &table, 1, AT_FIRST, &ended, readers)?;
-    let first = started(rt, &table, 0 < readers, times, &ended);
-    let second = started(rt, &table, 1 < readers, times, &ended);
-    let third = started(rt, &table, 2 < readers, times, &ended);
-    let fourth = started(rt, &table, 3 < readers, times, &ended);
-    let done = add_many(rt, &table, AT_FIRST, LAST, &ended, readers);
+    add_many(rt, &table, 1, AT_FIRST, readers)?;
+    let first = started(rt, &table, readers, 0);
+    let second = started(rt, &table, readers, 1);
+    let third = started(rt, &table, readers, 2);
+    let fourth = started(rt, &table, readers, 3);
+    let done = add_many(rt, &table, AT_FIRST, LAST, readers);
     let all = joined(rt, [first, second, third, fourth]);
     done?;
     Ok(all)

@@ -11,6 +11,7 @@ use std::env;
 use std::rt::Env;
 use std::sync::Wait;
 use std::thread::Threads;
+use threads::Readers;
 
 /// The first word of the command line is `peeks` or `locked`, the second the number of readers, from 1 to
 /// 4, and the third how often each looks a row up.
@@ -28,9 +29,10 @@ fn run<R: Env + Print + AllocGlobal + Threads + Wait + Copy + Send + 'static>(
         .next()
         .context("no number of look-ups")?
         .parse::<u64>()?;
+    let readers = Readers::new(alloc, readers, times)?;
     let right = match kind.as_str() {
-        "peeks" => snapshots::beside(rt, alloc, readers, times)?,
-        "locked" => locked::beside(rt, alloc, readers, times)?,
+        "peeks" => snapshots::beside(rt, alloc, &readers)?,
+        "locked" => locked::beside(rt, alloc, &readers)?,
         other => bail!("{other} is no kind: peeks or locked"),
     };
     rt.println(format_args!("{right} right"))?;

@@ -1,6 +1,6 @@
 //! Readers that wait for nobody.
 
-use crate::threads::{AT_FIRST, Ended, KEPT, LAST, LOOKS, joined, right, row_of, value_of};
+use crate::threads::{AT_FIRST, LAST, LOOKS, Readers, joined, pruned_at, right, row_of, write_of};
 use rep_snap::Reader;
 use rep_snap_uses::{Free, Steady};
 use rep_types::Refusal;
@@ -9,10 +9,10 @@ use std::sync::Wait;
 use std::thread::{JoinHandle, Threads, spawn};
 
 /// Peeks so many times, each at the front that was seen last, and says how many were right.
-fn watch(reader: Reader<Free>, times: u64, ended: &Ended) -> u64 {
+fn watch(reader: Reader<Free>, readers: &Readers) -> u64 {
     let (mut reader, mut front) = reader.front();
     let mut all = 0u64;
-    for time in 0..times {
+    for time in 0..readers.times {
         if time % LOOKS == LOOKS - 1 {
             let (looked, next) = reader.front();
             reader = looked;
@@ -22,8 +22,20 @@ fn watch(reader: Reader<Free>, times: u64, ended: &Ended) -> u64 {
         reader = looked;
         all = all.saturating_add(right(&answer, front));
     }
-    ended.one_more();
+    readers.one_has_ended();
     all
+}
+
+/// Starts the reader of this number in a thread of its own, where there are to be so many.
+fn started<R: Threads>(
+    rt: &R,
+    steady: &mut Steady,
+    readers: &Readers,
+    number: u64,
+) -> Option<JoinHandle<u64>> {
+    let readers = readers.for_reader(number)?;
+    let reader = steady.reader().ok()?;
+    spawn(rt, move || watch(reader, &readers)).ok()
 }
 
 /// Publishes the pairs of the seqnos from one on up to another, or until the readers have ended.
@@ -32,58 +44,36 @@ fn publish_many<R: Wait>(
     steady: Steady,
     from: u64,
     to: u64,
-    ended: &Ended,
-    readers: u64,
+    readers: &Readers,
 ) -> (Steady, Result<(), Refusal>) {
     let mut steady = steady;
     for seqno in from..to {
-        if ended.are(readers) {
+        if readers.have_ended() {
             break;
         }
-        let (longer, done) = steady.put(rt, seqno, row_of(seqno), value_of(seqno));
-        steady = longer;
-        if let Err(refusal) = done {
-            return (steady, Err(refusal));
-        }
-        if seqno % KEPT == 0 {
-            let (pruned, done) = steady.prune(rt, seqno.saturating_sub(KEPT));
-            steady = pruned;
-            if let Err(refusal) = done {
-                return (steady, Err(refusal));
-            }
+        let writes = [write_of(seqno)];
+        let (next, done) = steady.publish_and_prune(rt, seqno, &writes, pruned_at(seqno));
+        steady = next;
+        if done.is_err() {
+            return (steady, done);
         }
     }
     (steady, Ok(()))
 }
 
-/// Starts a reader in a thread of its own, where there are to be so many.
-fn started<R: Threads>(
-    rt: &R,
-    steady: &mut Steady,
-    is_one: bool,
-    times: u64,
-    ended: &Ended,
-) -> Option<JoinHandle<u64>> {
-    let ended = ended.for_reader(is_one)?;
-    let reader = steady.reader().ok()?;
-    spawn(rt, move || watch(reader, times, &ended)).ok()
-}
-
-/// How many of the peeks of so many readers were right, beside a publisher.
+/// How many of the readers' peeks were right, beside a publisher.
 pub(crate) fn beside<R: Threads + Wait>(
     rt: &R,
     alloc: Global,
-    readers: u64,
-    times: u64,
+    readers: &Readers,
 ) -> Result<u64, Refusal> {
-    let ended = Ended::none(alloc)?;
     let steady = Steady::start(alloc, rt, 0, 4)?;
-    let (mut steady, begun) = publish_many(rt, steady, 1, AT_FIRST, &ended, readers);
-    let first = started(rt, &mut steady, 0 < readers, times, &ended);
-    let second = started(rt, &mut steady, 1 < readers, times, &ended);
-    let third = started(rt, &mut steady, 2 < readers, times, &ended);
-    let fourth = started(rt, &mut steady, 3 < readers, times, &ended);
-    let (steady, done) = publish_many(rt, steady, AT_FIRST, LAST, &ended, readers);
+    let (mut steady, begun) = publish_many(rt, steady, 1, AT_FIRST, readers);
+    let first = started(rt, &mut steady, readers, 0);
+    let second = started(rt, &mut steady, readers, 1);
+    let third = started(rt, &mut steady, readers, 2);
+    let fourth = started(rt, &mut steady, readers, 3);
+    let (steady, done) = publish_many(rt, steady, AT_FIRST, LAST, readers);
     let all = joined(rt, [first, second, third, fourth]);
     steady.close(rt);
     begun?;

@@ -1,7 +1,7 @@
 //! What both kinds of readers have in common.
 
 use rep_snap::Peek;
-use rep_types::{Key, Refusal, Value};
+use rep_types::{Key, Refusal, Value, Write};
 use std::alloc::{AllocError, Global};
 use std::sync::Arc;
 use std::sync::atomic::{AtomicU64, Ordering};
@@ -14,7 +14,7 @@ const ROWS: u64 = 1_000;
 pub(crate) const AT_FIRST: u64 = 2_000;
 
 /// A prune goes so far behind the front, and comes behind each so many pairs.
-pub(crate) const KEPT: u64 = 2_000;
+const KEPT: u64 = 2_000;
 
 /// The publisher stops at this seqno, if the readers didn't end before.
 pub(crate) const LAST: u64 = 1 << 40;
@@ -30,9 +30,21 @@ pub(crate) fn row_of(seqno: u64) -> Key {
     }
 }
 
-/// What it writes there.
-pub(crate) fn value_of(seqno: u64) -> Option<Value> {
-    Value::new(&seqno.to_be_bytes()).ok()
+/// What it writes there: the seqno itself.
+pub(crate) fn write_of(seqno: u64) -> Write {
+    Write {
+        key: row_of(seqno),
+        value: Value::new(&seqno.to_be_bytes()).ok(),
+    }
+}
+
+/// Up to where is pruned behind the pair of a seqno, if it is then.
+pub(crate) fn pruned_at(seqno: u64) -> Option<u64> {
+    if seqno % KEPT == 0 {
+        Some(seqno.saturating_sub(KEPT))
+    } else {
+        None
+    }
 }
 
 /// 1 where the row of this seqno, looked up at the seqno, was what the pair wrote, or was pruned.
@@ -45,34 +57,41 @@ pub(crate) fn right(answer: &Result<Peek, Refusal>, seqno: u64) -> u64 {
     if right { 1 } else { 0 }
 }
 
-/// How many readers have ended.
+/// How many readers there are, how often each looks a row up, and how many of them have ended.
 #[derive(Drop)]
-pub(crate) struct Ended {
-    pub(crate) count: Arc<AtomicU64>,
+pub(crate) struct Readers {
+    count: u64,
+    pub(crate) times: u64,
+    ended: Arc<AtomicU64>,
 }
 
-impl Ended {
-    pub(crate) fn none(alloc: Global) -> Result<Ended, AllocError> {
-        Ok(Ended {
-            count: Arc::new(alloc, AtomicU64::new(0))?,
+impl Readers {
+    pub(crate) fn new(alloc: Global, count: u64, times: u64) -> Result<Readers, AllocError> {
+        Ok(Readers {
+            count,
+            times,
+            ended: Arc::new(alloc, AtomicU64::new(0))?,
         })
     }
 
-    /// The same count for a reader in a thread of its own, where there is to be one.
-    pub(crate) fn for_reader(&self, is_one: bool) -> Option<Ended> {
-        if !is_one {
+    /// The same for the reader of this number in a thread of its own, where there are so many.
+    pub(crate) fn for_reader(&self, number: u64) -> Option<Readers> {
+        if self.count <= number {
             return None;
         }
-        let count = Arc::try_clone(&self.count).ok()?;
-        Some(Ended { count })
+        Some(Readers {
+            count: self.count,
+            times: self.times,
+            ended: Arc::try_clone(&self.ended).ok()?,
+        })
     }
 
-    pub(crate) fn one_more(&self) {
-        self.count.fetch_add(1, Ordering::SeqCst);
+    pub(crate) fn one_has_ended(&self) {
+        self.ended.fetch_add(1, Ordering::SeqCst);
     }
 
-    pub(crate) fn are(&self, readers: u64) -> bool {
-        readers <= self.count.load(Ordering::SeqCst)
+    pub(crate) fn have_ended(&self) -> bool {
+        self.count <= self.ended.load(Ordering::SeqCst)
     }
 }
 

@@ -2,7 +2,7 @@
 
 use crate::steady::{Free, Steady};
 use rep_snap::{Peek, Reader};
-use rep_types::{Key, Refusal, Value};
+use rep_types::{Key, Refusal, Value, Write};
 use std::alloc::Global;
 use std::sync::Wait;
 use std::thread::{JoinHandle, Threads, spawn};
@@ -78,15 +78,15 @@ fn publish_many<R: Wait>(
         let Ok(value) = Value::new(seqno.to_be_bytes().as_slice()) else {
             return (steady, Err(Refusal::ValueTooLong));
         };
-        let (longer, done) = steady.put(rt, seqno, row_of(seqno), Some(value));
-        steady = longer;
-        if let Err(refusal) = done {
-            return (steady, Err(refusal));
-        }
-        let (pruned, done) = steady.prune(rt, seqno.saturating_sub(50));
-        steady = pruned;
-        if let Err(refusal) = done {
-            return (steady, Err(refusal));
+        let write = Write {
+            key: row_of(seqno),
+            value: Some(value),
+        };
+        let pruned = Some(seqno.saturating_sub(50));
+        let (next, done) = steady.publish_and_prune(rt, seqno, &[write], pruned);
+        steady = next;
+        if done.is_err() {
+            return (steady, done);
         }
     }
     (steady, Ok(()))

@@ -6,8 +6,6 @@ mod counted;
 mod folded;
 mod planned;
 mod steady;
-#[cfg(test)]
-mod tests;
 
 pub use beside::{Count, watched_beside};
 pub use counted::{Numbers, number_at, publish_next};

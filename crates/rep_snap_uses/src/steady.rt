@@ -95,6 +95,23 @@ impl Steady {
         self.publish(rt, seqno, &writes)
     }
 
+    /// Publishes, and then prunes where a position is given.
+    pub fn publish_and_prune<R: Wait>(
+        self,
+        rt: &R,
+        seqno: u64,
+        writes: &[Write],
+        position: Option<u64>,
+    ) -> (Steady, Result<(), Refusal>)
+        ensures same { result.0.publisher.book ≡ self.publisher.book }
+    {
+        let (steady, done) = self.publish(rt, seqno, writes);
+        match position {
+            Some(position) if done.is_ok() => steady.prune(rt, position),
+            _ => (steady, done),
+        }
+    }
+
     /// Prunes.
     pub fn prune<R: Wait>(self, rt: &R, position: u64) -> (Steady, Result<(), Refusal>)
         ensures same { result.0.publisher.book ≡ self.publisher.book }

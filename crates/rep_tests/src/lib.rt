@@ -4,26 +4,4 @@
 #![tactic(auto)]
 
 #[cfg(test)]
-mod backlog;
-#[cfg(test)]
-mod bytes;
-#[cfg(test)]
-mod cert;
-#[cfg(test)]
-mod layout;
-#[cfg(test)]
-mod pages;
-#[cfg(test)]
-mod plain;
-#[cfg(test)]
-mod record;
-#[cfg(test)]
-mod rows;
-#[cfg(test)]
-mod saved;
-#[cfg(test)]
-mod types;
-#[cfg(test)]
-mod versions;
-#[cfg(test)]
-mod windows;
+mod tests;

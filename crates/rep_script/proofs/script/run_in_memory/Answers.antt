@@ -1,11 +1,32 @@
-use Rattle.std.proofs.Common.{◌≡◌, None, Some, Ok, Err, true, false, refl, ap, ◌∙◌}
+use Rattle.std.proofs.Common.{◌≡◌, ◌+◌, ◌++◌, IfSome, Option, None, Some, Result, Ok, Err, true, false, refl, ap, ◌∙◌}
 use Rattle.std.proofs.lemmas.Result.{err_from_is_err_and}
-use Rattle.rep_record.specs.Lines.{ahead}
+use Rattle.rep_types.specs.declared.refusal.Refusal.{Refusal}
+use Rattle.rep_disk.specs.declared.memory.Loss.{Loss}
+use Rattle.rep_record.specs.Lines.{NextLine, ahead}
 use Rattle.rep_script.specs.ScriptLines.{script_line}
 use Rattle.rep_script.specs.Judging.{content}
 use Rattle.rep_script.specs.Scripts.{Crashes, Stops, RunsLine}
 use Rattle.rep_script.proofs.Scripting.{size_of, failures_of, IsHonest, history_of, DoesInMemory, run_refused, run_all, run_more, run_line_ends, ran_in_memory, failed_in_memory, stop_ran, ends_in_memory, stop_fails_in_memory, unwritten_in_memory}
 use Rattle.rep_script.proofs.script.run_in_memory.Goals as goal
+use Rattle.rep_script.proofs.script.run_in_memory.Goals.{After-run_line}
+
+-- ---- the line that was handed out
+
+handed : (g : _) (c : After-run_line g) → c.next_line.result ≡ Ok true
+handed g c = rw (← c.if-branch.true) c.in_ok-next_line.was
+
+-- it is the next one
+next : (g : _) (c : After-run_line g) → IfSome (g.R.Read.remaining c.lines.reader.reader.now) (λ known.
+    NextLine (c.lines.text.pending ++ known) c.lines.text (Ok true) c.next_line.new.text (g.R.Read.remaining c.next_line.new.reader.reader.now) c.next_line.new.line.items)
+next g c = rw (handed g c) at c.next_line.ensures.known
+
+numbered : (g : _) (c : After-run_line g) → c.next_line.new.text.number ≡ c.lines.text.number + 1
+numbered g c = (rw (handed g c) at c.next_line.ensures.ok).0
+
+-- what it did to the replica
+did : (g : _) (c : After-run_line g) (result : Result (Option Loss) Refusal) → c.run_line.result ≡ result
+    → RunsLine IsHonest history_of failures_of c.lines.replica (content script_line c.next_line.new.text.number c.next_line.new.line.items) result c.run_line.new.replica
+did g c result is = rw (← c.deref.ensures.0, ← c.number.ensures.number) (rw is at c.run_line.ensures)
 
 pub returns-in_err-next_line : goal.returns-in_err-next_line
 returns-in_err-next_line g c p on =
@@ -19,45 +40,39 @@ returns-in_err-next_line g c p on =
 pub returns-in_err-loss : goal.returns-in_err-loss
 returns-in_err-loss g c p on =
     let left = g.R.Read.remaining in
-    let was : c.next_line.result ≡ Ok true = rw (← c.if-branch.true) c.in_ok-next_line.was in
-    let counts = rw was at c.next_line.ensures.ok in
+    let line = (goal.at.returns-in_err-loss g c).After-run_line in
     let said = content script_line c.next_line.new.text.number c.next_line.new.line.items in
-    let runs : RunsLine IsHonest history_of failures_of c.lines.replica said (Err c.in_err-loss.field-0.0) c.run_line.new.replica =
-    rw (← c.deref.ensures.0, ← c.number.ensures.number) (rw c.in_err-loss.was at c.run_line.ensures) in
+    let runs = did g line (Err c.in_err-loss.field-0.0) c.in_err-loss.was in
     let q = err_from_is_err_and c.from_residual-in_err-loss.result c.from_residual-in_err-loss.ensures.1 in
     let start = ahead c.args.text.now (left c.args.reader.now.reader.now) in
     ends_in_memory p start c.args.text.now c.args.replica c.run_line.new.replica c.from_residual-in_err-loss.result (Err c.in_err-loss.field-0.0) (q.1 ∙ ap Err q.2) on
     (run_line_ends DoesInMemory script_line start (left c.lines.reader.reader.now) (left c.next_line.new.reader.reader.now) c.args.text.now c.lines.text c.next_line.new.text c.args.replica c.lines.replica
-    c.run_line.new.replica c.in_err-loss.field-0.0 c.next_line.new.line.items c.lines.invariant (rw was at c.next_line.ensures.known) counts.0
+    c.run_line.new.replica c.in_err-loss.field-0.0 c.next_line.new.line.items c.lines.invariant (next g line) (numbered g line)
     (failed_in_memory size_of failures_of IsHonest history_of Crashes c.lines.replica c.run_line.new.replica said c.in_err-loss.field-0.0 runs))
 
 pub returns-in_err-replica : goal.returns-in_err-replica
 returns-in_err-replica g c p on =
     let left = g.R.Read.remaining in
-    let was : c.next_line.result ≡ Ok true = rw (← c.if-branch.true) c.in_ok-next_line.was in
-    let counts = rw was at c.next_line.ensures.ok in
+    let line = (goal.at.returns-in_err-replica g c).After-run_line in
     let said = content script_line c.next_line.new.text.number c.next_line.new.line.items in
-    let runs : RunsLine IsHonest history_of failures_of c.lines.replica said (Ok (Some c.in-Some.loss)) c.run_line.new.replica =
-    rw (← c.deref.ensures.0, ← c.number.ensures.number) (rw (c.in_ok-loss.was, c.in-Some.is) at c.run_line.ensures) in
+    let runs = did g line (Ok (Some c.in-Some.loss)) (c.in_ok-loss.was ∙ ap Ok c.in-Some.is) in
     let stops : Stops size_of failures_of IsHonest history_of Crashes c.in-Some.loss c.run_line.new.replica (Err c.in_err-replica.field-0.0) =
     rw c.in_err-replica.was at c.stopped_and_opened.ensures in
     let q = err_from_is_err_and c.from_residual-in_err-replica.result c.from_residual-in_err-replica.ensures.1 in
     stop_fails_in_memory p (ahead c.args.text.now (left c.args.reader.now.reader.now)) (left c.lines.reader.reader.now) (left c.next_line.new.reader.reader.now) c.args.text.now c.lines.text c.next_line.new.text
     c.args.replica c.lines.replica c.run_line.new.replica c.in-Some.loss c.from_residual-in_err-replica.result c.in_err-replica.field-0.0 c.next_line.new.line.items (q.1 ∙ ap Err q.2) on
-    c.lines.invariant (rw was at c.next_line.ensures.known) counts.0 runs stops
+    c.lines.invariant (next g line) (numbered g line) runs stops
 
 pub lines-preserved-in-Continue-branch-5 : goal.lines-preserved-in-Continue-branch-5
 lines-preserved-in-Continue-branch-5 g c =
     let left = g.R.Read.remaining in
-    let was : c.next_line.result ≡ Ok true = rw (← c.if-branch.true) c.in_ok-next_line.was in
-    let counts = rw was at c.next_line.ensures.ok in
+    let line = (goal.at.lines-preserved-in-Continue-branch-5 g c).After-run_line in
     let said = content script_line c.next_line.new.text.number c.next_line.new.line.items in
-    let runs : RunsLine IsHonest history_of failures_of c.lines.replica said (Ok (Some c.in-Some.loss)) c.run_line.new.replica =
-    rw (← c.deref.ensures.0, ← c.number.ensures.number) (rw (c.in_ok-loss.was, c.in-Some.is) at c.run_line.ensures) in
+    let runs = did g line (Ok (Some c.in-Some.loss)) (c.in_ok-loss.was ∙ ap Ok c.in-Some.is) in
     let stops : Stops size_of failures_of IsHonest history_of Crashes c.in-Some.loss c.run_line.new.replica (Ok c.in_ok-replica.replica) =
     rw c.in_ok-replica.was at c.stopped_and_opened.ensures in
     run_more DoesInMemory script_line (ahead c.args.text.now (left c.args.reader.now.reader.now)) (left c.lines.reader.reader.now) (left c.next_line.new.reader.reader.now) c.args.text.now c.lines.text c.next_line.new.text
-    c.args.replica c.lines.replica c.in_ok-replica.replica c.next_line.new.line.items c.lines.invariant (rw was at c.next_line.ensures.known) counts.0
+    c.args.replica c.lines.replica c.in_ok-replica.replica c.next_line.new.line.items c.lines.invariant (next g line) (numbered g line)
     (stop_ran size_of failures_of IsHonest history_of Crashes c.lines.replica c.run_line.new.replica c.in_ok-replica.replica said c.in-Some.loss runs stops)
 
 pub returns-in_err-write_open : goal.returns-in_err-write_open
@@ -69,13 +84,11 @@ returns-in_err-write_open g c p on =
 pub lines-preserved : goal.lines-preserved
 lines-preserved g c =
     let left = g.R.Read.remaining in
-    let was : c.next_line.result ≡ Ok true = rw (← c.if-branch.true) c.in_ok-next_line.was in
-    let counts = rw was at c.next_line.ensures.ok in
+    let line = (goal.at.lines-preserved g c).After-run_line in
     let said = content script_line c.next_line.new.text.number c.next_line.new.line.items in
-    let runs : RunsLine IsHonest history_of failures_of c.lines.replica said (Ok None) c.run_line.new.replica =
-    rw (← c.deref.ensures.0, ← c.number.ensures.number) (rw (c.in_ok-loss.was, c.in_default.is) at c.run_line.ensures) in
+    let runs = did g line (Ok None) (c.in_ok-loss.was ∙ ap Ok c.in_default.is) in
     run_more DoesInMemory script_line (ahead c.args.text.now (left c.args.reader.now.reader.now)) (left c.lines.reader.reader.now) (left c.next_line.new.reader.reader.now) c.args.text.now c.lines.text c.next_line.new.text
-    c.args.replica c.lines.replica c.run_line.new.replica c.next_line.new.line.items c.lines.invariant (rw was at c.next_line.ensures.known) counts.0
+    c.args.replica c.lines.replica c.run_line.new.replica c.next_line.new.line.items c.lines.invariant (next g line) (numbered g line)
     (ran_in_memory size_of failures_of IsHonest history_of Crashes c.lines.replica c.run_line.new.replica said runs)
 
 pub returns : goal.returns

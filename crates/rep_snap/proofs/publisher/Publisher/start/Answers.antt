@@ -1,10 +1,22 @@
-use Rattle.std.proofs.Common.{◌≡◌, ◌∙◌, sym, subst, All}
-use Rattle.rep_snap.specs.Views.{Watching}
-use Rattle.rep_snap.proofs.Looking.{newcomer_is}
+use Rattle.std.proofs.Common.{◌≡◌, ◌∙◌, sym, ap, subst, refl, None, [], ◌∷◌, fold}
+use Rattle.crossbeam_utils.specs.Register.{TurnsAt}
+use Rattle.rep_snap.specs.declared.shelf.Shelf.{Shelf}
+use Rattle.rep_snap.specs.Shelves.{changed}
+use Rattle.rep_snap.specs.Rule.{Keeps, Shown}
+use Rattle.rep_snap.proofs.Changing.{sound_first}
+use Rattle.rep_snap.proofs.Ruling.{begins, looks}
 use Rattle.rep_snap.proofs.publisher.Publisher.start.Goals as goal
 
-pub invariant_of-publisher : goal.invariant_of-publisher
-invariant_of-publisher g c =
-    let kept = c.publisher.invariant in
-    let each = subst (λ (u : Watching g.row.A.Denot). All (λ r. r ≡ u) c.in-Ok.ready.items) (sym (newcomer_is _ _ _ _ _ kept.4 (c.publisher.view_is ∙ c.newcomers.ensures.same))) c.in-Ok.ensures.made.1 in
-    (kept.0, kept.1, kept.2, kept.3, kept.4, kept.5, each)
+pub new-requires-clause-rule : goal.new-requires-clause-rule
+new-requires-clause-rule g c =
+    let allows = g.A.Admits.allows in
+    subst (λ (x : Shelf g.row.A.Denot). Keeps allows x (None ∷ [])) (sym c.first_shelf-first.ensures)
+    (begins allows _ (sound_first allows _ c.open-seen.ensures.1 refl refl refl refl (g.A.Admits.empty c.again.result c.args.position)))
+
+pub publish_as-writer-requires : goal.publish_as-writer-requires
+publish_as-writer-requires g c next is =
+    let allows = g.A.Admits.allows in
+    let x : Shelf g.row.A.Denot = c.in-Ok.writer.desk.shown.value in
+    let seat = c.in-Ok.writer.desk.place in
+    let same : next ≡ x = is ∙ ap (fold changed x) c.in-Ok.ensures.1 in
+    subst (λ (y : Shelf g.row.A.Denot). TurnsAt (Keeps allows) seat.id seat.me.0.client x y (Shown allows)) (sym same) (looks allows seat.id seat.me.0.client x)

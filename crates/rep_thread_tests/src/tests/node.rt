@@ -1,8 +1,8 @@
-//! What the node leaves behind.
+//! What the small node leaves behind.
 
-use crate::ends::{Parts, close, start};
-use crate::keeping::{keep, keep_once, wait_durable};
-use crate::runs::{run_by_two, submit_all};
+use rep_ordered_node::{
+    Parts, close, keep, keep_once, run_by_two, start, submit_all, wait_durable,
+};
 use rep_types::Refusal;
 use std::test::Fail;
 

@@ -1,6 +1,6 @@
 //! The layout of the device: the sizes, and each byte of a superblock that may not be another.
 
-use crate::bytes::{exchanged, has_parts};
+use crate::tests::bytes::{exchanged, has_parts};
 use arrayvec::ArrayVec;
 use rep_layout::{
     Layout, PageState, Place, RowPlace, SUPER_BODY, Side, Slot, SuperBody, need, page_of, row_at,
@@ -45,7 +45,7 @@ fn offset_of(layout: Layout, place: Place) -> Option<usize> {
     Some(offset)
 }
 
-const PLACES: [(Place, Option<usize>); 10] = [
+const PLACES: &[(Place, Option<usize>)] = &[
     (Place::Super(Side::A), Some(0)),
     (Place::Super(Side::B), Some(4_096)),
     (Place::Window(Side::A), Some(8_192)),
@@ -61,7 +61,8 @@ const PLACES: [(Place, Option<usize>); 10] = [
 #[test]
 fn places_lie_where_the_format_says(rt: HostRuntime) -> Result<(), Fail> {
     let layout = Layout::new(&small()?);
-    for (place, offset) in PLACES {
+    for row in PLACES {
+        let (place, offset) = *row;
         assert_eq!(rt; (place, offset_of(layout, place)), (place, offset));
     }
     Ok(())
@@ -93,7 +94,7 @@ fn there_and_back(schema: &Schema, key: Key) -> Option<(RowPlace, Option<Key>)> 
 }
 
 /// Rows by table and number, and where they lie: the page, and the place in it.
-const ROWS: [(u8, u32, Option<(u32, u32)>); 6] = [
+const ROWS: &[(u8, u32, Option<(u32, u32)>)] = &[
     (0, 62, Some((0, 62))),
     (0, 63, Some((1, 0))),
     (0, 64, None),
@@ -105,7 +106,8 @@ const ROWS: [(u8, u32, Option<(u32, u32)>); 6] = [
 #[test]
 fn rows_lie_in_pages_table_by_table(rt: HostRuntime) -> Result<(), Fail> {
     let params = Params::new(4, 4, &[64, 63, 1])?;
-    for (table, row, place) in ROWS {
+    for row in ROWS {
+        let (table, row, place) = *row;
         let key = Key { table, row };
         let wanted = match place {
             Some((page, index)) => Some((RowPlace { page, index }, Some(key))),
@@ -149,7 +151,7 @@ fn superblock_bytes() -> Result<ArrayVec<u8, SUPER_BODY>, Fail> {
     Ok(superblock()?.write_body().ok_or("no superblock")?)
 }
 
-const PARTS: [(usize, &[u8]); 9] = [
+const PARTS: &[(usize, &[u8])] = &[
     (0, b"REPSUPR1"),
     (8, &[0, 0, 0, 0, 0, 0, 0, 3]),
     (16, &[0x11; 16]),
@@ -165,7 +167,7 @@ const PARTS: [(usize, &[u8]); 9] = [
 fn superblocks_have_the_bytes_of_the_format(rt: HostRuntime) -> Result<(), Fail> {
     let body = superblock_bytes()?;
     assert_eq!(rt; body.len(), 3_584);
-    has_parts(&rt, &body, &PARTS);
+    has_parts(&rt, &body, PARTS);
     Ok(())
 }
 
@@ -197,12 +199,12 @@ fn is_zero(rt: &impl Abort, body: &mut [u8], (from, to): (usize, usize)) {
     }
 }
 
-const ZEROS: [(usize, usize); 4] = [(37, 40), (48, 72), (90, 128), (130, 3_584)];
+const ZEROS: &[(usize, usize)] = &[(37, 40), (48, 72), (90, 128), (130, 3_584)];
 
 /// Compares that a byte of 1 is refused in each of these ranges.
 fn are_zero(rt: &impl Abort, body: &mut [u8]) {
     for range in ZEROS {
-        is_zero(rt, body, range);
+        is_zero(rt, body, *range);
     }
 }
 
@@ -212,7 +214,7 @@ fn superblocks_keep_their_zeros(rt: HostRuntime) -> Result<(), Fail> {
     Ok(())
 }
 
-const FAULTS: [(usize, u8, Option<Refusal>); 13] = [
+const FAULTS: &[(usize, u8, Option<Refusal>)] = &[
     // the mark
     (7, b'2', Some(SUPERBLOCK)),
     // the number is above the position by two, and by one
@@ -239,7 +241,8 @@ const FAULTS: [(usize, u8, Option<Refusal>); 13] = [
 
 /// Compares what these bytes are refused by.
 fn refuses(rt: &impl Abort, body: &mut [u8]) {
-    for (place, byte, refusal) in FAULTS {
+    for row in FAULTS {
+        let (place, byte, refusal) = *row;
         let found = refusal_of(body, place, byte);
         assert_eq!(rt; (place, byte, found), (place, byte, refusal));
     }

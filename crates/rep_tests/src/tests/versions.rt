@@ -1,6 +1,6 @@
 //! Versions of rows: what a row is at each snapshot, what goes, and the pages with a change.
 
-use crate::rows::{add, delete, put};
+use crate::tests::rows::{add, delete, put};
 use rep_types::{Key, Refusal, Schema};
 use rep_versions::{At, Versions};
 use std::alloc::Global;
@@ -49,7 +49,7 @@ fn are(rt: &impl Abort, versions: &Versions, cases: &[Case]) -> Result<(), Fail>
     Ok(())
 }
 
-const NEWEST: [Case; 12] = [
+const NEWEST: &[Case] = &[
     (5, 0, None, true),
     (5, 1, None, true),
     (5, 2, Some(b"two"), false),
@@ -66,12 +66,12 @@ const NEWEST: [Case; 12] = [
 
 #[test]
 fn the_newest_version_at_most_at_the_snapshot_is_found(rt: HostRuntime) -> Result<(), Fail> {
-    are(&rt, &three(rt.alloc())?, &NEWEST)
+    are(&rt, &three(rt.alloc())?, NEWEST)
 }
 
-const TAKEN_BACK: [Case; 2] = [(5, 9, None, false), (5, 5, Some(b"two"), false)];
+const TAKEN_BACK: &[Case] = &[(5, 9, None, false), (5, 5, Some(b"two"), false)];
 
-const PRUNED: [Case; 3] = [
+const PRUNED: &[Case] = &[
     (5, 8, None, true),
     (7, 9, None, true),
     (5, 9, Some(b"nine"), false),
@@ -81,18 +81,18 @@ const PRUNED: [Case; 3] = [
 fn versions_are_taken_back_by_seqno(rt: HostRuntime) -> Result<(), Fail> {
     let mut versions = three(rt.alloc())?;
     versions.take_back(9);
-    are(&rt, &versions, &TAKEN_BACK)
+    are(&rt, &versions, TAKEN_BACK)
 }
 
 #[test]
 fn versions_are_pruned_by_seqno(rt: HostRuntime) -> Result<(), Fail> {
     let mut versions = three(rt.alloc())?;
     versions.prune(6);
-    are(&rt, &versions, &PRUNED)
+    are(&rt, &versions, PRUNED)
 }
 
 /// A base, a position, and the pages with a version between.
-const PAGES: [(u64, u64, &[u32]); 7] = [
+const PAGES: &[(u64, u64, &[u32])] = &[
     (0, 0, &[]),
     (0, 2, &[0]),
     (2, 5, &[]),
@@ -108,7 +108,8 @@ fn has_changed(
     versions: &Versions,
     schema: &Schema,
 ) -> Result<(), Refusal> {
-    for (base, position, wanted) in PAGES {
+    for row in PAGES {
+        let (base, position, wanted) = *row;
         let found = versions.pages(rt.alloc(), schema, base, position)?;
         assert_eq!(rt;
             (base, position, found.as_slice()),

@@ -96,14 +96,14 @@ fn certifies(rt: HostRuntime) -> Result<(), Fail> {
 const TOP: u64 = u64::MAX;
 
 /// Entries near the top, in any order, one of them twice.
-const GIVEN: [u64; 7] = [TOP, TOP - 2, TOP - 5, TOP - 3, TOP - 3, 0, TOP - 4];
+const GIVEN: &[u64] = &[TOP, TOP - 2, TOP - 5, TOP - 3, TOP - 3, 0, TOP - 4];
 
 // At the last positions of all, with a window of 4 seqnos: the entries above the position and
 // below its window go, the others stay as they are.
 #[test]
 fn is_made_of_any_entries(rt: HostRuntime) -> Result<(), Fail> {
     let item = item(TOP - 5)?;
-    let mut certifier = certifier(rt.alloc(), TOP - 1, &item, &GIVEN)?;
+    let mut certifier = certifier(rt.alloc(), TOP - 1, &item, GIVEN)?;
     let verdict = Verdict::Conflict(TOP - 2);
     answers(&rt, &mut certifier, &item, verdict, Err(Refusal::Exhausted));
     stands(

@@ -1,10 +1,10 @@
-//! What the threads leave behind.
+//! What threads leave behind on the ordered lock.
 
-use crate::coupled::counts_beside;
-use crate::notes::{halted_run, lock_of_notes, raised_run};
-use crate::passing::tickets_by;
-use crate::three::{lock_of_parts, take_over, wait_one};
 use rep_ordered::Front;
+use rep_ordered_uses::{
+    counts_beside, halted_run, lock_of_notes, lock_of_parts, raised_run, take_over, tickets_by,
+    wait_one,
+};
 use rep_types::{MAX_SEQNO, Refusal};
 use std::test::Fail;
 

@@ -21,7 +21,7 @@ fn state((gtid, safe_to_bootstrap): State) -> Result<SavedState, Refusal> {
 /// The position 7 of one cluster.
 const SEVEN: State = (b"5ee99582-bb8d-11e2-b8e3-23de375c1d30:7", true);
 
-const READ: [(&str, &[u8], State); 6] = [
+const READ: &[(&str, &[u8], State)] = &[
     (
         "a stopped node left its position",
         b"# GALERA saved state\nversion: 2.1\nuuid:    dcab5c4f-e6b0-11f1-a8e5-33654dfaf8d0\nseqno:   5\nsafe_to_bootstrap: 1\n",
@@ -56,7 +56,8 @@ const READ: [(&str, &[u8], State); 6] = [
 
 #[test]
 fn texts_of_the_form_are_read(rt: HostRuntime) -> Result<(), Fail> {
-    for (name, text, wanted) in READ {
+    for row in READ {
+        let (name, text, wanted) = *row;
         assert_eq!(rt; (name, SavedState::parse(text)), (name, Ok(state(wanted)?)));
     }
     Ok(())
@@ -64,7 +65,7 @@ fn texts_of_the_form_are_read(rt: HostRuntime) -> Result<(), Fail> {
 
 /// Texts that are no saved state, and where the line of their first fault begins, or they end where a value is
 /// missing.
-const FAULTS: [(&[u8], u64); 10] = [
+const FAULTS: &[(&[u8], u64)] = &[
     (
         b"seqno: x\nuuid: 5ee99582-bb8d-11e2-b8e3-23de375c1d30\nseqno: 7\n",
         0,
@@ -94,7 +95,8 @@ const FAULTS: [(&[u8], u64); 10] = [
 
 #[test]
 fn faults_are_named_by_their_line_or_the_end(rt: HostRuntime) {
-    for (text, at) in FAULTS {
+    for row in FAULTS {
+        let (text, at) = *row;
         let refusal = Refusal::Malformed { at };
         assert_eq!(rt; (text, SavedState::parse(text)), (text, Err(refusal)));
     }
@@ -108,7 +110,7 @@ fn written(alloc: Global, saved: &SavedState) -> Result<Vec<u8>, Refusal> {
 }
 
 /// States and their texts, of 112 bytes where the seqno has one digit.
-const WRITTEN: [(State, &[u8], usize); 2] = [
+const WRITTEN: &[(State, &[u8], usize)] = &[
     (
         (b"11111111-1111-4111-8111-111111111111:4", false),
         b"# GALERA saved state\nversion: 2.1\nuuid:    11111111-1111-4111-8111-111111111111\nseqno:   4\nsafe_to_bootstrap: 0\n",
@@ -136,7 +138,8 @@ fn writes(
 
 #[test]
 fn what_is_written_reads_back(rt: HostRuntime) -> Result<(), Fail> {
-    for (wanted, bytes, length) in WRITTEN {
+    for row in WRITTEN {
+        let (wanted, bytes, length) = *row;
         writes(&rt, &state(wanted)?, bytes, length)?;
     }
     Ok(())

@@ -15,7 +15,7 @@ fn put(last_seen: u64, row: u32, byte: u8) -> Result<WriteSet, Refusal> {
 }
 
 /// Items, by what they saw, their row and their byte, and their verdicts.
-const ITEMS: [(u64, u32, u8, Verdict); 4] = [
+const ITEMS: &[(u64, u32, u8, Verdict)] = &[
     (0, 1, b'a', Verdict::Commit),
     (0, 1, b'b', Verdict::Conflict(1)),
     (1, 1, b'c', Verdict::Commit),
@@ -24,7 +24,8 @@ const ITEMS: [(u64, u32, u8, Verdict); 4] = [
 
 /// Hands the node the items, and compares their verdicts.
 fn judges(rt: &impl Abort, node: &mut PlainNode) -> Result<(), Refusal> {
-    for (last_seen, row, byte, verdict) in ITEMS {
+    for row in ITEMS {
+        let (last_seen, row, byte, verdict) = *row;
         let item = put(last_seen, row, byte)?;
         assert_eq!(rt; (row, byte, node.deliver(item)?), (row, byte, verdict));
     }
@@ -44,7 +45,7 @@ fn holds(node: &PlainNode, row: u32, s: u64, wanted: Option<u8>) -> bool {
 }
 
 /// What a row holds after so many items.
-const ROWS: [(u32, u64, Option<u8>); 6] = [
+const ROWS: &[(u32, u64, Option<u8>)] = &[
     (1, 0, None),
     (1, 1, Some(b'a')),
     (1, 2, Some(b'a')),
@@ -55,7 +56,8 @@ const ROWS: [(u32, u64, Option<u8>); 6] = [
 
 /// Compares what the rows hold.
 fn has_rows(rt: &impl Abort, node: &PlainNode) {
-    for (row, s, value) in ROWS {
+    for row in ROWS {
+        let (row, s, value) = *row;
         assert_eq!(rt; (row, s, holds(node, row, s, value)), (row, s, true));
     }
 }
@@ -114,10 +116,10 @@ fn resize(node: &mut PlainNode, seqnos: u64) -> Result<Verdict, Refusal> {
 }
 
 /// Write sets behind a change of the size, by what they saw and their row, and their verdicts.
-type Run = [(u64, u32, Verdict); 2];
+type Run = &'static [(u64, u32, Verdict)];
 
 /// Compares the verdict on a change to so many seqnos, and those on the write sets behind it.
-fn resizes(rt: &impl Abort, node: &mut PlainNode, seqnos: u64, items: &Run) -> Result<(), Refusal> {
+fn resizes(rt: &impl Abort, node: &mut PlainNode, seqnos: u64, items: Run) -> Result<(), Refusal> {
     let verdict = resize(node, seqnos)?;
     assert_eq!(rt; (seqnos, verdict), (seqnos, Verdict::Commit));
     for (last_seen, row, verdict) in items {
@@ -128,10 +130,10 @@ fn resizes(rt: &impl Abort, node: &mut PlainNode, seqnos: u64, items: &Run) -> R
 }
 
 /// Behind a change to two seqnos: the first may have seen nothing, the second came too late for that.
-const NARROW: Run = [(0, 2, Verdict::Commit), (0, 3, Verdict::Stale)];
+const NARROW: Run = &[(0, 2, Verdict::Commit), (0, 3, Verdict::Stale)];
 
 /// Behind a change to four, which does not lower the floor at once.
-const WIDE: Run = [(1, 4, Verdict::Stale), (2, 5, Verdict::Commit)];
+const WIDE: Run = &[(1, 4, Verdict::Stale), (2, 5, Verdict::Commit)];
 
 // A smaller window raises the floor, seqno by seqno, and a larger one does not lower it.
 #[test]
@@ -139,8 +141,8 @@ fn a_larger_window_leaves_the_floor(rt: HostRuntime) -> Result<(), Fail> {
     let mut node = PlainNode::new(rt.alloc(), Params::new(4, 4, &[126])?);
     let first = node.deliver(put(0, 1, b'a')?)?;
     assert_eq!(rt; first, Verdict::Commit);
-    resizes(&rt, &mut node, 2, &NARROW)?;
-    resizes(&rt, &mut node, 4, &WIDE)?;
+    resizes(&rt, &mut node, 2, NARROW)?;
+    resizes(&rt, &mut node, 4, WIDE)?;
     stands(&rt, &node, 7, (4, 4), &[(7, 5)])?;
     Ok(())
 }

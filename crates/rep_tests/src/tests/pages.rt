@@ -1,7 +1,7 @@
 //! Pages: each byte of the form that may not be another, the slots, and what a page is at a position.
 
-use crate::bytes::{exchanged, has_parts};
-use crate::rows::{add, delete, put};
+use crate::tests::bytes::{exchanged, has_parts};
+use crate::tests::rows::{add, delete, put};
 use arrayvec::ArrayVec;
 use rep_layout::{PAGE_BODY, PageState, Slot, SuperBody};
 use rep_pages::{Page, slot_of, spare_of};
@@ -52,7 +52,7 @@ fn page_bytes(alloc: Global) -> Result<ArrayVec<u8, PAGE_BODY>, Fail> {
     Ok(body)
 }
 
-const PARTS: [(usize, &[u8]); 7] = [
+const PARTS: &[(usize, &[u8])] = &[
     (0, b"REPPAGE1"),
     (8, &[0, 4]),
     (10, &[1, 0]),
@@ -66,7 +66,7 @@ const PARTS: [(usize, &[u8]); 7] = [
 fn pages_have_the_bytes_of_the_format(rt: HostRuntime) -> Result<(), Fail> {
     let body = page_bytes(rt.alloc())?;
     assert_eq!(rt; body.len(), 4_096);
-    has_parts(&rt, &body, &PARTS);
+    has_parts(&rt, &body, PARTS);
     Ok(())
 }
 
@@ -76,7 +76,7 @@ fn refusal_of(schema: &Schema, body: &[u8], (number, position): (u32, u64)) -> O
 }
 
 /// A number and a position to read page 4 by, which stands at the position 3.
-const READINGS: [((u32, u64), Option<Refusal>); 5] = [
+const READINGS: &[((u32, u64), Option<Refusal>)] = &[
     ((4, 3), None),
     ((4, 9), None),
     ((4, 2), Some(PAGES)),
@@ -86,7 +86,8 @@ const READINGS: [((u32, u64), Option<Refusal>); 5] = [
 
 /// Compares what the bytes are refused by as these pages.
 fn is_read_as(rt: &impl Abort, schema: &Schema, body: &[u8]) {
-    for (wanted, refusal) in READINGS {
+    for row in READINGS {
+        let (wanted, refusal) = *row;
         let found = refusal_of(schema, body, wanted);
         assert_eq!(rt; (wanted, found), (wanted, refusal));
     }
@@ -138,7 +139,7 @@ fn refuses(
 }
 
 /// In and behind the head, behind a value, in absent rows, and in rows past the end of the table.
-const ZEROS: [(usize, usize); 7] = [
+const ZEROS: &[(usize, usize)] = &[
     (11, 12),
     (24, 64),
     (68, 128),
@@ -151,7 +152,7 @@ const ZEROS: [(usize, usize); 7] = [
 /// Compares that a byte of 1 is refused in each of these ranges.
 fn are_zero(rt: &impl Abort, schema: &Schema, body: &mut [u8]) {
     for range in ZEROS {
-        refuses(rt, schema, body, range, 1);
+        refuses(rt, schema, body, *range, 1);
     }
 }
 
@@ -161,7 +162,7 @@ fn pages_keep_their_zeros(rt: HostRuntime) -> Result<(), Fail> {
     Ok(())
 }
 
-const FAULTS: [(usize, u8); 8] = [
+const FAULTS: &[(usize, u8)] = &[
     // the mark, the number, the table, the first row
     (7, b'2'),
     (9, 3),
@@ -178,8 +179,8 @@ const FAULTS: [(usize, u8); 8] = [
 /// Compares that each of these bytes is refused.
 fn refuses_faults(rt: &impl Abort, schema: &Schema, body: &mut [u8]) {
     for (place, byte) in FAULTS {
-        let range = (place, place.saturating_add(1));
-        refuses(rt, schema, body, range, byte);
+        let range = (*place, place.saturating_add(1));
+        refuses(rt, schema, body, range, *byte);
     }
 }
 
@@ -210,21 +211,21 @@ fn stands(rt: &impl Abort, page: &Page, number: u32, position: u64, rows: &[Row]
 }
 
 /// Page 4 at the positions 3 and 4, and at 5.
-const BETWEEN: [Row; 3] = [(0, Some(b"ab")), (3, Some(b"")), (63, None)];
+const BETWEEN: &[Row] = &[(0, Some(b"ab")), (3, Some(b"")), (63, None)];
 
-const AFTER: [Row; 2] = [(0, None), (3, Some(b""))];
+const AFTER: &[Row] = &[(0, None), (3, Some(b""))];
 
 /// Page 3 at the position 9: row 125 is its last.
-const NEIGHBOUR: [Row; 2] = [(62, Some(b"c")), (61, None)];
+const NEIGHBOUR: &[Row] = &[(62, Some(b"c")), (61, None)];
 
 #[test]
 fn a_page_is_at_each_position_what_its_rows_are(rt: HostRuntime) -> Result<(), Fail> {
     let versions = versions(rt.alloc())?;
     let between = image(&Page::absent(4), &versions, 4)?;
-    stands(&rt, &between, 4, 4, &BETWEEN);
-    stands(&rt, &image(&between, &versions, 5)?, 4, 5, &AFTER);
+    stands(&rt, &between, 4, 4, BETWEEN);
+    stands(&rt, &image(&between, &versions, 5)?, 4, 5, AFTER);
     let neighbour = image(&Page::absent(3), &versions, 9)?;
-    stands(&rt, &neighbour, 3, 9, &NEIGHBOUR);
+    stands(&rt, &neighbour, 3, 9, NEIGHBOUR);
     Ok(())
 }
 
@@ -246,7 +247,7 @@ fn a_page_before_its_first_version_is_absent(rt: HostRuntime) -> Result<(), Fail
 fn a_later_image_keeps_what_no_version_covers(rt: HostRuntime) -> Result<(), Fail> {
     let mut versions = versions(rt.alloc())?;
     let after = image(&Page::absent(4), &versions, 5)?;
-    stands(&rt, &after, 4, 5, &AFTER);
+    stands(&rt, &after, 4, 5, AFTER);
     versions.prune(5);
     is_as(&rt, &image(&after, &versions, 7)?, &after, 7);
     Ok(())
@@ -296,7 +297,7 @@ fn superblock() -> Result<SuperBody, Refusal> {
 }
 
 /// The pages, their states, and their spare slots.
-const SLOTS: [(u32, PageState, Slot); 4] = [
+const SLOTS: &[(u32, PageState, Slot)] = &[
     (0, PageState::Nowhere, Slot::First),
     (1, PageState::In(Slot::First), Slot::Second),
     (2, PageState::In(Slot::Second), Slot::First),
@@ -306,7 +307,8 @@ const SLOTS: [(u32, PageState, Slot); 4] = [
 #[test]
 fn the_spare_slot_is_the_other_one(rt: HostRuntime) -> Result<(), Fail> {
     let superblock = superblock()?;
-    for (page, state, spare) in SLOTS {
+    for row in SLOTS {
+        let (page, state, spare) = *row;
         let found = (slot_of(&superblock, page), spare_of(&superblock, page));
         assert_eq!(rt; (page, found), (page, (state, spare)));
     }

@@ -1,7 +1,7 @@
 //! Windows on the device: each byte of the form that may not be another, and the largest.
 
-use crate::bytes::{exchanged, has_parts};
-use crate::layout::{largest, small};
+use crate::tests::bytes::{exchanged, has_parts};
+use crate::tests::layout::{largest, small};
 use arrayvec::ArrayVec;
 use rep_layout::{WINDOW_BODY, WindowBody, WindowReader};
 use rep_types::{Entry, Key, Params, Part, Refusal};
@@ -42,7 +42,7 @@ fn two_entries(params: &Params) -> Result<ArrayVec<u8, WINDOW_BODY>, Fail> {
     Ok(written(params, 3, 9, &entries).ok_or("no window")?)
 }
 
-const PARTS: [(usize, &[u8]); 6] = [
+const PARTS: &[(usize, &[u8])] = &[
     (0, b"REPWIND1"),
     (8, &[0, 0, 0, 0, 0, 0, 0, 3]),
     (16, &[0, 0, 0, 0, 0, 0, 0, 9]),
@@ -58,7 +58,7 @@ const PARTS: [(usize, &[u8]); 6] = [
 fn windows_have_the_bytes_of_the_format(rt: HostRuntime) -> Result<(), Fail> {
     let body = two_entries(&small()?)?;
     assert_eq!(rt; body.len(), 23_040);
-    has_parts(&rt, &body, &PARTS);
+    has_parts(&rt, &body, PARTS);
     Ok(())
 }
 
@@ -122,7 +122,7 @@ fn windows_keep_their_zeros(rt: HostRuntime) -> Result<(), Fail> {
     Ok(())
 }
 
-const FAULTS: [(usize, u8, Option<Refusal>); 13] = [
+const FAULTS: &[(usize, u8, Option<Refusal>)] = &[
     // the mark
     (7, b'2', Some(WINDOW)),
     // the position is before the last entry, or too far behind the first
@@ -148,7 +148,8 @@ const FAULTS: [(usize, u8, Option<Refusal>); 13] = [
 
 /// Compares what these bytes are refused by.
 fn refuses(rt: &impl Abort, params: &Params, body: &mut [u8]) {
-    for (place, byte, refusal) in FAULTS {
+    for row in FAULTS {
+        let (place, byte, refusal) = *row;
         let found = refusal_of(params, body, place, byte);
         assert_eq!(rt; (place, byte, found), (place, byte, refusal));
     }

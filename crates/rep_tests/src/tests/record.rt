@@ -1,6 +1,6 @@
 //! Records and blocks: their bytes, and their limits against sizes that were counted by hand.
 
-use crate::bytes::exchanged;
+use crate::tests::bytes::exchanged;
 use rep_record::{
     BlockBuilder, BlockReader, MAX_BLOCK, MAX_RECORD, put_record, read_block, read_record,
 };
@@ -28,7 +28,7 @@ fn judged(seqno: u64, verdict: Verdict) -> Result<Judged, Refusal> {
 }
 
 /// The bytes of the first item that writes `61` under `0/1`, as the format has them.
-const RECORD: [u8; 53] = [
+const RECORD: &[u8] = &[
     0x00, 0x35, 0, 0, 0, 0, 0, 0, 0, 1, 0, 0, 0, 0, 0, 0, 0, 0, 0, 0, 0, 0, 0, 0, 0, 0, 0, 0, 0, 0,
     0, 0, 0, 0, 0, 0, 0, 0, 0, 0, 0, 0, 0, 0, 1, 0, 0, 0, 0, 1, 1, 1, 0x61,
 ];
@@ -47,16 +47,16 @@ fn reads(rt: &impl Abort, bytes: &[u8], wanted: Result<(Judged, usize), Refusal>
 #[test]
 fn records_have_the_bytes_of_the_format(rt: HostRuntime) -> Result<(), Fail> {
     let record = judged(1, Verdict::Commit)?;
-    assert_eq!(rt; written(&record, &RECORD), Some((53, true)));
+    assert_eq!(rt; written(&record, RECORD), Some((53, true)));
     reads(&rt, &RECORD[..52], Err(Refusal::Malformed { at: 0 }));
-    reads(&rt, &RECORD, Ok((record, 53)));
+    reads(&rt, RECORD, Ok((record, 53)));
     Ok(())
 }
 
 // What stands behind a record is not looked at.
 #[test]
 fn records_are_read_at_the_front(rt: HostRuntime) -> Result<(), Fail> {
-    let mut bytes = Vec::from_slice(rt.alloc(), &RECORD)?;
+    let mut bytes = Vec::from_slice(rt.alloc(), RECORD)?;
     bytes.extend_from_slice(b"anything")?;
     reads(&rt, &bytes, Ok((judged(1, Verdict::Commit)?, 53)));
     Ok(())
@@ -127,7 +127,7 @@ fn a_block_without_records_has_no_body(rt: HostRuntime) {
 const LAST: u64 = 1 << 60;
 
 /// Seqnos and verdicts, and whether they can be written.
-const SPELLINGS: [(u64, Verdict, bool); 8] = [
+const SPELLINGS: &[(u64, Verdict, bool)] = &[
     (0, Verdict::Commit, false),
     (1, Verdict::Commit, true),
     (LAST, Verdict::Commit, true),
@@ -150,7 +150,8 @@ fn has_spelling(seqno: u64, verdict: Verdict) -> Result<(bool, bool), Refusal> {
 // Neither seqno 0, nor one past 2^60, nor a conflict with itself or with item 0 can be written.
 #[test]
 fn what_has_no_spelling_is_not_written(rt: HostRuntime) -> Result<(), Fail> {
-    for (seqno, verdict, is_written) in SPELLINGS {
+    for row in SPELLINGS {
+        let (seqno, verdict, is_written) = *row;
         let found = (seqno, verdict, has_spelling(seqno, verdict)?);
         assert_eq!(rt; found, (seqno, verdict, (is_written, is_written)));
     }
@@ -224,7 +225,7 @@ fn refuses(rt: &impl Abort, body: &mut [u8], (from, to): (usize, usize), byte: u
 }
 
 /// A place and a byte of a block of three records, and where the first faulty record begins; 0 is the block.
-const FAULTS: [(usize, u8, u64); 4] = [
+const FAULTS: &[(usize, u8, u64)] = &[
     // the verdict of the first record
     (18 + 34, 5, 18),
     // the seqno of the second record
@@ -238,7 +239,8 @@ const FAULTS: [(usize, u8, u64); 4] = [
 #[test]
 fn blocks_name_the_first_faulty_record(rt: HostRuntime) -> Result<(), Fail> {
     let mut body = body_of(rt.alloc(), 5, &three_records()?)?;
-    for (place, byte, at) in FAULTS {
+    for row in FAULTS {
+        let (place, byte, at) = *row;
         refuses(&rt, &mut body, (place, place.saturating_add(1)), byte, at);
     }
     Ok(())

@@ -1,9 +1,9 @@
+//! What readers find beside a publisher of snapshots.
+
 ghost use Rattle.std.specs.Prelude.{◌≡◌};
 
-use crate::beside::watched_beside;
-use crate::planned::{Plan, planned_row_at};
-use crate::steady::{Free, Steady};
 use rep_snap::{Pair, Peek, Publisher, Reader, start};
+use rep_snap_uses::{Free, Plan, Steady, planned_row_at, watched_beside};
 use rep_types::{Key, Refusal, Value};
 use std::test::Fail;
 

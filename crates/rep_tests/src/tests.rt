@@ -1,0 +1,14 @@
+//! A file for each library.
+
+mod backlog;
+mod bytes;
+mod cert;
+mod layout;
+mod pages;
+mod plain;
+mod record;
+mod rows;
+mod saved;
+mod types;
+mod versions;
+mod windows;

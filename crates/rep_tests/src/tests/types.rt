@@ -1,0 +1,204 @@
+//! Refusals and GTIDs as texts, against texts that were written by hand; and sizes of windows.
+
+use rep_types::{Gtid, Part, Refusal, Window, WindowSize};
+use std::alloc::{AllocError, Global};
+use std::test::Fail;
+use uuid::Uuid;
+
+/// The number, the name and the data of a refusal.
+fn shown(alloc: Global, refusal: Refusal) -> Result<String, AllocError> {
+    let number = refusal.number();
+    format!(in alloc; "{number} {refusal}")
+}
+
+/// Each refusal, and each part that may be corrupt.
+const REFUSALS: &[Refusal] = &[
+    Refusal::OutOfMemory,
+    Refusal::DiskFault,
+    Refusal::Stopped,
+    Refusal::OutOfOrder { expected: 7 },
+    Refusal::Backlogged,
+    Refusal::LogFull,
+    Refusal::NotDue,
+    Refusal::TooOld { oldest: 3 },
+    Refusal::NotYet { durable: 3 },
+    Refusal::BadKey,
+    Refusal::Undefined,
+    Refusal::NotFormatted,
+    Refusal::Corrupt {
+        part: Part::Superblock,
+    },
+    Refusal::Corrupt { part: Part::Window },
+    Refusal::Corrupt { part: Part::Log },
+    Refusal::Corrupt { part: Part::Pages },
+    Refusal::TooSmall { need: 103_424 },
+    Refusal::BadParams,
+    Refusal::Malformed { at: 59 },
+    Refusal::TooManyReads,
+    Refusal::TooManyWrites,
+    Refusal::ValueTooLong,
+    Refusal::WrongCluster,
+    Refusal::Ahead { position: 9 },
+    Refusal::Closed,
+    Refusal::Exhausted,
+    Refusal::StreamFault,
+];
+
+/// Their lines: the number, the name and the data of each.
+const SHOWN: &str = "\
+1 out-of-memory
+2 disk-fault
+3 stopped
+4 out-of-order 7
+5 backlogged
+6 log-full
+7 not-due
+8 too-old 3
+9 not-yet 3
+10 bad-key
+11 undefined
+12 not-formatted
+13 corrupt superblock
+13 corrupt window
+13 corrupt log
+13 corrupt pages
+14 too-small 103424
+15 bad-params
+16 malformed 59
+17 too-many-reads
+18 too-many-writes
+19 value-too-long
+20 wrong-cluster
+21 ahead 9
+22 closed
+23 exhausted
+24 stream-fault
+";
+
+/// The lines of the refusals.
+fn lines_of(alloc: Global, refusals: &[Refusal]) -> Result<String, AllocError> {
+    let mut lines = String::new(alloc);
+    for refusal in refusals {
+        lines.push_str(&shown(alloc, *refusal)?)?;
+        lines.push('\n')?;
+    }
+    Ok(lines)
+}
+
+#[test]
+fn refusals_show_their_numbers_and_names(rt: HostRuntime) -> Result<(), Fail> {
+    let lines = lines_of(rt.alloc(), REFUSALS)?;
+    assert_eq!(rt; lines.as_str(), SHOWN);
+    Ok(())
+}
+
+/// The seqno of the GTID that the text is.
+fn seqno_of(text: &[u8]) -> Result<i64, Refusal> {
+    Ok(Gtid::parse(text)?.seqno())
+}
+
+/// Texts, and the seqno of each that is a GTID, or where the first fault of another stands.
+const GTIDS: &[(&[u8], Result<i64, u64>)] = &[
+    (b"11111111-1111-4111-8111-111111111111:4", Ok(4)),
+    (b"11111111-1111-4111-8111-111111111111:-1", Ok(-1)),
+    (
+        b"5EE99582-bb8d-11e2-B8E3-23de375c1d30:0000000000000000007",
+        Ok(7),
+    ),
+    (
+        b"11111111-1111-4111-8111-111111111111:9223372036854775807",
+        Ok(i64::MAX),
+    ),
+    (
+        b"11111111-1111-4111-8111-111111111111:9223372036854775808",
+        Err(37),
+    ),
+    (
+        b"11111111-1111-4111-8111-111111111111:00000000000000000007",
+        Err(37),
+    ),
+    (b"11111111-1111-4111-8111-111111111111:-2", Err(37)),
+    (b"11111111-1111-4111-8111-111111111111:", Err(37)),
+    (b"11111111-1111-4111-8111-111111111111:+4", Err(37)),
+    (b"11111111-1111-4111-8111-111111111111 4", Err(36)),
+    (b"11111111-1111-4111-8111-111111111111", Err(36)),
+    (b"11111111-1111-4111-8111-11111111111:4", Err(0)),
+    (b"11111111111141118111111111111111:4", Err(0)),
+    (b"", Err(0)),
+];
+
+#[test]
+fn gtids_are_read_or_name_their_first_fault(rt: HostRuntime) {
+    for row in GTIDS {
+        let (text, wanted) = *row;
+        let seqno = wanted.map_err(|at| Refusal::Malformed { at });
+        assert_eq!(rt; (text, seqno_of(text)), (text, seqno));
+    }
+}
+
+#[test]
+fn gtids_are_written_in_lower_case(rt: HostRuntime) -> Result<(), Fail> {
+    let gtid = Gtid::parse(b"5EE99582-bb8d-11e2-B8E3-23de375c1d30:008204503945773")?;
+    let text = format!(in rt.alloc(); "{gtid}")?;
+    assert_eq!(rt;
+        text.as_str(),
+        "5ee99582-bb8d-11e2-b8e3-23de375c1d30:8204503945773"
+    );
+    Ok(())
+}
+
+#[test]
+fn an_undefined_gtid_has_the_seqno_of_minus_one(rt: HostRuntime) -> Result<(), Fail> {
+    let undefined = Gtid::new(Uuid::nil(), -1).ok_or("no undefined GTID")?;
+    let text = format!(in rt.alloc(); "{undefined}")?;
+    assert_eq!(rt; text.as_str(), "00000000-0000-0000-0000-000000000000:-1");
+    assert!(rt; Gtid::new(Uuid::nil(), -2).is_none());
+    Ok(())
+}
+
+/// The number of seqnos that the window of this size spans.
+fn size_of(seqnos: u64) -> Result<u64, Refusal> {
+    Ok(WindowSize::new(seqnos)?.get())
+}
+
+/// Sizes of windows, and what is made of them.
+const SIZES: &[(u64, Result<u64, Refusal>)] = &[
+    (0, Err(Refusal::BadParams)),
+    (1, Ok(1)),
+    (256, Ok(256)),
+    (257, Err(Refusal::BadParams)),
+    (u64::MAX, Err(Refusal::BadParams)),
+];
+
+#[test]
+fn windows_have_sizes_from_1_to_256(rt: HostRuntime) {
+    for row in SIZES {
+        let (seqnos, size) = *row;
+        assert_eq!(rt; (seqnos, size_of(seqnos)), (seqnos, size));
+    }
+}
+
+/// The floor of a fixed window of this size at the position.
+fn floor_of(alloc: Global, seqnos: u64, position: u64) -> Result<u64, Refusal> {
+    let size = WindowSize::new(seqnos)?;
+    Ok(Window::fixed(size, position, Vec::new(alloc)).floor())
+}
+
+/// Sizes, positions and floors of fixed windows.
+const FLOORS: &[(u64, u64, u64)] = &[
+    (4, 0, 1),
+    (4, 4, 1),
+    (4, 5, 2),
+    (1, 7, 7),
+    (256, 256, 1),
+    (256, u64::MAX, u64::MAX - 255),
+];
+
+#[test]
+fn fixed_windows_reach_back_by_their_size(rt: HostRuntime) {
+    for row in FLOORS {
+        let (seqnos, position, floor) = *row;
+        let found = floor_of(rt.alloc(), seqnos, position);
+        assert_eq!(rt; (seqnos, position, found), (seqnos, position, Ok(floor)));
+    }
+}
