@@ -3,8 +3,9 @@ use Rattle.std.proofs.Common.{◌≡◌, ◌⊎◌, ℕ, inl, inr, List, Option,
 use Rattle.std.specs.Prelude.{OnOk, IsErr}
 use Rattle.std.proofs.lemmas.Bool.{false≢true}
 use Rattle.std.proofs.lemmas.Result.{on_ok_weaker}
-use Rattle.rep_disk.specs.History.{History, IsImage}
+use Rattle.rep_disk.specs.History.{History}
 use Rattle.rep_disk.specs.Moments.{LeavesOnly}
+use Rattle.rep_disk.specs.Leaving.{leaves_then}
 use Rattle.rep_layout.specs.declared.place.Layout.{Layout}
 use Rattle.rep_layout.specs.declared.place.Place.{Place}
 use Rattle.rep_cells.specs.Readings.{IsPlace, reading_of}
@@ -12,13 +13,6 @@ use Rattle.rep_cells.specs.States.{State, States, Opening, Opened, Closing, Allo
 use Rattle.rep_cells.specs.Known.{Assigns}
 use Rattle.rep_cells.specs.Calls.{Reaches, Stepped, Settled}
 use Rattle.rep_cells_uses.specs.Publishing.{ReadsAsOneOf, Publishes}
-
--- what calls add, behind those before them
-leaves_then : (first h new : History) (P Q : List ℕ → Type 0) → LeavesOnly first h P → LeavesOnly h new Q → ((image : List ℕ) → Q image → P image) → LeavesOnly first new P
-leaves_then first h new P Q before calls each = record {
-  later = omega (arith, before.later, calls.later);
-  since = λ t image late is. elim (calls.since t image (omega (arith, before.later)) is) [ inl old ↦ before.since t image late old | inr now ↦ inr (each image now) ];
-}
 
 -- at each moment the cell reads as nothing or as one of these bodies, and every other place as it was allowed to
 abbrev pub Leaves : Layout → History → History → States → Place → (List ℕ → Type 0) → Type 0
@@ -66,7 +60,7 @@ moments_then :
     {T E : Type 0} → (l : Layout) (first h new : History) (s during after : States) (cell : Place) (IsOne : List ℕ → Type 0) (state : State) (result : Result T E)
     → Leaves l first h s cell IsOne → IsPlace l cell → during cell ≡ state → Narrower during s cell → IsFine IsOne state → Reaches l h new during after result → Leaves l first new s cell IsOne
 moments_then l first h new s during after cell IsOne state result before is there narrower fine reaches =
-    leaves_then first h new (λ image. ReadsAsOneOf l s cell IsOne (reading_of l image)) (IsImage new) before reaches.moments (λ image of. record {
+    leaves_then first h new before reaches.moments (λ image of. record {
       there = fine (reading_of l image cell) (subst (λ x. Allows x (reading_of l image cell)) there (reaches.images image of cell is));
       elsewhere = λ q place other. narrower.allows q (reading_of l image q) other (reaches.images image of q place);
     })
@@ -128,7 +122,7 @@ pub publishes_then :
     → (stage : Stage l first h s cell IsOne state) → ((one : List ℕ) → IsLast one → IsOne one) → Publishes l h new stage.states cell body IsLast result → Publishes l first new s cell body IsOne result
 publishes_then l first h new s cell body IsOne IsLast state result stage wider last = record {
   done = on_ok_weaker result (λ end. (end.0, end.1, end.2, λ q other. end.3 q other ∙ stage.narrower.syncs q other)) last.done;
-  moments = leaves_then first h new (λ image. ReadsAsOneOf l s cell IsOne (reading_of l image)) (λ image. ReadsAsOneOf l stage.states cell IsLast (reading_of l image)) stage.moments last.moments (λ image is. record {
+  moments = leaves_then first h new stage.moments last.moments (λ image is. record {
     there = elim is.there [ inl none ↦ inl none | inr some ↦ inr (some.0, wider some.0 some.1, some.2) ];
     elsewhere = λ q place other. stage.narrower.allows q (reading_of l image q) other (is.elsewhere q place other);
   });

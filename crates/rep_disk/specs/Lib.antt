@@ -6,3 +6,4 @@ pub mod Memory
 pub mod Record
 pub mod Fuses
 pub mod Laws
+pub mod Leaving

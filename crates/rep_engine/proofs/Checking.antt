@@ -14,6 +14,7 @@ use Rattle.rep_types.specs.Order.{State}
 use Rattle.rep_disk.specs.History.{History, stable, IsImage}
 use Rattle.rep_disk.specs.Calls.{IsCall, Rises}
 use Rattle.rep_disk.specs.Moments.{LeavesOnly}
+use Rattle.rep_disk.specs.Leaving.{leaves_weaker}
 use Rattle.rep_layout.specs.declared.place.Layout.{Layout}
 use Rattle.rep_layout.specs.Places.{layout_of}
 use Rattle.rep_cert.specs.Holdings.{Holding, window_of}
@@ -47,7 +48,7 @@ use Rattle.rep_engine.specs.Engines.{Engine, IsEngine, HasItemsBehind, facts_of,
 use Rattle.rep_engine.specs.Holding.{Stands, Holds, wrote}
 use Rattle.rep_engine.specs.Reading.{halted_by}
 use Rattle.rep_engine.specs.Checking.{HasBegun}
-use Rattle.rep_engine.proofs.Steps.{done_moves, fault_moves, refused_steps, hungry_steps, done_steps, fault_steps, halted_node, leaves_weaker}
+use Rattle.rep_engine.proofs.Steps.{done_moves, fault_moves, refused_steps, hungry_steps, done_steps, fault_steps, halted_node}
 use Rattle.rep_engine.proofs.Going.{with_stage, stage_or_same}
 use Rattle.rep_engine.proofs.Logs.{rises_by}
 use Rattle.rep_engine.proofs.Standing.{same_front, fronts_of, nil_bytes, stands_at_stage}

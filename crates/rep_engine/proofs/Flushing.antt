@@ -14,6 +14,7 @@ use Rattle.rep_types.specs.Order.{State}
 use Rattle.rep_disk.specs.History.{History, stable, IsImage}
 use Rattle.rep_disk.specs.Calls.{IsCall, Rises}
 use Rattle.rep_disk.specs.Moments.{LeavesOnly}
+use Rattle.rep_disk.specs.Leaving.{leaves_weaker}
 use Rattle.rep_layout.specs.declared.place.Layout.{Layout}
 use Rattle.rep_layout.specs.declared.rows.RowPlace.{RowPlace}
 use Rattle.rep_layout.specs.declared.super_body.SuperBody.{SuperBody}
@@ -46,7 +47,7 @@ use Rattle.rep_checkpoint.specs.Nodes.{IsLedTo, StandsAs, VersionsLeadToTheState
 use Rattle.rep_engine.specs.Engines.{Engine, IsEngine, HasItemsBehind, facts_of, durable_of}
 use Rattle.rep_engine.specs.Holding.{Stands, Holds, wrote}
 use Rattle.rep_engine.specs.Reading.{halted_by}
-use Rattle.rep_engine.proofs.Steps.{refused_moves, done_moves, fault_moves, corrupt_moves, refused_steps, done_steps, fault_steps, halted_node, leaves_weaker}
+use Rattle.rep_engine.proofs.Steps.{refused_moves, done_moves, fault_moves, corrupt_moves, refused_steps, done_steps, fault_steps, halted_node}
 use Rattle.rep_engine.proofs.Refusing.{refused_after, checkpoint_stays, stays_stopped}
 use Rattle.rep_engine.proofs.Going.{stage_or_same}
 use Rattle.rep_engine.proofs.Standing.{same_front, fronts_of, stands_at_stage}

@@ -6,15 +6,14 @@ use Rattle.std.proofs.lemmas.Slice.Eq.{bytes_eq-Decides}
 use Rattle.uuid.specs.Parts.{is_nil_bytes, zero_bytes}
 use Rattle.rep_types.specs.declared.judged.Judged.{Judged}
 use Rattle.rep_types.specs.declared.refusal.Refusal.{Refusal}
-use Rattle.rep_types.specs.declared.refusal.Refusal.TheVariants.{DiskFault}
 use Rattle.rep_types.specs.declared.value.Write.{Write}
 use Rattle.rep_types.specs.Settings.{Setting}
 use Rattle.rep_types.specs.Order.{State}
 use Rattle.rep_types.specs.Windows.{Window, fixed}
-use Rattle.rep_disk.specs.declared.disk.DiskFault.{DiskFault as Fault}
 use Rattle.rep_disk.specs.History.{History, stable, IsImage}
-use Rattle.rep_disk.specs.Calls.{IsCall, Rises}
-use Rattle.rep_disk.specs.Moments.{LeavesOnly, ImageSince, moment}
+use Rattle.rep_disk.specs.Calls.{IsCall}
+use Rattle.rep_disk.specs.Moments.{LeavesOnly}
+use Rattle.rep_disk.specs.Leaving.{leaves_weaker, leaves_none, leaves_then}
 use Rattle.rep_layout.specs.declared.place.Layout.{Layout}
 use Rattle.rep_layout.specs.declared.super_body.SuperBody.{SuperBody}
 use Rattle.rep_layout.specs.Places.{layout_of}
@@ -53,7 +52,6 @@ use Rattle.rep_engine.specs.Installing.{CanBring, IsBeside, StandsBoth, HoldsBot
 use Rattle.rep_engine.proofs.Standing.{same_front, fronts_of, nil_bytes}
 use Rattle.rep_engine.proofs.Syncing.{within_pruned}
 use Rattle.rep_engine.proofs.Accepts.{length-effects}
-use Rattle.rep_engine.proofs.Steps.{leaves_weaker, leaves_none}
 
 -- ---- beside an engine, on any device
 
@@ -103,18 +101,6 @@ is_halted_node failures n h = record {
   enough = h.enough;
   ahead = h.ahead;
 }
-
--- ---- what goes on from one moment to another
-
-pub leaves_then : {P Q : List ℕ → Type 0} (first h new : History) → LeavesOnly first h P → LeavesOnly h new Q → ((image : List ℕ) → Q image → P image) → LeavesOnly first new P
-leaves_then {P} {Q} first h new a b f = record {
-  later = omega (arith, a.later, b.later);
-  since = λ t image le since. by t image le (b.since t image (omega (arith, le, a.later)) since);
-}
-  where
-    by : (t : ℕ) (image : List ℕ) → t ≤ moment first → ImageSince h t image ⊎ Q image → ImageSince first t image ⊎ P image
-    by t image le (inl before) = a.since t image le before
-    by t image le (inr q) = inr (f image q)
 
 -- ---- how a call comes out
 
@@ -372,6 +358,31 @@ module _ {D : Type 0} (honest : D → Type 0) (history : D → History) (size fa
     stable_to make closed resting syncs ok =
         subst (λ (e : Engine D). HoldsBoth honest history failures n y e (settled i)) (sym rest) (sync_holds honest history size failures sized law beside old new.disk new.halted engine runs n y i holds result settles call make closed resting syncs (still ∙ ok_runs old.log.phase result ok) ok)
 
+-- The write was made: the engine runs on, and both stand behind it.
+pub record Written {D : Type 0} (honest : D → Type 0) (history : D → History) (failures : D → ℕ) (n : Node) (y : State) (old new : Engine D) (i k : Coming) : Type 0 where
+  pub holds : HoldsBoth honest history failures n y new k
+  pub leaves : LeavesOnly (history old.disk) (history new.disk) (MeansEither n i.next.super y)
+  pub runs : new.halted ≡ None
+  pub engine : IsEngine new.layout new.checkpoint new.log new.kept new.block
+  pub gone_is : k ≡ gone i
+  pub super : k.next.super ≡ i.next.super
+  pub beside : IsBeside new.checkpoint new.log new.block k
+
+pub written : {D : Type 0} (honest : D → Type 0) (history : D → History) (failures : D → ℕ) (old new : Engine D) → new ≡ record old { disk = new.disk; halted = new.halted } → IsEngine old.layout old.checkpoint old.log old.kept old.block
+    → (n : Node) (y : State) (i k : Coming) (result : Result (Unit {0}) Refusal) → IsOk result → new.halted ≡ halted_by old.log.phase result → InstallsNext honest history old.layout old.checkpoint.base i k old.disk new.disk result → IsBeside old.checkpoint old.log old.block k
+    → Goes honest history failures n y old new i k result → Written honest history failures n y old new i k
+written {D} honest history failures old new rest engine n y i k result ok still w b first =
+    let went = ok_of result ok w.done in
+    record {
+      holds = ok_of result ok first.holds;
+      leaves = first.leaves;
+      runs = still ∙ ok_runs old.log.phase result ok;
+      engine = subst (λ (e : Engine D). IsEngine e.layout e.checkpoint e.log e.kept e.block) (sym rest) engine;
+      gone_is = went;
+      super = ap (λ (j : Coming). j.next.super) went;
+      beside = subst (λ (e : Engine D). IsBeside e.checkpoint e.log e.block k) (sym rest) b;
+    }
+
 -- ---- one step after another
 
 -- a call that failed leaves either
@@ -401,10 +412,6 @@ done_then {D} {honest} {history} n y old mid new i k j same before behind holds 
   either = tt;
   leaves = leaves_then (history old.disk) (history mid.disk) (history new.disk) before (subst (λ (b : SuperBody). LeavesOnly (history mid.disk) (history new.disk) (MeansEither n b y)) same behind) (λ image h. h);
 }
-
--- what is so of an engine is so of the one that a call on the device leaves
-pub engine_same : {D : Type 0} (old new : Engine D) → new ≡ record old { disk = new.disk; halted = new.halted } → IsEngine old.layout old.checkpoint old.log old.kept old.block → IsEngine new.layout new.checkpoint new.log new.kept new.block
-engine_same {D} old new rest h = subst (λ (e : Engine D). IsEngine e.layout e.checkpoint e.log e.kept e.block) (sym rest) h
 
 -- its gate is not yet open where its superblock was not stable
 pub opens_filled : (part : Part) → IsDue part → (part ≡ SuperFilled → ⊥) → next_part part ≡ SuperOpening → ⊥

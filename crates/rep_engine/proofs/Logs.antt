@@ -9,6 +9,7 @@ use Rattle.rep_record.specs.Fronts.{fitting}
 use Rattle.rep_disk.specs.Calls.{IsCall, Rises}
 use Rattle.rep_disk.specs.History.{History, stable, IsImage}
 use Rattle.rep_disk.specs.Moments.{LeavesOnly}
+use Rattle.rep_disk.specs.Leaving.{leaves_weaker}
 use Rattle.rep_layout.specs.declared.place.Layout.{Layout}
 use Rattle.rep_layout.specs.Places.{layout_of}
 use Rattle.rep_versions.specs.Following.{AreVersionsOf, effect_of}
@@ -30,7 +31,7 @@ use Rattle.rep_checkpoint.specs.Nodes.{StandsAs, NodesLeaveTheirFronts}
 use Rattle.rep_engine.specs.Engines.{Engine, IsEngine, IsWhole, facts_of, phase_at}
 use Rattle.rep_engine.specs.Writing.{IsWrite, coming_in, WritesNext}
 use Rattle.rep_engine.specs.Holding.{Stands, Holds, wrote}
-use Rattle.rep_engine.proofs.Steps.{done_moves, halted_node, done_steps, fault_steps, leaves_weaker}
+use Rattle.rep_engine.proofs.Steps.{done_moves, halted_node, done_steps, fault_steps}
 use Rattle.rep_engine.proofs.Logging.{is_stale, at_phase, written_is, coming_is, is_write, engine_logged, facts_logged}
 use Rattle.rep_engine.proofs.Standing.{same_front, stands_on, nil_bytes, none_held, fronts_of}
 

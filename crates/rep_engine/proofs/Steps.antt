@@ -1,12 +1,11 @@
 -- Steps of facts and of nodes, by how a call comes out.
-use Rattle.std.proofs.Common.{◌≡◌, ◌⊎◌, inl, inr, ℕ, true, false, List, Option, None, Some, refl, sym, ap, subst, ◌∙◌, arith}
+use Rattle.std.proofs.Common.{◌≡◌, inl, inr, ℕ, true, false, Option, None, Some, refl, sym, ap, subst, ◌∙◌}
 use Rattle.std.specs.Prelude.{IsTrue, is_some, MatchOption, if◌then◌else◌}
 use Rattle.rep_types.specs.declared.refusal.Refusal.{Refusal}
 use Rattle.rep_types.specs.declared.refusal.Refusal.TheVariants.{Stopped, OutOfMemory, DiskFault, Corrupt}
 use Rattle.rep_types.specs.declared.refusal.Part.TheVariants.{Pages}
 use Rattle.rep_disk.specs.Calls.{Rises}
 use Rattle.rep_disk.specs.History.{History}
-use Rattle.rep_disk.specs.Moments.{LeavesOnly}
 use Rattle.rep_steps.specs.declared.event.Event.{Event}
 use Rattle.rep_steps.specs.declared.event.Event.TheVariants.{Log}
 use Rattle.rep_engine.specs.Engines.{Engine, facts_of, phase_at}
@@ -77,15 +76,3 @@ pub refused_log : {D : Type 0} (honest : D → Type 0) (history : D → History)
 refused_log honest history failures old n holds runs r some =
     refused_steps n Log r (ap (λ (s : Standing). s.stopped) holds.facts ∙ ap is_some runs)
     (ap (λ (s : Standing). log_refusal s s.phase) holds.facts ∙ ap (λ halted. log_refusal (facts_of failures old) (phase_at old.log.phase halted)) runs ∙ some)
-
--- ---- what is left at each moment
-
-pub leaves_weaker : {P Q : List ℕ → Type 0} → (old new : History) → ((image : List ℕ) → P image → Q image) → LeavesOnly old new P → LeavesOnly old new Q
-leaves_weaker {P} {Q} old new f l = record { later = l.later; since = λ t image le since. by image (l.since t image le since) }
-  where
-    by : {A : Type 0} (image : List ℕ) → A ⊎ P image → A ⊎ Q image
-    by image (inl a) = inl a
-    by image (inr p) = inr (f image p)
-
-pub leaves_none : {P : List ℕ → Type 0} → (old new : History) → new ≡ old → LeavesOnly old new P
-leaves_none {P} old new same = subst (λ h. LeavesOnly old h P) (sym same) (record { later = omega arith; since = λ t image le since. inl since })

@@ -17,6 +17,7 @@ use Rattle.rep_disk.specs.History.{History, stable, IsImage}
 use Rattle.rep_disk.specs.declared.disk.DiskFault.{DiskFault as Fault}
 use Rattle.rep_disk.specs.Calls.{IsCall, Rises}
 use Rattle.rep_disk.specs.Moments.{LeavesOnly}
+use Rattle.rep_disk.specs.Leaving.{leaves_weaker}
 use Rattle.rep_layout.specs.declared.place.Layout.{Layout}
 use Rattle.rep_layout.specs.declared.super_body.SuperBody.{SuperBody}
 use Rattle.rep_layout.specs.Places.{layout_of}
@@ -51,7 +52,7 @@ use Rattle.rep_checkpoint.specs.Nodes.{StandsAs, NodesLeaveTheirFronts, NodesSet
 use Rattle.rep_engine.specs.Engines.{Engine, IsEngine, IsWhole, facts_of, phase_at}
 use Rattle.rep_engine.specs.Writing.{left_of, told_of, PrunesIf}
 use Rattle.rep_engine.specs.Holding.{Stands as Standing_so, Holds}
-use Rattle.rep_engine.proofs.Steps.{done_moves, done_steps, fault_steps, halted_node, leaves_weaker}
+use Rattle.rep_engine.proofs.Steps.{done_moves, done_steps, fault_steps, halted_node}
 use Rattle.rep_engine.proofs.Standing.{same_front, fronts_of}
 use Rattle.rep_engine.proofs.Syncing.{facts_synced}
 

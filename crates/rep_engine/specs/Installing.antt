@@ -1,9 +1,7 @@
 -- A snapshot that is installed beside the base of an engine: what stands, what every image means, and the node that comes of it.
-use Rattle.std.specs.Prelude.{◌≡◌, ◌⊎◌, ℕ, ◌+◌, ◌<◌, ◌≤◌, true, List, [], length, map, None, Some, Result, OnOk, OnErr, refl}
+use Rattle.std.specs.Prelude.{◌≡◌, ◌⊎◌, ℕ, ◌+◌, ◌<◌, ◌≤◌, true, List, [], length, map, None, Result, OnOk, OnErr, refl}
 use Rattle.std.specs.Coded.{Coded, codes, code_by, coded×}
 use Rattle.rep_types.specs.declared.judged.Judged.{Judged}
-use Rattle.rep_types.specs.declared.refusal.Refusal.{Refusal}
-use Rattle.rep_types.specs.declared.refusal.Refusal.TheVariants.{Stopped, DiskFault}
 use Rattle.rep_types.specs.declared.limits.TheConstants.{MAX_SEQNO}
 use Rattle.rep_types.specs.Order.{State}
 use Rattle.rep_types.specs.Windows.{Window}
@@ -14,7 +12,7 @@ use Rattle.rep_layout.specs.declared.super_body.SuperBody.{SuperBody}
 use Rattle.rep_layout.specs.Supers.{IsNil}
 use Rattle.rep_cells.specs.States.{States}
 use Rattle.rep_cells.specs.Known.{Assigns}
-use Rattle.rep_versions.specs.Versions.{Kept, IsPruned}
+use Rattle.rep_versions.specs.Versions.{IsPruned}
 use Rattle.rep_versions.specs.Following.{AreVersionsOf, effect_of}
 use Rattle.rep_log.specs.declared.phase.Phase.TheVariants.{Resting}
 use Rattle.rep_log.specs.Standing.{Standing as Log, stands_at}
@@ -23,7 +21,7 @@ use Rattle.rep_steps.specs.Standings.{Standing}
 use Rattle.rep_steps.specs.Nodes.{Node, IsNode}
 use Rattle.rep_steps.specs.Images.{Meaning, IsFrontAt}
 use Rattle.rep_image.specs.Meanings.{Means}
-use Rattle.rep_checkpoint.specs.declared.stage.Part.TheVariants.{Flushing, SuperOpening}
+use Rattle.rep_checkpoint.specs.declared.stage.Part.TheVariants.{SuperOpening}
 use Rattle.rep_checkpoint.specs.declared.stage.Stage.TheVariants.{Off}
 use Rattle.rep_checkpoint.specs.Standing.{Standing as Checkpoint}
 use Rattle.rep_checkpoint.specs.Moves.{found_at}

@@ -6,6 +6,7 @@ use Rattle.std.proofs.lemmas.List.{length-append, take-append-le}
 use Rattle.rep_types.specs.declared.judged.Judged.{Judged}
 use Rattle.rep_disk.specs.History.{History, IsImage}
 use Rattle.rep_disk.specs.Moments.{LeavesOnly}
+use Rattle.rep_disk.specs.Leaving.{leaves_then}
 use Rattle.rep_layout.specs.declared.place.Layout.{Layout}
 use Rattle.rep_cells.specs.Laws.{ImagesReadAsAllowed}
 use Rattle.rep_cells.specs.Readings.{reading_of}
@@ -18,17 +19,6 @@ use Rattle.rep_log.specs.Standing.{Standing, LogIs}
 use Rattle.rep_log.specs.Moves.{sealed_as, gated, after_sync, blocks_synced, gate_refusal, Steps}
 use Rattle.rep_log.specs.Laws.{MayHold, TheLogInEveryImage, TheLogIsTold}
 use Rattle.rep_log_uses.specs.Appending.{Settles, HoldsOneOf, Appends, WhatAStopLeavesIsFound}
-
--- what calls add, behind those before them
-pub leaves_then : (first h new : History) (P Q : List ℕ → Type 0) → LeavesOnly first h P → LeavesOnly h new Q → ((image : List ℕ) → Q image → P image) → LeavesOnly first new P
-leaves_then first h new P Q before calls each = record {
-  later = omega (arith, before.later, calls.later);
-  since = λ t image late is. elim (calls.since t image (omega (arith, before.later)) is) [ inl old ↦ before.since t image late old | inr now ↦ inr (each image now) ];
-}
-
--- nothing was asked yet
-pub nothing : (h : History) (P : List ℕ → Type 0) → LeavesOnly h h P
-nothing h P = record { later = omega arith; since = λ t image late since. inl since }
 
 -- a log of the durable blocks, or of those and this one, is one of both
 pub holds_one : {l : Layout} {s : States} {log : Standing} {first : ℕ} {blocks : List (List Judged)} {records : List Judged} {image : List ℕ} → TheLogInEveryImage → LogIs l log first blocks records s → Allowed l s (reading_of l image) → HoldsOneOf l log.start first blocks records image
@@ -64,7 +54,7 @@ moments_then :
     TheLogInEveryImage → (l : Layout) (old h new : History) (start : ℕ) (log : Standing) (first : ℕ) (blocks : List (List Judged)) (records : List Judged) (s : States) → Leaves l old h start first blocks records
     → LogIs l log first blocks records s → log.start ≡ start → ((image : List ℕ) → IsImage new image → Allowed l s (reading_of l image)) → LeavesOnly h new (IsImage new) → Leaves l old new start first blocks records
 moments_then law l old h new start log first blocks records s before is starts images moments =
-    leaves_then old h new (HoldsOneOf l start first blocks records) (IsImage new) before moments
+    leaves_then old h new before moments
     (λ image of. subst (λ n. HoldsOneOf l n first blocks records image) starts (holds_one law is (images image of)))
 
 -- a step of the log

@@ -31,7 +31,7 @@ use Rattle.rep_record.specs.Records.{is_placed}
 use Rattle.rep_replica.proofs.Placing.{placed_more}
 use Rattle.rep_replica.specs.Replicas.{Replica, facts_of, IsReplica}
 use Rattle.rep_replica.specs.Holding.{Holds, IsStep}
-use Rattle.rep_replica.proofs.Widening.{leaves_none}
+use Rattle.rep_disk.specs.Leaving.{leaves_none}
 
 -- ---- where nothing refuses it
 

@@ -1,6 +1,6 @@
 -- A snapshot that is installed beside a replica, and the node that comes of it.
 use Rattle.std.proofs.Common.{◌≡◌, ◌⊎◌, inl, inr, ℕ, zero, suc, ◌+◌, ◌-◌, ◌≤◌, Bool, true, false, List, [], ◌∷◌, ◌++◌, append-nil, length, take, drop, Option, None, Some, Result, Ok, Err, IfErr, OnErr, refl, sym, ap, subst, ◌∙◌, arith}
-use Rattle.std.specs.Prelude.{◌&&◌, ◌==◌, ◌||◌, is_some, IsOk, IsErr, OnOk, IfSome}
+use Rattle.std.specs.Prelude.{◌&&◌, ◌==◌, is_some, IsOk, IsErr, OnOk, IfSome}
 use Rattle.std.specs.Result.{is_err}
 use Rattle.std.proofs.lemmas.List.{take_all, drop_all, take-append-drop}
 use Rattle.std.proofs.lemmas.Bool.Decides.{nat_tests}
@@ -13,12 +13,12 @@ use Rattle.rep_types.specs.Order.{State}
 use Rattle.rep_types.specs.Windows.{Window, fixed}
 use Rattle.rep_disk.specs.History.{History}
 use Rattle.rep_disk.specs.Moments.{LeavesOnly}
+use Rattle.rep_disk.specs.Leaving.{leaves_none, leaves_then}
 use Rattle.rep_layout.specs.declared.super_body.SuperBody.{SuperBody}
 use Rattle.rep_cert.specs.Holdings.{Holding, Holdings, IsAskable, window_of, made_at}
 use Rattle.rep_log.specs.declared.phase.Phase.{Phase}
 use Rattle.rep_log.specs.declared.phase.Phase.TheVariants.{Resting}
-use Rattle.rep_log.specs.Standing.{Standing as Log}
-use Rattle.rep_steps.specs.Standings.{Standing, Stage as StageOf, Off as is_off_stage, Retiring as is_retiring, delivered}
+use Rattle.rep_steps.specs.Standings.{Standing, Off as is_off_stage, Retiring as is_retiring, delivered}
 use Rattle.rep_steps.specs.Moves.{is_off}
 use Rattle.rep_steps.specs.Nodes.{Node, window_at, reached}
 use Rattle.rep_steps.specs.Parts.{part_of}
@@ -27,19 +27,18 @@ use Rattle.rep_image.specs.Meanings.{Means}
 use Rattle.rep_checkpoint.specs.declared.stage.Part.TheVariants.{SuperOpening}
 use Rattle.rep_checkpoint.specs.declared.stage.Stage.{Stage}
 use Rattle.rep_checkpoint.specs.declared.stage.Stage.TheVariants.{Off, Toward, Retiring}
-use Rattle.rep_checkpoint.specs.Standing.{Standing as Checkpoint, stage_in}
-use Rattle.rep_checkpoint.specs.Coming.{Coming, coming}
+use Rattle.rep_checkpoint.specs.Standing.{stage_in}
+use Rattle.rep_checkpoint.specs.Coming.{coming}
 use Rattle.rep_checkpoint.specs.Arriving.{installed}
 use Rattle.rep_checkpoint.specs.Windows.{IsWindowAt}
 use Rattle.rep_engine.specs.Engines.{Engine, facts_of as engine_facts, durable_of, phase_at}
 use Rattle.rep_engine.specs.Holding.{Holds as EngineHolds}
 use Rattle.rep_engine.specs.Checking.{CertifiersHoldWindows, HoldsWindows}
-use Rattle.rep_engine.specs.Installing.{CanBring, IsBeside, IsTaken, HoldsBoth as EngineHoldsBoth, HoldsEither, MeansEither, TakesPlace, snapshot_of}
+use Rattle.rep_engine.specs.Installing.{CanBring, IsBeside, IsTaken, HoldsEither, MeansEither, TakesPlace, snapshot_of}
 use Rattle.rep_replica.specs.Replicas.{Replica, IsReplica, GoOn, facts_of}
 use Rattle.rep_replica.specs.Holding.{Holds}
 use Rattle.rep_replica.specs.Settling.{is_quiet}
 use Rattle.rep_replica.specs.Installing.{Bringing, IsBringing, HoldsBoth, IsInstalled, IsAt, Lands, Installs, LeavesFronts}
-use Rattle.rep_replica.proofs.Retiring.{leaves_then}
 
 -- ---- lists
 
@@ -164,7 +163,8 @@ module _ {D : Type 0} (honest : D → Type 0) (history : D → History) (failure
     none = refl;
     position = position_is;
     durable = refl;
-    quiet = rw ahead_none refl;
+    ahead = ahead_none;
+    off = refl;
     running = ap (λ (s : Standing). s.stopped) holds.engine.facts ∙ ap is_some runs;
   }
 
@@ -296,7 +296,7 @@ either_still {D} honest history failures n y b r e same holds =
     record {
       holds = tt;
       either = subst (λ (x : Engine D). HoldsEither honest history n b.coming.next.super y x) (sym same) left;
-      leaves = subst (λ (x : Engine D). LeavesOnly (history b.engine.disk) (history x.disk) (MeansEither n b.coming.next.super y)) (sym same) (record { later = omega arith; since = λ t image le since. inl since });
+      leaves = subst (λ (x : Engine D). LeavesOnly (history b.engine.disk) (history x.disk) (MeansEither n b.coming.next.super y)) (sym same) (leaves_none (history b.engine.disk) (history b.engine.disk) refl);
     }
   where
     by : (image : List ℕ) → IsFrontAt Means n image ⊎ ((b.coming.part ≡ SuperOpening) × Means image (snapshot_of b.coming.next.super y)) → MeansEither n b.coming.next.super y image

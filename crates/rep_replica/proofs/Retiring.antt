@@ -1,18 +1,18 @@
 -- The two steps that retire a superblock: what they leave of a replica that waits for nothing else.
-use Rattle.std.proofs.Common.{◌≡◌, ◌⊎◌, inl, inr, ℕ, ◌+◌, ◌-◌, ◌≤◌, Bool, true, false, List, [], take, drop, Option, None, Some, Result, Ok, Err, IfErr, OnOk, refl, sym, ap, subst, ◌∙◌, arith}
-use Rattle.std.specs.Prelude.{MatchOption, if◌then◌else◌}
+use Rattle.std.proofs.Common.{◌≡◌, ◌⊎◌, inl, inr, ℕ, ◌+◌, ◌-◌, true, false, List, Option, None, Result, Ok, IfErr, refl, sym, ap, subst, ◌∙◌, arith}
+use Rattle.std.specs.Prelude.{MatchOption}
 use Rattle.rep_types.specs.declared.refusal.Refusal.{Refusal}
-use Rattle.rep_types.specs.declared.refusal.Refusal.TheVariants.{OutOfMemory, DiskFault, Corrupt}
-use Rattle.rep_types.specs.declared.refusal.Part.TheVariants.{Pages}
+use Rattle.rep_types.specs.declared.refusal.Refusal.TheVariants.{OutOfMemory, DiskFault}
 use Rattle.rep_disk.specs.History.{History, Begins, Wrote as Written, Spoiled, Synced as Stable, IsImage}
 use Rattle.rep_disk.specs.Moments.{LeavesOnly, ImageSince, moment}
+use Rattle.rep_disk.specs.Leaving.{leaves_then}
 use Rattle.rep_log.specs.declared.phase.Phase.TheVariants.{Resting}
 use Rattle.rep_steps.specs.declared.event.Event.{Event}
 use Rattle.rep_steps.specs.declared.event.Event.TheVariants.{Check, Sync}
 use Rattle.rep_steps.specs.declared.answer.Answer.{Answer}
 use Rattle.rep_steps.specs.declared.answer.Answer.TheVariants.{Refused}
 use Rattle.rep_steps.specs.Standings.{Standing, Stage, Off, Retiring, refusal, check_refusal}
-use Rattle.rep_steps.specs.Moves.{Found, Moves, Fails, answer, after, checked, takes_memory, reads_a_page, is_off}
+use Rattle.rep_steps.specs.Moves.{Moves, Fails, answer, checked, takes_memory, reads_a_page, is_off}
 use Rattle.rep_steps.specs.Nodes.{Node, Steps, found, moved}
 use Rattle.rep_steps.specs.Images.{IsFrontAt}
 use Rattle.rep_image.specs.Meanings.{Means}
@@ -106,16 +106,6 @@ left_now {P} old new leaves had image here = by (leaves.since (moment old) image
     by : ImageSince old (moment old) image ⊎ P image → P image
     by (inl before) = had image (image_now old image before)
     by (inr p) = p
-
-pub leaves_then : {P Q : List ℕ → Type 0} (first h new : History) → LeavesOnly first h P → LeavesOnly h new Q → ((image : List ℕ) → Q image → P image) → LeavesOnly first new P
-leaves_then {P} {Q} first h new a b f = record {
-  later = omega (arith, a.later, b.later);
-  since = λ t image le since. by t image le (b.since t image (omega (arith, le, a.later)) since);
-}
-  where
-    by : (t : ℕ) (image : List ℕ) → t ≤ moment first → ImageSince h t image ⊎ Q image → ImageSince first t image ⊎ P image
-    by t image le (inl before) = a.since t image le before
-    by t image le (inr q) = inr (f image q)
 
 -- a front of the node at another stage is one of the node
 pub front_at_stage : (n : Node) (stage : Stage) (image : List ℕ) → IsFrontAt Means (record n { facts = record n.facts { stage = stage } }) image → IsFrontAt Means n image

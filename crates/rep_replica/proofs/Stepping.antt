@@ -30,7 +30,8 @@ use Rattle.rep_replica.specs.Refusing.{RefusesUnchanged}
 use Rattle.rep_replica.specs.Spelling.{Spells}
 use Rattle.rep_replica.specs.Holding.{Holds, IsStep}
 use Rattle.rep_replica.proofs.Refusing.{spells_stopped}
-use Rattle.rep_replica.proofs.Widening.{running_facts, widened, leaves_whole, leaves_none}
+use Rattle.rep_disk.specs.Leaving.{leaves_none}
+use Rattle.rep_replica.proofs.Widening.{running_facts, widened, leaves_whole}
 
 -- ---- which refusal it is
 

@@ -1,5 +1,5 @@
 -- A step of what the engine has taken, as a step of the replica.
-use Rattle.std.proofs.Common.{◌≡◌, ◌⊎◌, inl, inr, ℕ, ◌+◌, ◌-◌, ◌≤◌, false, List, ◌++◌, length, length-append, length-drop, take, drop, sym, ap, subst, ◌∙◌, arith}
+use Rattle.std.proofs.Common.{◌≡◌, ℕ, ◌+◌, ◌-◌, ◌≤◌, false, List, ◌++◌, length, length-append, length-drop, take, drop, sym, ap, subst, ◌∙◌, arith}
 use Rattle.std.specs.Prelude.{◌||◌, is_some}
 use Rattle.std.proofs.Math.Seq.{take-add}
 use Rattle.std.proofs.lemmas.List.{take-append-drop, take-append-le, drop-append-le, drop-drop, length-take-le}
@@ -8,6 +8,7 @@ use Rattle.rep_types.specs.Settings.{Setting}
 use Rattle.rep_types.specs.Order.{State}
 use Rattle.rep_disk.specs.History.{History}
 use Rattle.rep_disk.specs.Moments.{LeavesOnly}
+use Rattle.rep_disk.specs.Leaving.{leaves_weaker}
 use Rattle.rep_cert.specs.Holdings.{Holdings, IsAskable, window_of}
 use Rattle.rep_steps.specs.declared.event.Event.{Event}
 use Rattle.rep_steps.specs.declared.answer.Answer.{Answer}
@@ -128,11 +129,4 @@ pub whole_end : (n : Node) (block : List Judged) (q : ℕ) (image : List ℕ) �
 whole_end n block q image f = record { meaning = f.meaning; reads = f.reads; end = f.end; ends = f.ends; front = wider_front n block q f.end f.meaning f.front }
 
 pub leaves_whole : (n : Node) (block : List Judged) (q : ℕ) (old new : History) → LeavesOnly old new (IsFrontAt Means (part_of block q n)) → LeavesOnly old new (IsFrontAt Means n)
-leaves_whole n block q old new l = record { later = l.later; since = λ t image le since. by image (l.since t image le since) }
-  where
-    by : {A : Type 0} (image : List ℕ) → A ⊎ IsFrontAt Means (part_of block q n) image → A ⊎ IsFrontAt Means n image
-    by image (inl a) = inl a
-    by image (inr p) = inr (whole_front n block q image p)
-
-pub leaves_none : {P : List ℕ → Type 0} → (old new : History) → new ≡ old → LeavesOnly old new P
-leaves_none {P} old new same = subst (λ h. LeavesOnly old h P) (sym same) (record { later = omega arith; since = λ t image le since. inl since })
+leaves_whole n block q old new = leaves_weaker old new (λ image f. whole_front n block q image f)

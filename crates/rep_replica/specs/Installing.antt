@@ -9,13 +9,13 @@ use Rattle.rep_disk.specs.History.{History, IsImage}
 use Rattle.rep_disk.specs.Moments.{LeavesOnly}
 use Rattle.rep_layout.specs.declared.super_body.SuperBody.{SuperBody}
 use Rattle.rep_cert.specs.Holdings.{Holdings, IsAskable, window_of, made_at}
-use Rattle.rep_steps.specs.Standings.{Standing}
+use Rattle.rep_steps.specs.Standings.{Standing, Off}
 use Rattle.rep_steps.specs.Nodes.{Node, window_at}
 use Rattle.rep_steps.specs.Images.{AreJudgedFrom, IsFrontAt}
 use Rattle.rep_image.specs.Meanings.{Means}
 use Rattle.rep_checkpoint.specs.Coming.{Coming}
 use Rattle.rep_checkpoint.specs.Windows.{IsWindowAt}
-use Rattle.rep_engine.specs.Engines.{Engine, engine_code, facts_of as engine_facts}
+use Rattle.rep_engine.specs.Engines.{Engine, engine_code}
 use Rattle.rep_engine.specs.Installing.{HoldsBoth as EngineHoldsBoth, HoldsEither, MeansEither}
 use Rattle.rep_replica.specs.Replicas.{Replica, IsReplica, facts_of}
 use Rattle.rep_replica.specs.Settling.{is_quiet}
@@ -69,7 +69,8 @@ pub record IsInstalled (b : SuperBody) (y : State) (m : Node) : Type 0 where
   pub none : m.items ≡ []
   pub position : y.position ≡ b.position
   pub durable : m.facts.durable ≡ b.position
-  pub quiet : is_quiet m.facts ≡ true
+  pub ahead : m.facts.ahead ≡ []
+  pub off : m.facts.stage ≡ Off
   pub running : m.facts.stopped ≡ false
 
 -- What a stop leaves on an honest device means a front of the node.

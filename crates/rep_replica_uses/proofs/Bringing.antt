@@ -1,6 +1,6 @@
 -- A node that stands at a snapshot, and pages that come one after another.
-use Rattle.std.proofs.Common.{◌≡◌, ◌⊎◌, inl, inr, ℕ, zero, suc, ◌+◌, ◌-◌, ◌<◌, ◌≤◌, Bool, true, false, List, [], ◌∷◌, length, take, Option, None, Some, Result, Ok, Err, OnOk, OnErr, refl, sym, ap, subst, ◌∙◌, arith}
-use Rattle.std.specs.Prelude.{◌&&◌, ◌==◌, not, nat_le, if◌then◌else◌, IsOk, IsErr, IfSome, IfErr}
+use Rattle.std.proofs.Common.{◌≡◌, inl, inr, ℕ, zero, suc, ◌+◌, ◌-◌, ◌<◌, Bool, true, false, List, [], ◌∷◌, length, take, Option, None, Some, Result, Ok, Err, OnOk, OnErr, refl, sym, ap, subst, ◌∙◌, arith}
+use Rattle.std.specs.Prelude.{◌==◌, not, nat_le, if◌then◌else◌, IsOk, IsErr, IfSome, IfErr}
 use Rattle.std.proofs.lemmas.Bool.Decides.{nat_tests}
 use Rattle.std.proofs.lemmas.Slice.Eq.{bytes_eq-Decides}
 use Rattle.uuid.specs.Parts.{is_nil_bytes, zero_bytes}
@@ -14,13 +14,13 @@ use Rattle.rep_types.specs.Transactions.{Transaction}
 use Rattle.rep_types.specs.Windows.{Window}
 use Rattle.rep_types.specs.Order.{State, judge}
 use Rattle.rep_disk.specs.History.{History}
-use Rattle.rep_disk.specs.Moments.{LeavesOnly, ImageSince, moment}
+use Rattle.rep_disk.specs.Moments.{LeavesOnly}
+use Rattle.rep_disk.specs.Leaving.{leaves_none, leaves_weaker, leaves_both, leaves_then}
 use Rattle.rep_layout.specs.Supers.{IsNil}
 use Rattle.rep_layout.specs.declared.super_body.SuperBody.{SuperBody}
 use Rattle.rep_pages.specs.Rows.{Rows}
 use Rattle.rep_steps.specs.declared.event.Event.TheVariants.{Deliver}
-use Rattle.rep_steps.specs.Standings.{Standing, Stage, Off, Toward, Retiring, delivered, delivery_refusal, refusal}
-use Rattle.rep_steps.specs.Moves.{is_off}
+use Rattle.rep_steps.specs.Standings.{Standing, delivered, delivery_refusal, refusal}
 use Rattle.rep_steps.specs.Nodes.{Node, state_at, reached}
 use Rattle.rep_steps.specs.Images.{IsFrontAt}
 use Rattle.rep_image.specs.Meanings.{Means}
@@ -32,19 +32,6 @@ use Rattle.rep_replica.specs.Installing.{Bringing, HoldsBoth, Installs, IsInstal
 use Rattle.rep_replica_uses.specs.Bringing.{Brings, GoesOn, MeansOldOrNew, PutsAll, with_pages}
 
 -- ---- how it goes on
-
-both : (a b : Bool) → (a && b) ≡ true → (a ≡ true) × (b ≡ true)
-both true b e = (refl, e)
-both false b e = absurd (let never : false ≡ true = e in cc)
-
-empty : (js : List Judged) → (length js == 0) ≡ true → js ≡ []
-empty [] e = refl
-empty (j ∷ js) e = absurd (grind (arith, nat_tests, e))
-
-none_under_way : (stage : Stage) → is_off stage ≡ true → stage ≡ Off
-none_under_way Off e = refl
-none_under_way (Toward goal part) e = absurd (let never : false ≡ true = e in cc)
-none_under_way (Retiring written) e = absurd (let never : false ≡ true = e in cc)
 
 take_none : (k : ℕ) → take {A = Judged} k [] ≡ []
 take_none zero = refl
@@ -58,11 +45,8 @@ module _ (b : SuperBody) (y : State) (m : Node) (h : IsInstalled b y m) where
   abbrev s : Standing
   s = m.facts
 
-  none_ahead : s.ahead ≡ []
-  none_ahead = empty s.ahead (both (length s.ahead == 0) (is_off s.stage) h.quiet).0
-
   all_there : delivered s ≡ y.position
-  all_there = omega (arith, ap length none_ahead, h.durable, h.position)
+  all_there = omega (arith, ap length h.ahead, h.durable, h.position)
 
   state_there : (k : ℕ) → state_at m k ≡ y
   state_there k = ap (λ (js : List Judged). reached s.setting m.base (take (k - m.base.position) js)) h.none ∙ ap (reached s.setting m.base) (take_none (k - m.base.position)) ∙ h.base
@@ -74,7 +58,7 @@ module _ (b : SuperBody) (y : State) (m : Node) (h : IsInstalled b y m) where
   next_free : (IsNil s.uuid → ⊥) → y.position < MAX_SEQNO → (w : Transaction) → refusal s (Deliver (y.position + 1) w) ≡ None
   next_free not below w =
       ap (λ t. if t then Some Stopped else delivery_refusal s (y.position + 1)) h.running
-      ∙ free_by s.uuid (delivered s) (y.position + 1) s.ahead (not_nil s.uuid not (is_nil_bytes s.uuid) refl) (grind (arith, nat_tests, all_there, below)) (grind (arith, nat_tests, all_there)) (grind (arith, nat_tests, ap length none_ahead))
+      ∙ free_by s.uuid (delivered s) (y.position + 1) s.ahead (not_nil s.uuid not (is_nil_bytes s.uuid) refl) (grind (arith, nat_tests, all_there, below)) (grind (arith, nat_tests, all_there)) (grind (arith, nat_tests, ap length h.ahead))
 
   pub goes_on : GoesOn y m
   goes_on = record {
@@ -82,20 +66,10 @@ module _ (b : SuperBody) (y : State) (m : Node) (h : IsInstalled b y m) where
     window = ap (λ (z : State). z.kept) (state_there s.durable);
     next = next_free;
     verdict = λ w. ap (λ (z : State). judge s.setting (delivered s) z.kept (WriteSet w)) (state_there (delivered s)) ∙ ap (λ k. judge s.setting k y.kept (WriteSet w)) all_there;
-    free = none_under_way s.stage (both (length s.ahead == 0) (is_off s.stage) h.quiet).1;
+    free = h.off;
   }
 
 -- ---- pages one after another
-
-leaves_then : {P : List ℕ → Type 0} (first h new : History) → LeavesOnly first h P → LeavesOnly h new P → LeavesOnly first new P
-leaves_then {P} first h new a b = record {
-  later = omega (arith, a.later, b.later);
-  since = λ t image le since. by t image le (b.since t image (omega (arith, le, a.later)) since);
-}
-  where
-    by : (t : ℕ) (image : List ℕ) → t ≤ moment first → ImageSince h t image ⊎ P image → ImageSince first t image ⊎ P image
-    by t image le (inl before) = a.since t image le before
-    by t image le (inr p) = inr p
 
 -- Some of the pages came, and these are left.
 pub record Put {D : Type 0} (honest : D → Type 0) (history : D → History) (failures : D → ℕ) (pages rest : List (ℕ × Rows)) (first now : Bringing D) : Type 0 where
@@ -115,7 +89,7 @@ module _ {D : Type 0} (honest : D → Type 0) (history : D → History) (failure
     params = refl;
     shape = refl;
     holds = λ n y h. (y, h, ap (λ (ps : List (ℕ × Rows)). with_pages first.engine.checkpoint.base.params.rows ps y) same);
-    leaves = λ n y h. record { later = omega arith; since = λ t image le since. inl since };
+    leaves = λ n y h. leaves_none (history first.engine.disk) (history first.engine.disk) refl;
   }
 
   module _ (rest : List (ℕ × Rows)) (now new : Bringing D) (page : ℕ) (rows : Rows) (put : Put honest history failures pages ((page, rows) ∷ rest) first now) (still : new ≡ record now { engine = record now.engine { disk = new.engine.disk; halted = new.engine.halted }; coming = new.coming })
@@ -124,7 +98,7 @@ module _ {D : Type 0} (honest : D → Type 0) (history : D → History) (failure
     same_params = ap (λ (b : Bringing D). b.engine.checkpoint.base.params) still ∙ put.params
 
     leaves_on : (n : Node) (y : State) → HoldsBoth honest history failures n y first → LeavesOnly (history first.engine.disk) (history new.engine.disk) (IsFrontAt Means n)
-    leaves_on n y h = leaves_then (history first.engine.disk) (history now.engine.disk) (history new.engine.disk) (put.leaves n y h) (leaves n (put.holds n y h).0 (put.holds n y h).1)
+    leaves_on n y h = leaves_both (history first.engine.disk) (history now.engine.disk) (history new.engine.disk) (put.leaves n y h) (leaves n (put.holds n y h).0 (put.holds n y h).1)
 
     -- one more came
     pub put_more : new.coming ≡ placed now.engine.checkpoint.base page now.coming → ((n : Node) (y : State) → HoldsBoth honest history failures n y now → HoldsBoth honest history failures n (with_page now.engine.checkpoint.base.params.rows page rows y) new) → Put honest history failures pages rest first new
@@ -211,16 +185,6 @@ on_ok : {A B : Type 0} (result : Result (Unit {0}) Refusal) → OnOk result A �
 on_ok (Ok x) a f = f a
 on_ok (Err e) a f = tt
 
-leaves_as : {P Q : List ℕ → Type 0} (old new : History) → LeavesOnly old new P → ((image : List ℕ) → P image → Q image) → LeavesOnly old new Q
-leaves_as {P} {Q} old new l f = record { later = l.later; since = λ t image le since. by t image (l.since t image le since) }
-  where
-    by : (t : ℕ) (image : List ℕ) → ImageSince old t image ⊎ P image → ImageSince old t image ⊎ Q image
-    by t image (inl before) = inl before
-    by t image (inr p) = inr (f image p)
-
-leaves_both : {P Q R : List ℕ → Type 0} (old mid new : History) → LeavesOnly old mid P → LeavesOnly mid new Q → ((image : List ℕ) → P image → R image) → ((image : List ℕ) → Q image → R image) → LeavesOnly old new R
-leaves_both old mid new a b f h = leaves_then old mid new (leaves_as old mid a f) (leaves_as mid new b h)
-
 module _ {D : Type 0} (honest : D → Type 0) (history : D → History) (failures : D → ℕ) (n : Node) (uuid : List ℕ) (position : ℕ) (v : Window) (pages : List (ℕ × Rows)) (old : Replica D) (i k : Bringing D) (begun : (i.engine ≡ old.engine) × (i.coming ≡ coming old.engine.checkpoint.base uuid position old.engine.log.next v.entries))
     (holds : HoldsBoth honest history failures n (blank position v) i) where
   abbrev y : State
@@ -242,7 +206,7 @@ module _ {D : Type 0} (honest : D → Type 0) (history : D → History) (failure
       let before = subst (λ (e : Engine D). LeavesOnly (history e.disk) (history k.engine.disk) (IsFrontAt Means n)) begun.0 (put.leaves n (blank position v) holds) in
       record {
         done = on_ok result came.holds (λ h. (b, uuid_is, h.0, h.1, h.2));
-        leaves = leaves_both (history old.engine.disk) (history k.engine.disk) (history new.engine.disk) before came.leaves (λ image f. inl f) (λ image m. old_or_new b uuid_is (put.shape ∙ setting_is) image m);
+        leaves = leaves_then (history old.engine.disk) (history k.engine.disk) (history new.engine.disk) (leaves_weaker (history old.engine.disk) (history k.engine.disk) (λ image f. inl f) before) came.leaves (λ image m. old_or_new b uuid_is (put.shape ∙ setting_is) image m);
       }
     where
       old_or_new : (b : SuperBody) → b.uuid ≡ uuid → b.params ≡ n.facts.setting → (image : List ℕ) → MeansEither n b y image → MeansOldOrNew n uuid y image
@@ -256,12 +220,12 @@ module _ {D : Type 0} (honest : D → Type 0) (history : D → History) (failure
       let before = subst (λ (e : Engine D). LeavesOnly (history e.disk) (history k.engine.disk) (IsFrontAt Means n)) begun.0 (put.leaves n (blank position v) holds) in
       record {
         done = tt;
-        leaves = subst (λ (e : Engine D). LeavesOnly (history old.engine.disk) (history e.disk) (MeansOldOrNew n uuid y)) (sym same) (leaves_as (history old.engine.disk) (history k.engine.disk) before (λ image f. inl f));
+        leaves = subst (λ (e : Engine D). LeavesOnly (history old.engine.disk) (history e.disk) (MeansOldOrNew n uuid y)) (sym same) (leaves_weaker (history old.engine.disk) (history k.engine.disk) (λ image f. inl f) before);
       }
 
 -- where it wasn't begun
 pub not_begun : {D : Type 0} (honest : D → Type 0) (history : D → History) (failures : D → ℕ) (n : Node) (uuid : List ℕ) (y : State) (old new : Replica D) (r : Refusal) → new ≡ old → Brings honest history failures n uuid y old new (Err r)
 not_begun {D} honest history failures n uuid y old new r same = record {
   done = tt;
-  leaves = subst (λ (x : Replica D). LeavesOnly (history old.engine.disk) (history x.engine.disk) (MeansOldOrNew n uuid y)) (sym same) (record { later = omega arith; since = λ t image le since. inl since });
+  leaves = subst (λ (x : Replica D). LeavesOnly (history old.engine.disk) (history x.engine.disk) (MeansOldOrNew n uuid y)) (sym same) (leaves_none (history old.engine.disk) (history old.engine.disk) refl);
 }

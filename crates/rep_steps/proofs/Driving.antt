@@ -1,11 +1,12 @@
 -- Runs of a core: steps one after another, and what a stop leaves.
-use Rattle.std.proofs.Common.{◌≡◌, ℕ, ◌≤◌, ◌⊎◌, inl, inr, List, [], ◌∷◌, ◌++◌, append_assoc, length-append, refl, sym, ap, subst, ◌∙◌, arith}
+use Rattle.std.proofs.Common.{◌≡◌, ℕ, ◌≤◌, List, [], ◌∷◌, ◌++◌, append_assoc, length-append, refl, sym, ap, subst, ◌∙◌, arith}
 use Rattle.std.proofs.lemmas.List.{take-append-le}
 use Rattle.rep_types.specs.Settings.{Setting}
 use Rattle.rep_types.specs.Order.{Order}
 use Rattle.rep_record.specs.Fronts.{FrontsAreDetermined}
 use Rattle.rep_disk.specs.History.{History}
-use Rattle.rep_disk.specs.Moments.{moment, ImageSince, LeavesOnly}
+use Rattle.rep_disk.specs.Moments.{LeavesOnly}
+use Rattle.rep_disk.specs.Leaving.{leaves_weaker, leaves_both, leaves_none}
 use Rattle.rep_steps.specs.declared.event.Event.{Event}
 use Rattle.rep_steps.specs.declared.answer.Answer.{Answer}
 use Rattle.rep_steps.specs.Standings.{Standing}
@@ -19,25 +20,6 @@ use Rattle.rep_steps.proofs.Reaching.{OrderLaws}
 use Rattle.rep_steps.proofs.Following.{count_behind}
 use Rattle.rep_steps.proofs.Running.{runs_come}
 use Rattle.rep_steps.proofs.Fronts.{fronts_stand}
-
--- ---- what is left by calls one after another
-
-leaves_weaker : {P Q : List ℕ → Type 0} → (old new : History) → ((image : List ℕ) → P image → Q image) → LeavesOnly old new P → LeavesOnly old new Q
-leaves_weaker {P} {Q} old new f l = record { later = l.later; since = λ t image le since. by image (l.since t image le since) }
-  where
-    by : {A : Type 0} (image : List ℕ) → A ⊎ P image → A ⊎ Q image
-    by image (inl a) = inl a
-    by image (inr p) = inr (f image p)
-
-leaves_both : {P : List ℕ → Type 0} → (old mid new : History) → LeavesOnly old mid P → LeavesOnly mid new P → LeavesOnly old new P
-leaves_both {P} old mid new a b = record { later = omega (arith, a.later, b.later); since = λ t image le since. by t image le (b.since t image (omega (arith, le, a.later)) since) }
-  where
-    by : (t : ℕ) (image : List ℕ) → t ≤ moment old → ImageSince mid t image ⊎ P image → ImageSince old t image ⊎ P image
-    by t image le (inl since) = a.since t image le since
-    by t image le (inr p) = inr p
-
-leaves_none : {P : List ℕ → Type 0} → (h : History) → LeavesOnly h h P
-leaves_none h = record { later = omega arith; since = λ t image le since. inl since }
 
 -- ---- fronts of longer orders
 
@@ -94,7 +76,7 @@ moves_then one s t u (f ∷ events) [] more told r q = absurd r
 moves_then one s t u (f ∷ events) (b ∷ answers) more told r q = (r.0, r.1, moves_then one r.0 t u events answers more told r.2 q)
 
 pub run_none : (means : List ℕ → Meaning → Type 0) (h : History) (n : Node) → RunsOn means h h n [] [] n
-run_none means h n = record { runs = refl; leaves = λ L o. leaves_none h }
+run_none means h n = record { runs = refl; leaves = λ L o. leaves_none h h refl }
 
 pub run_one : OrderLaws → (means : List ℕ → Meaning → Type 0) (old new : History) (k m : Node) (e : Event) (a : Answer) → IsNode k → Steps k e a m → LeavesOnly old new (IsFrontAt means k)
     → RunsOn means old new k (e ∷ []) (a ∷ []) m

@@ -8,7 +8,8 @@ use Rattle.rep_cells.specs.Known.{Assigns}
 use Rattle.rep_log.specs.declared.phase.Phase.TheVariants.{Filled, Opening}
 use Rattle.rep_log.specs.Standing.{Standing, LogIs}
 use Rattle.rep_log.specs.Moves.{seal_refusal}
-use Rattle.rep_log_uses.proofs.Stages.{Stage, Went, nothing, StepsAt, SettlesAt, went_on, body_settled, gate_opened, block_appended, gate_is_due, ends, stops}
+use Rattle.rep_disk.specs.Leaving.{leaves_none}
+use Rattle.rep_log_uses.proofs.Stages.{Stage, Went, StepsAt, SettlesAt, went_on, body_settled, gate_opened, block_appended, gate_is_due, ends, stops}
 use Rattle.rep_log_uses.proofs.append.Goals as goal
 use Rattle.rep_log_uses.proofs.append.Goals.{After-seal, After-settle, After-gate}
 
@@ -21,7 +22,7 @@ sealed_goes :
 sealed_goes g c s first blocks sealed honest due assigns is =
     let old : History = g.D.Disk.history (disk_of c.args.cells.now) in
     let step = c.seal.ensures.step due in
-    went_on c.the_log_in_every_image.ensures (layout_of c.args.cells.now) old old (g.D.Disk.history (disk_of c.seal.new.cells)) c.args.log.now.start c.seal.new.self first blocks c.args.block.now s c.seal.result (nothing old _)
+    went_on c.the_log_in_every_image.ensures (layout_of c.args.cells.now) old old (g.D.Disk.history (disk_of c.seal.new.cells)) c.args.log.now.start c.seal.new.self first blocks c.args.block.now s c.seal.result (leaves_none old old refl)
     (ap (λ (v : Standing). v.start) step.stands) (step.steps honest s first blocks sealed assigns is)
 
 -- the sync behind it

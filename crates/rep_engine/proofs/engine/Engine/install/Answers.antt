@@ -1,4 +1,4 @@
-use Rattle.std.proofs.Common.{◌≡◌, ℕ, List, refl, sym, ap, subst, ◌∙◌}
+use Rattle.std.proofs.Common.{◌≡◌, ℕ, List, sym, ap, subst, ◌∙◌}
 use Rattle.rep_types.specs.Entries.{Entry}
 use Rattle.rep_checkpoint.specs.Coming.{Coming, CanInstall, blank, coming}
 use Rattle.rep_checkpoint.specs.Installing.{BeginsToInstall}

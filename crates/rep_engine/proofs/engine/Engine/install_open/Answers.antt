@@ -1,15 +1,10 @@
-use Rattle.std.proofs.Common.{◌≡◌, None, Ok, Err, refl, sym, ap, subst, ◌∙◌}
+use Rattle.std.proofs.Common.{Ok, refl, sym, ap, subst, ◌∙◌}
 use Rattle.std.specs.Prelude.{IsOk, IsErr}
 use Rattle.rep_disk.specs.Moments.{LeavesOnly}
-use Rattle.rep_log.specs.declared.phase.Phase.TheVariants.{Resting}
-use Rattle.rep_log.specs.Standing.{Standing as Log}
-use Rattle.rep_log.specs.Moves.{SyncsLog}
-use Rattle.rep_checkpoint.specs.declared.stage.Part.TheVariants.{SuperOpening}
 use Rattle.rep_checkpoint.specs.Moves.{next_part}
 use Rattle.rep_checkpoint.specs.Coming.{Coming}
-use Rattle.rep_engine.specs.Engines.{Engine}
-use Rattle.rep_engine.specs.Installing.{IsBeside, HoldsBoth, MeansEither}
-use Rattle.rep_engine.proofs.Installing.{ok_of, ok_runs, engine_same, write_to, stable_either, stable_leaves, failed, failed_then, not_taken, takes_then, took_place}
+use Rattle.rep_engine.specs.Installing.{MeansEither}
+use Rattle.rep_engine.proofs.Installing.{ok_of, write_to, written, stable_either, stable_leaves, failed, failed_then, not_taken, takes_then, took_place}
 use Rattle.rep_engine.proofs.engine.Engine.install_open.Goals as goal
 
 pub returns-in_err-install_next-clause-takes : goal.returns-in_err-install_next-clause-takes
@@ -21,47 +16,34 @@ returns-in_err-install_next-clause-takes g c = λ n y holds.
 
 pub returns-in_err-install_sync-clause-takes : goal.returns-in_err-install_sync-clause-takes
 returns-in_err-install_sync-clause-takes g c = λ n y holds.
-    let ok : IsOk c.install_next.result = subst IsOk (sym c.in_ok-install_next.was) refl in
-    let first =
-    write_to g.D.Disk.honest g.D.Disk.history g.D.Disk.size g.D.Disk.failures g.met.D.Disk.sized c.installations_leave_the_old_or_the_new.ensures c.installations_stand_beside.ensures c.args.self.now c.install_next.new.self c.install_next.ensures.rest c.durable.ensures.engine c.requires.runs n y c.args.coming holds
-    c.install_next.result c.install_next.ensures.call c.install_next.ensures.halted c.install_next.new.coming c.install_next.ensures.writes in
-    let mid = ok_of c.install_next.result ok first.holds in
-    let runs : c.install_next.new.self.halted ≡ None = c.install_next.ensures.halted ∙ ok_runs c.args.self.now.log.phase c.install_next.result ok in
-    let engine = engine_same c.args.self.now c.install_next.new.self c.install_next.ensures.rest c.durable.ensures.engine in
-    let super = ap (λ (k : Coming). k.next.super) (ok_of c.install_next.result ok c.install_next.ensures.writes.done) in
-    let leaves =
-    stable_leaves g.D.Disk.honest g.D.Disk.history g.D.Disk.size g.D.Disk.failures g.met.D.Disk.sized c.installations_leave_the_old_or_the_new.ensures c.installations_stand_beside.ensures c.install_next.new.self c.install_sync.new.self c.install_sync.ensures.rest engine runs n y c.install_next.new.coming mid
-    c.install_sync.result c.install_sync.ensures.call c.install_sync.ensures.halted c.install_sync.ensures.settles in
-    let either =
-    stable_either g.D.Disk.honest g.D.Disk.history g.D.Disk.size g.D.Disk.failures g.met.D.Disk.sized c.installations_leave_the_old_or_the_new.ensures c.installations_stand_beside.ensures c.install_next.new.self c.install_sync.new.self c.install_sync.ensures.rest engine runs n y c.install_next.new.coming mid
-    c.install_sync.result c.install_sync.ensures.call c.install_sync.ensures.halted c.install_sync.ensures.settles in
+    let w =
+    written g.D.Disk.honest g.D.Disk.history g.D.Disk.failures c.args.self.now c.install_next.new.self c.install_next.ensures.rest c.durable.ensures.engine n y c.args.coming c.install_next.new.coming c.install_next.result (subst IsOk (sym c.in_ok-install_next.was) refl)
+    c.install_next.ensures.halted c.install_next.ensures.writes c.install_next.ensures.beside
+    (write_to g.D.Disk.honest g.D.Disk.history g.D.Disk.size g.D.Disk.failures g.met.D.Disk.sized c.installations_leave_the_old_or_the_new.ensures c.installations_stand_beside.ensures c.args.self.now c.install_next.new.self c.install_next.ensures.rest c.durable.ensures.engine c.requires.runs n y c.args.coming holds
+    c.install_next.result c.install_next.ensures.call c.install_next.ensures.halted c.install_next.new.coming c.install_next.ensures.writes) in
     not_taken g.D.Disk.honest g.D.Disk.history g.D.Disk.failures n y _ _ _ c.args.coming c.from_residual-in_err-install_sync.result c.from_residual-in_err-install_sync.ensures.0
-    (failed_then n y _ c.install_next.new.self _ _ c.install_next.new.coming _ c.from_residual-in_err-install_sync.result c.from_residual-in_err-install_sync.ensures.0 super first.leaves leaves either)
+    (failed_then n y _ c.install_next.new.self _ _ c.install_next.new.coming _ c.from_residual-in_err-install_sync.result c.from_residual-in_err-install_sync.ensures.0 w.super w.leaves
+    (stable_leaves g.D.Disk.honest g.D.Disk.history g.D.Disk.size g.D.Disk.failures g.met.D.Disk.sized c.installations_leave_the_old_or_the_new.ensures c.installations_stand_beside.ensures c.install_next.new.self c.install_sync.new.self c.install_sync.ensures.rest w.engine w.runs n y c.install_next.new.coming w.holds
+    c.install_sync.result c.install_sync.ensures.call c.install_sync.ensures.halted c.install_sync.ensures.settles)
+    (stable_either g.D.Disk.honest g.D.Disk.history g.D.Disk.size g.D.Disk.failures g.met.D.Disk.sized c.installations_leave_the_old_or_the_new.ensures c.installations_stand_beside.ensures c.install_next.new.self c.install_sync.new.self c.install_sync.ensures.rest w.engine w.runs n y c.install_next.new.coming w.holds
+    c.install_sync.result c.install_sync.ensures.call c.install_sync.ensures.halted c.install_sync.ensures.settles))
 
 pub returns-clause-takes : goal.returns-clause-takes
 returns-clause-takes g c = λ n y holds.
-    let ok : IsOk c.install_next.result = subst IsOk (sym c.in_ok-install_next.was) refl in
-    let first =
-    write_to g.D.Disk.honest g.D.Disk.history g.D.Disk.size g.D.Disk.failures g.met.D.Disk.sized c.installations_leave_the_old_or_the_new.ensures c.installations_stand_beside.ensures c.args.self.now c.install_next.new.self c.install_next.ensures.rest c.durable.ensures.engine c.requires.runs n y c.args.coming holds
-    c.install_next.result c.install_next.ensures.call c.install_next.ensures.halted c.install_next.new.coming c.install_next.ensures.writes in
-    let mid = ok_of c.install_next.result ok first.holds in
-    let runs : c.install_next.new.self.halted ≡ None = c.install_next.ensures.halted ∙ ok_runs c.args.self.now.log.phase c.install_next.result ok in
-    let engine = engine_same c.args.self.now c.install_next.new.self c.install_next.ensures.rest c.durable.ensures.engine in
-    let went = ok_of c.install_next.result ok c.install_next.ensures.writes.done in
-    let opening : c.install_next.new.coming.part ≡ SuperOpening = ap (λ (k : Coming). k.part) went ∙ ap next_part c.requires.filled in
+    let w =
+    written g.D.Disk.honest g.D.Disk.history g.D.Disk.failures c.args.self.now c.install_next.new.self c.install_next.ensures.rest c.durable.ensures.engine n y c.args.coming c.install_next.new.coming c.install_next.result (subst IsOk (sym c.in_ok-install_next.was) refl)
+    c.install_next.ensures.halted c.install_next.ensures.writes c.install_next.ensures.beside
+    (write_to g.D.Disk.honest g.D.Disk.history g.D.Disk.size g.D.Disk.failures g.met.D.Disk.sized c.installations_leave_the_old_or_the_new.ensures c.installations_stand_beside.ensures c.args.self.now c.install_next.new.self c.install_next.ensures.rest c.durable.ensures.engine c.requires.runs n y c.args.coming holds
+    c.install_next.result c.install_next.ensures.call c.install_next.ensures.halted c.install_next.new.coming c.install_next.ensures.writes) in
     let synced : IsOk c.install_sync.result = subst IsOk (sym c.in_ok-install_sync.was) refl in
-    let b : IsBeside c.install_next.new.self.checkpoint c.install_next.new.self.log c.install_next.new.self.block c.install_next.new.coming =
-    subst (λ (e : Engine g.row.D.Denot). IsBeside e.checkpoint e.log e.block c.install_next.new.coming) (sym c.install_next.ensures.rest) c.install_next.ensures.beside in
-    let took =
-    took_place g.D.Disk.honest g.D.Disk.history g.D.Disk.size g.D.Disk.failures g.met.D.Disk.sized c.installations_leave_the_old_or_the_new.ensures c.installations_stand_beside.ensures c.install_next.new.self c.install_sync.new.self c.raise_to.new.self c.install_sync.ensures.rest engine runs n y c.install_next.new.coming mid
-    c.install_sync.result c.install_sync.ensures.call c.install_sync.ensures.halted c.install_sync.ensures.settles synced opening b (ok_of c.install_sync.result synced c.install_sync.ensures.log) c.raise_to.ensures.taken c.raise_to.ensures.disk c.raise_to.ensures.restarts
-    c.installations_make_the_node.ensures c.nodes_leave_their_fronts.ensures c.images_read_as_allowed.ensures c.versions_follow_the_items.ensures in
-    let leaves =
-    stable_leaves g.D.Disk.honest g.D.Disk.history g.D.Disk.size g.D.Disk.failures g.met.D.Disk.sized c.installations_leave_the_old_or_the_new.ensures c.installations_stand_beside.ensures c.install_next.new.self c.install_sync.new.self c.install_sync.ensures.rest engine runs n y c.install_next.new.coming mid
-    c.install_sync.result c.install_sync.ensures.call c.install_sync.ensures.halted c.install_sync.ensures.settles in
-    takes_then g.D.Disk.honest g.D.Disk.history g.D.Disk.failures n y c.args.self.now c.install_next.new.self c.raise_to.new.self c.args.coming c.install_next.new.coming (Ok tt) (ap (λ (k : Coming). k.next.super) went) first.leaves
+    takes_then g.D.Disk.honest g.D.Disk.history g.D.Disk.failures n y c.args.self.now c.install_next.new.self c.raise_to.new.self c.args.coming c.install_next.new.coming (Ok tt) w.super w.leaves
     (record {
-      holds = took;
+      holds =
+          took_place g.D.Disk.honest g.D.Disk.history g.D.Disk.size g.D.Disk.failures g.met.D.Disk.sized c.installations_leave_the_old_or_the_new.ensures c.installations_stand_beside.ensures c.install_next.new.self c.install_sync.new.self c.raise_to.new.self c.install_sync.ensures.rest w.engine w.runs n y c.install_next.new.coming w.holds
+          c.install_sync.result c.install_sync.ensures.call c.install_sync.ensures.halted c.install_sync.ensures.settles synced (ap (λ (k : Coming). k.part) w.gone_is ∙ ap next_part c.requires.filled) w.beside (ok_of c.install_sync.result synced c.install_sync.ensures.log) c.raise_to.ensures.taken
+          c.raise_to.ensures.disk c.raise_to.ensures.restarts c.installations_make_the_node.ensures c.nodes_leave_their_fronts.ensures c.images_read_as_allowed.ensures c.versions_follow_the_items.ensures;
       either = tt;
-      leaves = subst (λ d. LeavesOnly (g.D.Disk.history c.install_next.new.self.disk) (g.D.Disk.history d) (MeansEither n c.install_next.new.coming.next.super y)) (sym c.raise_to.ensures.disk) leaves;
+      leaves = subst (λ d. LeavesOnly (g.D.Disk.history c.install_next.new.self.disk) (g.D.Disk.history d) (MeansEither n c.install_next.new.coming.next.super y)) (sym c.raise_to.ensures.disk)
+          (stable_leaves g.D.Disk.honest g.D.Disk.history g.D.Disk.size g.D.Disk.failures g.met.D.Disk.sized c.installations_leave_the_old_or_the_new.ensures c.installations_stand_beside.ensures c.install_next.new.self c.install_sync.new.self c.install_sync.ensures.rest w.engine w.runs n y c.install_next.new.coming w.holds
+          c.install_sync.result c.install_sync.ensures.call c.install_sync.ensures.halted c.install_sync.ensures.settles);
     })

@@ -1,13 +1,8 @@
-use Rattle.std.proofs.Common.{◌≡◌, None, Ok, Err, refl, sym, ap, subst, ◌∙◌}
+use Rattle.std.proofs.Common.{refl, sym, ap, subst, ◌∙◌}
 use Rattle.std.specs.Prelude.{IsOk, IsErr}
-use Rattle.rep_log.specs.declared.phase.Phase.TheVariants.{Resting}
-use Rattle.rep_log.specs.Standing.{Standing as Log}
-use Rattle.rep_log.specs.Moves.{SyncsLog}
-use Rattle.rep_checkpoint.specs.declared.stage.Part.TheVariants.{SuperOpening}
-use Rattle.rep_checkpoint.specs.Coming.{Coming, gone, settled}
-use Rattle.rep_engine.specs.Engines.{Engine, IsEngine}
-use Rattle.rep_engine.specs.Installing.{HoldsBoth, Goes}
-use Rattle.rep_engine.proofs.Installing.{ok_of, ok_runs, engine_same, opens_filled, write_to, stable_to, stable_either, stable_leaves, failed, failed_then, done_then}
+use Rattle.rep_checkpoint.specs.Coming.{Coming}
+use Rattle.rep_engine.specs.Installing.{HoldsBoth}
+use Rattle.rep_engine.proofs.Installing.{ok_of, opens_filled, write_to, written, stable_to, stable_either, stable_leaves, failed, failed_then, done_then}
 use Rattle.rep_engine.proofs.engine.Engine.install_step.Goals as goal
 
 pub returns-in_err-install_next-clause-goes : goal.returns-in_err-install_next-clause-goes
@@ -18,40 +13,29 @@ returns-in_err-install_next-clause-goes g c = λ n y holds.
 
 pub returns-in_err-install_sync-clause-goes : goal.returns-in_err-install_sync-clause-goes
 returns-in_err-install_sync-clause-goes g c = λ n y holds.
-    let ok : IsOk c.install_next.result = subst IsOk (sym c.in_ok-install_next.was) refl in
-    let first =
-    write_to g.D.Disk.honest g.D.Disk.history g.D.Disk.size g.D.Disk.failures g.met.D.Disk.sized c.installations_leave_the_old_or_the_new.ensures c.installations_stand_beside.ensures c.args.self.now c.install_next.new.self c.install_next.ensures.rest c.durable.ensures.engine c.requires.runs n y c.args.coming.now holds
-    c.install_next.result c.install_next.ensures.call c.install_next.ensures.halted c.install_next.new.coming c.install_next.ensures.writes in
-    let mid = ok_of c.install_next.result ok first.holds in
-    let runs : c.install_next.new.self.halted ≡ None = c.install_next.ensures.halted ∙ ok_runs c.args.self.now.log.phase c.install_next.result ok in
-    let engine = engine_same c.args.self.now c.install_next.new.self c.install_next.ensures.rest c.durable.ensures.engine in
-    let super = ap (λ (k : Coming). k.next.super) (ok_of c.install_next.result ok c.install_next.ensures.writes.done) in
-    let leaves =
-    stable_leaves g.D.Disk.honest g.D.Disk.history g.D.Disk.size g.D.Disk.failures g.met.D.Disk.sized c.installations_leave_the_old_or_the_new.ensures c.installations_stand_beside.ensures c.install_next.new.self c.install_sync.new.self c.install_sync.ensures.rest engine runs n y c.install_next.new.coming mid
-    c.install_sync.result c.install_sync.ensures.call c.install_sync.ensures.halted c.install_sync.ensures.settles in
-    let either =
-    stable_either g.D.Disk.honest g.D.Disk.history g.D.Disk.size g.D.Disk.failures g.met.D.Disk.sized c.installations_leave_the_old_or_the_new.ensures c.installations_stand_beside.ensures c.install_next.new.self c.install_sync.new.self c.install_sync.ensures.rest engine runs n y c.install_next.new.coming mid
-    c.install_sync.result c.install_sync.ensures.call c.install_sync.ensures.halted c.install_sync.ensures.settles in
-    failed_then n y _ c.install_next.new.self _ _ c.install_next.new.coming _ c.from_residual-in_err-install_sync.result c.from_residual-in_err-install_sync.ensures.0 super first.leaves leaves either
+    let w =
+    written g.D.Disk.honest g.D.Disk.history g.D.Disk.failures c.args.self.now c.install_next.new.self c.install_next.ensures.rest c.durable.ensures.engine n y c.args.coming.now c.install_next.new.coming c.install_next.result (subst IsOk (sym c.in_ok-install_next.was) refl)
+    c.install_next.ensures.halted c.install_next.ensures.writes c.install_next.ensures.beside
+    (write_to g.D.Disk.honest g.D.Disk.history g.D.Disk.size g.D.Disk.failures g.met.D.Disk.sized c.installations_leave_the_old_or_the_new.ensures c.installations_stand_beside.ensures c.args.self.now c.install_next.new.self c.install_next.ensures.rest c.durable.ensures.engine c.requires.runs n y c.args.coming.now holds
+    c.install_next.result c.install_next.ensures.call c.install_next.ensures.halted c.install_next.new.coming c.install_next.ensures.writes) in
+    failed_then n y _ c.install_next.new.self _ _ c.install_next.new.coming _ c.from_residual-in_err-install_sync.result c.from_residual-in_err-install_sync.ensures.0 w.super w.leaves
+    (stable_leaves g.D.Disk.honest g.D.Disk.history g.D.Disk.size g.D.Disk.failures g.met.D.Disk.sized c.installations_leave_the_old_or_the_new.ensures c.installations_stand_beside.ensures c.install_next.new.self c.install_sync.new.self c.install_sync.ensures.rest w.engine w.runs n y c.install_next.new.coming w.holds
+    c.install_sync.result c.install_sync.ensures.call c.install_sync.ensures.halted c.install_sync.ensures.settles)
+    (stable_either g.D.Disk.honest g.D.Disk.history g.D.Disk.size g.D.Disk.failures g.met.D.Disk.sized c.installations_leave_the_old_or_the_new.ensures c.installations_stand_beside.ensures c.install_next.new.self c.install_sync.new.self c.install_sync.ensures.rest w.engine w.runs n y c.install_next.new.coming w.holds
+    c.install_sync.result c.install_sync.ensures.call c.install_sync.ensures.halted c.install_sync.ensures.settles)
 
 pub returns-clause-goes : goal.returns-clause-goes
 returns-clause-goes g c = λ n y holds.
-    let ok : IsOk c.install_next.result = subst IsOk (sym c.in_ok-install_next.was) refl in
-    let first =
-    write_to g.D.Disk.honest g.D.Disk.history g.D.Disk.size g.D.Disk.failures g.met.D.Disk.sized c.installations_leave_the_old_or_the_new.ensures c.installations_stand_beside.ensures c.args.self.now c.install_next.new.self c.install_next.ensures.rest c.durable.ensures.engine c.requires.runs n y c.args.coming.now holds
-    c.install_next.result c.install_next.ensures.call c.install_next.ensures.halted c.install_next.new.coming c.install_next.ensures.writes in
-    let mid = ok_of c.install_next.result ok first.holds in
-    let runs : c.install_next.new.self.halted ≡ None = c.install_next.ensures.halted ∙ ok_runs c.args.self.now.log.phase c.install_next.result ok in
-    let engine = engine_same c.args.self.now c.install_next.new.self c.install_next.ensures.rest c.durable.ensures.engine in
-    let went = ok_of c.install_next.result ok c.install_next.ensures.writes.done in
-    let closed : c.install_next.new.coming.part ≡ SuperOpening → ⊥ = λ opens. opens_filled c.args.coming.now.part c.requires.due c.requires.closed (sym (ap (λ (k : Coming). k.part) went) ∙ opens) in
-    let log : c.install_next.new.self.log ≡ c.args.self.now.log = ap (λ (e : Engine g.row.D.Denot). e.log) c.install_next.ensures.rest in
+    let w =
+    written g.D.Disk.honest g.D.Disk.history g.D.Disk.failures c.args.self.now c.install_next.new.self c.install_next.ensures.rest c.durable.ensures.engine n y c.args.coming.now c.install_next.new.coming c.install_next.result (subst IsOk (sym c.in_ok-install_next.was) refl)
+    c.install_next.ensures.halted c.install_next.ensures.writes c.install_next.ensures.beside
+    (write_to g.D.Disk.honest g.D.Disk.history g.D.Disk.size g.D.Disk.failures g.met.D.Disk.sized c.installations_leave_the_old_or_the_new.ensures c.installations_stand_beside.ensures c.args.self.now c.install_next.new.self c.install_next.ensures.rest c.durable.ensures.engine c.requires.runs n y c.args.coming.now holds
+    c.install_next.result c.install_next.ensures.call c.install_next.ensures.halted c.install_next.new.coming c.install_next.ensures.writes) in
     let synced : IsOk c.install_sync.result = subst IsOk (sym c.in_ok-install_sync.was) refl in
-    let to =
-    stable_to g.D.Disk.honest g.D.Disk.history g.D.Disk.size g.D.Disk.failures g.met.D.Disk.sized c.installations_leave_the_old_or_the_new.ensures c.installations_stand_beside.ensures c.install_next.new.self c.install_sync.new.self c.install_sync.ensures.rest engine runs n y c.install_next.new.coming mid
-    c.install_sync.result c.install_sync.ensures.call c.install_sync.ensures.halted c.install_sync.ensures.settles c.installations_make_the_node.ensures closed (ap (λ (k : Log). k.phase) log ∙ c.requires.beside.resting) (ok_of c.install_sync.result synced c.install_sync.ensures.log) synced in
-    let leaves =
-    stable_leaves g.D.Disk.honest g.D.Disk.history g.D.Disk.size g.D.Disk.failures g.met.D.Disk.sized c.installations_leave_the_old_or_the_new.ensures c.installations_stand_beside.ensures c.install_next.new.self c.install_sync.new.self c.install_sync.ensures.rest engine runs n y c.install_next.new.coming mid
-    c.install_sync.result c.install_sync.ensures.call c.install_sync.ensures.halted c.install_sync.ensures.settles in
-    done_then n y _ c.install_next.new.self _ c.args.coming.now c.install_next.new.coming c.synced.new.self (ap (λ (k : Coming). k.next.super) went) first.leaves leaves
-    (subst (λ (k : Coming). HoldsBoth g.D.Disk.honest g.D.Disk.history g.D.Disk.failures n y c.install_sync.new.self k) (sym c.synced.ensures) to)
+    done_then n y _ c.install_next.new.self _ c.args.coming.now c.install_next.new.coming c.synced.new.self w.super w.leaves
+    (stable_leaves g.D.Disk.honest g.D.Disk.history g.D.Disk.size g.D.Disk.failures g.met.D.Disk.sized c.installations_leave_the_old_or_the_new.ensures c.installations_stand_beside.ensures c.install_next.new.self c.install_sync.new.self c.install_sync.ensures.rest w.engine w.runs n y c.install_next.new.coming w.holds
+    c.install_sync.result c.install_sync.ensures.call c.install_sync.ensures.halted c.install_sync.ensures.settles)
+    (subst (λ (k : Coming). HoldsBoth g.D.Disk.honest g.D.Disk.history g.D.Disk.failures n y c.install_sync.new.self k) (sym c.synced.ensures)
+    (stable_to g.D.Disk.honest g.D.Disk.history g.D.Disk.size g.D.Disk.failures g.met.D.Disk.sized c.installations_leave_the_old_or_the_new.ensures c.installations_stand_beside.ensures c.install_next.new.self c.install_sync.new.self c.install_sync.ensures.rest w.engine w.runs n y c.install_next.new.coming w.holds
+    c.install_sync.result c.install_sync.ensures.call c.install_sync.ensures.halted c.install_sync.ensures.settles c.installations_make_the_node.ensures
+    (λ opens. opens_filled c.args.coming.now.part c.requires.due c.requires.closed (sym (ap (λ (k : Coming). k.part) w.gone_is) ∙ opens)) w.beside.resting (ok_of c.install_sync.result synced c.install_sync.ensures.log) synced))

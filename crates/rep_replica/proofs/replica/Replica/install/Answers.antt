@@ -1,16 +1,16 @@
-use Rattle.std.proofs.Common.{◌≡◌, ◌≤◌, ◌-◌, ℕ, List, [], false, Bool, Ok, Err, None, refl, sym, ap, subst, ◌∙◌}
+use Rattle.std.proofs.Common.{◌≡◌, ◌≤◌, ◌-◌, ℕ, List, [], false, Bool, sym, ap, subst, ◌∙◌}
 use Rattle.rep_types.specs.declared.judged.Judged.{Judged}
 use Rattle.rep_types.specs.Entries.{Entry}
 use Rattle.rep_types.specs.Windows.{Window}
 use Rattle.rep_types.specs.Settings.{Setting}
 use Rattle.rep_cert.specs.Holdings.{Holdings, IsAskable, window_of, made_at}
 use Rattle.rep_steps.specs.Nodes.{window_at}
-use Rattle.rep_checkpoint.specs.Coming.{Coming, blank, coming}
+use Rattle.rep_checkpoint.specs.Coming.{blank, coming}
 use Rattle.rep_engine.specs.Engines.{Engine, facts_of as engine_facts}
 use Rattle.rep_engine.specs.Holding.{Holds as EngineHolds}
 use Rattle.rep_engine.specs.Installing.{Beside, CanBring, HoldsBoth as EngineHoldsBoth}
 use Rattle.rep_replica.specs.Replicas.{Replica, IsReplica}
-use Rattle.rep_replica.specs.Installing.{Bringing, IsBringing, HoldsBoth}
+use Rattle.rep_replica.specs.Installing.{IsBringing}
 use Rattle.rep_replica.proofs.Settling.{is_running}
 use Rattle.rep_replica.proofs.Installing.{quiet_rests, engine_whole, same_ok, never_err, is_bringing}
 use Rattle.rep_replica.proofs.replica.Replica.install.Goals as goal

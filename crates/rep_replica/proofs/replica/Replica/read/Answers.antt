@@ -5,7 +5,7 @@ use Rattle.rep_engine.specs.Engines.{Engine}
 use Rattle.rep_engine.specs.Holding.{row}
 use Rattle.rep_replica.specs.Replicas.{Replica}
 use Rattle.rep_replica.specs.Holding.{IsStep}
-use Rattle.rep_replica.proofs.Widening.{leaves_none}
+use Rattle.rep_disk.specs.Leaving.{leaves_none}
 use Rattle.rep_replica.proofs.Refusing.{left_by_row, asked_left, read_spells, stopped_read}
 use Rattle.rep_replica.proofs.Stepping.{as_step, read_step, stopped_step}
 use Rattle.rep_replica.proofs.replica.Replica.read.Goals as goal

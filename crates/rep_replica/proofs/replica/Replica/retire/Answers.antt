@@ -1,4 +1,4 @@
-use Rattle.std.proofs.Common.{◌≡◌, Ok, Err, refl, sym, ap, ◌∙◌}
+use Rattle.std.proofs.Common.{sym, ◌∙◌}
 use Rattle.rep_replica.proofs.Settling.{ok_of, on_ok}
 use Rattle.rep_replica.proofs.Retiring.{step_fronts, second_leaves, second_fronts, holds_retired}
 use Rattle.rep_replica.proofs.Installing.{on_err}
