@@ -4,6 +4,8 @@ Nothing here knows bytes, pages' contents, an index or a page table. A line of a
 """
 
 CLUSTER = "11111111-1111-4111-8111-111111111111"
+# What a node of no cluster says of itself.
+UNDEFINED = "00000000-0000-0000-0000-000000000000:-1"
 ROWS_OF_A_PAGE = 63
 LOSSES = ("keep", "drop", "junk")
 
@@ -209,11 +211,13 @@ class Checkpoint:
 
 
 class Node:
-    """A node in its order, of which it was handed some items and has made some durable."""
+    """A node in its order, of which it was handed some items and has made some durable. The order can be that of other nodes too; one of
+    no cluster takes none of its items."""
 
-    def __init__(self, window, cells, rows):
-        self.order, self.log, self.checkpoint = Order(window, rows), Log(cells), Checkpoint()
+    def __init__(self, window, cells, rows, order=None, is_defined=True):
+        self.order, self.log, self.checkpoint = order or Order(window, rows), Log(cells), Checkpoint()
         self.delivered = self.durable = 0
+        self.is_defined = is_defined
 
     def base(self):
         return self.checkpoint.base
@@ -222,7 +226,7 @@ class Node:
         return self.checkpoint.phase
 
     def gtid(self):
-        return "%s:%d" % (CLUSTER, self.durable)
+        return "%s:%d" % (CLUSTER, self.durable) if self.is_defined else UNDEFINED
 
     def page_of(self, key):
         before = sum(-(-rows // ROWS_OF_A_PAGE) for rows in self.order.rows[: key[0]])
@@ -234,6 +238,8 @@ class Node:
 
     def deliver(self, seqno, item):
         """Where the order ends it grows by the item."""
+        if not self.is_defined:
+            return refused("11 undefined")
         if seqno != self.delivered + 1:
             return refused("4 out-of-order %d" % (self.delivered + 1))
         if self.delivered - self.durable == 256:
@@ -273,9 +279,26 @@ class Node:
         return ["wrote"] if self.checkpoint.write() else NOT_DUE
 
     def rose(self, start):
-        """The log begins at this block, where the base rose."""
+        """The log begins at this block, where the base rose. A snapshot's position is above what was durable."""
         if start is not None:
-            self.log.start = start
+            self.log.start, self.is_defined = start, True
+            self.durable, self.delivered = max(self.durable, self.base()), max(self.delivered, self.base())
+
+    def takes(self, position):
+        """Whether the snapshot of its cluster at this position can be installed."""
+        return self.is_quiet() and (not self.is_defined or position > self.durable)
+
+    def install(self, position, calls=8):
+        """The snapshot of its cluster at this position takes the base's place, or so many of the calls of that are done: four writes, of
+        the window, the superblock, its open gate and the closed gate of the one before, each with a sync behind it. They are those of
+        a checkpoint behind its pages."""
+        assert self.takes(position)
+        self.checkpoint.begin(position, self.log.next, ())
+        for call in range(calls):
+            if call % 2 == 0:
+                self.checkpoint.write()
+            else:
+                self.rose(self.checkpoint.sync())
 
     def sync(self):
         count = self.log.sync()

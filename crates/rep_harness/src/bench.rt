@@ -1,11 +1,16 @@
 //! Does what the lines of a text ask for: to the disk, and to a node on it.
 
-use crate::device::{Device, armed, blank, changed, crashed, cut, damaged, failures, written};
+use crate::device::{
+    Device, armed, blank, changed, copied, crashed, cut, damaged, failures, written,
+};
+use crate::donor::lent;
+use crate::join::joined;
 use crate::node::{Bench, kept, opened};
 use crate::order::{Change, DiskOrder, NodeOrder, Order, Sight, read_order};
 use crate::shown::{write_bytes, write_sum};
 use arrayvec::ArrayVec;
 use rep_disk::Disk;
+use rep_engine::Engine;
 use rep_record::{MAX_LINE, TextReader, is_blank};
 use rep_replica::Replica;
 use rep_script::{Command, format_text, read_command, write_line, write_refused};
@@ -23,13 +28,18 @@ const UUID: [u8; 16] = [
 /// A line of a text.
 type Line = ArrayVec<u8, MAX_LINE>;
 
-/// Formats the disk, and writes what came of it.
+/// Formats the disk, as that of a node of no cluster where that is asked, and writes what came of it.
 fn formatted<D: Disk + Drop, W: Write>(
     disk: D,
     params: &Params,
+    is_undefined: bool,
     writer: &mut W,
 ) -> Result<D, Refusal> {
-    let uuid = Some(Uuid::from_bytes(UUID));
+    let uuid = if is_undefined {
+        None
+    } else {
+        Some(Uuid::from_bytes(UUID))
+    };
     let (disk, outcome) = format_text(disk, params, uuid, writer);
     if let Err(refusal) = outcome {
         write_refused(writer, refusal)?;
@@ -100,7 +110,9 @@ fn on_disk<W: Write>(
 ) -> Result<Device, Refusal> {
     match order {
         DiskOrder::Change(order) => change(alloc, device, order, writer),
-        DiskOrder::Format(params) => formatted(device, &params, writer),
+        DiskOrder::Format(params, is_undefined) => {
+            formatted(device, &params, is_undefined, writer)
+        }
         DiskOrder::Crash(loss) => {
             write_line(writer, "crashed")?;
             Ok(crashed(device, loss))
@@ -199,10 +211,39 @@ fn batch<R: Read, W: Write>(
     bench.batch(alloc, &events, writer)
 }
 
-/// Does what a line asks for, and writes what came of it. Where there is no node, what asks for one is answered by `off`.
+/// Has a copy of the disk be the donor's from now on, and writes what came of it. A node on the disk is let go.
+fn lend<W: Write>(
+    alloc: Global,
+    bench: Bench<Device>,
+    donor: &mut Option<Engine<Device>>,
+    writer: &mut W,
+) -> Result<Bench<Device>, Refusal> {
+    let device = bench.into_disk();
+    *donor = lent(alloc, copied(alloc, &device)?, writer)?;
+    Ok(Bench::Disk(device))
+}
+
+/// Has the disk and the donor's change places, where there is a donor, and writes what came of it. A node on the disk is let go.
+fn swap<W: Write>(
+    alloc: Global,
+    bench: Bench<Device>,
+    donor: &mut Option<Engine<Device>>,
+    writer: &mut W,
+) -> Result<Bench<Device>, Refusal> {
+    let Some(before) = donor.take() else {
+        write_line(writer, "off")?;
+        return Ok(bench);
+    };
+    *donor = lent(alloc, bench.into_disk(), writer)?;
+    Ok(Bench::Disk(before.into_disk()))
+}
+
+/// Does what a line asks for, and writes what came of it. Where there is no node, what asks for one is answered by `off`, and so it is
+/// while a snapshot comes to the node.
 fn done<R: Read, W: Write>(
     alloc: Global,
     mut bench: Bench<Device>,
+    donor: &mut Option<Engine<Device>>,
     order: Order,
     text: &mut TextReader,
     reader: &mut R,
@@ -215,6 +256,9 @@ fn done<R: Read, W: Write>(
         }
         Order::Open => opened(alloc, bench.into_disk(), writer),
         Order::Node(order) => at_bench(alloc, bench, order, writer),
+        Order::Lend => lend(alloc, bench, donor, writer),
+        Order::Swap => swap(alloc, bench, donor, writer),
+        Order::Join(order) => joined(alloc, bench, donor, order, writer),
         Order::Batch(count) => {
             batch(alloc, &mut bench, text, reader, count, writer)?;
             Ok(bench)
@@ -240,6 +284,7 @@ fn next_order<R: Read>(text: &mut TextReader, reader: &mut R) -> Result<Option<O
 fn answer_next<R: Read, W: Write>(
     alloc: Global,
     bench: &mut Option<Bench<Device>>,
+    donor: &mut Option<Engine<Device>>,
     text: &mut TextReader,
     reader: &mut R,
     writer: &mut W,
@@ -250,7 +295,7 @@ fn answer_next<R: Read, W: Write>(
     let Some(before) = bench.take() else {
         return Ok(false);
     };
-    *bench = Some(done(alloc, before, order, text, reader, writer)?);
+    *bench = Some(done(alloc, before, donor, order, text, reader, writer)?);
     Ok(true)
 }
 
@@ -258,12 +303,13 @@ fn answer_next<R: Read, W: Write>(
 fn answer_all<R: Read, W: Write>(
     alloc: Global,
     bench: &mut Option<Bench<Device>>,
+    donor: &mut Option<Engine<Device>>,
     text: &mut TextReader,
     reader: &mut R,
     writer: &mut W,
 ) -> Result<(), Refusal> {
     for _ in 0..u64::MAX {
-        if !answer_next(alloc, bench, text, reader, writer)? {
+        if !answer_next(alloc, bench, donor, text, reader, writer)? {
             break;
         }
     }
@@ -280,5 +326,6 @@ pub(crate) fn run<R: Read, W: Write>(
     writer: &mut W,
 ) -> Result<(), Refusal> {
     let mut bench = Some(Bench::Disk(blank(alloc, 0, 0)?));
-    answer_all(alloc, &mut bench, &mut TextReader::new(), reader, writer)
+    let mut text = TextReader::new();
+    answer_all(alloc, &mut bench, &mut None, &mut text, reader, writer)
 }

@@ -78,6 +78,11 @@ pub(crate) fn failures(device: &Device) -> u64 {
     device.failures()
 }
 
+/// A disk of its own with the bytes of this one, all of them stable, which serves every call.
+pub(crate) fn copied(alloc: Global, device: &Device) -> Result<Device, Refusal> {
+    Ok(serving(MemDisk::from_bytes(alloc, bytes(device))?))
+}
+
 /// A disk with the first so many bytes of this one, all of them stable.
 pub(crate) fn cut(alloc: Global, device: &Device, size: usize) -> Result<Device, Refusal> {
     let bytes = bytes(device);

@@ -4,18 +4,19 @@ use crate::order::NodeOrder;
 use crate::shown::{write_node, write_window};
 use rep_disk::Disk;
 use rep_record::write_verdict;
-use rep_replica::Replica;
+use rep_replica::{Installation, Replica};
 use rep_script::{Command, write_answer, write_line, write_open, write_refused, write_state};
 use rep_steps::{Answer, Event};
 use rep_types::Refusal;
 use std::alloc::Global;
 use std::io::Write;
 
-/// What there is: a disk, or a node on one.
+/// What there is: a disk, a node on one, or a node to which a snapshot comes.
 #[derive(Drop)]
 pub(crate) enum Bench<D: Disk> {
     Disk(D),
     Node(Replica<D>),
+    Coming(Installation<D>),
 }
 
 /// Opens the disk, and writes what came of it.
@@ -162,11 +163,12 @@ fn run_together<D: Disk, W: Write>(
 }
 
 impl<D: Disk> Bench<D> {
-    /// The disk, of a node that is let go where there is one.
+    /// The disk, of a node that is let go where there is one, and so is a snapshot that comes to it.
     pub(crate) fn into_disk(self) -> D {
         match self {
             Bench::Disk(disk) => disk,
             Bench::Node(node) => node.into_disk(),
+            Bench::Coming(installation) => installation.give_up().into_disk(),
         }
     }
 
@@ -179,7 +181,7 @@ impl<D: Disk> Bench<D> {
     ) -> Result<(), Refusal> {
         match self {
             Bench::Node(node) => run_together(alloc, node, events, writer),
-            Bench::Disk(_) => write_line(writer, "off"),
+            Bench::Disk(_) | Bench::Coming(_) => write_line(writer, "off"),
         }
     }
 }

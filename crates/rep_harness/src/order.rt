@@ -45,8 +45,8 @@ pub(crate) enum Sight {
 pub(crate) enum DiskOrder {
     /// Its bytes change.
     Change(Change),
-    /// It is formatted for these parameters.
-    Format(Params),
+    /// It is formatted for these parameters, as that of a node of no cluster where that is asked.
+    Format(Params, bool),
     /// What a stop with this loss does to it.
     Crash(Loss),
     /// From now on it fails so.
@@ -72,11 +72,29 @@ pub(crate) enum NodeOrder {
     Window,
 }
 
+/// What is done with the donor's snapshot.
+#[derive(Clone, Copy)]
+pub(crate) enum JoinOrder {
+    /// The node begins to install it.
+    Bring,
+    /// The page of this number is taken from the donor's base, and put.
+    Page(u32),
+    /// It takes its place.
+    End,
+    /// It is given up.
+    GiveUp,
+}
+
 /// What a line asks for.
 #[derive(Drop)]
 pub(crate) enum Order {
     Disk(DiskOrder),
     Node(NodeOrder),
+    /// A copy of the disk is the donor's from now on.
+    Lend,
+    /// The disk and the donor's change places.
+    Swap,
+    Join(JoinOrder),
     /// The disk is opened.
     Open,
     /// The events of so many lines that follow are run together.
@@ -198,10 +216,34 @@ fn read_node(words: &mut Words) -> Option<NodeOrder> {
     }
 }
 
+/// What is done with the donor's snapshot.
+fn read_join(words: &mut Words) -> Option<JoinOrder> {
+    if words.skip(b"bring") {
+        Some(JoinOrder::Bring)
+    } else if words.skip(b"page") {
+        Some(JoinOrder::Page(u32::try_from(next_number(words)?).ok()?))
+    } else if words.skip(b"end") {
+        Some(JoinOrder::End)
+    } else if words.skip(b"give_up") {
+        Some(JoinOrder::GiveUp)
+    } else {
+        None
+    }
+}
+
 /// What no line of a script asks for.
 fn read_own(words: &mut Words) -> Option<Order> {
     if words.skip(b"open") {
         return Some(Order::Open);
+    }
+    if words.skip(b"lend") {
+        return Some(Order::Lend);
+    }
+    if words.skip(b"swap") {
+        return Some(Order::Swap);
+    }
+    if let Some(order) = read_join(words) {
+        return Some(Order::Join(order));
     }
     if words.skip(b"batch") {
         return Some(Order::Batch(next_number(words)?));
@@ -212,11 +254,23 @@ fn read_own(words: &mut Words) -> Option<Order> {
     read_node(words).map(Order::Node)
 }
 
+/// The parameters of a format, `params W N rows ..`, where the line asks for one; and whether `undefined` stands before them.
+fn read_format(line: &[u8], number: u64) -> Result<Option<DiskOrder>, Refusal> {
+    let (rest, is_undefined) = match line.strip_prefix(b"undefined") {
+        Some(rest) => (rest, true),
+        None => (line, false),
+    };
+    if !Words::new(rest).is_next(b"params") {
+        return Ok(None);
+    }
+    let params = read_params_line(rest, number)?;
+    Ok(Some(DiskOrder::Format(params, is_undefined)))
+}
+
 /// What the line with this number asks for.
 pub(crate) fn read_order(line: &[u8], number: u64) -> Result<Order, Refusal> {
-    if Words::new(line).is_next(b"params") {
-        let params = read_params_line(line, number)?;
-        return Ok(Order::Disk(DiskOrder::Format(params)));
+    if let Some(order) = read_format(line, number)? {
+        return Ok(Order::Disk(order));
     }
     match read_own(&mut Words::new(line)) {
         Some(order) => Ok(order),

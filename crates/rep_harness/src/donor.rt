@@ -1,0 +1,83 @@
+//! The donor: a node on a disk of its own, whose snapshot another node is handed.
+
+ghost use Rattle.std.specs.Prelude.{◌≡◌, ◌++◌, IfOk, OnOk};
+ghost use Rattle.rep_checkpoint.specs.Windows.{IsWindowAt};
+
+use rep_checkpoint::windows_go_on;
+use rep_disk::Disk;
+use rep_engine::Engine;
+use rep_layout::{WINDOW_BODY, WindowReader};
+use rep_recover::open_disk;
+use rep_script::{write_line, write_refused};
+use rep_types::{Entry, Refusal, Window};
+use std::alloc::Global;
+use std::io::Write;
+use std::marker::Model;
+use uuid::Uuid;
+
+/// What a donor tells of its base: the cluster, the position, and the window there.
+#[derive(Drop)]
+pub(crate) struct Snapshot {
+    pub(crate) uuid: Uuid,
+    pub(crate) position: u64,
+    pub(crate) window: Window,
+}
+
+/// Opens the disk as that of a donor, and writes what came of it.
+pub(crate) fn lent<D: Disk + Drop, W: Write>(
+    alloc: Global,
+    disk: D,
+    writer: &mut W,
+) -> Result<Option<Engine<D>>, Refusal> {
+    match open_disk(alloc, disk) {
+        Ok((donor, _)) => {
+            let (gtid, base) = (donor.gtid(), donor.base());
+            write_line(writer, format_args!("lent {gtid} base {base}"))?;
+            Ok(Some(donor))
+        }
+        Err((_, refusal)) => {
+            write_refused(writer, refusal)?;
+            Ok(None)
+        }
+    }
+}
+
+/// Adds the entries that a window still hands out.
+fn push_entries(mut reader: WindowReader<'_>, entries: &mut Vec<Entry>) -> Result<(), Refusal>
+    ensures { OnOk result (entries.new.items ≡ entries.old.items ++ reader.entry.entries) }
+{
+    while let Some(entry) = reader.next_entry() {
+        entries.push(entry)?;
+    }
+    Ok(())
+}
+
+/// The entries of a window.
+fn entries_of(alloc: Global, reader: WindowReader<'_>) -> Result<Vec<Entry>, Refusal>
+    ensures { IfOk result (λ entries. entries.items ≡ reader.entry.entries) }
+{
+    let mut entries = Vec::new(alloc);
+    push_entries(reader, &mut entries)?;
+    Ok(entries)
+}
+
+/// What the donor tells of its base.
+pub(crate) fn snapshot_of<D: Disk>(
+    alloc: Global,
+    donor: &mut Engine<D>,
+) -> Result<Snapshot, Refusal>
+    ensures { IfOk result (λ snapshot. IsWindowAt donor.new.checkpoint.base.params snapshot.position snapshot.window) }
+{
+    windows_go_on();
+    let uuid = donor.uuid();
+    let size = donor.params().window_size();
+    let mut room = [0; WINDOW_BODY];
+    let reader = donor.base_window(&mut room)?;
+    let position = reader.position();
+    let entries = entries_of(alloc, reader)?;
+    Ok(Snapshot {
+        uuid,
+        position,
+        window: Window::fixed(size, position, entries),
+    })
+}

@@ -1,0 +1,212 @@
+//! How a node is handed the snapshot of a donor.
+
+ghost use Rattle.std.specs.Prelude.{◌≡◌, ◌<◌, ◌↔◌, ◌⊎◌, true};
+ghost use Rattle.rep_forms.specs.Forms.{IsPart};
+ghost use Rattle.rep_layout.specs.Supers.{IsNil};
+ghost use Rattle.rep_checkpoint.specs.Windows.{IsWindowAt};
+ghost use Rattle.rep_engine.specs.Engines.{durable_of};
+ghost use Rattle.rep_engine.specs.Installing.{CanBring};
+ghost use Rattle.rep_replica.specs.Replicas.{facts_of};
+ghost use Rattle.rep_replica.specs.Settling.{is_quiet};
+
+use crate::donor::{Snapshot, snapshot_of};
+use crate::node::Bench;
+use crate::order::JoinOrder;
+use arrayvec::ArrayVec;
+use rep_disk::Disk;
+use rep_engine::Engine;
+use rep_forms::put_bytes;
+use rep_pages::PageRows;
+use rep_replica::{Installation, Replica};
+use rep_script::{write_line, write_refused};
+use rep_types::{MAX_SEQNO, Params, Refusal};
+use std::alloc::Global;
+use std::io::Write;
+use uuid::Uuid;
+
+/// A UUID has 16 bytes.
+fn know_uuid(uuid: &Uuid)
+    ensures { IsPart 16 uuid.now }
+{
+    let mut room: ArrayVec<u8, 16> = ArrayVec::new();
+    put_bytes(&mut room, uuid.as_bytes());
+}
+
+/// Whether they are the same parameters.
+fn are_same(one: &Params, other: &Params) -> bool
+    ensures { result ≡ true → one.now ≡ other.now }
+{
+    one.window() == other.window()
+        && one.cells() == other.cells()
+        && one.schema().rows() == other.schema().rows()
+}
+
+/// Whether it is the UUID of no cluster.
+fn is_nil(uuid: &Uuid) -> bool
+    ensures { (result ≡ true) ↔ IsNil uuid.now }
+{
+    uuid.is_nil()
+}
+
+/// Whether the snapshot goes on from the node: it is of its cluster and above what is durable, or the node is of no cluster yet.
+fn goes_on<D: Disk>(node: &Replica<D>, snapshot: &Snapshot) -> bool
+    ensures cluster { result ≡ true → (snapshot.now.uuid ≡ node.now.engine.checkpoint.base.uuid) ⊎ IsNil node.now.engine.checkpoint.base.uuid }
+    ensures later { result ≡ true → (durable_of node.now.engine.log < snapshot.now.position) ⊎ IsNil node.now.engine.checkpoint.base.uuid }
+{
+    let own = node.uuid();
+    is_nil(&own) || (own == snapshot.uuid && node.durable() < snapshot.position)
+}
+
+/// Whether the snapshot of a donor with these parameters is for the node.
+fn is_for<D: Disk>(node: &Replica<D>, params: &Params, snapshot: &Snapshot) -> bool
+    requires { IsWindowAt params.now snapshot.now.position snapshot.now.window }
+    ensures quiet { result ≡ true → is_quiet (facts_of D.failures node.now) ≡ true }
+    ensures brings { result ≡ true → CanBring node.now.engine.checkpoint.base (durable_of node.now.engine.log) snapshot.now.uuid snapshot.now.position snapshot.now.window }
+{
+    know_uuid(&snapshot.uuid);
+    node.is_quiet()
+        && are_same(node.params(), params)
+        && !is_nil(&snapshot.uuid)
+        && snapshot.position <= MAX_SEQNO
+        && goes_on(node, snapshot)
+}
+
+/// Begins to install the snapshot, which is for the node, and writes what came of it.
+fn begun<D: Disk + Drop, W: Write>(
+    alloc: Global,
+    node: Replica<D>,
+    snapshot: Snapshot,
+    writer: &mut W,
+) -> Result<Bench<D>, Refusal>
+    requires quiet { is_quiet (facts_of D.failures node) ≡ true }
+    requires brings { CanBring node.engine.checkpoint.base (durable_of node.engine.log) snapshot.uuid snapshot.position snapshot.window }
+{
+    let Snapshot {
+        uuid,
+        position,
+        window,
+    } = snapshot;
+    match node.install(alloc, uuid, position, window) {
+        Ok(installation) => {
+            write_line(writer, format_args!("installing {position}"))?;
+            Ok(Bench::Coming(installation))
+        }
+        Err((node, refusal)) => {
+            write_refused(writer, refusal)?;
+            Ok(Bench::Node(node))
+        }
+    }
+}
+
+/// Begins to install the donor's snapshot where it is for the node, and writes what came of it.
+fn bring<D: Disk + Drop, E: Disk, W: Write>(
+    alloc: Global,
+    node: Replica<D>,
+    donor: &mut Engine<E>,
+    writer: &mut W,
+) -> Result<Bench<D>, Refusal> {
+    match snapshot_of(alloc, donor) {
+        Ok(snapshot) if is_for(&node, donor.params(), &snapshot) => {
+            begun(alloc, node, snapshot, writer)
+        }
+        Ok(_) => {
+            write_line(writer, "not for this node")?;
+            Ok(Bench::Node(node))
+        }
+        Err(refusal) => {
+            write_refused(writer, refusal)?;
+            Ok(Bench::Node(node))
+        }
+    }
+}
+
+/// Puts the page, where it can come, and writes what came of it.
+fn put_page<D: Disk, W: Write>(
+    installation: &mut Installation<D>,
+    page: u32,
+    rows: PageRows,
+    writer: &mut W,
+) -> Result<(), Refusal> {
+    if !installation.takes(page, &rows) {
+        return write_line(writer, "not a new page");
+    }
+    match installation.put_page(page, rows) {
+        Ok(()) => write_line(writer, "page"),
+        Err(refusal) => write_refused(writer, refusal),
+    }
+}
+
+/// Puts this page of the donor's base, where that has it, and writes what came of it.
+fn put_page_of<D: Disk, E: Disk, W: Write>(
+    installation: &mut Installation<D>,
+    donor: &mut Engine<E>,
+    page: u32,
+    writer: &mut W,
+) -> Result<(), Refusal> {
+    match donor.base_page(page) {
+        Ok(Some(found)) => put_page(installation, page, found.rows, writer),
+        Ok(None) => write_line(writer, "no page"),
+        Err(refusal) => write_refused(writer, refusal),
+    }
+}
+
+/// Lets the snapshot take its place, and writes what came of it.
+fn ended<D: Disk + Drop, W: Write>(
+    installation: Installation<D>,
+    writer: &mut W,
+) -> Result<Replica<D>, Refusal> {
+    let (node, outcome) = installation.end();
+    match outcome {
+        Ok(()) => {
+            let gtid = node.gtid();
+            write_line(writer, format_args!("installed {gtid}"))?;
+        }
+        Err(refusal) => write_refused(writer, refusal)?,
+    }
+    Ok(node)
+}
+
+/// Does this to the snapshot that comes to a node, and writes what came of it.
+fn coming<D: Disk + Drop, E: Disk, W: Write>(
+    mut installation: Installation<D>,
+    donor: &mut Engine<E>,
+    order: JoinOrder,
+    writer: &mut W,
+) -> Result<Bench<D>, Refusal> {
+    match order {
+        JoinOrder::Bring => {
+            write_line(writer, "off")?;
+            Ok(Bench::Coming(installation))
+        }
+        JoinOrder::Page(page) => {
+            put_page_of(&mut installation, donor, page, writer)?;
+            Ok(Bench::Coming(installation))
+        }
+        JoinOrder::End => Ok(Bench::Node(ended(installation, writer)?)),
+        JoinOrder::GiveUp => {
+            write_line(writer, "as before")?;
+            Ok(Bench::Node(installation.give_up()))
+        }
+    }
+}
+
+/// Does this with the donor's snapshot: begins to install it where there is a node, and goes on with it where that is under way. Writes
+/// what came of it.
+pub(crate) fn joined<D: Disk + Drop, E: Disk, W: Write>(
+    alloc: Global,
+    bench: Bench<D>,
+    donor: &mut Option<Engine<E>>,
+    order: JoinOrder,
+    writer: &mut W,
+) -> Result<Bench<D>, Refusal> {
+    match (bench, donor) {
+        (Bench::Node(node), Some(donor)) if matches!(order, JoinOrder::Bring) => {
+            bring(alloc, node, donor, writer)
+        }
+        (Bench::Coming(installation), Some(donor)) => coming(installation, donor, order, writer),
+        (bench, _) => {
+            write_line(writer, "off")?;
+            Ok(bench)
+        }
+    }
+}

@@ -1,0 +1,603 @@
+"""Snapshots of a donor's base that are installed in other nodes: into new ones, ones of no cluster and used ones; stops with each loss and
+faults at each call of an installation, which leave the node as it was or the snapshot, whole; and what is given up or not taken."""
+from node_model import CLUSTER, LOSSES, UNDEFINED, Item, Node, Order
+from trials import Life, Trial, params_line
+from trials_damage import calls_of_an_opening
+from trials_faults import FAULT, STOPPED
+from trials_opening import FIRST, OPEN, PAGES, SECOND, UUID, number
+
+OFF, NOT_FOR_IT = "off", "not for this node"
+# A window of 4, four cells, and tables of 70, 4 and 63 rows: the pages 0 and 1, 2, and 3. What their disk needs.
+PARAMS, SIZE = (4, 4, (70, 4, 63)), 119_808
+# The first and the last row of each page, and those between that items write.
+KEYS = [(0, 0), (0, 1), (0, 2), (0, 62), (0, 63), (0, 69), (1, 0), (1, 3), (2, 0), (2, 62)]
+# The positions that the donor's base comes to.
+AT, LATER = 8, 12
+# The items behind the first, each as what it had seen, its writes and its reads, with its verdict. Behind the fifth the page 2 has no row,
+# and up to the ninth the page 3 has none. The ninth conflicts with an item of the window at 8.
+ITEMS = [
+    (0, {(0, 1): b"\x01", (1, 0): b"\x01"}, [], "commit"),
+    (1, {(0, 63): b"\x02"}, [], "commit"),
+    (2, {(1, 3): b"\x03"}, [], "commit"),
+    (1, {(0, 2): b"\x04"}, [(0, 63)], "conflict 2"),
+    (4, {(1, 0): None, (1, 3): None}, [], "commit"),
+    (5, {(0, 1): b"\x06", (0, 69): b"\x06"}, [], "commit"),
+    (6, {(0, 62): b"\x07"}, [], "commit"),
+    (7, {(0, 0): b"\x08"}, [], "commit"),
+    (5, {(0, 62): b"\x09"}, [], "conflict 7"),
+    (9, {(2, 0): b"\x0a"}, [], "commit"),
+    (10, {(1, 0): b"\x0b"}, [], "commit"),
+    (9, {(0, 2): b"\x0c"}, [(2, 0)], "conflict 10"),
+    (12, {(0, 1): b"\x0d", (0, 63): b"\x0d"}, [], "commit"),
+    (3, {(0, 2): b"\x0e"}, [], "stale"),
+    (14, {(1, 4): b"\x0f"}, [], "badkey"),
+    (15, {(2, 62): b"\x10"}, [], "commit"),
+]
+# The windows there, and the rows, by hand: those of page 0, 1, 2 and 3.
+WINDOWS = {AT: "5 6 7 8", LATER: "10 11"}
+WITH_KEYS = {
+    AT: [
+        "window 4", "entry 5 2", "key 1/0", "key 1/3", "entry 6 2", "key 0/1", "key 0/69", "entry 7 1", "key 0/62", "entry 8 1", "key 0/0",
+    ],
+    LATER: ["window 2", "entry 10 1", "key 2/0", "entry 11 1", "key 1/0"],
+}
+ROWS = {
+    AT: ["value 08", "value 06", "absent", "value 07", "value 02", "value 06", "absent", "absent", "absent", "absent"],
+    LATER: ["value 08", "value 06", "absent", "value 07", "value 02", "value 06", "value 0b", "absent", "value 0a", "absent"],
+}
+# The pages that the donor has in a slot.
+IN_SLOTS = {AT: (0, 1, 2), LATER: (0, 1, 2, 3)}
+
+
+def order_of():
+    """The order of all items, of which each is judged as it stands above."""
+    order = Order(PARAMS[0], PARAMS[2])
+    for seqno, (last_seen, writes, reads, verdict) in enumerate(ITEMS, 1):
+        order.add(Item(last_seen, sorted(writes.items()), reads=reads, trx=seqno))
+        assert order.verdicts[-1] == verdict, (seqno, order.verdicts[-1])
+    return order
+
+
+class Scene:
+    """A trial of several nodes of one order: what is done to the one on the disk, and to the donor beside it."""
+
+    def __init__(self, title):
+        self.trial, self.order, self.life = Trial(title), order_of(), None
+        self.trial.orders.append((self.order, PARAMS[1]))
+
+    def say(self, line, *wanted):
+        self.trial.say(line, *wanted)
+
+    def new_node(self, is_defined=True):
+        """A new node on a new disk, of the cluster or of none."""
+        node = Node(*PARAMS, order=self.order, is_defined=is_defined)
+        self.say("disk %d 0" % SIZE, "blank")
+        self.say(("" if is_defined else "undefined ") + params_line(PARAMS), "formatted " + node.gtid())
+        self.open_as(node)
+
+    def open_as(self, node):
+        """The disk is opened, on which this node stands."""
+        self.say("open", "open " + node.gtid())
+        self.life = Life(None, node=node)
+        self.life.trial = self.trial
+
+    def node(self):
+        return self.life.node
+
+    def delivers(self, last):
+        """The items up to this seqno are delivered."""
+        for seqno in range(self.node().delivered + 1, last + 1):
+            self.life.do((seqno, self.order.items[seqno - 1]))
+
+    def logs(self, last):
+        """The items up to this seqno become durable together."""
+        self.delivers(last)
+        while self.node().durable < last:
+            self.life.do("sync" if self.node().log.awaits_sync() else "log")
+
+    def does_all(self, last):
+        """The items up to this seqno become durable, and the base stands there."""
+        self.delivers(last)
+        while self.node().due():
+            self.life.do(self.node().due())
+        assert self.node().base() == last
+
+    def lends(self, behind=0):
+        """A donor's disk is lent whose base stands at 8, with so many items behind that."""
+        self.new_node()
+        self.does_all(AT)
+        self.logs(AT + behind)
+        self.say("lend", "lent %s:%d base %d" % (CLUSTER, AT + behind, AT))
+
+    def brings(self, position=AT):
+        self.say("bring", "installing %d" % position)
+
+    def puts(self, pages, position=AT):
+        """These pages of the donor come, of which it has some in no slot."""
+        for page in pages:
+            self.say("page %d" % page, "page" if page in IN_SLOTS[position] else "no page")
+
+    def ends(self, position=AT):
+        self.say("end", "installed %s:%d" % (CLUSTER, position))
+        self.node().install(position)
+
+    def installs(self, position=AT):
+        """The donor's snapshot is installed."""
+        self.brings(position)
+        self.puts(range(4), position)
+        self.ends(position)
+
+    def stands_at(self, position=AT):
+        """The node stands at the snapshot, and nothing is left to do: by hand, and by the model."""
+        self.say("node", "node %d %d %d quiet running" % (position, position, position))
+        self.say("state", "state %s:%d base %d window %s" % (CLUSTER, position, position, WINDOWS[position]))
+        self.say("window", *WITH_KEYS[position])
+        for key, row in zip(KEYS, ROWS[position]):
+            self.say("read %d/%d %d" % (*key, position), row)
+            self.say("read %d/%d %d" % (*key, position - 1), "refused 8 too-old %d" % position)
+            self.say("read %d/%d %d" % (*key, position + 1), "refused 9 not-yet %d" % position)
+        self.life.agrees(KEYS)
+
+    def goes_on(self):
+        """The node is handed the rest of the order, all of it becomes durable, and the base stands there. One of no cluster is handed the
+        snapshot before."""
+        if not self.node().is_defined:
+            self.say(self.order.items[0].delivery(1), "refused 11 undefined")
+            self.installs()
+        self.life.goes_on(self.order, KEYS)
+        assert (self.node().base(), self.node().durable) == (len(ITEMS), len(ITEMS))
+
+
+# ---- the nodes that a snapshot comes to
+
+
+def fresh(scene):
+    scene.new_node()
+
+
+def of_no_cluster(scene):
+    scene.new_node(is_defined=False)
+
+
+def behind_a_block(scene):
+    """Three items in one block, above the base."""
+    scene.new_node()
+    scene.logs(3)
+
+
+def with_pages(scene):
+    """Three items in the base, which has rows in the page 2, and one behind it."""
+    scene.new_node()
+    scene.does_all(3)
+    scene.logs(4)
+
+
+def wrapped(scene):
+    """Six blocks in four cells: the base at 4, and two items behind it in cells that stand open of the first lap's blocks."""
+    scene.new_node()
+    for seqno in range(1, 7):
+        if scene.node().log.is_full():
+            scene.does_all(seqno - 1)
+        scene.logs(seqno)
+    assert (scene.node().base(), scene.node().durable, scene.node().log.next) == (4, 6, 6)
+
+
+def both_open(scene):
+    """The same with its base at 6, stopped where both superblocks stand open: it settles first."""
+    wrapped(scene)
+    while scene.node().phase() != "retiring":
+        scene.life.do(scene.node().due())
+    scene.say("crash drop", "crashed")
+    for gate in (FIRST[1], SECOND[1]):
+        scene.say("bytes %d 1" % gate, OPEN)
+    scene.say("open", *scene.node().stop("drop"))
+    scene.say("node", "node 6 6 6 busy running")
+    scene.say("bring", NOT_FOR_IT)
+    scene.life.settle(KEYS)
+    scene.say("node", "node 6 6 6 quiet running")
+
+
+JOINERS = (fresh, of_no_cluster, behind_a_block, with_pages, wrapped, both_open)
+
+
+def joined_by(title, make, behind=0):
+    """The donor's disk, and behind it this node on its own."""
+    scene = Scene("%s, %s" % (title, make.__name__))
+    scene.lends(behind)
+    make(scene)
+    return scene
+
+
+# ---- whole installations
+
+
+def installs_in(make):
+    """The snapshot in this node: it stands there, also behind a stop with each loss, goes on with its order, and a last stop leaves the
+    same."""
+
+    def trials(_):
+        for loss in LOSSES:
+            scene = joined_by("installed, " + loss, make, behind=2)
+            scene.installs()
+            scene.stands_at()
+            scene.life.stop(loss, KEYS)
+            scene.stands_at()
+            assert scene.life.do((9, scene.order.items[8])) == ["9 conflict 7"]
+            scene.goes_on()
+            scene.life.stop(loss, KEYS)
+            yield scene.trial
+            scene = joined_by("installed without a stop, " + loss, make)
+            scene.installs()
+            scene.stands_at()
+            scene.goes_on()
+            scene.life.stop(loss, KEYS)
+            yield scene.trial
+
+    return trials
+
+
+def in_slots(pages):
+    """The byte of a superblock that says in which slot each of the four pages is."""
+    return number(sum(slot << 2 * page for page, slot in enumerate(pages)), 1)
+
+
+def superblock(q, position, start, pages):
+    """The bytes of a superblock of these parameters, up to the states of its pages."""
+    tables = "".join(number(rows, 4) for rows in PARAMS[2]) + "00" * 20
+    head = b"REPSUPR1".hex() + number(q) + UUID.hex() + number(4, 2) + number(4, 2) + "03" + "000000" + tables
+    return head + number(position) + number(start) + number(4, 2) + "00" * 38 + in_slots(pages)
+
+
+def shows_base(scene, at, other, q, position, start, pages):
+    """The superblock of this number stands open alone, its window is beside it, and each page that is in a slot was written there for
+    this position."""
+    (body, gate, window), (_, closed, _) = at, other
+    scene.say("bytes %d 129" % body, superblock(q, position, start, pages))
+    scene.say("bytes %d 512" % gate, OPEN + "00" * 511)
+    scene.say("bytes %d 1" % closed, "00")
+    scene.say("bytes %d 26" % window, b"REPWIND1".hex() + number(q) + number(position) + number(len(WINDOWS[position].split()), 2))
+    firsts = [(0, 0), (0, 63), (1, 0), (2, 0)]
+    for page, slot in enumerate(pages):
+        if slot:
+            (table, row), place = firsts[page], PAGES + 4_096 * (2 * page + slot - 1)
+            head = b"REPPAGE1".hex() + number(page, 2) + number(table, 1) + "00" + number(row, 4)
+            scene.say("bytes %d 24" % place, head + number(position))
+
+
+def twice(_):
+    """Two installations one behind the other: the donor's base moves on, and so do the superblock's number and the slots. A node may
+    take items between the two."""
+    for loss in LOSSES:
+        for items, is_saved in ((0, False), (2, False), (2, True)):
+            scene = Scene("twice, %d items between, %s, %s" % (items, "saved" if is_saved else "logged", loss))
+            scene.lends()
+            donor = scene.node()
+            fresh(scene)
+            scene.installs()
+            if not items:
+                shows_base(scene, SECOND, FIRST, 1, AT, 0, (1, 1, 1, 0))
+                scene.open_as(scene.node())
+            (scene.does_all if is_saved else scene.logs)(AT + items)
+            joiner = scene.node()
+            scene.say("swap", "lent %s:%d base %d" % (CLUSTER, AT + items, joiner.base()))
+            scene.open_as(donor)
+            scene.does_all(LATER)
+            scene.say("swap", "lent %s:%d base %d" % (CLUSTER, LATER, LATER))
+            scene.open_as(joiner)
+            scene.installs(LATER)
+            scene.stands_at(LATER)
+            if not items:
+                shows_base(scene, FIRST, SECOND, 2, LATER, 0, (2, 2, 2, 1))
+                scene.open_as(scene.node())
+            scene.life.stop(loss, KEYS)
+            scene.stands_at(LATER)
+            scene.goes_on()
+            yield scene.trial
+
+
+def through_another(_):
+    """A page without rows need not come. Whoever installs the snapshot of such a node has no row there, though it had some."""
+    for loss in LOSSES:
+        scene = Scene("through another, " + loss)
+        scene.lends()
+        fresh(scene)
+        scene.brings()
+        scene.puts((1, 0))
+        scene.ends()
+        scene.stands_at()
+        scene.say("lend", "lent %s:8 base 8" % CLUSTER)
+        with_pages(scene)
+        scene.say("read 1/0 3", "value 01")
+        scene.say("read 1/3 4", "value 03")
+        scene.brings()
+        for page, wanted in enumerate(("page", "page", "no page", "no page")):
+            scene.say("page %d" % page, wanted)
+        scene.ends()
+        scene.stands_at()
+        scene.life.stop(loss, KEYS)
+        scene.stands_at()
+        # The number of its base was 1, of the side B, and its pages stood in their first slots.
+        shows_base(scene, FIRST, SECOND, 2, AT, 2, (2, 2, 0, 0))
+        scene.open_as(scene.node())
+        scene.goes_on()
+        yield scene.trial
+
+
+# ---- stops and faults at each call
+
+# Three pages come by a write each; and of the eight calls behind them the first four write the window and the superblock, with a sync
+# behind each. The fifth writes its gate, and the sixth makes that stable.
+PUT, CALLS, GATE = 3, 11, 8
+
+
+def is_refused(scene, before, done):
+    """The answers to an installation of which so many calls are served, and what the node then says."""
+    scene.brings()
+    for page in range(PUT):
+        scene.say("page %d" % page, "page" if page < done else FAULT if page == done else STOPPED)
+    scene.say("page 3", "no page")
+    scene.say("end", STOPPED if done < PUT else FAULT if done < CALLS else "installed %s:8" % CLUSTER)
+    scene.node().install(AT, max(done - PUT, 0))
+    if done == CALLS:
+        # These were all of its calls: the one that fails is that of a read.
+        scene.say("node", "node 8 8 8 quiet running")
+        scene.say("state", "state %s:8 base 8 window 5 6 7 8" % CLUSTER)
+        scene.say("window", *WITH_KEYS[AT])
+        scene.say("read 0/0 8", FAULT)
+        return
+    is_risen = done > GATE
+    scene.say("node", "node 8 8 8 busy stopped" if is_risen else before["node"].replace("running", "stopped"))
+    scene.say("state", "state %s:8 base 8 window 5 6 7 8" % CLUSTER if is_risen else before["state"])
+    for line in ("log", "sync", "check", "flush 0", "read 0/1 0", scene.order.items[0].delivery(1), "settle"):
+        scene.say(line, STOPPED)
+    scene.say("bring", NOT_FOR_IT if is_risen else STOPPED)
+
+
+def is_left(scene, before, done, loss):
+    """What opens behind a stop with this loss: before the gate is written what was, behind its sync the snapshot, and between what the
+    loss makes of it. The superblock before stands open until its closed gate is stable, or was not dropped."""
+    is_new = done > GATE or (done == GATE and loss == "keep")
+    is_retiring = done in (GATE, GATE + 1) or (done == GATE + 2 and loss == "drop")
+    scene.say("crash " + loss, "crashed")
+    scene.say("open", "open %s:8" % CLUSTER if is_new else before["open"])
+    assert scene.node().stop(loss) == ["open %s:8" % CLUSTER if is_new else before["open"]]
+    scene.say("node", "node 8 8 8 %s running" % ("busy" if is_retiring else "quiet") if is_new else before["node"])
+    scene.say("state", "state %s:8 base 8 window 5 6 7 8" % CLUSTER if is_new else before["state"])
+    scene.life.agrees(KEYS)
+
+
+def shown_by(scene):
+    """What the node says of itself."""
+    node = scene.node()
+    return {"open": "open " + node.gtid(), "node": node.shown()[0], "state": node.state()[0]}
+
+
+def fails_at(make, kind, calls, done, loss):
+    """An installation on a device that fails so behind this number of its calls, and a stop with this loss."""
+    scene = joined_by("%s %d, %s" % (kind, done, loss), make)
+    before = shown_by(scene)
+    scene.say("fail %s %d" % (kind, calls + done), "armed")
+    scene.say("open", before["open"])
+    is_refused(scene, before, done)
+    scene.say("failures", "failures 1")
+    is_left(scene, before, done, loss)
+    scene.goes_on()
+    return scene.trial
+
+
+def at_each_call(make, kind):
+    def trials(program):
+        calls = calls_of_an_opening(program, joined_by("the opening", make).trial.text())
+        for done in range(CALLS + 1):
+            for loss in LOSSES:
+                yield fails_at(make, kind, calls, done, loss)
+
+    return trials
+
+
+# ---- what is given up
+
+
+def given_up(make):
+    """A snapshot that is given up behind some pages, or let go by a stop, leaves the node as it was: it makes a checkpoint of its own, and
+    then takes the snapshot."""
+
+    def trials(_):
+        for pages in range(5):
+            for loss in LOSSES:
+                for is_given_up in (True, False):
+                    scene = joined_by("%s behind %d pages, %s" % ("given up" if is_given_up else "stopped", pages, loss), make)
+                    before = shown_by(scene)
+                    scene.brings()
+                    scene.puts(range(pages))
+                    if is_given_up:
+                        scene.say("give_up", "as before")
+                        for line in ("page 0", "end", "give_up"):
+                            scene.say(line, OFF)
+                        scene.say("node", before["node"])
+                        scene.life.agrees(KEYS)
+                        scene.life.stop(loss, KEYS)
+                    else:
+                        scene.say("crash " + loss, "crashed")
+                        scene.say("open", before["open"])
+                    scene.say("state", before["state"])
+                    scene.life.agrees(KEYS)
+                    if scene.node().is_defined:
+                        scene.does_all(scene.node().durable + 1)
+                        scene.life.agrees(KEYS)
+                    scene.installs()
+                    scene.stands_at()
+                    scene.life.stop(loss, KEYS)
+                    scene.goes_on()
+                    yield scene.trial
+
+    return trials
+
+
+# ---- what is not taken
+
+
+def not_above(_):
+    """A snapshot at what is durable, or below it, is not for a node of its cluster."""
+    for durable in (AT, AT + 1):
+        for is_saved in (False, True):
+            scene = Scene("at %d" % durable)
+            scene.lends()
+            scene.new_node()
+            (scene.does_all if is_saved else scene.logs)(durable)
+            scene.say("bring", NOT_FOR_IT)
+            scene.life.agrees(KEYS)
+            scene.goes_on()
+            scene.say("bring", NOT_FOR_IT)
+            yield scene.trial
+    scene = joined_by("again", fresh)
+    scene.installs()
+    scene.say("bring", NOT_FOR_IT)
+    scene.stands_at()
+    scene.goes_on()
+    yield scene.trial
+
+
+def not_quiet(_):
+    """A node to which an item was delivered that is not durable takes none, at no stage of the next block; and neither does one with a
+    checkpoint under way, in no phase of it."""
+    scene = joined_by("a block under way", wrapped)
+    scene.delivers(7)
+    scene.say("bring", NOT_FOR_IT)
+    for event in ("log", "sync", "log", "sync", "log"):
+        scene.life.do(event)
+        scene.say("bring", NOT_FOR_IT)
+    scene.life.do("sync")
+    scene.installs()
+    scene.stands_at()
+    scene.goes_on()
+    yield scene.trial
+    scene = joined_by("a checkpoint under way", wrapped)
+    while scene.node().due():
+        scene.life.do(scene.node().due())
+        scene.say("bring", *([NOT_FOR_IT] if scene.node().phase() != "off" else ["installing 8"]))
+    scene.puts(range(4))
+    scene.ends()
+    scene.stands_at()
+    scene.goes_on()
+    yield scene.trial
+
+
+def other_nodes(_):
+    """Other parameters and another cluster than the donor's are not for it, nor is a donor of no cluster for any; but a node of no
+    cluster takes the snapshot of any."""
+    other_rows = ((70, 4), (70, 4, 62), (70, 63, 4), (70, 4, 63, 1))
+    for other in [(3, 4, PARAMS[2]), (4, 5, PARAMS[2])] + [(4, 4, rows) for rows in other_rows]:
+        for first in ("", "undefined "):
+            scene = Scene("other parameters")
+            scene.lends()
+            scene.say("disk %d 0" % (2 * SIZE), "blank")
+            scene.say(first + params_line(other), "formatted " + (UNDEFINED if first else CLUSTER + ":0"))
+            scene.say("open", "open " + (UNDEFINED if first else CLUSTER + ":0"))
+            scene.say("bring", NOT_FOR_IT)
+            scene.say("node", "node 0 0 0 quiet running")
+            yield scene.trial
+    for make in (fresh, of_no_cluster):
+        scene = Scene("a donor of no cluster, " + make.__name__)
+        of_no_cluster(scene)
+        scene.say("lend", "lent %s base 0" % UNDEFINED)
+        make(scene)
+        scene.say("bring", NOT_FOR_IT)
+        scene.life.agrees(KEYS)
+        scene.say("lend", "lent %s base 0" % scene.node().gtid())
+        yield scene.trial
+    another = CLUSTER.replace("11", "22", 1)
+    for make in (fresh, of_no_cluster):
+        scene = Scene("another cluster, " + make.__name__)
+        scene.new_node()
+        scene.does_all(AT)
+        # The base has the number 1: its superblock is that of the side B.
+        scene.say("put %d 22" % (SECOND[0] + 16), "put")
+        scene.say("lend", "lent %s:8 base 8" % another)
+        make(scene)
+        if make == fresh:
+            scene.say("bring", NOT_FOR_IT)
+            scene.life.agrees(KEYS)
+        else:
+            scene.brings()
+            scene.puts(range(4))
+            scene.say("end", "installed %s:8" % another)
+            scene.say("state", "state %s:8 base 8 window 5 6 7 8" % another)
+            scene.say("stop drop", "open %s:8" % another)
+            scene.say(scene.order.items[8].delivery(9), "9 conflict 7")
+        yield scene.trial
+
+
+def at_nothing(_):
+    """A node of no cluster takes the snapshot of one to which nothing was delivered, and then is of that cluster."""
+    for loss in LOSSES:
+        scene = Scene("nothing, " + loss)
+        fresh(scene)
+        scene.say("lend", "lent %s:0 base 0" % CLUSTER)
+        of_no_cluster(scene)
+        scene.say(scene.order.items[0].delivery(1), "refused 11 undefined")
+        scene.brings(0)
+        for page in range(4):
+            scene.say("page %d" % page, "no page")
+        scene.ends(0)
+        scene.say("state", "state %s:0 base 0 window" % CLUSTER)
+        scene.life.agrees(KEYS)
+        scene.life.stop(loss, KEYS)
+        scene.goes_on()
+        yield scene.trial
+
+
+def lines_are_off(_):
+    """While a snapshot comes to a node all that is asked of the node is off; and so is a snapshot without a node, or a donor."""
+    scene = Scene("without a donor")
+    fresh(scene)
+    for line in ("bring", "page 0", "end", "give_up", "swap"):
+        scene.say(line, OFF)
+    scene.life.agrees(KEYS)
+    scene.say("disk 54272 0", "blank")
+    for line in ("bring", "page 0", "end", "give_up"):
+        scene.say(line, OFF)
+    scene.say("lend", "refused 12 not-formatted")
+    scene.say("swap", OFF)
+    yield scene.trial
+    scene = joined_by("on its way", wrapped)
+    scene.say("page 0", OFF)
+    scene.brings()
+    first = scene.order.items[6].delivery(7)
+    lines = [first, "log", "sync", "check", "flush 0", "read 0/1 6", "state", "stop keep", "settle", "apart", "apart stopped", "node"]
+    for line in lines + ["window", "batch 1\n" + first, "bring"]:
+        scene.say(line, OFF)
+    for line, wanted in (
+        ("page 1", "page"), ("page 1", "not a new page"), ("page 4", "no page"), ("page 4294967295", "no page"), ("page 3", "no page"),
+        ("page 0", "page"), ("page 0", "not a new page"), ("page 2", "page"),
+    ):
+        scene.say(line, wanted)
+    scene.ends()
+    for line in ("page 0", "end", "give_up"):
+        scene.say(line, OFF)
+    scene.stands_at()
+    scene.goes_on()
+    yield scene.trial
+
+
+def each_joiner(title, make):
+    return [("%s, %s" % (title, joiner.__name__.replace("_", " ")), make(joiner)) for joiner in JOINERS]
+
+
+TRIALS = (
+    each_joiner("a snapshot is installed, and the node goes on from there", installs_in)
+    + [
+        ("two snapshots are installed one behind the other", twice),
+        ("rows of a page that the donor does not have are absent", through_another),
+    ]
+    + each_joiner("a fault at each call of an installation leaves the node or the snapshot", lambda make: at_each_call(make, "once"))
+    + each_joiner("a stop at each call of an installation leaves the node or the snapshot", lambda make: at_each_call(make, "from"))
+    + each_joiner("a snapshot that is given up leaves the node as it was", given_up)
+    + [
+        ("a snapshot that is not above what is durable is not taken", not_above),
+        ("a node that is not quiet takes no snapshot", not_quiet),
+        ("a snapshot is taken by a node of its parameters and its cluster, or of none", other_nodes),
+        ("a node of no cluster takes the snapshot of a new one", at_nothing),
+        ("while a snapshot is installed the node is off", lines_are_off),
+    ]
+)
