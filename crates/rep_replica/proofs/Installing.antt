@@ -221,6 +221,7 @@ module _ {D : Type 0} (failures : D → ℕ) (b : Bringing D) (e : Engine D) (ta
       let none = ahead_there in
       record {
         uuid = ap (λ (t : Standing). t.uuid) alone ∙ ap (λ (x : Engine D). x.checkpoint.base.uuid) taken.rest;
+        setting = ap (λ (t : Standing). t.setting) alone ∙ ap (λ (x : Engine D). x.checkpoint.base.params) taken.rest;
         base = ap (λ (t : Standing). t.base) alone ∙ ap (λ (x : Engine D). x.checkpoint.base.position) taken.rest;
         durable = ap (λ (t : Standing). t.durable) alone ∙ durable_there;
         quiet = ap is_quiet alone ∙ ap (λ (js : List Judged). (length js == 0) && true) none;

@@ -88,6 +88,7 @@ pub record Installs {D : Type 0} (honest : D → Type 0) (history : D → Histor
 -- And on any device: where it succeeds the facts are those of a quiet node at the snapshot; where the device failed it is stopped.
 pub record IsAt (b : SuperBody) (s : Standing) : Type 0 where
   pub uuid : s.uuid ≡ b.uuid
+  pub setting : s.setting ≡ b.params
   pub base : s.base ≡ b.position
   pub durable : s.durable ≡ b.position
   pub quiet : is_quiet s ≡ true

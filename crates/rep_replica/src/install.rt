@@ -97,7 +97,7 @@ impl<D: Disk> Replica<D> {
         requires quiet { is_quiet (facts_of D.failures self) ≡ true }
         requires brings { CanBring self.engine.checkpoint.base (durable_of self.engine.log) uuid position window }
         ensures stopped { (self.stopped || is_some self.engine.halted) ≡ true → result ≡ Err (self, Stopped) }
-        ensures refused { IfErr result (λ e. (e.0 ≡ self) × ((e.1 ≡ Stopped) ⊎ (e.1 ≡ OutOfMemory))) }
+        ensures refused { IfErr result (λ e. (e.0 ≡ self) × (((e.1 ≡ Stopped) × ((self.stopped || is_some self.engine.halted) ≡ true)) ⊎ (e.1 ≡ OutOfMemory))) }
         ensures begun { IfOk result (λ i. (i.engine ≡ self.engine) × (i.coming ≡ coming self.engine.checkpoint.base uuid position self.engine.log.next window.entries)) }
         ensures holds { (n : Node) → Holds D.honest D.history D.failures n self → IfOk result (λ i. HoldsBoth D.honest D.history D.failures n (blank position window) i) }
     {
