@@ -1,6 +1,6 @@
 -- A node that stands at a snapshot, and pages that come one after another.
 use Rattle.std.proofs.Common.{◌≡◌, inl, inr, ℕ, zero, suc, ◌+◌, ◌-◌, ◌<◌, Bool, true, false, List, [], ◌∷◌, length, take, Option, None, Some, Result, Ok, Err, OnOk, OnErr, refl, sym, ap, subst, ◌∙◌, arith}
-use Rattle.std.specs.Prelude.{◌==◌, not, nat_le, if◌then◌else◌, IsOk, IsErr, IfSome, IfErr}
+use Rattle.std.specs.Prelude.{◌==◌, not, nat_le, if◌then◌else◌, is_some, IsOk, IsErr, IfSome, IfErr}
 use Rattle.std.proofs.lemmas.Bool.Decides.{nat_tests}
 use Rattle.std.proofs.lemmas.Slice.Eq.{bytes_eq-Decides}
 use Rattle.uuid.specs.Parts.{is_nil_bytes, zero_bytes}
@@ -19,6 +19,7 @@ use Rattle.rep_disk.specs.Leaving.{leaves_none, leaves_weaker, leaves_both, leav
 use Rattle.rep_layout.specs.Supers.{IsNil}
 use Rattle.rep_layout.specs.declared.super_body.SuperBody.{SuperBody}
 use Rattle.rep_pages.specs.Rows.{Rows}
+use Rattle.rep_log.specs.declared.phase.Phase.{Phase}
 use Rattle.rep_steps.specs.declared.event.Event.TheVariants.{Deliver}
 use Rattle.rep_steps.specs.Standings.{Standing, delivered, delivery_refusal, refusal}
 use Rattle.rep_steps.specs.Nodes.{Node, state_at, reached}
@@ -26,9 +27,11 @@ use Rattle.rep_steps.specs.Images.{IsFrontAt}
 use Rattle.rep_image.specs.Meanings.{Means}
 use Rattle.rep_checkpoint.specs.Coming.{Coming, blank, coming, placed, with_page}
 use Rattle.rep_engine.specs.Engines.{Engine}
-use Rattle.rep_engine.specs.Installing.{MeansEither, halted_node}
-use Rattle.rep_replica.specs.Replicas.{Replica}
-use Rattle.rep_replica.specs.Installing.{Bringing, HoldsBoth, Installs, IsInstalled}
+use Rattle.rep_engine.specs.Reading.{halted_by}
+use Rattle.rep_engine.specs.Installing.{MeansEither}
+use Rattle.rep_replica.specs.Replicas.{Replica, facts_of}
+use Rattle.rep_replica.specs.Holding.{Holds}
+use Rattle.rep_replica.specs.Installing.{Bringing, HoldsBoth, Installs, IsInstalled, Lands, given_up}
 use Rattle.rep_replica_uses.specs.Bringing.{Brings, GoesOn, MeansOldOrNew, PutsAll, with_pages}
 
 -- ---- how it goes on
@@ -115,17 +118,14 @@ module _ {D : Type 0} (honest : D → Type 0) (history : D → History) (failure
     }
 
     -- or it was refused
-    pub put_refused : (r : Refusal) → new.coming ≡ now.coming → ((n : Node) (y : State) → HoldsBoth honest history failures n y now → (m : Node) × (m.facts.setting ≡ n.facts.setting) × HoldsBoth honest history failures m y new) → PutsAll honest history failures pages first new (Err r)
+    pub put_refused : (r : Refusal) → new.coming ≡ now.coming → ((n : Node) (y : State) → HoldsBoth honest history failures n y now → new.engine.halted ≡ None → HoldsBoth honest history failures n y new) → PutsAll honest history failures pages first new (Err r)
     put_refused r same holds = record {
       uuid = ap (λ (i : Coming). i.next.super.uuid) same ∙ put.uuid;
       position = ap (λ (i : Coming). i.next.super.position) same ∙ put.position;
       params = same_params;
       shape = ap (λ (i : Coming). i.next.super.params) same ∙ put.shape;
       all = λ n y h. tt;
-      some = λ n y h.
-          let was = put.holds n y h in
-          let left = holds n was.0 was.1 in
-          (left.0, was.0, left.1, left.2);
+      some = λ n y h runs. let was = put.holds n y h in (was.0, holds n was.0 was.1 runs);
       leaves = leaves_on;
     }
 
@@ -137,7 +137,7 @@ module _ {D : Type 0} (honest : D → Type 0) (history : D → History) (failure
     params = put.params;
     shape = put.shape;
     all = λ n y h. let was = put.holds n y h in subst (λ (z : State). HoldsBoth honest history failures n z now) was.2 was.1;
-    some = λ n y h. let was = put.holds n y h in (n, was.0, refl, was.1);
+    some = λ n y h runs. let was = put.holds n y h in (was.0, was.1);
     leaves = put.leaves;
   }
 
@@ -149,7 +149,7 @@ module _ {D : Type 0} (honest : D → Type 0) (history : D → History) (failure
     params = put.params;
     shape = put.shape;
     all = λ n y h. tt;
-    some = λ n y h. let was = put.holds n y h in (n, was.0, refl, was.1);
+    some = λ n y h runs. let was = put.holds n y h in (was.0, was.1);
     leaves = put.leaves;
   }
 
@@ -160,13 +160,14 @@ ok_of (Ok x) ok h = h
 ok_of (Err e) ok h = absurd cc
 
 -- a page that was refused: the device had failed before, or did
-pub refused_page : {D A : Type 0} (honest : D → Type 0) (history : D → History) (failures : D → ℕ) (now new : Bringing D) (result : Result (Unit {0}) Refusal) (e : Refusal) → result ≡ Err e → (halted : Option A) → IfSome halted (λ _. (result ≡ Err Stopped) × (new ≡ now))
-    → (halted ≡ None → IfErr result (λ r. r ≡ DiskFault)) → ((n : Node) (y : State) → HoldsBoth honest history failures n y now → IfErr result (λ r. r ≡ DiskFault → HoldsBoth honest history failures (halted_node (failures new.engine.disk) n) y new))
-    → (n : Node) (y : State) → HoldsBoth honest history failures n y now → (m : Node) × (m.facts.setting ≡ n.facts.setting) × HoldsBoth honest history failures m y new
-refused_page {D} honest history failures now new result e is (Some phase) stopped runs halts n y h = (n, refl, subst (λ (b : Bringing D). HoldsBoth honest history failures n y b) (sym stopped.1) h)
-refused_page {D} honest history failures now new result e is None stopped runs halts n y h =
-    let fault : e ≡ DiskFault = subst (λ (r : Result (Unit {0}) Refusal). IfErr r (λ f. f ≡ DiskFault)) is (runs refl) in
-    (halted_node (failures new.engine.disk) n, refl, (subst (λ (r : Result (Unit {0}) Refusal). IfErr r (λ f. f ≡ DiskFault → HoldsBoth honest history failures (halted_node (failures new.engine.disk) n) y new)) is (halts n y h)) fault)
+pub refused_page : {D : Type 0} (honest : D → Type 0) (history : D → History) (failures : D → ℕ) (now new : Bringing D) (phase : Phase) (result : Result (Unit {0}) Refusal) (e : Refusal) → result ≡ Err e → (halted : Option Phase)
+    → IfSome halted (λ _. (result ≡ Err Stopped) × (new ≡ now)) → (halted ≡ None → (new.engine.halted ≡ halted_by phase result) × IfErr result (λ r. r ≡ DiskFault))
+    → (n : Node) (y : State) → HoldsBoth honest history failures n y now → new.engine.halted ≡ None → HoldsBoth honest history failures n y new
+refused_page honest history failures now new phase result e is (Some before) stopped runs n y h none = subst (HoldsBoth honest history failures n y) (sym stopped.1) h
+refused_page honest history failures now new phase result e is None stopped runs n y h none =
+    let fault : e ≡ DiskFault = subst (λ (r : Result (Unit {0}) Refusal). IfErr r (λ f. f ≡ DiskFault)) is (runs refl).1 in
+    let failed : Some phase ≡ None = sym (ap (halted_by {T = Unit {0}} phase) (is ∙ ap Err fault)) ∙ sym (runs refl).0 ∙ none in
+    cc failed
 
 pub same_coming : {A : Type 0} {a b : A} (result : Result (Unit {0}) Refusal) (e : Refusal) → result ≡ Err e → OnErr result (a ≡ b) → a ≡ b
 same_coming {A} {a} {b} result e is h = subst (λ (r : Result (Unit {0}) Refusal). OnErr r (a ≡ b)) is h
@@ -185,6 +186,23 @@ on_ok : {A B : Type 0} (result : Result (Unit {0}) Refusal) → OnOk result A �
 on_ok (Ok x) a f = f a
 on_ok (Err e) a f = tt
 
+-- what was given up stands for the node as before, where the device has not failed
+pub given_back : {D : Type 0} (honest : D → Type 0) (history : D → History) (failures : D → ℕ) (n : Node) (k : Bringing D) (new : Replica D) → new ≡ given_up k → (halted : Option Phase) → k.engine.halted ≡ halted
+    → (k.engine.halted ≡ None → Holds honest history failures n new) → ((facts_of failures new).stopped ≡ true) ⊎ Holds honest history failures n new
+given_back honest history failures n k new same None is holds = inr (holds is)
+given_back {D} honest history failures n k new same (Some phase) is holds = inl (ap (λ (r : Replica D). (facts_of failures r).stopped) same ∙ ap is_some is)
+
+-- and behind an end that failed it is stopped
+pub end_failed : {D : Type 0} (failures : D → ℕ) (k : Bringing D) (new : Replica D) (result : Result (Unit {0}) Refusal) (halted : Option Phase) → k.engine.halted ≡ halted → IfSome halted (λ _. (new, result) ≡ (given_up k, Err Stopped))
+    → (halted ≡ None → Lands failures k new result) → OnErr result ((facts_of failures new).stopped ≡ true)
+end_failed failures k new (Ok x) halted is stopped lands = tt
+end_failed failures k new (Err e) None is stopped lands = (lands refl).fault.1
+end_failed {D} failures k new (Err e) (Some phase) is stopped lands = ap (λ (x : Replica D × Result (Unit {0}) Refusal). (facts_of failures x.0).stopped) stopped ∙ ap is_some is
+
+on_err : {A B : Type 0} (result : Result (Unit {0}) Refusal) → OnErr result A → (A → B) → OnErr result B
+on_err (Ok x) a f = tt
+on_err (Err e) a f = f a
+
 module _ {D : Type 0} (honest : D → Type 0) (history : D → History) (failures : D → ℕ) (n : Node) (uuid : List ℕ) (position : ℕ) (v : Window) (pages : List (ℕ × Rows)) (old : Replica D) (i k : Bringing D) (begun : (i.engine ≡ old.engine) × (i.coming ≡ coming old.engine.checkpoint.base uuid position old.engine.log.next v.entries))
     (holds : HoldsBoth honest history failures n (blank position v) i) where
   abbrev y : State
@@ -197,8 +215,8 @@ module _ {D : Type 0} (honest : D → Type 0) (history : D → History) (failure
   setting_is = ap (λ (c : Coming). c.next.super.params) begun.1 ∙ ap (λ (e : Engine D). e.checkpoint.base.params) (sym begun.0) ∙ sym (ap (λ (s : Standing). s.setting) holds.engine.facts)
 
   -- where all pages came and it took the place, or the device failed at that
-  pub brought : (new : Replica D) (result : Result (Unit {0}) Refusal) → PutsAll honest history failures pages i k (Ok tt) → ((z : State) → HoldsBoth honest history failures n z k → Installs honest history failures n z k new result) → Brings honest history failures n uuid y old new result
-  brought new result put installs =
+  pub brought : (new : Replica D) (result : Result (Unit {0}) Refusal) → PutsAll honest history failures pages i k (Ok tt) → ((z : State) → HoldsBoth honest history failures n z k → Installs honest history failures n z k new result) → OnErr result ((facts_of failures new).stopped ≡ true) → Brings honest history failures n uuid y old new result
+  brought new result put installs stopped =
       let all = subst (λ (z : State). HoldsBoth honest history failures n z k) same_rows (put.all n (blank position v) holds) in
       let came = installs y all in
       let b = k.coming.next.super in
@@ -206,6 +224,7 @@ module _ {D : Type 0} (honest : D → Type 0) (history : D → History) (failure
       let before = subst (λ (e : Engine D). LeavesOnly (history e.disk) (history k.engine.disk) (IsFrontAt Means n)) begun.0 (put.leaves n (blank position v) holds) in
       record {
         done = on_ok result came.holds (λ h. (b, uuid_is, h.0, h.1, h.2));
+        refused = on_err result stopped inl;
         leaves = leaves_then (history old.engine.disk) (history k.engine.disk) (history new.engine.disk) (leaves_weaker (history old.engine.disk) (history k.engine.disk) (λ image f. inl f) before) came.leaves (λ image m. old_or_new b uuid_is (put.shape ∙ setting_is) image m);
       }
     where
@@ -215,17 +234,19 @@ module _ {D : Type 0} (honest : D → Type 0) (history : D → History) (failure
           inr (subst (λ (u : List ℕ). Means image (record { uuid = u; setting = n.facts.setting; base = y; tail = [] })) at (subst (λ (p : Setting). Means image (record { uuid = b.uuid; setting = p; base = y; tail = [] })) set m))
 
   -- where one didn't, and it was given up
-  pub dropped : (new : Replica D) (r : Refusal) → PutsAll honest history failures pages i k (Err r) → new.engine ≡ k.engine → Brings honest history failures n uuid y old new (Err r)
-  dropped new r put same =
+  pub dropped : (new : Replica D) (r : Refusal) → PutsAll honest history failures pages i k (Err r) → new ≡ given_up k → ((z : State) → HoldsBoth honest history failures n z k → Holds honest history failures n new) → Brings honest history failures n uuid y old new (Err r)
+  dropped new r put same alone =
       let before = subst (λ (e : Engine D). LeavesOnly (history e.disk) (history k.engine.disk) (IsFrontAt Means n)) begun.0 (put.leaves n (blank position v) holds) in
       record {
         done = tt;
-        leaves = subst (λ (e : Engine D). LeavesOnly (history old.engine.disk) (history e.disk) (MeansOldOrNew n uuid y)) (sym same) (leaves_weaker (history old.engine.disk) (history k.engine.disk) (λ image f. inl f) before);
+        refused = given_back honest history failures n k new same k.engine.halted refl (λ runs. let left = put.some n (blank position v) holds runs in alone left.0 left.1);
+        leaves = subst (λ (e : Engine D). LeavesOnly (history old.engine.disk) (history e.disk) (MeansOldOrNew n uuid y)) (sym (ap (λ (r : Replica D). r.engine) same)) (leaves_weaker (history old.engine.disk) (history k.engine.disk) (λ image f. inl f) before);
       }
 
 -- where it wasn't begun
-pub not_begun : {D : Type 0} (honest : D → Type 0) (history : D → History) (failures : D → ℕ) (n : Node) (uuid : List ℕ) (y : State) (old new : Replica D) (r : Refusal) → new ≡ old → Brings honest history failures n uuid y old new (Err r)
-not_begun {D} honest history failures n uuid y old new r same = record {
+pub not_begun : {D : Type 0} (honest : D → Type 0) (history : D → History) (failures : D → ℕ) (n : Node) (uuid : List ℕ) (y : State) (old new : Replica D) (r : Refusal) → new ≡ old → Holds honest history failures n old → Brings honest history failures n uuid y old new (Err r)
+not_begun {D} honest history failures n uuid y old new r same holds = record {
   done = tt;
+  refused = inr (subst (Holds honest history failures n) (sym same) holds);
   leaves = subst (λ (x : Replica D). LeavesOnly (history old.engine.disk) (history x.engine.disk) (MeansOldOrNew n uuid y)) (sym same) (leaves_none (history old.engine.disk) (history old.engine.disk) refl);
 }

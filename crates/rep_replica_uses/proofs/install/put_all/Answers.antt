@@ -27,7 +27,7 @@ returns-in_err-put_page g c =
     let e = c.in_err-put_page.field-0.0 in
     by_err (λ (r : Result (Unit {0}) Refusal). PutsAll g.D.Disk.honest g.D.Disk.history g.D.Disk.failures c.args.pages.items c.args.installation.now c.put_page.new.self r) c.from_residual.result c.from_residual.ensures.0
     (λ r. put_refused g.D.Disk.honest g.D.Disk.history g.D.Disk.failures c.args.pages.items c.args.installation.now c.next.new.self.rest.items now c.put_page.new.self c.in-Some.page c.in-Some.rows put c.put_page.ensures.rest c.put_page.ensures.leaves r (same_coming c.put_page.result e c.in_err-put_page.was c.put_page.ensures.fault)
-    (refused_page g.D.Disk.honest g.D.Disk.history g.D.Disk.failures now c.put_page.new.self c.put_page.result e c.in_err-put_page.was now.engine.halted c.put_page.ensures.stopped (λ runs. (c.put_page.ensures.running runs).1) c.put_page.ensures.halts))
+    (refused_page g.D.Disk.honest g.D.Disk.history g.D.Disk.failures now c.put_page.new.self now.engine.log.phase c.put_page.result e c.in_err-put_page.was now.engine.halted c.put_page.ensures.stopped c.put_page.ensures.running))
 
 pub returns : goal.returns
 returns g c =
