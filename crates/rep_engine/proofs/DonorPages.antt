@@ -1,21 +1,25 @@
 -- What a donor reads of an engine that stands for a node: the base, its window and its pages.
-use Rattle.std.proofs.Common.{◌≡◌, ℕ, List, None, Some, Result, Ok, Err, refl, sym, ap, subst, ◌∙◌, IfOk, IsOk}
+use Rattle.std.proofs.Common.{◌≡◌, ℕ, List, None, Some, Result, Ok, Err, inl, inr, refl, sym, ap, subst, ◌∙◌, IfOk, IsOk}
 use Rattle.rep_types.specs.declared.refusal.Refusal.{Refusal}
 use Rattle.rep_types.specs.declared.refusal.Refusal.TheVariants.{Corrupt}
 use Rattle.rep_types.specs.declared.refusal.Part.TheVariants.{Pages as in_pages}
+use Rattle.rep_types.specs.declared.key.Key.{Key}
 use Rattle.rep_types.specs.Entries.{Entry}
 use Rattle.rep_disk.specs.History.{History, seen}
+use Rattle.rep_layout.specs.declared.page_state.PageState.TheVariants.{In}
 use Rattle.rep_layout.specs.declared.place.Place.{Place}
 use Rattle.rep_layout.specs.declared.place.Place.TheVariants.{Window}
+use Rattle.rep_layout.specs.declared.place.Slot.{Slot}
 use Rattle.rep_layout.specs.declared.super_body.SuperBody.{SuperBody}
 use Rattle.rep_layout.specs.Places.{side_of}
 use Rattle.rep_layout.specs.Windows.{Window as WindowBody, window, window_bytes, IsWindowBody}
-use Rattle.rep_cells.specs.Readings.{reading_of}
+use Rattle.rep_cells.specs.Readings.{Reading, reading_of}
 use Rattle.rep_cells.specs.States.{States, IsSure, Shows}
 use Rattle.rep_cells.specs.Known.{Assigns}
 use Rattle.rep_pages.specs.declared.page.Page.{Page as PageBody}
-use Rattle.rep_pages.specs.Pages.{PagesAreTold}
-use Rattle.rep_pool.specs.BasePages.{IsPageAsSpelled}
+use Rattle.rep_pages.specs.Pages.{IsPage, PagesAreTold}
+use Rattle.rep_pages.specs.Slots.{state_of_page}
+use Rattle.rep_pool.specs.BasePages.{HasPage, IsPageAsSpelled}
 use Rattle.rep_steps.specs.Nodes.{Node}
 use Rattle.rep_checkpoint.proofs.Reading.{read_rows, never_bad}
 use Rattle.rep_engine.specs.Engines.{Engine, IsEngine}
@@ -26,6 +30,11 @@ use Rattle.rep_engine.specs.Donating.{IsBasePage}
 pub if_read : {T E P : Type 0} (result : Result T E) → IsOk result → IfOk result (λ _. P) → P
 if_read (Ok x) ok h = h
 if_read (Err e) ok h = absurd cc
+
+-- a page that stands in a slot is one of the schema
+page_form : (r : Reading) (b : SuperBody) (number : ℕ) (page : PageBody) → HasPage r b number page → (slot : Slot) → state_of_page b number ≡ In slot → (first : Key) × IsPage b.params.rows first page
+page_form r b number page (inl spelled) slot there = (spelled.is_page.first, spelled.is_page.is)
+page_form r b number page (inr absent) slot there = cc (sym absent.nowhere ∙ there)
 
 module _ {D : Type 0} (honest : D → Type 0) (history : D → History) (failures : D → ℕ) (within old : Engine D) (is : within ≡ old) (engine : IsEngine within.layout within.checkpoint within.log within.kept within.block) (runs : within.halted ≡ None)
     (n : Node) (holds : Holds honest history failures n old) where
@@ -54,6 +63,7 @@ module _ {D : Type 0} (honest : D → Type 0) (history : D → History) (failure
         let here = subst (λ (x : SuperBody). IsPageAsSpelled (reading_of within.layout (seen (history within.disk))) x number (Ok page)) b_is spelled in
         subst (λ (e : Engine D). IsBasePage e.checkpoint.base n.base.content number page) is (record {
           is_it = number_is;
+          form = page_form (reading_of within.layout (seen (history within.disk))) within.checkpoint.base number page here.page;
           rows = read_rows told within.layout (history within.disk) within.checkpoint.base there.states n.base.content number engine.checkpoint.is_super engine.layout there.assigns there.stands.checkpoint.base.content page here.page;
         })
 

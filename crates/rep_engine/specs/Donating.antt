@@ -10,12 +10,16 @@ use Rattle.rep_record.specs.Blocks.{Contents, IsBlock, block_bytes}
 use Rattle.rep_disk.specs.History.{History, IsImage}
 use Rattle.rep_disk.specs.Calls.{IsCall}
 use Rattle.rep_layout.specs.declared.place.Layout.{Layout}
+use Rattle.rep_layout.specs.declared.place.Slot.{Slot}
+use Rattle.rep_layout.specs.declared.page_state.PageState.TheVariants.{In}
 use Rattle.rep_layout.specs.declared.super_body.SuperBody.{SuperBody}
 use Rattle.rep_layout.specs.Places.{log_of}
 use Rattle.rep_layout.specs.Rows.{row_place}
 use Rattle.rep_cells.specs.Readings.{Reading, reading_of}
 use Rattle.rep_pages.specs.declared.page.Page.{Page as PageBody}
 use Rattle.rep_pages.specs.Images.{row_of}
+use Rattle.rep_pages.specs.Pages.{IsPage}
+use Rattle.rep_pages.specs.Slots.{state_of_page}
 use Rattle.rep_log.specs.Moves.{fault_of}
 use Rattle.rep_log.specs.Standing.{Standing as Log}
 use Rattle.rep_log.specs.Tail.{Stand, Shows, records_of}
@@ -57,9 +61,10 @@ pub record IsBlockAsSpelled (r : Reading) (l : Layout) (number : ℕ) (result : 
 
 -- ---- the base
 
--- The rows of the page are those of the content.
+-- The rows of the page are those of the content, and where the base has it in a slot it is one of the schema.
 pub record IsBasePage (b : SuperBody) (content : Key → Option (List ℕ)) (number : ℕ) (page : PageBody) : Type 0 where
   pub is_it : page.number ≡ number
+  pub form : (slot : Slot) → state_of_page b number ≡ In slot → (first : Key) × IsPage b.params.rows first page
   pub rows : (key : Key) → IsRow b.params.rows key → (row_place b.params.rows key).page ≡ number → content key ≡ row_of b.params.rows page.rows key
 
 -- Rows of a page that the base has in no slot are absent.

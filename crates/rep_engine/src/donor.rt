@@ -1,6 +1,6 @@
 //! What a donor reads for a joiner: the base with its window, and the blocks behind it.
 
-ghost use Rattle.std.specs.Prelude.{◌≡◌, ◌≢◌, ◌+◌, ◌-◌, List, nat_lt, is_some, None, Some, Ok, Err, IfOk, IfErr, IfSome, option_map};
+ghost use Rattle.std.specs.Prelude.{◌≡◌, ◌≢◌, ◌+◌, ◌-◌, ◌↔◌, List, false, nat_lt, is_some, None, Some, Ok, Err, IfOk, IfErr, IfSome, option_map};
 ghost use Rattle.rep_types.specs.declared.judged.Judged.{Judged};
 ghost use Rattle.rep_types.specs.declared.refusal.Refusal.TheVariants.{Corrupt};
 ghost use Rattle.rep_types.specs.declared.refusal.Part.TheVariants.{Log as in_log, Window as in_window, Pages as in_pages};
@@ -124,6 +124,16 @@ impl<D: Disk> Engine<D> {
             return Err(Refusal::DiskFault);
         }
         window_in(base, room)
+    }
+
+    /// Whether the base has this page in a slot. The rows of one that it doesn't have are absent.
+    pub fn has_base_page(&self, page: u32) -> bool
+        ensures { (result ≡ false) ↔ (state_of_page self.now.checkpoint.base page ≡ Nowhere) }
+    {
+        match slot_of(self.checkpoint.base(), page) {
+            PageState::In(_) => true,
+            PageState::Nowhere => false,
+        }
     }
 
     /// A page of the base: by one read of the device at most, and none where it is kept of an earlier read. None exactly where the base

@@ -28,6 +28,7 @@ use Rattle.rep_engine.specs.Engines.{Engine, facts_of as engine_facts}
 use Rattle.rep_engine.specs.Holding.{Holds as EngineHolds}
 use Rattle.rep_engine.specs.Checking.{CertifiersHoldWindows}
 use Rattle.rep_record.specs.Records.{is_placed}
+use Rattle.rep_replica.proofs.Judging.{Judges, judges_as}
 use Rattle.rep_replica.proofs.Placing.{placed_more}
 use Rattle.rep_replica.specs.Replicas.{Replica, facts_of, IsReplica}
 use Rattle.rep_replica.specs.Holding.{Holds, IsStep}
@@ -147,30 +148,24 @@ module _ {D : Type 0} (honest : D → Type 0) (history : D → History) (failure
     abbrev q : ℕ
     q = holds.taken
 
+    abbrev judges : Judges honest history failures old n
+    judges = judges_as honest history failures old running is n holds
+
     setting_is : h.setting ≡ p
-    setting_is = is.setting ∙ sym (ap (λ (t : Standing). t.setting) holds.facts)
+    setting_is = judges.setting
 
     here : h.delivered ≡ delivered n.facts
-    here = count ∙ sym (ap delivered holds.facts)
+    here = judges.here
 
     all : delivered n.facts ≡ n.base.position + length n.items
-    all =
-        let rest : length n.facts.ahead ≡ length n.items - (n.facts.durable - n.facts.base) = ap length holds.node.ahead ∙ length-drop (n.facts.durable - n.facts.base) n.items in
-        omega (arith, rest, holds.node.enough, holds.node.position, holds.node.facts.based)
+    all = judges.all
 
     -- the certifier's window is the node's
     present : window_of h h.delivered ≡ (reached p n.base n.items).kept
-    present =
-        let on : IsAskable h h.delivered = record { made = omega (arith, is.askable.made, is.askable.past); near = omega arith; past = omega arith } in
-        holds.windows h.delivered (omega (arith, here, all)) on ∙ ap (λ (xs : List Judged). (reached p n.base xs).kept) (take_all (h.delivered - n.base.position) n.items (omega (arith, here, all)))
-
-    window_there : window_at n (delivered n.facts) ≡ (reached p n.base n.items).kept
-    window_there = ap (λ (xs : List Judged). (reached p n.base xs).kept) (take_all (delivered n.facts - n.base.position) n.items (omega (arith, all)))
+    present = judges.present
 
     verdict_is : verdict_of h (WriteSet w) ≡ verdict_on n (Deliver seqno w)
-    verdict_is =
-        ap (λ (r : Setting). judge r h.delivered (window_of h h.delivered) (WriteSet w)) setting_is ∙ ap (λ k. judge p k (window_of h h.delivered) (WriteSet w)) here
-        ∙ ap (λ (v : Window). judge p (delivered n.facts) v (WriteSet w)) (present ∙ sym window_there)
+    verdict_is = judges.verdict seqno w
 
     abbrev m : Node
     m = moved n (Deliver seqno w)

@@ -9,9 +9,11 @@ pub mod Installing
 pub mod LoggingOn
 pub mod Gathering
 pub mod Refusing
+pub mod Judging
 pub mod Delivering
 pub mod Stepping
 pub mod Opening
 pub mod Forgetting
 pub mod Stopping
+pub mod Donating
 pub mod Lives

@@ -9,3 +9,4 @@ pub mod Stopping
 pub mod Lives
 pub mod Settling
 pub mod Installing
+pub mod Donating

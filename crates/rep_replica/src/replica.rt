@@ -1,9 +1,13 @@
 //! What a replica holds, and what it says of itself.
 
-ghost use Rattle.std.specs.Prelude.{◌≡◌, ◌≤◌, ◌||◌, false, length, is_some, Some, IfOk, IfErr};
-ghost use Rattle.rep_cert.specs.Holdings.{window_of};
+ghost use Rattle.std.specs.Prelude.{◌≡◌, ◌≤◌, ◌||◌, ◌↔◌, ℕ, false, length, is_some, Some, IfOk, IfErr};
+ghost use Rattle.rep_types.specs.declared.item.Item.TheVariants.{WriteSet as OfWriteSet};
+ghost use Rattle.rep_layout.specs.declared.page_state.PageState.TheVariants.{Nowhere};
+ghost use Rattle.rep_pages.specs.Slots.{state_of_page};
+ghost use Rattle.rep_cert.specs.Holdings.{window_of, verdict_of};
+ghost use Rattle.rep_steps.specs.declared.event.Event.TheVariants.{Deliver};
 ghost use Rattle.rep_steps.specs.Standings.{delivered};
-ghost use Rattle.rep_steps.specs.Nodes.{Node, window_at};
+ghost use Rattle.rep_steps.specs.Nodes.{Node, verdict_on, window_at};
 ghost use Rattle.rep_engine.specs.Engines.{facts_of as engine_facts, gtid_of, durable_of};
 ghost use Rattle.rep_replica.specs.Replicas.{IsReplica, facts_of};
 ghost use Rattle.rep_replica.specs.Holding.{Holds};
@@ -12,7 +16,7 @@ use rep_backlog::Backlog;
 use rep_cert::Certifier;
 use rep_disk::Disk;
 use rep_engine::Engine;
-use rep_types::{Gtid, Params, Refusal, Window};
+use rep_types::{Gtid, Params, Refusal, Verdict, Window, WriteSet};
 use std::alloc::Global;
 use std::marker::Model;
 use uuid::Uuid;
@@ -144,6 +148,21 @@ impl<D: Disk> Replica<D> {
         ensures { result ≡ gtid_of self.now.engine }
     {
         self.engine.gtid()
+    }
+
+    /// The verdict on the write set, were it the next item, behind the last that was delivered. It takes no memory.
+    pub fn judge(&self, item: &WriteSet) -> Verdict
+        ensures certifier { result ≡ verdict_of self.now.certifier.current (OfWriteSet item.now) }
+        ensures node { (n : Node) → (seqno : ℕ) → Holds D.honest D.history D.failures n self.now → result ≡ verdict_on n (Deliver seqno item.now) }
+    {
+        self.certifier.judge(item)
+    }
+
+    /// Whether the base has this page in a slot. The rows of one that it doesn't have are absent.
+    pub fn has_base_page(&self, page: u32) -> bool
+        ensures { (result ≡ false) ↔ (state_of_page self.now.engine.checkpoint.base page ≡ Nowhere) }
+    {
+        self.engine.has_base_page(page)
     }
 
     /// The window at what is durable: its size, its floor, and the committed write sets that certification needed

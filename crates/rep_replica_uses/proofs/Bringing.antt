@@ -1,6 +1,6 @@
 -- A node that stands at a snapshot, and pages that come one after another.
 use Rattle.std.proofs.Common.{◌≡◌, inl, inr, ℕ, zero, suc, ◌+◌, ◌-◌, ◌<◌, Bool, true, false, List, [], ◌∷◌, length, take, Option, None, Some, Result, Ok, Err, OnOk, OnErr, refl, sym, ap, subst, ◌∙◌, arith}
-use Rattle.std.specs.Prelude.{◌==◌, not, nat_le, if◌then◌else◌, is_some, IsOk, IsErr, IfSome, IfErr}
+use Rattle.std.specs.Prelude.{◌⊎◌, ◌==◌, not, nat_le, if◌then◌else◌, is_some, IsOk, IsErr, IfSome, IfErr}
 use Rattle.std.proofs.lemmas.Bool.Decides.{nat_tests}
 use Rattle.std.proofs.lemmas.Slice.Eq.{bytes_eq-Decides}
 use Rattle.uuid.specs.Parts.{is_nil_bytes, zero_bytes}
@@ -193,7 +193,7 @@ given_back honest history failures n k new same None is holds = inr (holds is)
 given_back {D} honest history failures n k new same (Some phase) is holds = inl (ap (λ (r : Replica D). (facts_of failures r).stopped) same ∙ ap is_some is)
 
 -- and behind an end that failed it is stopped
-pub end_failed : {D : Type 0} (failures : D → ℕ) (k : Bringing D) (new : Replica D) (result : Result (Unit {0}) Refusal) (halted : Option Phase) → k.engine.halted ≡ halted → IfSome halted (λ _. (new, result) ≡ (given_up k, Err Stopped))
+pub end_failed : {D : Type 0} (failures : D → ℕ) (k : Bringing D) (new : Replica D) (result : Result (Unit {0}) Refusal) (halted : Option Phase) → k.engine.halted ≡ halted → IfSome halted (λ _. ◌≡◌ {A = Replica D × Result (Unit {0}) Refusal} (new, result) (given_up k, Err Stopped))
     → (halted ≡ None → Lands failures k new result) → OnErr result ((facts_of failures new).stopped ≡ true)
 end_failed failures k new (Ok x) halted is stopped lands = tt
 end_failed failures k new (Err e) None is stopped lands = (lands refl).fault.1
