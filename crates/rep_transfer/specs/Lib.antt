@@ -1,0 +1,9 @@
+pub mod Shapes
+pub mod ShapeLaws
+pub mod Haves
+pub mod Pieces
+pub mod Taking
+pub mod Transfers
+pub mod TransferLaws
+pub mod PieceLaws
+pub mod Writing

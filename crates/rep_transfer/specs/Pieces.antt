@@ -1,0 +1,64 @@
+-- The pieces of a transfer: values that are read one after another, each of which tells early how long it is.
+use Rattle.std.specs.Prelude.{◌≡◌, ℕ, ◌+◌, ◌*◌, ◌-◌, ◌^◌, ◌<◌, ◌≤◌, List, ◌++◌, length, take, get_or, Option, Some, IfSome}
+use Rattle.rep_types.specs.Entries.{Entry}
+use Rattle.rep_forms.specs.Forms.{Form, number, number_bytes, number_in, ◌⊗◌, via, as_named}
+use Rattle.rep_forms.specs.Entries.{entry_form}
+use Rattle.rep_pages.specs.Rows.{Rows, rows_form}
+use Rattle.rep_record.specs.Records.{record_form}
+use Rattle.rep_transfer.specs.declared.pieces.Front.{Front}
+use Rattle.rep_transfer.specs.declared.pieces.NumberedPage.{NumberedPage}
+use Rattle.rep_transfer.specs.declared.pieces.TheConstants.{PIECE}
+
+-- The first bytes of a spelling, so many of them, tell how many more there are; and there is room for all.
+pub record IsPaced {A : Type 0} (F : Form A) (head : ℕ) (more : List ℕ → ℕ) : Type 0 where
+  pub size : (x : A) → F.Fits x → length (F.spell x) ≡ head + more (take head (F.spell x))
+  pub room : (x : A) → F.Fits x → length (F.spell x) ≤ PIECE
+
+-- no more
+abbrev pub no_more : List ℕ → ℕ
+no_more head = 0
+
+-- What a reader of all of the bytes answers: the value that they spell, where they spell one.
+pub record IsWhole {A : Type 0} (F : Form A) (bytes : List ℕ) (result : Option A) : Type 0 where
+  pub found : IfSome result (λ x. F.Fits x × (bytes ≡ F.spell x))
+  pub only : (x : A) → F.Fits x → bytes ≡ F.spell x → result ≡ Some x
+
+-- ---- what a snapshot begins with: its position, and how many entries its window has
+
+pub record FrontFits (f : Front) : Type 0 where
+  pub position : f.position < 2 ^ 64
+  pub count : f.count < 2 ^ 16
+
+abbrev pub front_bytes : Front → List ℕ
+front_bytes f = number_bytes 8 f.position ++ number_bytes 2 f.count
+
+abbrev pub front_fields : Form Front
+front_fields = via (number 8 ⊗ number 2) (λ (f : Front). (f.position, f.count)) (λ x. Some (record { position = x.0; count = x.1 }))
+
+abbrev pub front_form : Form Front
+front_form = as_named front_fields FrontFits front_bytes
+
+-- ---- a page: its number, and its rows
+
+pub record PageFits (p : NumberedPage) : Type 0 where
+  pub number : p.number < 2 ^ 16
+  pub rows : rows_form.Fits p.rows
+
+abbrev pub page_bytes : NumberedPage → List ℕ
+page_bytes p = number_bytes 2 p.number ++ rows_form.spell p.rows
+
+abbrev pub page_fields : Form NumberedPage
+page_fields = via (number 2 ⊗ rows_form) (λ (p : NumberedPage). (p.number, p.rows)) (λ x. Some (record { number = x.0; rows = x.1 }))
+
+abbrev pub page_form : Form NumberedPage
+page_form = as_named page_fields PageFits page_bytes
+
+-- ---- pieces that tell how long they are
+
+-- the bytes of an entry's keys, by its seqno and how many keys there are
+unfoldable pub more_of_entry : List ℕ → ℕ
+more_of_entry head = 5 * get_or head 8 0
+
+-- the bytes of a record behind its length
+unfoldable pub more_of_record : List ℕ → ℕ
+more_of_record head = number_in 2 head - 2

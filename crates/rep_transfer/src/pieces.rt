@@ -1,0 +1,359 @@
+//! The pieces that a transfer is read in.
+
+ghost use Rattle.std.specs.Prelude.{◌≡◌, ◌+◌, ◌-◌, ◌≤◌, ◌<◌, ◌^◌, ℕ, List, length, option_map};
+ghost use Rattle.rep_forms.specs.Forms.{Form as form_of, byte, number};
+ghost use Rattle.rep_forms.specs.Entries.{entry_form};
+ghost use Rattle.rep_record.specs.Records.{record_form};
+ghost use Rattle.rep_transfer.specs.Haves.{header_form};
+ghost use Rattle.rep_transfer.specs.Pieces.{IsPaced, IsWhole, no_more, more_of_entry, more_of_record, front_form, page_form};
+
+use crate::header::{HEADER, Header};
+use arrayvec::ArrayVec;
+use rep_forms::{Exact, Form, Put, put_u16, put_u64, read_front, read_u16, read_u64, strip_front};
+use rep_pages::PageRows;
+use rep_record::read_record;
+use rep_types::{Entry, Judged};
+
+/// The number of bytes of the longest piece, a page: its number, and 64 for each of its rows.
+pub const PIECE: usize = 4_034;
+
+/// A piece of a transfer: its first bytes, so many of them, tell how many more there are.
+pub trait Piece: Sized + Drop {
+    /// Its form.
+    ghost piece: { form_of Self };
+
+    /// How many bytes tell how many more there are.
+    ghost head: { ℕ };
+
+    /// And how many more that is.
+    ghost more: { List ℕ → ℕ };
+
+    /// How many bytes tell how many more there are.
+    fn head_size() -> usize
+        ensures size { result ≡ head }
+        ensures room { result ≤ PIECE };
+
+    /// How many more there are, where these are the first.
+    fn more_size(first: &[u8]) -> usize
+        requires { length first.now ≡ head }
+        ensures size { result ≡ more first.now }
+        ensures small { result < 2 ^ 16 };
+
+    /// The value that all of the bytes spell.
+    fn of(bytes: &[u8]) -> Option<Self>
+        ensures { IsWhole piece bytes.now result };
+
+    ghost is_paced: { IsPaced piece head more };
+}
+
+/// The value that all of the bytes spell.
+fn whole<T: Exact>(bytes: &[u8]) -> Option<T>
+    ensures { IsWhole T.form bytes.now result }
+{
+    let (value, rest) = read_front::<T>(bytes)?;
+    if rest.is_empty() { Some(value) } else { None }
+}
+
+/// What a snapshot begins with.
+#[derive(Clone, Copy, Debug, PartialEq, Eq)]
+pub struct Front {
+    /// The position that the snapshot is at.
+    pub position: u64,
+    /// How many entries its window has.
+    pub count: u16,
+}
+
+impl Form for Front {
+    ghost use Rattle.rep_transfer.specs.TransferLaws.{front_is_form};
+
+    ghost form = { front_form };
+
+    ghost most = { 10 };
+
+    fn read(bytes: &[u8]) -> Option<(Front, &[u8])> {
+        let (position, rest) = read_u64(bytes)?;
+        let (count, rest) = read_u16(rest)?;
+        Some((Front { position, count }, rest))
+    }
+
+    ghost is_form = { front_is_form };
+}
+
+impl<const N: usize> Put<N> for Front {
+    #[tactic(auto, using(rep_forms::specs::FormLaws::sizes, rep_forms::specs::FormLaws::joined))]
+    fn put(&self, out: &mut ArrayVec<u8, N>) {
+        put_u64(out, self.position);
+        put_u16(out, self.count);
+    }
+}
+
+impl Exact for Front {
+    fn strip<'a>(&self, bytes: &'a [u8]) -> Option<&'a [u8]> {
+        let mut spelling: ArrayVec<u8, 10> = ArrayVec::new();
+        self.put(&mut spelling);
+        strip_front(bytes, spelling.as_slice())
+    }
+}
+
+/// A page of a snapshot: its number, counted from 0 over all tables, and its rows.
+#[derive(Debug, Drop, PartialEq, Eq)]
+pub struct NumberedPage {
+    /// Its number.
+    pub number: u16,
+    /// Its rows.
+    pub rows: PageRows,
+}
+
+impl Form for NumberedPage {
+    ghost use Rattle.rep_transfer.specs.TransferLaws.{page_is_form};
+
+    ghost form = { page_form };
+
+    ghost most = { 4034 };
+
+    fn read(bytes: &[u8]) -> Option<(NumberedPage, &[u8])> {
+        let (number, rest) = read_u16(bytes)?;
+        let (rows, rest) = PageRows::read(rest)?;
+        Some((NumberedPage { number, rows }, rest))
+    }
+
+    ghost is_form = { page_is_form };
+}
+
+impl<const N: usize> Put<N> for NumberedPage {
+    #[tactic(auto, using(rep_forms::specs::FormLaws::sizes, rep_forms::specs::FormLaws::joined))]
+    fn put(&self, out: &mut ArrayVec<u8, N>) {
+        put_u16(out, self.number);
+        self.rows.put(out);
+    }
+}
+
+impl Exact for NumberedPage {
+    fn strip<'a>(&self, bytes: &'a [u8]) -> Option<&'a [u8]> {
+        let mut spelling: ArrayVec<u8, PIECE> = ArrayVec::new();
+        self.put(&mut spelling);
+        strip_front(bytes, spelling.as_slice())
+    }
+}
+
+/// A letter, which tells what part comes.
+impl Piece for u8 {
+    ghost use Rattle.rep_transfer.specs.PieceLaws.{letter_is_paced};
+
+    ghost piece = { byte };
+
+    ghost head = { 1 };
+
+    ghost more = { no_more };
+
+    fn head_size() -> usize {
+        1
+    }
+
+    fn more_size(_first: &[u8]) -> usize {
+        0
+    }
+
+    fn of(bytes: &[u8]) -> Option<u8> {
+        match bytes {
+            [letter] => Some(*letter),
+            _ => None,
+        }
+    }
+
+    ghost is_paced = { letter_is_paced };
+}
+
+/// How many pages come, in 2 bytes.
+impl Piece for u16 {
+    ghost use Rattle.rep_transfer.specs.PieceLaws.{count_is_paced};
+
+    ghost piece = { number 2 };
+
+    ghost head = { 2 };
+
+    ghost more = { no_more };
+
+    fn head_size() -> usize {
+        2
+    }
+
+    fn more_size(_first: &[u8]) -> usize {
+        0
+    }
+
+    fn of(bytes: &[u8]) -> Option<u16> {
+        let (count, _) = read_u16(bytes)?;
+        let mut spelling: ArrayVec<u8, 2> = ArrayVec::new();
+        put_u16(&mut spelling, count);
+        if bytes == spelling.as_slice() {
+            Some(count)
+        } else {
+            None
+        }
+    }
+
+    ghost is_paced = { count_is_paced };
+}
+
+/// The position at which a transfer ends, in 8 bytes.
+impl Piece for u64 {
+    ghost use Rattle.rep_transfer.specs.PieceLaws.{position_is_paced};
+
+    ghost piece = { number 8 };
+
+    ghost head = { 8 };
+
+    ghost more = { no_more };
+
+    fn head_size() -> usize {
+        8
+    }
+
+    fn more_size(_first: &[u8]) -> usize {
+        0
+    }
+
+    fn of(bytes: &[u8]) -> Option<u64> {
+        let (position, _) = read_u64(bytes)?;
+        let mut spelling: ArrayVec<u8, 8> = ArrayVec::new();
+        put_u64(&mut spelling, position);
+        if bytes == spelling.as_slice() {
+            Some(position)
+        } else {
+            None
+        }
+    }
+
+    ghost is_paced = { position_is_paced };
+}
+
+impl Piece for Header {
+    ghost use Rattle.rep_transfer.specs.PieceLaws.{header_is_paced};
+
+    ghost piece = { header_form };
+
+    ghost head = { 59 };
+
+    ghost more = { no_more };
+
+    fn head_size() -> usize {
+        HEADER
+    }
+
+    fn more_size(_first: &[u8]) -> usize {
+        0
+    }
+
+    fn of(bytes: &[u8]) -> Option<Header> {
+        whole::<Header>(bytes)
+    }
+
+    ghost is_paced = { header_is_paced };
+}
+
+impl Piece for Front {
+    ghost use Rattle.rep_transfer.specs.PieceLaws.{front_is_paced};
+
+    ghost piece = { front_form };
+
+    ghost head = { 10 };
+
+    ghost more = { no_more };
+
+    fn head_size() -> usize {
+        10
+    }
+
+    fn more_size(_first: &[u8]) -> usize {
+        0
+    }
+
+    fn of(bytes: &[u8]) -> Option<Front> {
+        whole::<Front>(bytes)
+    }
+
+    ghost is_paced = { front_is_paced };
+}
+
+/// An entry of a window: its seqno and the number of its keys tell how long it is.
+impl Piece for Entry {
+    ghost use Rattle.rep_transfer.specs.PieceLaws.{entry_is_paced};
+
+    ghost piece = { entry_form };
+
+    ghost head = { 9 };
+
+    ghost more = { more_of_entry };
+
+    fn head_size() -> usize {
+        9
+    }
+
+    #[tactic(auto, unfolding(crate::specs::Pieces::more_of_entry))]
+    fn more_size(first: &[u8]) -> usize {
+        5 * usize::from(first[8])
+    }
+
+    fn of(bytes: &[u8]) -> Option<Entry> {
+        whole::<Entry>(bytes)
+    }
+
+    ghost is_paced = { entry_is_paced };
+}
+
+impl Piece for NumberedPage {
+    ghost use Rattle.rep_transfer.specs.PieceLaws.{page_is_paced};
+
+    ghost piece = { page_form };
+
+    ghost head = { 4034 };
+
+    ghost more = { no_more };
+
+    fn head_size() -> usize {
+        PIECE
+    }
+
+    fn more_size(_first: &[u8]) -> usize {
+        0
+    }
+
+    fn of(bytes: &[u8]) -> Option<NumberedPage> {
+        whole::<NumberedPage>(bytes)
+    }
+
+    ghost is_paced = { page_is_paced };
+}
+
+/// A record, as a log has it: its first two bytes say how long it is.
+impl Piece for Judged {
+    ghost use Rattle.rep_transfer.specs.PieceLaws.{record_is_paced};
+
+    ghost piece = { record_form };
+
+    ghost head = { 2 };
+
+    ghost more = { more_of_record };
+
+    fn head_size() -> usize {
+        2
+    }
+
+    #[tactic(auto, unfolding(crate::specs::Pieces::more_of_record, rep_forms::specs::Forms::part))]
+    fn more_size(first: &[u8]) -> usize {
+        match read_u16(first) {
+            Some((size, _)) => usize::from(size).saturating_sub(2),
+            None => 0,
+        }
+    }
+
+    fn of(bytes: &[u8]) -> Option<Judged> {
+        match read_record(bytes) {
+            Ok((judged, size)) if size == bytes.len() => Some(judged),
+            _ => None,
+        }
+    }
+
+    ghost is_paced = { record_is_paced };
+}

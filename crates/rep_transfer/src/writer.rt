@@ -1,0 +1,118 @@
+//! A transfer, written part by part.
+
+ghost use Rattle.std.specs.Prelude.{◌≡◌, ◌∷◌, true, Err, OnOk};
+ghost use Rattle.std.specs.Io.KnownBytes.{Keeps};
+ghost use Rattle.rep_layout.specs.Supers.{IsNil};
+ghost use Rattle.rep_forms.specs.Forms.{number_bytes};
+ghost use Rattle.rep_forms.specs.Entries.{EntryFits, entry_bytes};
+ghost use Rattle.rep_record.specs.Records.{IsRecord, is_placed};
+ghost use Rattle.rep_transfer.specs.Haves.{IsHeader, header_bytes};
+ghost use Rattle.rep_transfer.specs.Pieces.{FrontFits, front_bytes, PageFits, page_bytes};
+ghost use Rattle.rep_transfer.specs.Transfers.{record_part, end_bytes};
+ghost use Rattle.rep_transfer.specs.Writing.{Wrote};
+
+use crate::header::Header;
+use crate::part::{END, RECORD, SNAPSHOT};
+use crate::pieces::{Front, NumberedPage, PIECE};
+use arrayvec::ArrayVec;
+use rep_forms::{MAX_ENTRY, Put, put_bytes, put_u8, put_u16, put_u64};
+use rep_record::{MAX_RECORD, put_all, put_record};
+use rep_types::{Entry, Judged, Refusal};
+use std::io::Write;
+
+/// The number of bytes of the longest record behind its letter.
+const RECORD_PART: usize = MAX_RECORD + 1;
+
+/// Writes the header.
+///
+/// Refuses with `Undefined` one of the nil UUID, and writes nothing; and with `StreamFault` where the writer fails, which has then taken
+/// a front of it.
+pub fn write_header<W: Write>(writer: &mut W, header: &Header) -> Result<(), Refusal>
+    ensures undefined { IsNil header.now.uuid → (result ≡ Err Refusal.Undefined) × Keeps (W.contents writer.old) (W.contents writer.new) }
+    ensures written { (IsNil header.now.uuid → ⊥) → Wrote (W.contents writer.old) (W.contents writer.new) (header_bytes header.now) result }
+    ensures fits { OnOk result (IsHeader header.now) }
+{
+    match header.write_bytes() {
+        Some(bytes) => put_all(writer, bytes.as_slice()),
+        None => Err(Refusal::Undefined),
+    }
+}
+
+/// Writes what a snapshot begins with: its entries are written next, and then its pages.
+///
+/// Refuses with `StreamFault` where the writer fails; it has then taken a front of it.
+pub fn write_front<W: Write>(writer: &mut W, front: &Front) -> Result<(), Refusal>
+    ensures written { Wrote (W.contents writer.old) (W.contents writer.new) (83 ∷ front_bytes front.now) result }
+    ensures fits { FrontFits front.now }
+{
+    let mut out: ArrayVec<u8, 11> = ArrayVec::new();
+    put_u8(&mut out, SNAPSHOT);
+    front.put(&mut out);
+    put_all(writer, out.as_slice())
+}
+
+/// Writes an entry of a snapshot's window.
+///
+/// Refuses with `StreamFault` where the writer fails; it has then taken a front of it.
+pub fn write_entry<W: Write>(writer: &mut W, entry: &Entry) -> Result<(), Refusal>
+    ensures written { Wrote (W.contents writer.old) (W.contents writer.new) (entry_bytes entry.now) result }
+    ensures fits { EntryFits entry.now }
+{
+    let mut out: ArrayVec<u8, MAX_ENTRY> = ArrayVec::new();
+    entry.put(&mut out);
+    put_all(writer, out.as_slice())
+}
+
+/// Writes how many pages a snapshot has, which are written next.
+///
+/// Refuses with `StreamFault` where the writer fails; it has then taken a front of it.
+pub fn write_count<W: Write>(writer: &mut W, count: u16) -> Result<(), Refusal>
+    ensures { Wrote (W.contents writer.old) (W.contents writer.new) (number_bytes 2 count) result }
+{
+    let mut out: ArrayVec<u8, 2> = ArrayVec::new();
+    put_u16(&mut out, count);
+    put_all(writer, out.as_slice())
+}
+
+/// Writes a page of a snapshot.
+///
+/// Refuses with `StreamFault` where the writer fails; it has then taken a front of it.
+pub fn write_page<W: Write>(writer: &mut W, page: &NumberedPage) -> Result<(), Refusal>
+    ensures written { Wrote (W.contents writer.old) (W.contents writer.new) (page_bytes page.now) result }
+    ensures fits { PageFits page.now }
+{
+    let mut out: ArrayVec<u8, PIECE> = ArrayVec::new();
+    page.put(&mut out);
+    put_all(writer, out.as_slice())
+}
+
+/// Writes an item with its seqno and its verdict, which has a place in a record: `is_placed` of rep_record says whether it has.
+///
+/// Refuses with `StreamFault` where the writer fails; it has then taken a front of it.
+pub fn write_record<W: Write>(writer: &mut W, judged: &Judged) -> Result<(), Refusal>
+    requires { is_placed judged.now ≡ true }
+    ensures written { Wrote (W.contents writer.old) (W.contents writer.new) (record_part judged.now) result }
+    ensures fits { IsRecord judged.now }
+{
+    match put_record(judged) {
+        Some(record) => {
+            let mut out: ArrayVec<u8, RECORD_PART> = ArrayVec::new();
+            put_u8(&mut out, RECORD);
+            put_bytes(&mut out, record.as_slice());
+            put_all(writer, out.as_slice())
+        }
+        None => unreachable!(),
+    }
+}
+
+/// Writes the end of a transfer, at this position.
+///
+/// Refuses with `StreamFault` where the writer fails; it has then taken a front of it.
+pub fn write_end<W: Write>(writer: &mut W, last: u64) -> Result<(), Refusal>
+    ensures { Wrote (W.contents writer.old) (W.contents writer.new) (end_bytes last) result }
+{
+    let mut out: ArrayVec<u8, 9> = ArrayVec::new();
+    put_u8(&mut out, END);
+    put_u64(&mut out, last);
+    put_all(writer, out.as_slice())
+}
