@@ -1,0 +1,93 @@
+-- What is written of a donation, one part after another.
+use Rattle.std.proofs.Common.{◌≡◌, ℕ, ◌+◌, List, [], ◌∷◌, ◌++◌, length, take, Option, Result, Ok, Err, inl, inr, refl, sym, ap, subst, ◌∙◌, append_assoc, arith}
+use Rattle.std.specs.Prelude.{OnOk, OnErr, Bool, true, false, filter}
+use Rattle.std.specs.List.{AllByRecursion}
+use Rattle.std.specs.Io.KnownBytes.{Appends}
+use Rattle.std.proofs.KnownBytes.{Appends-trans}
+use Rattle.std.proofs.Math.Seq.{take-append-add, take-append-le}
+use Rattle.std.proofs.lemmas.List.{take_all}
+use Rattle.std.proofs.lemmas.Bool.{cases_lt}
+use Rattle.rep_types.specs.declared.refusal.Refusal.{Refusal}
+use Rattle.rep_transfer.specs.Writing.{Wrote}
+
+-- ---- a part behind another
+
+cut_behind : (a b c : Option (List ℕ)) (xs ys : List ℕ) (result : Result (Unit {0}) Refusal) → Appends a b xs → OnErr result ((k : ℕ) × Appends b c (take k ys)) → OnErr result ((k : ℕ) × Appends a c (take k (xs ++ ys)))
+cut_behind a b c xs ys (Ok x) first cut = tt
+cut_behind a b c xs ys (Err e) first cut = (length xs + cut.0, subst (Appends a c) (sym (take-append-add xs ys cut.0)) (Appends-trans a b c xs (take cut.0 ys) first cut.1))
+
+done_behind : (a b c : Option (List ℕ)) (xs ys : List ℕ) (result : Result (Unit {0}) Refusal) → Appends a b xs → OnOk result (Appends b c ys) → OnOk result (Appends a c (xs ++ ys))
+done_behind a b c xs ys (Ok x) first done = Appends-trans a b c xs ys first done
+done_behind a b c xs ys (Err e) first done = tt
+
+pub wrote_behind : (a b c : Option (List ℕ)) (xs ys : List ℕ) (result : Result (Unit {0}) Refusal) → Appends a b xs → Wrote b c ys result → Wrote a c (xs ++ ys) result
+wrote_behind a b c xs ys result first second = record {
+  done = done_behind a b c xs ys result first second.done;
+  cut = cut_behind a b c xs ys result first second.cut;
+  refused = second.refused;
+}
+
+-- a front of a front
+front_of_front : (xs ys : List ℕ) (k : ℕ) → (m : ℕ) × (take k xs ≡ take m (xs ++ ys))
+front_of_front xs ys k = elim (cases_lt k (length xs)) [
+  | inl below ↦ (k, sym (take-append-le k xs ys (omega arith)))
+  | inr past ↦ (length xs, take_all k xs (omega arith) ∙ sym (take-append-le (length xs) xs ys (omega arith) ∙ take_all (length xs) xs (omega arith)))
+]
+
+-- a writer that failed in a part failed in what begins with it
+pub cut_before : (a b : Option (List ℕ)) (xs ys : List ℕ) (e : Refusal) → Wrote a b xs (Err e) → Wrote a b (xs ++ ys) (Err e)
+cut_before a b xs ys e first =
+    let front = front_of_front xs ys first.cut.0 in
+    record { done = tt; cut = (front.0, subst (Appends a b) front.1 first.cut.1); refused = first.refused }
+
+-- ---- many values, one after another
+
+-- what was written of them, and what is left
+pub record Writing {A : Type 0} (P : A → Type 0) (spell : List A → List ℕ) (all left : List A) (old new : Option (List ℕ)) : Type 0 where
+  pub gone : List A
+  pub split : all ≡ gone ++ left
+  pub fit : AllByRecursion P gone
+  pub written : Appends old new (spell gone)
+
+pub all_push : {A : Type 0} (P : A → Type 0) (xs : List A) (x : A) → AllByRecursion P xs → P x → AllByRecursion P (xs ++ x ∷ [])
+all_push P [] x all here = (here, tt)
+all_push P (y ∷ xs) x all here = (all.0, all_push P xs x all.1 here)
+
+pub in_middle : {A : Type 0} (P : A → Type 0) (xs : List A) (x : A) (ys : List A) → AllByRecursion P (xs ++ x ∷ ys) → P x
+in_middle P [] x ys all = all.0
+in_middle P (y ∷ xs) x ys all = in_middle P xs x ys all.1
+
+pub all_both : {A : Type 0} (P : A → Type 0) (xs ys : List A) → AllByRecursion P xs → AllByRecursion P ys → AllByRecursion P (xs ++ ys)
+all_both P [] ys one two = two
+all_both P (x ∷ xs) ys one two = (one.0, all_both P xs ys one.1 two)
+
+filter_step : {A : Type 0} (P : A → Type 0) (test : A → Bool) (b : Bool) (x : A) (xs : List A) → test x ≡ b → P x → AllByRecursion P (filter test xs) → AllByRecursion P (filter test (x ∷ xs))
+filter_step P test true x xs is here rest = rw is (here, rest)
+filter_step P test false x xs is here rest = rw is rest
+
+pub all_filter : {A : Type 0} (P : A → Type 0) (test : A → Bool) (xs : List A) → AllByRecursion P xs → AllByRecursion P (filter test xs)
+all_filter P test [] all = tt
+all_filter P test (x ∷ xs) all = filter_step P test (test x) x xs refl all.0 (all_filter P test xs all.1)
+
+module _ {A : Type 0} (P : A → Type 0) (spell : List A → List ℕ) (joins : (xs ys : List A) → spell (xs ++ ys) ≡ spell xs ++ spell ys) (all : List A) where
+  split_more : (gone left rest : List A) (x : A) → all ≡ gone ++ left → left ≡ x ∷ rest → all ≡ (gone ++ x ∷ []) ++ rest
+  split_more gone left rest x split first = split ∙ ap (λ xs. gone ++ xs) first ∙ sym (append_assoc gone (x ∷ []) rest)
+
+  pub writing_more : (left rest : List A) (x : A) (bytes : List ℕ) (old mid new : Option (List ℕ)) → spell (x ∷ []) ≡ bytes → Writing P spell all left old mid → left ≡ x ∷ rest → P x → Appends mid new bytes → Writing P spell all rest old new
+  writing_more left rest x bytes old mid new one w first fits written = record {
+    gone = w.gone ++ x ∷ [];
+    split = split_more w.gone left rest x w.split first;
+    fit = all_push P w.gone x w.fit fits;
+    written = subst (Appends old new) (sym (joins w.gone (x ∷ []))) (Appends-trans old mid new (spell w.gone) (spell (x ∷ [])) w.written (subst (Appends mid new) (sym one) written));
+  }
+
+  -- the writer failed at this one
+  pub writing_cut : (left rest : List A) (x : A) (bytes : List ℕ) (old mid new : Option (List ℕ)) (e : Refusal) → spell (x ∷ []) ≡ bytes → Writing P spell all left old mid → left ≡ x ∷ rest → Wrote mid new bytes (Err e) → Wrote old new (spell all) (Err e)
+  writing_cut left rest x bytes old mid new e one w first cut =
+      let both : spell all ≡ (spell w.gone ++ spell (x ∷ [])) ++ spell rest = ap spell (split_more w.gone left rest x w.split first) ∙ joins (w.gone ++ x ∷ []) rest ∙ ap (λ xs. xs ++ spell rest) (joins w.gone (x ∷ [])) in
+      let here : Wrote mid new (spell (x ∷ [])) (Err e) = subst (λ xs. Wrote mid new xs (Err e)) (sym one) cut in
+      subst (λ xs. Wrote old new xs (Err e)) (sym both) (cut_before old new (spell w.gone ++ spell (x ∷ [])) (spell rest) e (wrote_behind old mid new (spell w.gone) (spell (x ∷ [])) (Err e) w.written here))
+
+-- the next one is one of all
+pub next_is : {A : Type 0} (P : A → Type 0) (spell : List A → List ℕ) (all left rest : List A) (x : A) (old mid : Option (List ℕ)) → Writing P spell all left old mid → left ≡ x ∷ rest → AllByRecursion P all → P x
+next_is P spell all left rest x old mid w first fit = in_middle P w.gone x rest (subst (AllByRecursion P) (w.split ∙ ap (λ xs. w.gone ++ xs) first) fit)

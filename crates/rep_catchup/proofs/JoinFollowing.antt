@@ -1,0 +1,311 @@
+-- What is taken of a transfer's bytes, part by part.
+use Rattle.std.proofs.Common.{◌≡◌, ◌⊎◌, inl, inr, ℕ, ◌<◌, ◌^◌, true, false, List, [], ◌∷◌, ◌++◌, length, drop, Option, None, Some, Result, Ok, Err, refl, sym, ap, subst, ◌∙◌, append_assoc, append-nil, arith, length-append}
+use Rattle.std.specs.Prelude.{IfOk, IfSome, OnOk, MatchOption, Bool, ◌==◌, ◌&&◌}
+use Rattle.std.specs.List.{flat_map, AllByRecursion}
+use Rattle.std.specs.Io.KnownBytes.{Consumes}
+use Rattle.std.proofs.KnownBytes.{Consumes-nil, Consumes-trans}
+use Rattle.std.proofs.lemmas.Bool.Decides.{nat_tests}
+use Rattle.rep_types.specs.declared.judged.Judged.{Judged}
+use Rattle.rep_types.specs.declared.refusal.Refusal.{Refusal}
+use Rattle.rep_types.specs.Settings.{Setting}
+use Rattle.rep_types.specs.Order.{Order, items_of, state, history as history_of}
+use Rattle.rep_types.specs.ByItems.{HistoryByItems}
+use Rattle.rep_record.specs.Records.{IsRecord}
+use Rattle.rep_disk.specs.History.{History}
+use Rattle.rep_layout.specs.Supers.{IsNil}
+use Rattle.rep_steps.specs.Standings.{Standing, delivered}
+use Rattle.rep_steps.specs.Moves.{is_off}
+use Rattle.rep_steps.specs.Nodes.{Node}
+use Rattle.rep_steps.specs.Orders.{IsOf}
+use Rattle.rep_replica.specs.Replicas.{Replica, facts_of}
+use Rattle.rep_replica.specs.Holding.{Holds}
+use Rattle.rep_replica.specs.Settling.{is_quiet}
+use Rattle.rep_transfer.specs.declared.pieces.Front.{Front}
+use Rattle.rep_transfer.specs.declared.part.Part.{Part}
+use Rattle.rep_transfer.specs.Haves.{header_bytes}
+use Rattle.rep_transfer.specs.Shapes.{shape_of}
+use Rattle.rep_transfer.specs.Pieces.{front_bytes}
+use Rattle.rep_transfer.specs.Taking.{Takes, TakesOne}
+use Rattle.rep_transfer.specs.Transfers.{Snapshot, Transfer, front_of, rest_of, snapshot_bytes, record_part, end_bytes, PartFits, part_bytes}
+use Rattle.rep_catchup.specs.Snapshots.{Brought, IsSnapshot, state_of}
+use Rattle.rep_catchup.specs.Joining.{Grown, Follows, Followed, FollowedFrom, StartsAt, MayCome, TakesAll, TakesHeader, EndsAt, Joined, end_part}
+use Rattle.rep_catchup.proofs.JoinGrowing.{grown_then}
+
+-- ---- one piece
+
+pub consumed : {A : Type 0} (Fits : A → Type 0) (spell : A → List ℕ) (a b : Option (List ℕ)) (x : A) (result : Result (Option A) Refusal) → result ≡ Ok (Some x) → IfSome a (λ bytes. TakesOne Fits spell bytes b result) → Consumes a b (spell x)
+consumed Fits spell None b x result is h = tt
+consumed {A} Fits spell (Some bytes) b x result is h =
+    let t : Takes Fits spell x bytes b = subst (λ (r : Result (Option A) Refusal). TakesOne Fits spell bytes b r) is h in
+    subst (λ (o : Option (List ℕ)). Consumes (Some bytes) o (spell x)) (sym t.left_is) t.front
+
+pub found_fits : {A : Type 0} (Fits : A → Type 0) (x : A) (result : Result (Option A) Refusal) → result ≡ Ok (Some x) → IfOk result (λ found. IfSome found Fits) → Fits x
+found_fits {A} Fits x result is h = subst (λ (r : Result (Option A) Refusal). IfOk r (λ found. IfSome found Fits)) is h
+
+-- ---- the parts behind a snapshot
+
+all_both : {A : Type 0} (P : A → Type 0) (xs ys : List A) → AllByRecursion P xs → AllByRecursion P ys → AllByRecursion P (xs ++ ys)
+all_both P [] ys h k = k
+all_both P (x ∷ xs) ys h k = (h.0, all_both P xs ys h.1 k)
+
+flat_both : (xs ys : List Judged) → flat_map record_part (xs ++ ys) ≡ flat_map record_part xs ++ flat_map record_part ys
+flat_both [] ys = refl
+flat_both (x ∷ xs) ys = ap (λ (bs : List ℕ). record_part x ++ bs) (flat_both xs ys) ∙ sym (append_assoc (record_part x) (flat_map record_part xs) (flat_map record_part ys))
+
+module _ {D : Type 0} (honest : D → Type 0) (history : D → History) (failures : D → ℕ) where
+  pub took_record : (old new : Replica D) (j : Judged) → IsRecord j → Grown honest history failures old new (j ∷ []) → Follows honest history failures old new None (record_part j)
+  took_record old new j is grown = record {
+    records = j ∷ [];
+    are_records = (is, tt);
+    spelled = sym (append-nil ((record_part j) ++ []) ∙ append-nil (record_part j));
+    grown = grown;
+    ends = tt;
+  }
+
+  pub took_end : (old new : Replica D) (last : ℕ) → last < 2 ^ 64 → delivered (facts_of failures old) ≡ last → is_quiet (facts_of failures new) ≡ true → Grown honest history failures old new [] → Follows honest history failures old new (Some last) (end_bytes last)
+  took_end old new last limit is quiet grown = record {
+    records = [];
+    are_records = tt;
+    spelled = refl;
+    grown = grown;
+    ends = record { quiet = quiet; limit = limit; last_is = λ n holds. omega (arith, is) };
+  }
+
+  module _ (by_items : HistoryByItems) where
+    ends_then : (a b c : Replica D) (xs ys : List Judged) (ended : Option ℕ) → Grown honest history failures a b xs → IfSome ended (EndsAt honest history failures b c ys) → IfSome ended (EndsAt honest history failures a c (xs ++ ys))
+    ends_then a b c xs ys None grown e = tt
+    ends_then a b c xs ys (Some last) grown e = record {
+      quiet = e.quiet;
+      limit = e.limit;
+      last_is = λ n holds.
+          let one = grown.node n holds in
+          let there = e.last_is one.0 one.2 in
+          let here : delivered n.facts ≡ delivered (facts_of failures a) = ap delivered holds.facts in
+          let next : delivered one.0.facts ≡ delivered (facts_of failures b) = ap delivered one.2.facts in
+          omega (arith, there, here, next, one.1.count, length-append xs ys);
+    }
+
+    pub follows_then : (a b c : Replica D) (ended : Option ℕ) (one two : List ℕ) → Follows honest history failures a b None one → Follows honest history failures b c ended two → Follows honest history failures a c ended (one ++ two)
+    follows_then a b c ended one two first second = record {
+      records = first.records ++ second.records;
+      are_records = all_both IsRecord first.records second.records first.are_records second.are_records;
+      spelled =
+          ap (λ (bs : List ℕ). bs ++ two) (first.spelled ∙ append-nil (flat_map record_part first.records)) ∙ ap (λ (bs : List ℕ). flat_map record_part first.records ++ bs) second.spelled
+          ∙ sym (append_assoc (flat_map record_part first.records) (flat_map record_part second.records) (end_part ended)) ∙ ap (λ (bs : List ℕ). bs ++ end_part ended) (sym (flat_both first.records second.records));
+      grown = grown_then by_items honest history failures a b c first.records second.records first.grown second.grown;
+      ends = ends_then a b c first.records second.records ended first.grown second.ends;
+    }
+
+    -- nothing was taken yet
+    pub followed_none : (old : Replica D) (before : Option (List ℕ)) → Grown honest history failures old old [] → Followed honest history failures old old before before None
+    followed_none old before grown = ([], Consumes-nil before, record { records = []; are_records = tt; spelled = refl; grown = grown; ends = tt })
+
+    -- one part more
+    pub followed_then : (a b c : Replica D) (start before left : Option (List ℕ)) (ended : Option ℕ) (two : List ℕ) → Followed honest history failures a b start before None → Consumes before left two → Follows honest history failures b c ended two
+        → Followed honest history failures a c start left ended
+    followed_then a b c start before left ended two first taken second = (first.0 ++ two, Consumes-trans start before left first.0 two first.1 taken, follows_then a b c ended first.0 two first.2 second)
+
+    -- a part, and those behind it
+    pub from_then : (a b c : Replica D) (before left : Option (List ℕ)) (last : ℕ) (one : List ℕ) → Follows honest history failures a b None one → Followed honest history failures b c before left (Some last) → FollowedFrom honest history failures a c one before left last
+    from_then a b c before left last one first second = (second.0, second.1, follows_then a b c (Some last) one second.0 first second.2)
+
+  pub from_end : (a b : Replica D) (before : Option (List ℕ)) (last : ℕ) (one : List ℕ) → Follows honest history failures a b (Some last) one → FollowedFrom honest history failures a b one before before last
+  from_end a b before last one first = ([], Consumes-nil before, subst (Follows honest history failures a b (Some last)) (sym (append-nil one)) first)
+
+  -- ---- all parts
+
+  module _ (old new : Replica D) (uuid : List ℕ) (last : ℕ) where
+    -- where no snapshot comes
+    pub takes_records : (hand : List ℕ) (before left : Option (List ℕ)) → (uuid ≡ (facts_of failures old).uuid) ⊎ IsNil (facts_of failures old).uuid → (IsNil (facts_of failures old).uuid → ⊥)
+        → FollowedFrom honest history failures old new hand before left last → TakesAll honest history failures old new uuid last hand before left
+    takes_records hand before left (inr nil) defined f = absurd (defined nil)
+    takes_records hand before left (inl same) defined f =
+        let h = f.2 in
+        record {
+          snapshot = None;
+          fits = tt;
+          comes = defined;
+          records = h.records;
+          are_records = h.are_records;
+          bytes = f.0;
+          taken = f.1;
+          spelled = h.spelled;
+          uuid_is = h.grown.uuid ∙ sym same;
+          setting = h.grown.setting;
+          quiet = h.ends.quiet;
+          limit = h.ends.limit;
+          node = λ n holds.
+              let one = h.grown.node n holds in
+              let here : delivered n.facts ≡ delivered (facts_of failures old) = ap delivered holds.facts in
+              (one.0, record { count = omega (arith, one.1.count, h.ends.last_is n holds, here); order = λ L of. one.1.order L of; judged = λ L of. one.1.judged L of }, one.2);
+        }
+
+    -- where one comes
+    module _ (front : Front) (before mid left : Option (List ℕ)) (second : Replica D) where
+      pub takes_snapshot : Brought honest history failures old second uuid front before mid → Followed honest history failures second new mid left (Some last)
+          → TakesAll honest history failures old new uuid last (83 ∷ front_bytes front) before left
+      takes_snapshot b f =
+          let h = f.2 in
+          let s : Snapshot = b.snapshot in
+          record {
+            snapshot = Some s;
+            fits = b.fits;
+            comes = (b.is_snapshot, b.later);
+            records = h.records;
+            are_records = h.are_records;
+            bytes = rest_of s ++ f.0;
+            taken = Consumes-trans before mid left (rest_of s) f.0 b.taken f.1;
+            spelled =
+                ap (λ (x : Front). (83 ∷ front_bytes x) ++ (rest_of s ++ f.0)) b.front_is ∙ sym (append_assoc (83 ∷ front_bytes (front_of s)) (rest_of s) f.0) ∙ ap (λ (bs : List ℕ). snapshot_bytes s ++ bs) h.spelled;
+            uuid_is = h.grown.uuid ∙ b.uuid_is;
+            setting = h.grown.setting ∙ b.setting;
+            quiet = h.ends.quiet;
+            limit = h.ends.limit;
+            node = λ n holds.
+                let at = b.node n holds in
+                let one = h.grown.node at.0 at.2 in
+                let p_is : at.0.facts.setting ≡ n.facts.setting = ap (λ (x : Standing). x.setting) at.2.facts ∙ b.setting ∙ ap (λ (x : Standing). x.setting) (sym holds.facts) in
+                let here : delivered at.0.facts ≡ delivered (facts_of failures second) = ap delivered at.2.facts in (
+                  one.0,
+                  record {
+                    count = omega (arith, one.1.count, h.ends.last_is at.0 at.2, here);
+                    order = λ L is. one.1.order L (at.1 L is);
+                    judged = λ L is. one.1.judged L (at.1 L is) ∙ ap (λ (p : Setting). drop (length L) (history_of p (L ++ items_of h.records))) p_is;
+                  },
+                  one.2,
+                );
+          }
+
+    -- with what was taken before
+    pub all_taken : (hand : List ℕ) (before mid left : Option (List ℕ)) → Consumes before mid hand → TakesAll honest history failures old new uuid last hand mid left → TakesAll honest history failures old new uuid last [] before left
+    all_taken hand before mid left first t = record {
+      snapshot = t.snapshot;
+      fits = t.fits;
+      comes = t.comes;
+      records = t.records;
+      are_records = t.are_records;
+      bytes = hand ++ t.bytes;
+      taken = Consumes-trans before mid left hand t.bytes first t.taken;
+      spelled = t.spelled;
+      uuid_is = t.uuid_is;
+      setting = t.setting;
+      quiet = t.quiet;
+      limit = t.limit;
+      node = t.node;
+    }
+
+-- ---- the same of what calls answer
+
+module _ {D : Type 0} (honest : D → Type 0) (history : D → History) (failures : D → ℕ) where
+  pub part_followed : HistoryByItems → (a b c : Replica D) (start before left : Option (List ℕ)) (ended : Option ℕ) (p : Part) (result : Result (Option Part) Refusal) → result ≡ Ok (Some p) → Followed honest history failures a b start before None
+      → IfSome before (λ bytes. TakesOne PartFits part_bytes bytes left result) → Follows honest history failures b c ended (part_bytes p) → Followed honest history failures a c start left ended
+  part_followed by_items a b c start before left ended p result is first known took =
+      followed_then honest history failures by_items a b c start before left ended (part_bytes p) first (consumed PartFits part_bytes before left p result is known) took
+
+  pub part_goes_on : HistoryByItems → (a b c : Replica D) (before left : Option (List ℕ)) (ended : Option ℕ) (hand : List ℕ) (result : Result ℕ Refusal) → ended ≡ None → Follows honest history failures a b ended hand
+      → IfOk result (λ last. Followed honest history failures b c before left (Some last)) → IfOk result (FollowedFrom honest history failures a c hand before left)
+  part_goes_on by_items a b c before left ended hand (Err e) is took rest = tt
+  part_goes_on by_items a b c before left ended hand (Ok last) is took rest =
+      from_then honest history failures by_items a b c before left last hand (subst (λ (e : Option ℕ). Follows honest history failures a b e hand) is took) rest
+
+  pub after_snapshot : (old second new : Replica D) (uuid : List ℕ) (front : Front) (before mid left : Option (List ℕ)) (result : Result ℕ Refusal) → Brought honest history failures old second uuid front before mid
+      → IfOk result (λ last. Followed honest history failures second new mid left (Some last)) → IfOk result (λ last. TakesAll honest history failures old new uuid last (83 ∷ front_bytes front) before left)
+  after_snapshot old second new uuid front before mid left (Err e) b f = tt
+  after_snapshot old second new uuid front before mid left (Ok last) b f = takes_snapshot honest history failures old new uuid last front before mid left second b f
+
+  pub all_behind : (old new : Replica D) (uuid hand : List ℕ) (before mid left : Option (List ℕ)) (result : Result ℕ Refusal) → Consumes before mid hand
+      → IfOk result (λ last. TakesAll honest history failures old new uuid last hand mid left) → IfOk result (λ last. TakesAll honest history failures old new uuid last [] before left)
+  all_behind old new uuid hand before mid left (Err e) first all = tt
+  all_behind old new uuid hand before mid left (Ok last) first all = all_taken honest history failures old new uuid last hand before mid left first all
+
+  pub no_snapshot : (old new : Replica D) (uuid hand : List ℕ) (before mid left : Option (List ℕ)) (result : Result ℕ Refusal) → Consumes before mid hand → (uuid ≡ (facts_of failures old).uuid) ⊎ IsNil (facts_of failures old).uuid
+      → OnOk result (IsNil (facts_of failures old).uuid → ⊥) → IfOk result (FollowedFrom honest history failures old new hand mid left) → IfOk result (λ last. TakesAll honest history failures old new uuid last [] before left)
+  no_snapshot old new uuid hand before mid left (Err e) first cluster defined rest = tt
+  no_snapshot old new uuid hand before mid left (Ok last) first cluster defined rest =
+      all_taken honest history failures old new uuid last hand before mid left first (takes_records honest history failures old new uuid last hand mid left cluster defined rest)
+
+-- ---- a whole transfer
+
+both_true : (a b : Bool) → (a && b) ≡ true → a ≡ true
+both_true true b is = refl
+both_true false b is = is
+
+nothing : (xs : List Judged) → length xs ≡ 0 → xs ≡ []
+nothing [] none = refl
+nothing (x ∷ xs) none = absurd (omega (arith, none))
+
+quiet_by : (xs : List Judged) (b : Bool) → ((length xs == 0) && b) ≡ true → xs ≡ []
+quiet_by xs b is = let none : (length xs == 0) ≡ true = both_true (length xs == 0) b is in nothing xs (grind (arith, nat_tests, none))
+
+pub none_ahead : (s : Standing) → is_quiet s ≡ true → s.ahead ≡ []
+none_ahead s quiet = quiet_by s.ahead (is_off s.stage) quiet
+
+module _ {D : Type 0} (honest : D → Type 0) (history : D → History) (failures : D → ℕ) (old mid new : Replica D) (uuid : List ℕ) (last : ℕ) (settled : Grown honest history failures old mid []) where
+  starts_there : (n m : Node) (snapshot : Option Snapshot) (L : Order) → m.facts.setting ≡ n.facts.setting → ((M : Order) → IsOf M n → IsOf (M ++ []) m) → StartsAt n snapshot L → StartsAt m snapshot L
+  starts_there n m None L same goes is = subst (λ (M : Order). IsOf M m) (append-nil L) (goes L is)
+  starts_there n m (Some s) L same goes is = subst (λ (p : Setting). state_of p s ≡ state p L) (sym same) is
+
+  may_come : (n : Node) (snapshot : Option Snapshot) → Holds honest history failures n old → MayCome (facts_of failures mid) snapshot → MatchOption snapshot (IsNil n.facts.uuid → ⊥) (λ s. IsSnapshot n.facts.setting s × ((delivered n.facts < s.position) ⊎ IsNil n.facts.uuid))
+  may_come n None holds comes = λ nil. comes (subst IsNil (ap (λ (s : Standing). s.uuid) holds.facts ∙ sym settled.uuid) nil)
+  may_come n (Some s) holds comes = (subst (λ (p : Setting). IsSnapshot p s) (settled.setting ∙ ap (λ (x : Standing). x.setting) (sym holds.facts)) comes.0, later comes.1)
+    where
+      later : (delivered (facts_of failures mid) < s.position) ⊎ IsNil (facts_of failures mid).uuid → (delivered n.facts < s.position) ⊎ IsNil n.facts.uuid
+      later (inl below) = let here : delivered n.facts ≡ delivered (facts_of failures old) = ap delivered holds.facts in inl (omega (arith, here, settled.count, below))
+      later (inr nil) = inr (subst IsNil (settled.uuid ∙ ap (λ (x : Standing). x.uuid) (sym holds.facts)) nil)
+
+  pub joined : (n : Node) (start before left : Option (List ℕ)) → Holds honest history failures n old → TakesHeader (facts_of failures mid) uuid start before → TakesAll honest history failures mid new uuid last [] before left
+      → IfSome start (λ bytes. Joined honest history failures n bytes left new last)
+  joined n None before left holds header all = tt
+  joined n (Some bytes) before left holds header all =
+      by_left left (Consumes-trans (Some bytes) before left (header_bytes header.header) all.bytes header.taken all.taken)
+    where
+      transfer : Transfer
+      transfer = record { header = header.header; snapshot = all.snapshot; records = all.records; last = last }
+
+      by_left : (end : Option (List ℕ)) → Consumes (Some bytes) end (header_bytes header.header ++ all.bytes) → Joined honest history failures n bytes end new last
+      by_left None taken = absurd taken
+      by_left (Some rest) taken =
+          let m = settled.node n holds in
+          let k = all.node m.0 m.2 in
+          let p_is : m.0.facts.setting ≡ n.facts.setting = ap (λ (x : Standing). x.setting) m.2.facts ∙ settled.setting ∙ ap (λ (x : Standing). x.setting) (sym holds.facts) in
+          let none : k.0.facts.ahead ≡ [] = ap (λ (x : Standing). x.ahead) k.2.facts ∙ none_ahead (facts_of failures new) all.quiet in
+          record {
+            transfer = transfer;
+            is_transfer = record { header = header.is_header; snapshot = all.fits; records = all.are_records; last = all.limit };
+            is_for = record {
+              cluster = cluster header.cluster;
+              shape = header.shape ∙ ap shape_of (settled.setting ∙ ap (λ (x : Standing). x.setting) (sym holds.facts));
+              snapshot = may_come n all.snapshot holds all.comes;
+            };
+            rest = rest;
+            front = taken ∙ ap (λ (bs : List ℕ). (header_bytes header.header ++ bs) ++ rest) all.spelled;
+            left_is = refl;
+            last_is = refl;
+            node = k.0;
+            becomes = record {
+              uuid = ap (λ (x : Standing). x.uuid) k.2.facts ∙ all.uuid_is ∙ sym header.uuid_is;
+              setting = ap (λ (x : Standing). x.setting) k.2.facts ∙ all.setting ∙ settled.setting ∙ ap (λ (x : Standing). x.setting) (sym holds.facts);
+              durable = omega (arith, k.1.count, ap length none);
+              none = none;
+              order = λ L is. k.1.order L (starts_there n m.0 all.snapshot L p_is m.1.order is);
+              judged = λ L is. k.1.judged L (starts_there n m.0 all.snapshot L p_is m.1.order is) ∙ ap (λ (p : Setting). drop (length L) (history_of p (L ++ items_of all.records))) p_is;
+            };
+            holds = k.2;
+            quiet = all.quiet;
+          }
+        where
+          cluster : (header.header.uuid ≡ (facts_of failures mid).uuid) ⊎ IsNil (facts_of failures mid).uuid → (header.header.uuid ≡ n.facts.uuid) ⊎ IsNil n.facts.uuid
+          cluster (inl same) = inl (same ∙ settled.uuid ∙ ap (λ (x : Standing). x.uuid) (sym holds.facts))
+          cluster (inr nil) = inr (subst IsNil (settled.uuid ∙ ap (λ (x : Standing). x.uuid) (sym holds.facts)) nil)
+
+-- what is so of what isn't taken to its end
+pub not_joined : (start : Option (List ℕ)) (P : List ℕ → ℕ → Type 0) (e : Refusal) → IfSome start (λ bytes. IfOk {E = Refusal} (Err e) (P bytes))
+not_joined None P e = tt
+not_joined (Some bytes) P e = tt
+
+module _ {D : Type 0} (honest : D → Type 0) (history : D → History) (failures : D → ℕ) (old mid new : Replica D) (uuid : List ℕ) where
+  pub joined_on : (n : Node) (start before left : Option (List ℕ)) (result : Result ℕ Refusal) → Grown honest history failures old mid [] → Holds honest history failures n old → TakesHeader (facts_of failures mid) uuid start before
+      → IfOk result (λ last. TakesAll honest history failures mid new uuid last [] before left) → IfSome start (λ bytes. IfOk result (Joined honest history failures n bytes left new))
+  joined_on n None before left result settled holds header all = tt
+  joined_on n (Some bytes) before left (Err e) settled holds header all = tt
+  joined_on n (Some bytes) before left (Ok last) settled holds header all = joined honest history failures old mid new uuid last settled n (Some bytes) before left holds header all

@@ -1,0 +1,11 @@
+mod Alike
+mod Orders
+mod DonateReads
+mod DonateWrites
+mod DonateWindow
+mod DonatePages
+mod DonateTail
+mod Donated
+mod JoinGrowing
+mod JoinFollowing
+mod JoinBringing

@@ -1,0 +1,12 @@
+use Rattle.std.proofs.Common.{length}
+use Rattle.rep_record.specs.Records.{IsRecord}
+use Rattle.rep_catchup.proofs.DonateWrites.{Writing}
+use Rattle.rep_catchup.proofs.DonateTail.{bytes_above}
+use Rattle.rep_catchup.proofs.donor.write_block.Given as goal
+
+-- those that were gone through, and those that are left
+abbrev pub invariant-loop-judged : goal.invariant-loop-judged
+invariant-loop-judged g l = Writing IsRecord (bytes_above l.position) l.initial.block.records l.block.records (g.W.Write.contents l.initial.writer) (g.W.Write.contents l.writer)
+
+abbrev pub decreases-loop-judged : goal.decreases-loop-judged
+decreases-loop-judged g l = length l.block.records

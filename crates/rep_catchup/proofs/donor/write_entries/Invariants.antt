@@ -1,0 +1,12 @@
+use Rattle.std.proofs.Common.{length}
+use Rattle.std.specs.List.{flat_map}
+use Rattle.rep_forms.specs.Entries.{EntryFits, entry_bytes}
+use Rattle.rep_catchup.proofs.DonateWrites.{Writing}
+use Rattle.rep_catchup.proofs.donor.write_entries.Given as goal
+
+-- those that were written, and those that are left
+abbrev pub invariant-loop-entry : goal.invariant-loop-entry
+invariant-loop-entry g l = Writing EntryFits (flat_map entry_bytes) l.initial.window.entries l.window.entries (g.W.Write.contents l.initial.writer) (g.W.Write.contents l.writer)
+
+abbrev pub decreases-loop-entry : goal.decreases-loop-entry
+decreases-loop-entry g l = length l.window.entries

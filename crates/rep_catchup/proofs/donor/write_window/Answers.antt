@@ -1,0 +1,33 @@
+use Rattle.std.proofs.Common.{Ok, Err}
+use Rattle.std.proofs.lemmas.Result.{err_from_is_err_and}
+use Rattle.rep_catchup.proofs.DonateReads.{leaves_asked, leaves_cut, leaves_passed, leaves_then, leaves_wrote}
+use Rattle.rep_catchup.proofs.DonateWindow.{window_wrote}
+use Rattle.rep_catchup.proofs.donor.write_window.Goals as goal
+
+pub returns-in_err-write_front-clause-leaves : goal.returns-in_err-write_front-clause-leaves
+returns-in_err-write_front-clause-leaves g c =
+    let p = err_from_is_err_and c.from_residual-in_err-write_front.result c.from_residual-in_err-write_front.ensures.1 in
+    rw (p.1, p.2) (leaves_then g.D.Disk.honest g.D.Disk.history g.D.Disk.failures c.args.replica.now c.base_window.new.self c.base_window.new.self c.in_ok-window.window (Err c.in_err-write_front.field-0.0)
+    (leaves_asked g.D.Disk.honest g.D.Disk.history g.D.Disk.failures _ _ c.args.replica.now c.base_window.new.self (Ok c.in_ok-window.window) c.in_ok-window.ensures.asks c.requires c.in_ok-window.ensures.holds c.in_ok-window.ensures.whole)
+    (leaves_cut g.D.Disk.honest g.D.Disk.history g.D.Disk.failures c.base_window.new.self c.in_err-write_front.field-0.0 c.in_err-write_front.ensures.written.refused))
+
+pub returns-clause-leaves : goal.returns-clause-leaves
+returns-clause-leaves g c =
+    let asked = leaves_asked g.D.Disk.honest g.D.Disk.history g.D.Disk.failures _ _ c.args.replica.now c.base_window.new.self (Ok c.in_ok-window.window) c.in_ok-window.ensures.asks c.requires c.in_ok-window.ensures.holds c.in_ok-window.ensures.whole in
+    leaves_then g.D.Disk.honest g.D.Disk.history g.D.Disk.failures c.args.replica.now c.base_window.new.self c.base_window.new.self c.in_ok-window.window c.write_entries.result asked
+    (leaves_wrote g.D.Disk.honest g.D.Disk.history g.D.Disk.failures c.base_window.new.self _ _ _ c.write_entries.result c.write_entries.ensures.written asked.runs)
+
+pub returns-clause-written : goal.returns-clause-written
+returns-clause-written g c = λ n holds.
+    let b = c.args.replica.now.engine.checkpoint.base in
+    let w = c.in_ok-window.window in
+    window_wrote b w (record { position = c.base-position.result; count = c.len.result }) (g.W.Write.contents c.args.writer.now) (g.W.Write.contents c.write_front.new.writer) (g.W.Write.contents c.write_entries.new.writer)
+    c.in_ok-window.ensures.form (λ i. record { position = c.base-position.ensures i; count = c.len.ensures i }) c.write_front.ensures.fits c.in_ok-write_front.ensures.written.done n.base.kept.entries c.write_entries.result
+    (c.in_ok-window.ensures.window n holds) c.write_entries.ensures.fit c.write_entries.ensures.written.done
+
+pub returns-in_err-window-clause-leaves : goal.returns-in_err-window-clause-leaves
+returns-in_err-window-clause-leaves g c =
+    let p = err_from_is_err_and c.from_residual.result c.from_residual.ensures.1 in
+    let e = c.in_err-window.field-0.0 in
+    rw (p.1, p.2) (leaves_passed g.D.Disk.honest g.D.Disk.history g.D.Disk.failures c.args.replica.now c.base_window.new.self e
+    (leaves_asked g.D.Disk.honest g.D.Disk.history g.D.Disk.failures _ _ c.args.replica.now c.base_window.new.self (Err e) c.in_err-window.ensures.asks c.requires c.in_err-window.ensures.holds c.in_err-window.ensures.whole))

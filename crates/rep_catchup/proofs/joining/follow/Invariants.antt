@@ -1,0 +1,19 @@
+use Rattle.std.proofs.Common.{◌-◌, None}
+use Rattle.rep_types.specs.declared.limits.TheConstants.{MAX_SEQNO}
+use Rattle.rep_layout.specs.Supers.{IsNil}
+use Rattle.rep_steps.specs.Standings.{delivered}
+use Rattle.rep_replica.specs.Replicas.{facts_of}
+use Rattle.rep_replica.specs.Settling.{IsRunning}
+use Rattle.rep_catchup.specs.Joining.{Followed}
+use Rattle.rep_catchup.proofs.joining.follow.Given as goal
+
+-- the records so far were taken
+abbrev pub invariant-loop-part : goal.invariant-loop-part
+invariant-loop-part g l = record {
+  running : IsRunning l.replica;
+  defined : IsNil (facts_of g.D.Disk.failures l.replica).uuid → ⊥;
+  followed : Followed g.D.Disk.honest g.D.Disk.history g.D.Disk.failures l.initial.replica l.replica (g.R.Read.remaining l.initial.reader) (g.R.Read.remaining l.reader) None;
+}
+
+abbrev pub decreases-loop-part : goal.decreases-loop-part
+decreases-loop-part g l = MAX_SEQNO - delivered (facts_of g.D.Disk.failures l.replica)

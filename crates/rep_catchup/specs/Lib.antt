@@ -1,0 +1,5 @@
+pub mod Snapshots
+pub mod Haves
+pub mod Donating
+pub mod Joining
+pub mod Orders

@@ -1,0 +1,294 @@
+//! What a donor writes for a joiner.
+
+ghost use Rattle.std.specs.Prelude.{◌≡◌, ◌≢◌, ◌↔◌, [], ◌∷◌, true, length, Option, None, Err, is_some, IfOk, IfErr, IfSome, OnOk};
+ghost use Rattle.std.specs.List.{flat_map, AllByRecursion};
+ghost use Rattle.std.specs.Io.KnownBytes.{Appends, Keeps};
+ghost use Rattle.rep_types.specs.declared.refusal.Refusal.TheVariants.{DiskFault};
+ghost use Rattle.rep_types.specs.declared.refusal.Part.{Part};
+ghost use Rattle.rep_types.specs.Settings.{pages_of};
+ghost use Rattle.rep_disk.specs.Calls.{Rises};
+ghost use Rattle.rep_forms.specs.Entries.{EntryFits, entry_bytes};
+ghost use Rattle.rep_record.specs.Records.{IsRecord};
+ghost use Rattle.rep_record.specs.Blocks.{IsBlock};
+ghost use Rattle.rep_layout.specs.Supers.{IsNil};
+ghost use Rattle.rep_steps.specs.Nodes.{Node};
+ghost use Rattle.rep_replica.specs.Replicas.{facts_of};
+ghost use Rattle.rep_replica.specs.Holding.{Holds};
+ghost use Rattle.rep_transfer.specs.Transfers.{Transfer, Snapshot, SnapshotFits, snapshot_bytes, record_part, transfer_bytes};
+ghost use Rattle.rep_transfer.specs.Writing.{Wrote};
+ghost use Rattle.rep_catchup.specs.Donating.{IsOfCluster, IsFirstRefusal, ComesFirst, EndsEarly, ReadsAlone, IsRunning, Leaves, IsSnapshotOf, IsDonated, NeedsSnapshot, WroteWindow, WrotePage, WrotePages, WroteBase, held_below, above, durable_items};
+
+use rep_checkpoint::windows_go_on;
+use rep_disk::Disk;
+use rep_engine::the_tail_is_told;
+use rep_layout::{LOG_BODY, WINDOW_BODY, WindowReader, row_places_are_told};
+use rep_record::BlockReader;
+use rep_replica::Replica;
+use rep_transfer::{
+    Front, Have, Header, NumberedPage, Shape, write_count, write_end, write_entry, write_front,
+    write_header, write_page, write_record,
+};
+use rep_types::{Judged, Refusal};
+use std::io::Write;
+
+/// Whether the joiner is of the donor's cluster, or of none yet, and has its shape.
+fn is_of_cluster<D: Disk>(replica: &Replica<D>, have: &Have) -> bool
+    ensures { (result ≡ true) ↔ IsOfCluster (facts_of D.failures replica.now) have.now }
+{
+    have.shape.is_of(replica.params()) && (have.uuid.is_nil() || have.uuid == replica.uuid())
+}
+
+/// Why nothing is donated to this joiner, the first reason that applies: the donor is stopped; it belongs to no cluster; the joiner is of
+/// another cluster, window or schema; or it has more of the order than is durable at the donor.
+pub fn donation_refusal<D: Disk>(replica: &Replica<D>, have: &Have) -> Option<Refusal>
+    ensures first { IsFirstRefusal (facts_of D.failures replica.now) have.now result }
+    ensures kinds { IfSome result ComesFirst }
+    ensures only { (o : Option Refusal) → IsFirstRefusal (facts_of D.failures replica.now) have.now o → o ≡ result }
+{
+    if replica.is_stopped() {
+        return Some(Refusal::Stopped);
+    }
+    if replica.uuid().is_nil() {
+        return Some(Refusal::Undefined);
+    }
+    if !is_of_cluster(replica, have) {
+        return Some(Refusal::WrongCluster);
+    }
+    let durable = replica.durable();
+    if have.position > durable {
+        Some(Refusal::Ahead { position: durable })
+    } else {
+        None
+    }
+}
+
+/// Whether the joiner needs a snapshot: it is of no cluster yet, or not even at the donor's base.
+fn needs_snapshot<D: Disk>(replica: &Replica<D>, have: &Have) -> bool
+    ensures { (result ≡ true) ↔ NeedsSnapshot (facts_of D.failures replica.now) have.now }
+{
+    have.uuid.is_nil() || have.position < replica.base()
+}
+
+/// How many pages the tables take.
+fn page_count<D: Disk>(replica: &Replica<D>) -> u16
+    ensures { result ≡ pages_of replica.now.engine.checkpoint.base.params.rows }
+{
+    let schema = replica.params().schema();
+    // For its clause: the limits of a schema.
+    schema.rows();
+    schema.pages() as u16
+}
+
+/// How many pages the base has in a slot.
+fn count_pages<D: Disk>(replica: &Replica<D>) -> u16
+    ensures { result ≡ length (held_below replica.now.engine.checkpoint.base (pages_of replica.now.engine.checkpoint.base.params.rows)) }
+{
+    let mut count = 0;
+    for page in 0..page_count(replica) {
+        if replica.has_base_page(u32::from(page)) {
+            count += 1;
+        }
+    }
+    count
+}
+
+/// Writes the entries that a window still hands out.
+fn write_entries<W: Write>(window: WindowReader<'_>, writer: &mut W) -> Result<(), Refusal>
+    ensures written { Wrote (W.contents writer.old) (W.contents writer.new) (flat_map entry_bytes window.entry.entries) result }
+    ensures fit { OnOk result (AllByRecursion EntryFits window.entry.entries) }
+{
+    let mut window = window;
+    while let Some(entry) = window.next_entry() {
+        write_entry(writer, &entry)?;
+    }
+    Ok(())
+}
+
+/// Writes the position of the base, how many entries its window has, and these.
+fn write_window<D: Disk, W: Write>(replica: &mut Replica<D>, writer: &mut W) -> Result<(), Refusal>
+    requires { IsRunning replica.old }
+    ensures leaves { Leaves D.honest D.history D.failures replica.old replica.new result }
+    ensures written { (n : Node) → Holds D.honest D.history D.failures n replica.old → OnOk result (WroteWindow replica.old.engine.checkpoint.base n.base.kept.entries (W.contents writer.old) (W.contents writer.new)) }
+{
+    let mut room = [0; WINDOW_BODY];
+    // For its clause: the limits of parameters.
+    replica.params().window();
+    let position = replica.base();
+    let window = replica.base_window(&mut room)?;
+    let front = Front {
+        position,
+        count: window.len() as u16,
+    };
+    write_front(writer, &front)?;
+    write_entries(window, writer)
+}
+
+/// Writes the page of this number, where the base has it in a slot.
+fn write_base_page<D: Disk, W: Write>(
+    replica: &mut Replica<D>,
+    number: u16,
+    writer: &mut W,
+) -> Result<(), Refusal>
+    requires { IsRunning replica.old }
+    ensures leaves { Leaves D.honest D.history D.failures replica.old replica.new result }
+    ensures written { (n : Node) → Holds D.honest D.history D.failures n replica.old → OnOk result (WrotePage replica.old.engine.checkpoint.base n.base.content number (W.contents writer.old) (W.contents writer.new)) }
+{
+    match replica.base_page(u32::from(number))? {
+        Some(found) => {
+            let page = NumberedPage {
+                number,
+                rows: found.rows,
+            };
+            write_page(writer, &page)
+        }
+        None => Ok(()),
+    }
+}
+
+/// Writes the pages that the base has in a slot.
+fn write_pages<D: Disk, W: Write>(replica: &mut Replica<D>, writer: &mut W) -> Result<(), Refusal>
+    requires { IsRunning replica.old }
+    ensures leaves { Leaves D.honest D.history D.failures replica.old replica.new result }
+    ensures written { (n : Node) → Holds D.honest D.history D.failures n replica.old → OnOk result (WrotePages replica.old.engine.checkpoint.base n.base.content (pages_of replica.old.engine.checkpoint.base.params.rows) (W.contents writer.old) (W.contents writer.new)) }
+{
+    for number in 0..page_count(replica) {
+        write_base_page(replica, number, writer)?;
+    }
+    Ok(())
+}
+
+/// Writes a snapshot of the base.
+fn write_snapshot<D: Disk, W: Write>(
+    replica: &mut Replica<D>,
+    writer: &mut W,
+) -> Result<(), Refusal>
+    requires { IsRunning replica.old }
+    ensures leaves { Leaves D.honest D.history D.failures replica.old replica.new result }
+    ensures written { (n : Node) → Holds D.honest D.history D.failures n replica.old → OnOk result ((s : Snapshot) × SnapshotFits s × IsSnapshotOf n s × Appends (W.contents writer.old) (W.contents writer.new) (snapshot_bytes s)) }
+{
+    windows_go_on();
+    row_places_are_told();
+    write_window(replica, writer)?;
+    let count = count_pages(replica);
+    write_count(writer, count)?;
+    write_pages(replica, writer)
+}
+
+/// Writes a snapshot of the base, where the joiner needs one, and answers the position behind which the records come.
+fn write_base<D: Disk, W: Write>(
+    replica: &mut Replica<D>,
+    have: &Have,
+    writer: &mut W,
+) -> Result<u64, Refusal>
+    requires { IsRunning replica.old }
+    ensures leaves { Leaves D.honest D.history D.failures replica.old replica.new result }
+    ensures written { (n : Node) → Holds D.honest D.history D.failures n replica.old → IfOk result (λ position. WroteBase n have.now position (W.contents writer.old) (W.contents writer.new)) }
+{
+    if !needs_snapshot(replica, have) {
+        return Ok(have.position);
+    }
+    write_snapshot(replica, writer)?;
+    Ok(replica.base())
+}
+
+/// Writes the record if it is above the position.
+fn write_above<W: Write>(judged: &Judged, position: u64, writer: &mut W) -> Result<(), Refusal>
+    requires { IsRecord judged.now }
+    ensures { Wrote (W.contents writer.old) (W.contents writer.new) (flat_map record_part (above position (judged.now ∷ []))) result }
+{
+    if judged.seqno > position {
+        write_record(writer, judged)
+    } else {
+        Ok(())
+    }
+}
+
+/// Writes the block's records above the position.
+fn write_block<W: Write>(
+    block: BlockReader<'_>,
+    position: u64,
+    writer: &mut W,
+) -> Result<(), Refusal>
+    requires { IsBlock block.cell block.records }
+    ensures { Wrote (W.contents writer.old) (W.contents writer.new) (flat_map record_part (above position block.entry.records)) result }
+{
+    let mut block = block;
+    while let Some(judged) = block.next_record() {
+        write_above(&judged, position, writer)?;
+    }
+    Ok(())
+}
+
+/// Writes the durable items behind the base that are above the position.
+fn write_tail<D: Disk, W: Write>(
+    replica: &mut Replica<D>,
+    position: u64,
+    writer: &mut W,
+) -> Result<(), Refusal>
+    requires { IsRunning replica.old }
+    ensures leaves { Leaves D.honest D.history D.failures replica.old replica.new result }
+    ensures written { (n : Node) → Holds D.honest D.history D.failures n replica.old → OnOk result (AllByRecursion IsRecord (above position (durable_items n)) × Appends (W.contents writer.old) (W.contents writer.new) (flat_map record_part (above position (durable_items n)))) }
+{
+    the_tail_is_told();
+    let mut room = [0; LOG_BODY];
+    for index in 0..u64::MAX {
+        match replica.tail_block(index, &mut room)? {
+            Some(block) => write_block(block, position, writer)?,
+            None => return Ok(()),
+        }
+    }
+    Ok(())
+}
+
+/// Writes the transfer of a donor of a cluster that is not stopped, and answers where it ends.
+fn write_transfer<D: Disk, W: Write>(
+    replica: &mut Replica<D>,
+    have: &Have,
+    writer: &mut W,
+) -> Result<u64, Refusal>
+    requires running { IsRunning replica.old }
+    requires defined { IsNil replica.old.engine.checkpoint.base.uuid → ⊥ }
+    ensures leaves { Leaves D.honest D.history D.failures replica.old replica.new result }
+    ensures donated { (n : Node) → Holds D.honest D.history D.failures n replica.old → IfOk result (λ last. (t : Transfer) × IsDonated n have.now t × (t.last ≡ last) × Appends (W.contents writer.old) (W.contents writer.new) (transfer_bytes t)) }
+{
+    let header = Header {
+        uuid: replica.uuid(),
+        shape: Shape::of(replica.params()),
+    };
+    write_header(writer, &header)?;
+    let position = write_base(replica, have, writer)?;
+    write_tail(replica, position, writer)?;
+    let last = replica.durable();
+    write_end(writer, last)?;
+    Ok(last)
+}
+
+/// Writes what the joiner lacks, and answers the position that it then has: what is durable at the donor. Where the joiner is of the
+/// donor's cluster and at or past the donor's base, that is the durable items above its position; else a snapshot of the base, and all
+/// durable items behind it. Nothing changes at the donor.
+///
+/// Refuses, in this order, with `Stopped`; with `Undefined` where the donor belongs to no cluster; with `WrongCluster` a joiner of
+/// another cluster, or of another window or schema; and with `Ahead` one that has more of the order than is durable here: so far nothing
+/// is written. Then with `StreamFault` where the writer fails; with `DiskFault` where the device fails, and then the replica is stopped;
+/// and with `Corrupt` where the device shows what is not of its form: what was written is then no transfer.
+pub fn donate<D: Disk, W: Write>(
+    replica: &mut Replica<D>,
+    have: &Have,
+    writer: &mut W,
+) -> Result<u64, Refusal>
+    ensures refusal { (o : Option Refusal) → IsFirstRefusal (facts_of D.failures replica.old) have.now o → IfSome o (λ e. (result ≡ Err e) × (replica.new ≡ replica.old) × Keeps (W.contents writer.old) (W.contents writer.new)) }
+    ensures early { IsFirstRefusal (facts_of D.failures replica.old) have.now None → IfErr result EndsEarly }
+    ensures reads { ReadsAlone D.honest D.history replica.old replica.new }
+    ensures holds { (n : Node) → Holds D.honest D.history D.failures n replica.old → result ≢ Err Refusal.DiskFault → Holds D.honest D.history D.failures n replica.new }
+    // An honest device of a node shows nothing that is not of its form.
+    ensures whole { (n : Node) → Holds D.honest D.history D.failures n replica.old → (part : Part) → result ≢ Err (Refusal.Corrupt part) }
+    ensures fault { result ≡ Err Refusal.DiskFault → Rises (D.failures replica.old.engine.disk) (D.failures replica.new.engine.disk) × (is_some replica.new.engine.halted ≡ true) }
+    ensures no_fault { result ≢ Err Refusal.DiskFault → D.failures replica.new.engine.disk ≡ D.failures replica.old.engine.disk }
+    // On an honest device of a node what is written is what the joiner needs, whole.
+    ensures donated { (n : Node) → Holds D.honest D.history D.failures n replica.old → IfOk result (λ last. (t : Transfer) × IsDonated n have.now t × (t.last ≡ last) × Appends (W.contents writer.old) (W.contents writer.new) (transfer_bytes t)) }
+{
+    if let Some(refusal) = donation_refusal(replica, have) {
+        return Err(refusal);
+    }
+    write_transfer(replica, have, writer)
+}

@@ -1,0 +1,289 @@
+//! How a joiner takes a transfer.
+
+ghost use Rattle.std.specs.Prelude.{◌≡◌, ◌||◌, ◌⊎◌, ◌<◌, ◌≤◌, [], ◌∷◌, true, false, is_some, length, None, Some, Ok, Err, IfOk, IfErr, IfSome, OnOk};
+ghost use Rattle.rep_types.specs.declared.limits.TheConstants.{MAX_SEQNO, MAX_AHEAD};
+ghost use Rattle.rep_types.specs.declared.refusal.Refusal.TheVariants.{Stopped};
+ghost use Rattle.rep_forms.specs.Forms.{IsPart};
+ghost use Rattle.rep_record.specs.Records.{IsRecord};
+ghost use Rattle.rep_layout.specs.Supers.{IsNil};
+ghost use Rattle.rep_steps.specs.Standings.{delivered};
+ghost use Rattle.rep_steps.specs.Nodes.{Node};
+ghost use Rattle.rep_replica.specs.Replicas.{facts_of};
+ghost use Rattle.rep_replica.specs.Holding.{Holds};
+ghost use Rattle.rep_replica.specs.Settling.{is_quiet, IsRunning};
+ghost use Rattle.rep_transfer.specs.declared.part.Part.TheVariants.{Snapshot};
+ghost use Rattle.rep_transfer.specs.Pieces.{FrontFits};
+ghost use Rattle.rep_transfer.specs.Transfers.{PartFits, part_bytes};
+ghost use Rattle.rep_catchup.specs.Joining.{JoinsEarly, Joined, TakesHeader, Grown, Follows, Followed, FollowedFrom, TakesAll};
+
+use crate::snapshot::bring;
+use rep_disk::Disk;
+use rep_replica::Replica;
+use rep_steps::{
+    Answer, Event, nodes_hold_the_order, nodes_stay_nodes, runs_come_to, steps_follow_the_order,
+};
+use rep_transfer::{Front, Header, Part, TransferReader, next_part};
+use rep_types::{Item, Judged, MAX_AHEAD, Refusal, history_by_items};
+use std::alloc::Global;
+use std::io::Read;
+use uuid::Uuid;
+
+/// Takes the header, and answers the cluster that the transfer is of.
+///
+/// Refuses with `StreamFault` where the reader fails, with `Malformed` what is no header, and with `WrongCluster` one of another cluster
+/// than the replica's, or of another window or schema.
+fn take_header<D: Disk, R: Read>(
+    replica: &Replica<D>,
+    transfer: &mut TransferReader,
+    reader: &mut R,
+) -> Result<Uuid, Refusal>
+    ensures taken { IfOk result (λ uuid. TakesHeader (facts_of D.failures replica.now) uuid (R.remaining reader.old) (R.remaining reader.new)) }
+    ensures refused { IfErr result JoinsEarly }
+{
+    let Some(header) = transfer.next::<Header, R>(reader)? else {
+        return Err(Refusal::Malformed { at: 0 });
+    };
+    let own = replica.uuid();
+    if !header.shape.is_of(replica.params()) || (!own.is_nil() && own != header.uuid) {
+        return Err(Refusal::WrongCluster);
+    }
+    Ok(header.uuid)
+}
+
+/// Lets the replica do what is due, until all that was delivered is durable.
+fn settle<D: Disk>(replica: &mut Replica<D>) -> Result<(), Refusal>
+    requires running { IsRunning replica.old }
+    ensures grown { OnOk result (Grown D.honest D.history D.failures replica.old replica.new []) }
+    ensures quiet { OnOk result (is_quiet (facts_of D.failures replica.new) ≡ true) }
+    ensures refused { IfErr result JoinsEarly }
+{
+    history_by_items();
+    nodes_stay_nodes();
+    runs_come_to();
+    replica.settle()
+}
+
+/// Lets it do so where it would take no further item before.
+fn make_room<D: Disk>(replica: &mut Replica<D>) -> Result<(), Refusal>
+    requires running { IsRunning replica.old }
+    ensures grown { OnOk result (Grown D.honest D.history D.failures replica.old replica.new []) }
+    ensures room { OnOk result (length (facts_of D.failures replica.new).ahead < MAX_AHEAD) }
+    ensures refused { IfErr result JoinsEarly }
+{
+    history_by_items();
+    if replica.delivered() - replica.durable() >= MAX_AHEAD {
+        return settle(replica);
+    }
+    Ok(())
+}
+
+/// Delivers the item, which stands at `at` of the transfer, where it is the next one and is judged as the transfer says.
+fn deliver<D: Disk>(replica: &mut Replica<D>, judged: Judged, at: u64) -> Result<(), Refusal>
+    requires running { IsRunning replica.old }
+    requires defined { IsNil (facts_of D.failures replica.old).uuid → ⊥ }
+    requires fits { IsRecord judged }
+    requires room { length (facts_of D.failures replica.old).ahead < MAX_AHEAD }
+    ensures grown { OnOk result (Grown D.honest D.history D.failures replica.old replica.new (judged ∷ [])) }
+    ensures limit { OnOk result (delivered (facts_of D.failures replica.new) ≤ MAX_SEQNO) }
+    ensures refused { IfErr result JoinsEarly }
+{
+    history_by_items();
+    nodes_hold_the_order();
+    steps_follow_the_order();
+    let malformed = Refusal::Malformed { at };
+    // Tells the proof what holds of the replica.
+    let _durable = replica.durable();
+    let Judged {
+        seqno,
+        item,
+        verdict,
+    } = judged;
+    let Item::WriteSet(item) = item else {
+        return Err(malformed);
+    };
+    if seqno != replica.delivered() + 1 || replica.judge(&item) != verdict {
+        return Err(malformed);
+    }
+    match replica.step(Event::Deliver(seqno, item)) {
+        Answer::Gave(given) if given == verdict => Ok(()),
+        Answer::Refused(refusal) => Err(refusal),
+        _ => Err(malformed),
+    }
+}
+
+/// Takes a record, which stands at `at` of the transfer.
+fn take_record<D: Disk>(replica: &mut Replica<D>, judged: Judged, at: u64) -> Result<(), Refusal>
+    requires running { IsRunning replica.old }
+    requires defined { IsNil (facts_of D.failures replica.old).uuid → ⊥ }
+    requires fits { IsRecord judged }
+    ensures grown { OnOk result (Grown D.honest D.history D.failures replica.old replica.new (judged ∷ [])) }
+    ensures limit { OnOk result (delivered (facts_of D.failures replica.new) ≤ MAX_SEQNO) }
+    ensures refused { IfErr result JoinsEarly }
+{
+    history_by_items();
+    make_room(replica)?;
+    deliver(replica, judged, at)
+}
+
+/// Takes a part behind a snapshot, which stands at `at` of the transfer: a record, or the end, whose position it then answers.
+fn take_part<D: Disk>(replica: &mut Replica<D>, part: Part, at: u64) -> Result<Option<u64>, Refusal>
+    requires running { IsRunning replica.old }
+    requires defined { IsNil (facts_of D.failures replica.old).uuid → ⊥ }
+    requires fits { PartFits part }
+    ensures took { IfOk result (λ ended. Follows D.honest D.history D.failures replica.old replica.new ended (part_bytes part)) }
+    ensures more { IfOk result (λ ended. ended ≡ None → (delivered (facts_of D.failures replica.old) < delivered (facts_of D.failures replica.new)) × (delivered (facts_of D.failures replica.new) ≤ MAX_SEQNO)) }
+    ensures refused { IfErr result JoinsEarly }
+{
+    match part {
+        Part::Record(judged) => {
+            take_record(replica, judged, at)?;
+            Ok(None)
+        }
+        Part::End(last) if last == replica.delivered() => {
+            settle(replica)?;
+            Ok(Some(last))
+        }
+        Part::Snapshot(_) | Part::End(_) => Err(Refusal::Malformed { at }),
+    }
+}
+
+/// Takes the parts behind those that were taken, to the transfer's end, and answers its position.
+fn follow<D: Disk, R: Read>(
+    replica: &mut Replica<D>,
+    transfer: &mut TransferReader,
+    reader: &mut R,
+) -> Result<u64, Refusal>
+    requires running { IsRunning replica.old }
+    requires defined { IsNil (facts_of D.failures replica.old).uuid → ⊥ }
+    ensures followed { IfOk result (λ last. Followed D.honest D.history D.failures replica.old replica.new (R.remaining reader.old) (R.remaining reader.new) (Some last)) }
+    ensures refused { IfErr result JoinsEarly }
+{
+    history_by_items();
+    loop {
+        let at = transfer.taken();
+        let Some(part) = next_part(transfer, reader)? else {
+            return Err(Refusal::Malformed { at });
+        };
+        if let Some(last) = take_part(replica, part, at)? {
+            return Ok(last);
+        }
+    }
+}
+
+/// Takes this part, which stands at `at` of the transfer, and those behind it, to the transfer's end, where no snapshot comes: the
+/// replica is of a cluster then.
+fn follow_from<D: Disk, R: Read>(
+    replica: &mut Replica<D>,
+    part: Part,
+    at: u64,
+    transfer: &mut TransferReader,
+    reader: &mut R,
+) -> Result<u64, Refusal>
+    requires running { IsRunning replica.old }
+    requires fits { PartFits part }
+    ensures defined { OnOk result (IsNil (facts_of D.failures replica.old).uuid → ⊥) }
+    ensures followed { IfOk result (FollowedFrom D.honest D.history D.failures replica.old replica.new (part_bytes part) (R.remaining reader.old) (R.remaining reader.new)) }
+    ensures refused { IfErr result JoinsEarly }
+{
+    history_by_items();
+    if replica.uuid().is_nil() {
+        return Err(Refusal::Malformed { at });
+    }
+    match take_part(replica, part, at)? {
+        Some(last) => Ok(last),
+        None => follow(replica, transfer, reader),
+    }
+}
+
+/// Takes the rest of a snapshot that begins so, which stands at `at` of the transfer, and the parts behind it, to the transfer's end.
+fn take_snapshot<D: Disk, R: Read>(
+    alloc: Global,
+    replica: Replica<D>,
+    uuid: Uuid,
+    front: Front,
+    at: u64,
+    transfer: &mut TransferReader,
+    reader: &mut R,
+) -> (Replica<D>, Result<u64, Refusal>)
+    requires running { IsRunning replica }
+    requires quiet { is_quiet (facts_of D.failures replica) ≡ true }
+    requires sixteen { IsPart 16 uuid }
+    requires named { IsNil uuid → ⊥ }
+    requires cluster { (uuid ≡ (facts_of D.failures replica).uuid) ⊎ IsNil (facts_of D.failures replica).uuid }
+    requires fits { FrontFits front }
+    ensures taken { IfOk result.1 (λ last. TakesAll D.honest D.history D.failures replica result.0 uuid last (part_bytes (Snapshot front)) (R.remaining reader.old) (R.remaining reader.new)) }
+    ensures refused { IfErr result.1 JoinsEarly }
+{
+    let (mut replica, brought) = bring(alloc, replica, uuid, front, at, transfer, reader);
+    match brought {
+        Ok(()) => {
+            let followed = follow(&mut replica, transfer, reader);
+            (replica, followed)
+        }
+        Err(refusal) => (replica, Err(refusal)),
+    }
+}
+
+/// Takes the parts behind the header of a transfer of this cluster.
+fn take_parts<D: Disk, R: Read>(
+    alloc: Global,
+    replica: Replica<D>,
+    uuid: Uuid,
+    transfer: &mut TransferReader,
+    reader: &mut R,
+) -> (Replica<D>, Result<u64, Refusal>)
+    requires running { IsRunning replica }
+    requires quiet { is_quiet (facts_of D.failures replica) ≡ true }
+    requires sixteen { IsPart 16 uuid }
+    requires named { IsNil uuid → ⊥ }
+    requires cluster { (uuid ≡ (facts_of D.failures replica).uuid) ⊎ IsNil (facts_of D.failures replica).uuid }
+    ensures taken { IfOk result.1 (λ last. TakesAll D.honest D.history D.failures replica result.0 uuid last [] (R.remaining reader.old) (R.remaining reader.new)) }
+    ensures refused { IfErr result.1 JoinsEarly }
+{
+    let at = transfer.taken();
+    let part = match next_part(transfer, reader) {
+        Ok(Some(part)) => part,
+        Ok(None) => return (replica, Err(Refusal::Malformed { at })),
+        Err(refusal) => return (replica, Err(refusal)),
+    };
+    if let Part::Snapshot(front) = part {
+        return take_snapshot(alloc, replica, uuid, front, at, transfer, reader);
+    }
+    let mut replica = replica;
+    let followed = follow_from(&mut replica, part, at, transfer, reader);
+    (replica, followed)
+}
+
+/// Takes a transfer, and answers the position that the replica then has, all of it durable. Each item is judged again. Nothing behind
+/// the transfer's end is read, and its length takes no memory.
+///
+/// It settles first and last. Refuses with `Stopped`; and else with the first that the transfer meets: `StreamFault` where the reader
+/// fails; `Malformed`, `at` being the number of bytes before the part that is not of its form, is cut short, or may not come there: a
+/// snapshot that is not above what was delivered, an item that is not the next one or is judged otherwise, an end at another position,
+/// no snapshot where the replica belongs to no cluster; `WrongCluster` a transfer of another cluster, window or schema; and
+/// `OutOfMemory`, `DiskFault` and `Corrupt` as settling, installing and delivering do. The items before the refusal stay delivered; a
+/// snapshot that was not taken whole leaves the replica as it was; after `DiskFault` it is stopped.
+pub fn join<D: Disk, R: Read>(
+    alloc: Global,
+    replica: Replica<D>,
+    reader: &mut R,
+) -> (Replica<D>, Result<u64, Refusal>)
+    ensures stopped { (replica.stopped || is_some replica.engine.halted) ≡ true → result ≡ (replica, Err Stopped) }
+    ensures refused { IfErr result.1 (λ e. (e ≡ Stopped) ⊎ JoinsEarly e) }
+    ensures early { (replica.stopped || is_some replica.engine.halted) ≡ false → IfErr result.1 JoinsEarly }
+    ensures quiet { OnOk result.1 (is_quiet (facts_of D.failures result.0) ≡ true) }
+    ensures joined { (n : Node) → Holds D.honest D.history D.failures n replica → IfSome (R.remaining reader.old) (λ bytes. IfOk result.1 (Joined D.honest D.history D.failures n bytes (R.remaining reader.new) result.0)) }
+{
+    if replica.is_stopped() {
+        return (replica, Err(Refusal::Stopped));
+    }
+    let mut replica = replica;
+    if let Err(refusal) = settle(&mut replica) {
+        return (replica, Err(refusal));
+    }
+    let mut transfer = TransferReader::new();
+    match take_header(&replica, &mut transfer, reader) {
+        Ok(uuid) => take_parts(alloc, replica, uuid, &mut transfer, reader),
+        Err(refusal) => (replica, Err(refusal)),
+    }
+}
