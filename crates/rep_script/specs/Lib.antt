@@ -6,3 +6,4 @@ pub mod SavedTexts
 pub mod ScriptLines
 pub mod Scripts
 pub mod States
+pub mod CatchingUp

@@ -1,10 +1,11 @@
 //! What a node's program does, over any reader, writer and disk: it judges order texts, formats disks, runs scripts on
-//! replicas, and reads and writes saved states. The program itself adds the command line, the files and the standard
+//! replicas, brings one node up to date by another, and reads and writes saved states. The program itself adds the command line, the files and the standard
 //! streams. A program that drives replicas in its own way takes the lines of a script, and those of their answers, from
 //! here one by one.
 #![tactic(auto)]
 
 mod answers;
+mod catchup;
 mod exchange;
 mod format;
 mod judge;
@@ -15,6 +16,7 @@ mod script_line;
 mod state;
 
 pub use answers::{write_answer, write_line, write_open, write_refused, write_state};
+pub use catchup::{donate_text, join_text, write_have};
 pub use format::format_text;
 pub use judge::{judge_text, read_params};
 pub use laws::reading_is_the_text_grammar;

@@ -69,10 +69,34 @@ fn run_command<'a>(alloc: Global) -> Result<Command<'a>, AllocError> {
 fn state_command<'a>(alloc: Global) -> Result<Command<'a>, AllocError> {
     let disk = disk_argument(alloc, "The disk of the node");
     let saved = option(alloc, "saved", "FILE", "A saved state of the same cluster");
+    let have = option(alloc, "have", "FILE", "Where to write what the node has");
     Command::new(alloc, "state")
         .about("Print the saved state of a disk: its cluster and its position")
         .arg(disk)?
-        .arg(saved)
+        .arg(saved)?
+        .arg(have)
+}
+
+/// The subcommand that writes a transfer for a joiner.
+fn donate_command<'a>(alloc: Global) -> Result<Command<'a>, AllocError> {
+    let disk = disk_argument(alloc, "The disk of the donor");
+    let have = option(alloc, "have", "FILE", "What the joiner has");
+    let out = option(alloc, "out", "FILE", "Where to write the transfer");
+    Command::new(alloc, "donate")
+        .about("Write for a node that joins what it lacks")
+        .arg(disk)?
+        .arg(have.required(true))?
+        .arg(out.required(true))
+}
+
+/// The subcommand that takes a transfer.
+fn join_command<'a>(alloc: Global) -> Result<Command<'a>, AllocError> {
+    let disk = disk_argument(alloc, "The disk of the joiner");
+    let from = option(alloc, "from", "FILE", "The transfer");
+    Command::new(alloc, "join")
+        .about("Bring a node up to date by a transfer of another one")
+        .arg(disk)?
+        .arg(from.required(true))
 }
 
 /// The command line that the program understands: one level of subcommands.
@@ -84,7 +108,9 @@ fn command<'a>(alloc: Global) -> Result<Command<'a>, AllocError> {
         .subcommand(judge_command(alloc))?
         .subcommand(format_command(alloc)?)?
         .subcommand(run_command(alloc)?)?
-        .subcommand(state_command(alloc)?)
+        .subcommand(state_command(alloc)?)?
+        .subcommand(donate_command(alloc)?)?
+        .subcommand(join_command(alloc)?)
 }
 
 /// What the words of a command line ask for.
@@ -95,8 +121,13 @@ pub(crate) enum Task<'a> {
     Format(&'a str, FormatOptions),
     /// Run a script, on the disk at this path where there is one.
     Run(Option<&'a str>),
-    /// Print the state of the disk at this path, beside the saved state in a file where there is one.
-    State(&'a str, Option<&'a str>),
+    /// Print the state of the disk at this path, beside the saved state in a file where there is one, and write what the node
+    /// has to a file where one is named.
+    State(&'a str, Option<&'a str>, Option<&'a str>),
+    /// Write for a joiner what it lacks of the disk at this path: what it has is in the second file, and the third is written.
+    Donate(&'a str, &'a str, &'a str),
+    /// Bring the node on the disk at this path up to date by the transfer in the file.
+    Join(&'a str, &'a str),
     /// Nothing more: the text was printed, and the program ends with this status.
     Printed(u8),
 }
@@ -153,7 +184,19 @@ fn format_task<'a, R: Print + Eprint>(
 
 /// The task of `state` with these words behind it.
 fn state_task<'a>(matches: &ArgMatches<'a>) -> Task<'a> {
-    Task::State(value_of(matches, "disk"), matches.get_str("saved"))
+    let saved = matches.get_str("saved");
+    Task::State(value_of(matches, "disk"), saved, matches.get_str("have"))
+}
+
+/// The task of `donate` with these words behind it.
+fn donate_task<'a>(matches: &ArgMatches<'a>) -> Task<'a> {
+    let have = value_of(matches, "have");
+    Task::Donate(value_of(matches, "disk"), have, value_of(matches, "out"))
+}
+
+/// The task of `join` with these words behind it.
+fn join_task<'a>(matches: &ArgMatches<'a>) -> Task<'a> {
+    Task::Join(value_of(matches, "disk"), value_of(matches, "from"))
 }
 
 /// Reads the words of the command line. Help, the version and usage faults are printed here.
@@ -167,6 +210,8 @@ pub(crate) fn task_of<'a, R: Print + Eprint>(
             Some(("format", matches)) => format_task(rt, alloc, matches),
             Some(("run", matches)) => Ok(Task::Run(matches.get_str("disk"))),
             Some(("state", matches)) => Ok(state_task(matches)),
+            Some(("donate", matches)) => Ok(donate_task(matches)),
+            Some(("join", matches)) => Ok(join_task(matches)),
             _ => Ok(Task::Judge),
         },
         Err(error) => printed(rt, &error),
