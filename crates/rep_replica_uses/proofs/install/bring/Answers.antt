@@ -1,3 +1,4 @@
+use Rattle.std.proofs.Common.{refl}
 use Rattle.rep_replica_uses.proofs.Bringing.{brought, dropped, end_failed, not_begun}
 use Rattle.rep_replica_uses.proofs.install.bring.Goals as goal
 
