@@ -1,6 +1,5 @@
 -- How many cells its log has is each node's own affair: with the same window and the same tables they come to the same.
-use Rattle.std.proofs.Common.{◌≡◌, ℕ, zero, suc, ◌+◌, ◌-◌, List, [], ◌∷◌, ◌++◌, length, fold, take, refl, ap, ◌∙◌}
-use Rattle.std.specs.Prelude.{max}
+use Rattle.std.proofs.Common.{◌≡◌, ℕ, zero, suc, ◌+◌, List, [], ◌∷◌, ◌++◌, length, fold, take, refl, ap, ◌∙◌}
 use Rattle.rep_types.specs.declared.item.Item.{Item}
 use Rattle.rep_types.specs.declared.item.Item.TheVariants.{WriteSet, SetWindow}
 use Rattle.rep_types.specs.declared.judged.Judged.{Judged}
@@ -10,7 +9,7 @@ use Rattle.rep_types.specs.Entries.{Entry}
 use Rattle.rep_types.specs.Settings.{Setting, setting}
 use Rattle.rep_types.specs.Windows.{fixed}
 use Rattle.rep_types.specs.Reaches.{resized, size, floor}
-use Rattle.rep_types.specs.Order.{Order, State, items_of, verdict_among, verdict_on, entries, joined, history, effects, row_in, rows, recent, state}
+use Rattle.rep_types.specs.Order.{Order, State, items_of, verdict_among, verdict_on, entries, joined, history, effects, row_in, recent, state}
 use Rattle.rep_checkpoint.specs.Coming.{blank}
 use Rattle.rep_transfer.specs.Transfers.{Snapshot}
 use Rattle.rep_catchup.specs.Snapshots.{with_pages, state_of}

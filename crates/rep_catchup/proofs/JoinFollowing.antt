@@ -5,10 +5,11 @@ use Rattle.std.specs.List.{flat_map, AllByRecursion}
 use Rattle.std.specs.Io.KnownBytes.{Consumes}
 use Rattle.std.proofs.KnownBytes.{Consumes-nil, Consumes-trans}
 use Rattle.std.proofs.lemmas.Bool.Decides.{nat_tests}
+use Rattle.std.proofs.lemmas.List.{take_all, drop_all}
 use Rattle.rep_types.specs.declared.judged.Judged.{Judged}
 use Rattle.rep_types.specs.declared.refusal.Refusal.{Refusal}
 use Rattle.rep_types.specs.Settings.{Setting}
-use Rattle.rep_types.specs.Order.{Order, items_of, state, history as history_of}
+use Rattle.rep_types.specs.Order.{Order, State, items_of, state, history as history_of}
 use Rattle.rep_types.specs.ByItems.{HistoryByItems}
 use Rattle.rep_record.specs.Records.{IsRecord}
 use Rattle.rep_disk.specs.History.{History}
@@ -19,36 +20,44 @@ use Rattle.rep_steps.specs.Nodes.{Node}
 use Rattle.rep_steps.specs.Orders.{IsOf}
 use Rattle.rep_replica.specs.Replicas.{Replica, facts_of}
 use Rattle.rep_replica.specs.Holding.{Holds}
+use Rattle.rep_replica.specs.Running.{RunsAreJoined}
 use Rattle.rep_replica.specs.Settling.{is_quiet}
+use Rattle.rep_replica.specs.Episodes.{StandsAt}
 use Rattle.rep_transfer.specs.declared.pieces.Front.{Front}
 use Rattle.rep_transfer.specs.declared.part.Part.{Part}
 use Rattle.rep_transfer.specs.Haves.{header_bytes}
 use Rattle.rep_transfer.specs.Shapes.{shape_of}
 use Rattle.rep_transfer.specs.Pieces.{front_bytes}
-use Rattle.rep_transfer.specs.Taking.{Takes, TakesOne}
+use Rattle.rep_transfer.specs.Taking.{counted, TakesOne}
 use Rattle.rep_transfer.specs.Transfers.{Snapshot, Transfer, front_of, rest_of, snapshot_bytes, record_part, end_bytes, PartFits, part_bytes}
-use Rattle.rep_catchup.specs.Snapshots.{Brought, IsSnapshot, state_of}
-use Rattle.rep_catchup.specs.Joining.{Grown, Follows, Followed, FollowedFrom, StartsAt, MayCome, TakesAll, TakesHeader, EndsAt, Joined, end_part}
-use Rattle.rep_catchup.proofs.JoinGrowing.{grown_then}
+use Rattle.rep_catchup.specs.Snapshots.{Brought, IsSnapshot, Took, state_of}
+use Rattle.rep_catchup.specs.Growing.{Grown}
+use Rattle.rep_catchup.specs.Joining.{Follows, Followed, FollowedFrom, StartsAt, MayCome, TakesAll, TakesHeader, EndsAt, Joined, Went, end_part}
+use Rattle.rep_catchup.proofs.JoinGrowing.{grown_none, grown_then}
+use Rattle.rep_catchup.proofs.JoinTaking.{took_none, took_then, took_piece}
+use Rattle.rep_catchup.proofs.JoinWent.{went_records, went_snapshot, went_behind}
 
--- ---- one piece
+-- ---- a node that stands at a snapshot
 
-pub consumed : {A : Type 0} (Fits : A → Type 0) (spell : A → List ℕ) (a b : Option (List ℕ)) (x : A) (result : Result (Option A) Refusal) → result ≡ Ok (Some x) → IfSome a (λ bytes. TakesOne Fits spell bytes b result) → Consumes a b (spell x)
-consumed Fits spell None b x result is h = tt
-consumed {A} Fits spell (Some bytes) b x result is h =
-    let t : Takes Fits spell x bytes b = subst (λ (r : Result (Option A) Refusal). TakesOne Fits spell bytes b r) is h in
-    subst (λ (o : Option (List ℕ)). Consumes (Some bytes) o (spell x)) (sym t.left_is) t.front
-
-pub found_fits : {A : Type 0} (Fits : A → Type 0) (x : A) (result : Result (Option A) Refusal) → result ≡ Ok (Some x) → IfOk result (λ found. IfSome found Fits) → Fits x
-found_fits {A} Fits x result is h = subst (λ (r : Result (Option A) Refusal). IfOk r (λ found. IfSome found Fits)) is h
+-- it is of each order whose state that is
+stands_is : (n : Node) (uuid : List ℕ) (y : State) (m : Node) (L : Order) → HistoryByItems → StandsAt n uuid y m → y ≡ state n.facts.setting L → IsOf L m
+stands_is n uuid y m L by_items is same =
+    let p : Setting = m.facts.setting in
+    let base : m.base ≡ state p L = is.base ∙ same ∙ ap (λ (q : Setting). state q L) (sym is.setting_is) in
+    let at : m.base.position ≡ length L = ap (λ (s : State). s.position) base in
+    record {
+      within = omega (arith, at);
+      base = base ∙ ap (state p) (sym (take_all m.base.position L (omega (arith, at))));
+      items = is.none ∙ sym (drop_all m.base.position (history_of p L) (omega (arith, at, by_items.as_many p L)));
+    }
 
 -- ---- the parts behind a snapshot
 
-all_both : {A : Type 0} (P : A → Type 0) (xs ys : List A) → AllByRecursion P xs → AllByRecursion P ys → AllByRecursion P (xs ++ ys)
+pub all_both : {A : Type 0} (P : A → Type 0) (xs ys : List A) → AllByRecursion P xs → AllByRecursion P ys → AllByRecursion P (xs ++ ys)
 all_both P [] ys h k = k
 all_both P (x ∷ xs) ys h k = (h.0, all_both P xs ys h.1 k)
 
-flat_both : (xs ys : List Judged) → flat_map record_part (xs ++ ys) ≡ flat_map record_part xs ++ flat_map record_part ys
+pub flat_both : (xs ys : List Judged) → flat_map record_part (xs ++ ys) ≡ flat_map record_part xs ++ flat_map record_part ys
 flat_both [] ys = refl
 flat_both (x ∷ xs) ys = ap (λ (bs : List ℕ). record_part x ++ bs) (flat_both xs ys) ∙ sym (append_assoc (record_part x) (flat_map record_part xs) (flat_map record_part ys))
 
@@ -71,7 +80,7 @@ module _ {D : Type 0} (honest : D → Type 0) (history : D → History) (failure
     ends = record { quiet = quiet; limit = limit; last_is = λ n holds. omega (arith, is) };
   }
 
-  module _ (by_items : HistoryByItems) where
+  module _ (by_items : HistoryByItems) (joined : RunsAreJoined honest history failures) where
     ends_then : (a b c : Replica D) (xs ys : List Judged) (ended : Option ℕ) → Grown honest history failures a b xs → IfSome ended (EndsAt honest history failures b c ys) → IfSome ended (EndsAt honest history failures a c (xs ++ ys))
     ends_then a b c xs ys None grown e = tt
     ends_then a b c xs ys (Some last) grown e = record {
@@ -92,22 +101,22 @@ module _ {D : Type 0} (honest : D → Type 0) (history : D → History) (failure
       spelled =
           ap (λ (bs : List ℕ). bs ++ two) (first.spelled ∙ append-nil (flat_map record_part first.records)) ∙ ap (λ (bs : List ℕ). flat_map record_part first.records ++ bs) second.spelled
           ∙ sym (append_assoc (flat_map record_part first.records) (flat_map record_part second.records) (end_part ended)) ∙ ap (λ (bs : List ℕ). bs ++ end_part ended) (sym (flat_both first.records second.records));
-      grown = grown_then by_items honest history failures a b c first.records second.records first.grown second.grown;
+      grown = grown_then by_items honest history failures joined a b c first.records second.records first.grown second.grown;
       ends = ends_then a b c first.records second.records ended first.grown second.ends;
     }
 
     -- nothing was taken yet
-    pub followed_none : (old : Replica D) (before : Option (List ℕ)) → Grown honest history failures old old [] → Followed honest history failures old old before before None
-    followed_none old before grown = ([], Consumes-nil before, record { records = []; are_records = tt; spelled = refl; grown = grown; ends = tt })
+    pub followed_none : (old : Replica D) (start : ℕ) (before : Option (List ℕ)) → Followed honest history failures old old start start before before None
+    followed_none old start before = ([], took_none start before, record { records = []; are_records = tt; spelled = refl; grown = grown_none by_items honest history failures joined old; ends = tt })
 
     -- one part more
-    pub followed_then : (a b c : Replica D) (start before left : Option (List ℕ)) (ended : Option ℕ) (two : List ℕ) → Followed honest history failures a b start before None → Consumes before left two → Follows honest history failures b c ended two
-        → Followed honest history failures a c start left ended
-    followed_then a b c start before left ended two first taken second = (first.0 ++ two, Consumes-trans start before left first.0 two first.1 taken, follows_then a b c ended first.0 two first.2 second)
+    pub followed_then : (a b c : Replica D) (from mid now : ℕ) (start before left : Option (List ℕ)) (ended : Option ℕ) (two : List ℕ) → Followed honest history failures a b from mid start before None → Took mid now before left two → Follows honest history failures b c ended two
+        → Followed honest history failures a c from now start left ended
+    followed_then a b c from mid now start before left ended two first took second = (first.0 ++ two, took_then from mid now start before left first.0 two first.1 took, follows_then a b c ended first.0 two first.2 second)
 
     -- a part, and those behind it
-    pub from_then : (a b c : Replica D) (before left : Option (List ℕ)) (last : ℕ) (one : List ℕ) → Follows honest history failures a b None one → Followed honest history failures b c before left (Some last) → FollowedFrom honest history failures a c one before left last
-    from_then a b c before left last one first second = (second.0, second.1, follows_then a b c (Some last) one second.0 first second.2)
+    pub from_then : (a b c : Replica D) (start now : ℕ) (before left : Option (List ℕ)) (last : ℕ) (one : List ℕ) → Follows honest history failures a b None one → Followed honest history failures b c start now before left (Some last) → FollowedFrom honest history failures a c one before left last
+    from_then a b c start now before left last one first second = (second.0, second.1.taken, follows_then a b c (Some last) one second.0 first second.2)
 
   pub from_end : (a b : Replica D) (before : Option (List ℕ)) (last : ℕ) (one : List ℕ) → Follows honest history failures a b (Some last) one → FollowedFrom honest history failures a b one before before last
   from_end a b before last one first = ([], Consumes-nil before, subst (Follows honest history failures a b (Some last)) (sym (append-nil one)) first)
@@ -138,42 +147,46 @@ module _ {D : Type 0} (honest : D → Type 0) (history : D → History) (failure
               let one = h.grown.node n holds in
               let here : delivered n.facts ≡ delivered (facts_of failures old) = ap delivered holds.facts in
               (one.0, record { count = omega (arith, one.1.count, h.ends.last_is n holds, here); order = λ L of. one.1.order L of; judged = λ L of. one.1.judged L of }, one.2);
+          went = went_records honest history failures old new uuid h.records h.grown;
         }
 
     -- where one comes
-    module _ (front : Front) (before mid left : Option (List ℕ)) (second : Replica D) where
-      pub takes_snapshot : Brought honest history failures old second uuid front before mid → Followed honest history failures second new mid left (Some last)
+    module _ (by_items : HistoryByItems) (front : Front) (start between now : ℕ) (before mid left : Option (List ℕ)) (second : Replica D) where
+      pub takes_snapshot : Brought honest history failures old second uuid front start between before mid → Followed honest history failures second new between now mid left (Some last)
           → TakesAll honest history failures old new uuid last (83 ∷ front_bytes front) before left
       takes_snapshot b f =
           let h = f.2 in
           let s : Snapshot = b.snapshot in
           record {
             snapshot = Some s;
-            fits = b.fits;
-            comes = (b.is_snapshot, b.later);
+            fits = b.takes.fits;
+            comes = (b.takes.is_snapshot, b.takes.later);
             records = h.records;
             are_records = h.are_records;
             bytes = rest_of s ++ f.0;
-            taken = Consumes-trans before mid left (rest_of s) f.0 b.taken f.1;
+            taken = Consumes-trans before mid left (rest_of s) f.0 b.takes.took.taken f.1.taken;
             spelled =
-                ap (λ (x : Front). (83 ∷ front_bytes x) ++ (rest_of s ++ f.0)) b.front_is ∙ sym (append_assoc (83 ∷ front_bytes (front_of s)) (rest_of s) f.0) ∙ ap (λ (bs : List ℕ). snapshot_bytes s ++ bs) h.spelled;
+                ap (λ (x : Front). (83 ∷ front_bytes x) ++ (rest_of s ++ f.0)) b.takes.front_is ∙ sym (append_assoc (83 ∷ front_bytes (front_of s)) (rest_of s) f.0) ∙ ap (λ (bs : List ℕ). snapshot_bytes s ++ bs) h.spelled;
             uuid_is = h.grown.uuid ∙ b.uuid_is;
             setting = h.grown.setting ∙ b.setting;
             quiet = h.ends.quiet;
             limit = h.ends.limit;
             node = λ n holds.
                 let at = b.node n holds in
-                let one = h.grown.node at.0 at.2 in
-                let p_is : at.0.facts.setting ≡ n.facts.setting = ap (λ (x : Standing). x.setting) at.2.facts ∙ b.setting ∙ ap (λ (x : Standing). x.setting) (sym holds.facts) in
-                let here : delivered at.0.facts ≡ delivered (facts_of failures second) = ap delivered at.2.facts in (
+                let m = at.node in
+                let one = h.grown.node m at.holds in
+                let q_is : (facts_of failures old).setting ≡ n.facts.setting = ap (λ (x : Standing). x.setting) (sym holds.facts) in
+                let here : delivered m.facts ≡ delivered (facts_of failures second) = ap delivered at.holds.facts in
+                let of : (L : Order) → state_of n.facts.setting s ≡ state n.facts.setting L → IsOf L m = λ L is. stands_is n uuid (state_of (facts_of failures old).setting s) m L by_items at.stands (ap (λ (q : Setting). state_of q s) q_is ∙ is) in (
                   one.0,
                   record {
-                    count = omega (arith, one.1.count, h.ends.last_is at.0 at.2, here);
-                    order = λ L is. one.1.order L (at.1 L is);
-                    judged = λ L is. one.1.judged L (at.1 L is) ∙ ap (λ (p : Setting). drop (length L) (history_of p (L ++ items_of h.records))) p_is;
+                    count = omega (arith, one.1.count, h.ends.last_is m at.holds, here);
+                    order = λ L is. one.1.order L (of L is);
+                    judged = λ L is. one.1.judged L (of L is) ∙ ap (λ (p : Setting). drop (length L) (history_of p (L ++ items_of h.records))) at.stands.setting_is;
                   },
                   one.2,
                 );
+            went = went_snapshot honest history failures old second new uuid front start between before mid h.records b h.grown;
           }
 
     -- with what was taken before
@@ -192,26 +205,28 @@ module _ {D : Type 0} (honest : D → Type 0) (history : D → History) (failure
       quiet = t.quiet;
       limit = t.limit;
       node = t.node;
+      went = t.went;
     }
 
 -- ---- the same of what calls answer
 
 module _ {D : Type 0} (honest : D → Type 0) (history : D → History) (failures : D → ℕ) where
-  pub part_followed : HistoryByItems → (a b c : Replica D) (start before left : Option (List ℕ)) (ended : Option ℕ) (p : Part) (result : Result (Option Part) Refusal) → result ≡ Ok (Some p) → Followed honest history failures a b start before None
-      → IfSome before (λ bytes. TakesOne PartFits part_bytes bytes left result) → Follows honest history failures b c ended (part_bytes p) → Followed honest history failures a c start left ended
-  part_followed by_items a b c start before left ended p result is first known took =
-      followed_then honest history failures by_items a b c start before left ended (part_bytes p) first (consumed PartFits part_bytes before left p result is known) took
+  pub part_followed : HistoryByItems → RunsAreJoined honest history failures → (a b c : Replica D) (from mid now : ℕ) (start before left : Option (List ℕ)) (ended : Option ℕ) (p : Part) (result : Result (Option Part) Refusal) → result ≡ Ok (Some p) → Followed honest history failures a b from mid start before None
+      → IfSome before (λ bytes. TakesOne PartFits part_bytes bytes left result) → IfOk result (λ found. IfSome found (λ q. now ≡ counted mid (length (part_bytes q)))) → Follows honest history failures b c ended (part_bytes p)
+      → Followed honest history failures a c from now start left ended
+  part_followed by_items joined a b c from mid now start before left ended p result is first known counts took =
+      followed_then honest history failures by_items joined a b c from mid now start before left ended (part_bytes p) first (took_piece PartFits part_bytes mid now before left p result is known counts) took
 
-  pub part_goes_on : HistoryByItems → (a b c : Replica D) (before left : Option (List ℕ)) (ended : Option ℕ) (hand : List ℕ) (result : Result ℕ Refusal) → ended ≡ None → Follows honest history failures a b ended hand
-      → IfOk result (λ last. Followed honest history failures b c before left (Some last)) → IfOk result (FollowedFrom honest history failures a c hand before left)
-  part_goes_on by_items a b c before left ended hand (Err e) is took rest = tt
-  part_goes_on by_items a b c before left ended hand (Ok last) is took rest =
-      from_then honest history failures by_items a b c before left last hand (subst (λ (e : Option ℕ). Follows honest history failures a b e hand) is took) rest
+  pub part_goes_on : HistoryByItems → RunsAreJoined honest history failures → (a b c : Replica D) (start now : ℕ) (before left : Option (List ℕ)) (ended : Option ℕ) (hand : List ℕ) (result : Result ℕ Refusal) → ended ≡ None → Follows honest history failures a b ended hand
+      → IfOk result (λ last. Followed honest history failures b c start now before left (Some last)) → IfOk result (FollowedFrom honest history failures a c hand before left)
+  part_goes_on by_items joined a b c start now before left ended hand (Err e) is took rest = tt
+  part_goes_on by_items joined a b c start now before left ended hand (Ok last) is took rest =
+      from_then honest history failures by_items joined a b c start now before left last hand (subst (λ (e : Option ℕ). Follows honest history failures a b e hand) is took) rest
 
-  pub after_snapshot : (old second new : Replica D) (uuid : List ℕ) (front : Front) (before mid left : Option (List ℕ)) (result : Result ℕ Refusal) → Brought honest history failures old second uuid front before mid
-      → IfOk result (λ last. Followed honest history failures second new mid left (Some last)) → IfOk result (λ last. TakesAll honest history failures old new uuid last (83 ∷ front_bytes front) before left)
-  after_snapshot old second new uuid front before mid left (Err e) b f = tt
-  after_snapshot old second new uuid front before mid left (Ok last) b f = takes_snapshot honest history failures old new uuid last front before mid left second b f
+  pub after_snapshot : HistoryByItems → (old second new : Replica D) (uuid : List ℕ) (front : Front) (start between now : ℕ) (before mid left : Option (List ℕ)) (result : Result ℕ Refusal) → Brought honest history failures old second uuid front start between before mid
+      → IfOk result (λ last. Followed honest history failures second new between now mid left (Some last)) → IfOk result (λ last. TakesAll honest history failures old new uuid last (83 ∷ front_bytes front) before left)
+  after_snapshot by_items old second new uuid front start between now before mid left (Err e) b f = tt
+  after_snapshot by_items old second new uuid front start between now before mid left (Ok last) b f = takes_snapshot honest history failures old new uuid last by_items front start between now before mid left second b f
 
   pub all_behind : (old new : Replica D) (uuid hand : List ℕ) (before mid left : Option (List ℕ)) (result : Result ℕ Refusal) → Consumes before mid hand
       → IfOk result (λ last. TakesAll honest history failures old new uuid last hand mid left) → IfOk result (λ last. TakesAll honest history failures old new uuid last [] before left)
@@ -254,7 +269,7 @@ module _ {D : Type 0} (honest : D → Type 0) (history : D → History) (failure
       later (inr nil) = inr (subst IsNil (settled.uuid ∙ ap (λ (x : Standing). x.uuid) (sym holds.facts)) nil)
 
   pub joined : (n : Node) (start before left : Option (List ℕ)) → Holds honest history failures n old → TakesHeader (facts_of failures mid) uuid start before → TakesAll honest history failures mid new uuid last [] before left
-      → IfSome start (λ bytes. Joined honest history failures n bytes left new last)
+      → IfSome start (λ bytes. Joined honest history failures n bytes left old new last)
   joined n None before left holds header all = tt
   joined n (Some bytes) before left holds header all =
       by_left left (Consumes-trans (Some bytes) before left (header_bytes header.header) all.bytes header.taken all.taken)
@@ -262,7 +277,7 @@ module _ {D : Type 0} (honest : D → Type 0) (history : D → History) (failure
       transfer : Transfer
       transfer = record { header = header.header; snapshot = all.snapshot; records = all.records; last = last }
 
-      by_left : (end : Option (List ℕ)) → Consumes (Some bytes) end (header_bytes header.header ++ all.bytes) → Joined honest history failures n bytes end new last
+      by_left : (end : Option (List ℕ)) → Consumes (Some bytes) end (header_bytes header.header ++ all.bytes) → Joined honest history failures n bytes end old new last
       by_left None taken = absurd taken
       by_left (Some rest) taken =
           let m = settled.node n holds in
@@ -292,6 +307,7 @@ module _ {D : Type 0} (honest : D → Type 0) (history : D → History) (failure
             };
             holds = k.2;
             quiet = all.quiet;
+            went = subst (λ (u : List ℕ). Went honest history failures old new u all.snapshot all.records) (sym header.uuid_is) (went_behind honest history failures old mid new uuid all.snapshot all.records settled all.went);
           }
         where
           cluster : (header.header.uuid ≡ (facts_of failures mid).uuid) ⊎ IsNil (facts_of failures mid).uuid → (header.header.uuid ≡ n.facts.uuid) ⊎ IsNil n.facts.uuid
@@ -305,7 +321,7 @@ not_joined (Some bytes) P e = tt
 
 module _ {D : Type 0} (honest : D → Type 0) (history : D → History) (failures : D → ℕ) (old mid new : Replica D) (uuid : List ℕ) where
   pub joined_on : (n : Node) (start before left : Option (List ℕ)) (result : Result ℕ Refusal) → Grown honest history failures old mid [] → Holds honest history failures n old → TakesHeader (facts_of failures mid) uuid start before
-      → IfOk result (λ last. TakesAll honest history failures mid new uuid last [] before left) → IfSome start (λ bytes. IfOk result (Joined honest history failures n bytes left new))
+      → IfOk result (λ last. TakesAll honest history failures mid new uuid last [] before left) → IfSome start (λ bytes. IfOk result (Joined honest history failures n bytes left old new))
   joined_on n None before left result settled holds header all = tt
   joined_on n (Some bytes) before left (Err e) settled holds header all = tt
   joined_on n (Some bytes) before left (Ok last) settled holds header all = joined honest history failures old mid new uuid last settled n (Some bytes) before left holds header all

@@ -1,6 +1,6 @@
 -- How a replica grows, by its own steps and by what is delivered to it.
 use Rattle.std.proofs.Common.{◌≡◌, ◌⊎◌, inl, inr, ℕ, ◌+◌, ◌≤◌, ◌<◌, Bool, true, false, List, [], ◌∷◌, ◌++◌, length, take, drop, Option, None, Some, Result, Ok, Err, refl, sym, ap, subst, ◌∙◌, append_assoc, append-nil, arith, length-append, length-drop}
-use Rattle.std.specs.Prelude.{◌==◌, ◌||◌, not, nat_le, if◌then◌else◌, is_some, IfErr, OnOk, MatchOption}
+use Rattle.std.specs.Prelude.{◌≢◌, ◌==◌, ◌||◌, not, nat_le, if◌then◌else◌, is_some, IfErr, MatchOption}
 use Rattle.std.specs.List.{list_any}
 use Rattle.std.proofs.Math.ListN.{take-append-drop}
 use Rattle.std.proofs.lemmas.List.{drop_all, drop_at, take_at, drop-append-le, map-append, length_push}
@@ -12,7 +12,7 @@ use Rattle.rep_types.specs.declared.item.Item.{Item}
 use Rattle.rep_types.specs.declared.item.Item.TheVariants.{WriteSet}
 use Rattle.rep_types.specs.declared.verdict.Verdict.{Verdict}
 use Rattle.rep_types.specs.declared.refusal.Refusal.{Refusal}
-use Rattle.rep_types.specs.declared.refusal.Refusal.TheVariants.{Stopped, Undefined, NotDue, LogFull, Exhausted, OutOfOrder, Backlogged, OutOfMemory, DiskFault, Corrupt, Malformed, StreamFault, WrongCluster}
+use Rattle.rep_types.specs.declared.refusal.Refusal.TheVariants.{Stopped, Undefined, NotDue, LogFull, Exhausted, OutOfOrder, Backlogged, OutOfMemory, DiskFault, Corrupt, Malformed}
 use Rattle.rep_types.specs.declared.refusal.Part.TheVariants.{Pages}
 use Rattle.rep_types.specs.declared.limits.TheConstants.{MAX_SEQNO, MAX_AHEAD}
 use Rattle.rep_types.specs.Settings.{Setting}
@@ -29,34 +29,22 @@ use Rattle.rep_steps.specs.declared.answer.Answer.{Answer}
 use Rattle.rep_steps.specs.declared.answer.Answer.TheVariants.{Gave, Refused}
 use Rattle.rep_steps.specs.Standings.{Standing, Flushing, Saving, Ready, SuperFilling, SuperFilled, SuperOpening, Stage, Off, Toward, Retiring, delivered, underway, gathered, refusal, refusal_here, delivery_refusal, log_refusal, check_refusal, flush_refusal}
 use Rattle.rep_steps.specs.Moves.{Found, Moves, Fails, MeetsCorruption, answer, check_answer, after, next_item, opening}
-use Rattle.rep_steps.specs.Nodes.{Node, IsNode, Steps, moved, found, NodesStayNodes}
+use Rattle.rep_steps.specs.Nodes.{Node, IsNode, Steps, moved, found, verdict_on, NodesStayNodes}
 use Rattle.rep_steps.specs.Orders.{IsOf, accepted, answer_of, StepsFollowTheOrder, NodesHoldTheOrder}
 use Rattle.rep_steps.specs.Runs.{Runs, accepted_by, RunsComeTo}
 use Rattle.rep_replica.specs.Replicas.{Replica, facts_of}
 use Rattle.rep_replica.specs.Holding.{Holds, IsStep}
+use Rattle.rep_replica.specs.Running.{RunsAreJoined}
 use Rattle.rep_replica.specs.Settling.{IsRunning, IsDue, IsOwn, AreOwn, AreDone, EndsEarly, outcome_of, Works}
-use Rattle.rep_catchup.specs.Joining.{JoinsEarly, Grows, Grown}
+use Rattle.rep_transfer.specs.declared.part.Part.TheVariants.{Record}
+use Rattle.rep_catchup.specs.Growing.{Grows, Grown, EndsRunning}
+use Rattle.rep_catchup.specs.Joining.{JoinsEarly, IsOut}
 
 -- ---- why it isn't taken
 
-pub early_stream : (e : Refusal) → e ≡ StreamFault → JoinsEarly e
-early_stream e is = inl is
-
-pub early_malformed : (at : ℕ) → JoinsEarly (Malformed at)
-early_malformed at = inr (inl (at, refl))
-
-pub early_cluster : JoinsEarly WrongCluster
-early_cluster = inr (inr (inl refl))
-
-pub early_memory : (e : Refusal) → e ≡ OutOfMemory → JoinsEarly e
-early_memory e is = inr (inr (inr (inl is)))
-
-pub early_fault : (e : Refusal) → e ≡ DiskFault → JoinsEarly e
-early_fault e is = inr (inr (inr (inr (inl is))))
-
 pub early_work : (e : Refusal) → EndsEarly e → JoinsEarly e
-early_work e (inl memory) = early_memory e memory
-early_work e (inr (inl fault)) = early_fault e fault
+early_work e (inl memory) = inr (inr (inr (inl memory)))
+early_work e (inr (inl fault)) = inr (inr (inr (inr (inl fault))))
 early_work e (inr (inr corrupt)) = inr (inr (inr (inr (inr corrupt))))
 
 -- ---- whether it runs
@@ -87,129 +75,206 @@ own_accept [] answers own = refl
 own_accept (e ∷ events) [] own = refl
 own_accept (e ∷ events) (a ∷ answers) own = ap (λ (L : Order). L ++ accepted_by events answers) (own_accepted e a own.0) ∙ own_accept events answers own.1
 
--- what is there after steps of its own that were done: the cluster and the parameters, no less delivered, and not stopped
+accepted_both : (events : List Event) (answers : List Answer) (more : List Event) (told : List Answer) → length events ≡ length answers → accepted_by (events ++ more) (answers ++ told) ≡ accepted_by events answers ++ accepted_by more told
+accepted_both [] [] more told same = refl
+accepted_both [] (a ∷ answers) more told same = absurd (omega (arith, same))
+accepted_both (e ∷ events) [] more told same = absurd (omega (arith, same))
+accepted_both (e ∷ events) (a ∷ answers) more told same =
+    ap (λ (L : Order). accepted e a ++ L) (accepted_both events answers more told (omega (arith, same))) ∙ sym (append_assoc (accepted e a) (accepted_by events answers) (accepted_by more told))
+
+runs_paired : {S : Type 0} (one : S → Event → Answer → S → Type 0) (events : List Event) (answers : List Answer) (s t : S) → Runs one s events answers t → length events ≡ length answers
+runs_paired one [] [] s t run = refl
+runs_paired one [] (a ∷ answers) s t run = absurd run
+runs_paired one (e ∷ events) [] s t run = absurd run
+runs_paired one (e ∷ events) (a ∷ answers) s t run = omega (arith, runs_paired one events answers run.0 t run.2)
+
+-- what is there after steps of its own: the cluster and the parameters, and no less delivered
 pub record Stays (s t : Standing) : Type 0 where
   pub uuid : t.uuid ≡ s.uuid
   pub setting : t.setting ≡ s.setting
   pub count : delivered s ≤ delivered t
-  pub stopped : t.stopped ≡ s.stopped
 
 stays_here : (s : Standing) → Stays s s
-stays_here s = record { uuid = refl; setting = refl; count = omega arith; stopped = refl }
+stays_here s = record { uuid = refl; setting = refl; count = omega arith }
+
+stays_failed : (s : Standing) (failures : ℕ) → Stays s (record s { failures = failures; stopped = true })
+stays_failed s failures = record { uuid = refl; setting = refl; count = omega arith }
 
 stays_then : (s t u : Standing) → Stays s t → Stays t u → Stays s u
-stays_then s t u a b = record { uuid = b.uuid ∙ a.uuid; setting = b.setting ∙ a.setting; count = omega (arith, a.count, b.count); stopped = b.stopped ∙ a.stopped }
+stays_then s t u a b = record { uuid = b.uuid ∙ a.uuid; setting = b.setting ∙ a.setting; count = omega (arith, a.count, b.count) }
 
 own_stays : (s : Standing) (e : Event) (f : Found) → IsOwn e → Stays s (after s e f)
 own_stays s (Deliver seqno w) f own = absurd own
-own_stays s Log f own = record { uuid = refl; setting = refl; count = omega arith; stopped = refl }
-own_stays s Sync f own = record { uuid = refl; setting = refl; count = omega (arith, length-drop (opening s.phase) s.ahead); stopped = refl }
-own_stays s Check f own = record { uuid = refl; setting = refl; count = omega arith; stopped = refl }
-own_stays s (Flush page) f own = record { uuid = refl; setting = refl; count = omega arith; stopped = refl }
+own_stays s Log f own = record { uuid = refl; setting = refl; count = omega arith }
+own_stays s Sync f own = record { uuid = refl; setting = refl; count = omega (arith, length-drop (opening s.phase) s.ahead) }
+own_stays s Check f own = record { uuid = refl; setting = refl; count = omega arith }
+own_stays s (Flush page) f own = record { uuid = refl; setting = refl; count = omega arith }
 own_stays s (Read key at) f own = absurd own
+
+-- what came of a step where no refusal applied
+abbrev Outcome : Standing → Event → Answer → Standing → Type 0
+Outcome s e a t = ((found : Found) × (a ≡ answer s e found) × (t ≡ after s e found)) ⊎ (Fails s e a t ⊎ MeetsCorruption s e a t)
+
+-- so it is where one failed
+failed_stays : (s : Standing) (e : Event) (a : Answer) (t : Standing) → Fails s e a t ⊎ MeetsCorruption s e a t → Stays s t
+failed_stays s e a t (inl (inl hungry)) = subst (Stays s) (sym hungry.2) (stays_here s)
+failed_stays s e a t (inl (inr fault)) = subst (Stays s) (sym fault.3) (stays_failed s t.failures)
+failed_stays s e a t (inr corrupt) = subst (Stays s) (sym corrupt.2) (stays_here s)
+
+move_stays_by : (s : Standing) (e : Event) (a : Answer) (t : Standing) → IsOwn e → (o : Option Refusal) → MatchOption o (Outcome s e a t) (λ r. (a ≡ Refused r) × (t ≡ s)) → Stays s t
+move_stays_by s e a t own (Some r) m = subst (Stays s) (sym m.1) (stays_here s)
+move_stays_by s e a t own None (inl went) = subst (Stays s) (sym went.2) (own_stays s e went.0 own)
+move_stays_by s e a t own None (inr failed) = failed_stays s e a t failed
+
+runs_stay : (events : List Event) (answers : List Answer) (s t : Standing) → AreOwn events → Runs IsDue s events answers t → Stays s t
+runs_stay [] [] s t own run = subst (Stays s) run (stays_here s)
+runs_stay [] (a ∷ answers) s t own run = absurd run
+runs_stay (e ∷ events) [] s t own run = absurd run
+runs_stay (e ∷ events) (a ∷ answers) s t own run = stays_then s run.0 t (move_stays_by s e a run.0 own.0 (refusal s e) run.1.1) (runs_stay events answers run.0 t own.1 run.2)
+
+-- ---- whether it is stopped then
 
 not_refused : (r : Refusal) (a : Answer) → a ≡ Refused r → outcome_of a ≡ Ok tt → ⊥
 not_refused r a is done = let never : Err r ≡ Ok tt = ap outcome_of (sym is) ∙ done in cc
 
-move_stays_by : (s : Standing) (e : Event) (a : Answer) (t : Standing) → IsOwn e → outcome_of a ≡ Ok tt → (o : Option Refusal)
-    → MatchOption o (((found : Found) × (a ≡ answer s e found) × (t ≡ after s e found)) ⊎ (Fails s e a t ⊎ MeetsCorruption s e a t)) (λ r. (a ≡ Refused r) × (t ≡ s)) → Stays s t
-move_stays_by s e a t own done (Some r) m = absurd (not_refused r a m.0 done)
-move_stays_by s e a t own done None (inl went) = subst (Stays s) (sym went.2) (own_stays s e went.0 own)
-move_stays_by s e a t own done None (inr (inl (inl hungry))) = absurd (not_refused OutOfMemory a hungry.1 done)
-move_stays_by s e a t own done None (inr (inl (inr fault))) = absurd (not_refused DiskFault a fault.1 done)
-move_stays_by s e a t own done None (inr (inr corrupt)) = absurd (not_refused (Corrupt Pages) a corrupt.1 done)
+some_same : (r x : Refusal) → Some r ≡ Some x → r ≡ x
+some_same r x is = cc
 
-runs_stay : (events : List Event) (answers : List Answer) (s t : Standing) → AreOwn events → AreDone answers → Runs IsDue s events answers t → Stays s t
-runs_stay [] [] s t own done run = subst (Stays s) run (stays_here s)
-runs_stay [] (a ∷ answers) s t own done run = absurd run
-runs_stay (e ∷ events) [] s t own done run = absurd run
-runs_stay (e ∷ events) (a ∷ answers) s t own done run =
-    stays_then s run.0 t (move_stays_by s e a run.0 own.0 done.0 (refusal s e) run.1.1) (runs_stay events answers run.0 t own.1 done.1 run.2)
+same_refusal : (r e : Refusal) → Refused e ≡ Refused r → e ≡ r
+same_refusal r e is = cc
 
--- ---- why a step of its own is refused that is due: never since it is stopped
+-- of what is due, no refusal tells that it is stopped, or that the device failed
+module _ (x : Refusal) (not_due : NotDue ≡ x → ⊥) (not_full : LogFull ≡ x → ⊥) where
+  if_other : (b : Bool) (r : Refusal) (o : Option Refusal) → (r ≡ x → ⊥) → (o ≡ Some x → ⊥) → (if b then Some r else o) ≡ Some x → ⊥
+  if_other true r o not never is = not (some_same r x is)
+  if_other false r o not never is = never is
 
-some_other : (r : Refusal) → Some r ≡ Some Stopped → r ≡ Stopped
-some_other r is = cc
+  none_other : ◌≡◌ {A = Option Refusal} None (Some x) → ⊥
+  none_other is = cc
 
-if_other : (b : Bool) (r : Refusal) (o : Option Refusal) → (r ≡ Stopped → ⊥) → (o ≡ Some Stopped → ⊥) → (if b then Some r else o) ≡ Some Stopped → ⊥
-if_other true r o not never is = not (some_other r is)
-if_other false r o not never is = never is
+  due_other : Some NotDue ≡ Some x → ⊥
+  due_other is = not_due (some_same NotDue x is)
 
-none_other : ◌≡◌ {A = Option Refusal} None (Some Stopped) → ⊥
-none_other is = cc
+  log_other : (s : Standing) (phase : Phase) → log_refusal s phase ≡ Some x → ⊥
+  log_other s Resting is = if_other (gathered s == 0) NotDue (if nat_le (s.start + s.setting.cells) s.next then Some LogFull else None) not_due (if_other (nat_le (s.start + s.setting.cells) s.next) LogFull None not_full none_other) is
+  log_other s Closing is = due_other is
+  log_other s (Filling n) is = due_other is
+  log_other s (Filled n) is = none_other is
+  log_other s (Opening n) is = due_other is
 
-not_due : NotDue ≡ Stopped → ⊥
-not_due is = cc
+  check_other : (s : Standing) (stage : Stage) → check_refusal s stage ≡ Some x → ⊥
+  check_other s Off is = if_other (nat_le s.durable s.base) NotDue None not_due none_other is
+  check_other s (Toward goal (Flushing [])) is = none_other is
+  check_other s (Toward goal (Flushing (page ∷ left))) is = due_other is
+  check_other s (Toward goal Saving) is = due_other is
+  check_other s (Toward goal Ready) is = none_other is
+  check_other s (Toward goal SuperFilling) is = due_other is
+  check_other s (Toward goal SuperFilled) is = none_other is
+  check_other s (Toward goal SuperOpening) is = due_other is
+  check_other s (Retiring written) is = if_other written NotDue None not_due none_other is
 
-log_other : (s : Standing) (phase : Phase) → log_refusal s phase ≡ Some Stopped → ⊥
-log_other s Resting is = if_other (gathered s == 0) NotDue (if nat_le (s.start + s.setting.cells) s.next then Some LogFull else None) not_due (if_other (nat_le (s.start + s.setting.cells) s.next) LogFull None (λ e. absurd cc) none_other) is
-log_other s Closing is = not_due (some_other NotDue is)
-log_other s (Filling n) is = not_due (some_other NotDue is)
-log_other s (Filled n) is = none_other is
-log_other s (Opening n) is = not_due (some_other NotDue is)
+  found_other : (b : Bool) → (if b then None else Some NotDue) ≡ Some x → ⊥
+  found_other true is = none_other is
+  found_other false is = due_other is
 
-check_other : (s : Standing) (stage : Stage) → check_refusal s stage ≡ Some Stopped → ⊥
-check_other s Off is = if_other (nat_le s.durable s.base) NotDue None not_due none_other is
-check_other s (Toward goal (Flushing [])) is = none_other is
-check_other s (Toward goal (Flushing (page ∷ left))) is = not_due (some_other NotDue is)
-check_other s (Toward goal Saving) is = not_due (some_other NotDue is)
-check_other s (Toward goal Ready) is = none_other is
-check_other s (Toward goal SuperFilling) is = not_due (some_other NotDue is)
-check_other s (Toward goal SuperFilled) is = none_other is
-check_other s (Toward goal SuperOpening) is = not_due (some_other NotDue is)
-check_other s (Retiring written) is = if_other written NotDue None not_due none_other is
+  flush_other : (stage : Stage) (page : ℕ) → flush_refusal stage page ≡ Some x → ⊥
+  flush_other Off page is = due_other is
+  flush_other (Toward goal (Flushing left)) page is = found_other (list_any (λ (p : ℕ). p == page) left) is
+  flush_other (Toward goal Saving) page is = due_other is
+  flush_other (Toward goal Ready) page is = due_other is
+  flush_other (Toward goal SuperFilling) page is = due_other is
+  flush_other (Toward goal SuperFilled) page is = due_other is
+  flush_other (Toward goal SuperOpening) page is = due_other is
+  flush_other (Retiring written) page is = due_other is
 
-found_other : (b : Bool) → (if b then None else Some NotDue) ≡ Some Stopped → ⊥
-found_other true is = none_other is
-found_other false is = not_due (some_other NotDue is)
+  here_other : (s : Standing) (e : Event) → IsOwn e → refusal_here s e ≡ Some x → ⊥
+  here_other s (Deliver seqno w) own is = absurd own
+  here_other s Log own is = log_other s s.phase is
+  here_other s Sync own is = none_other is
+  here_other s Check own is = check_other s s.stage is
+  here_other s (Flush page) own is = flush_other s.stage page is
+  here_other s (Read key at) own is = absurd own
 
-flush_other : (stage : Stage) (page : ℕ) → flush_refusal stage page ≡ Some Stopped → ⊥
-flush_other Off page is = not_due (some_other NotDue is)
-flush_other (Toward goal (Flushing left)) page is = found_other (list_any (λ (p : ℕ). p == page) left) is
-flush_other (Toward goal Saving) page is = not_due (some_other NotDue is)
-flush_other (Toward goal Ready) page is = not_due (some_other NotDue is)
-flush_other (Toward goal SuperFilling) page is = not_due (some_other NotDue is)
-flush_other (Toward goal SuperFilled) page is = not_due (some_other NotDue is)
-flush_other (Toward goal SuperOpening) page is = not_due (some_other NotDue is)
-flush_other (Retiring written) page is = not_due (some_other NotDue is)
+  refusal_other : (s : Standing) (e : Event) → s.stopped ≡ false → IsOwn e → refusal s e ≡ Some x → ⊥
+  refusal_other s e running own is = here_other s e own (sym (ap (λ b. if b then Some Stopped else refusal_here s e) running) ∙ is)
 
-here_other : (s : Standing) (e : Event) → IsOwn e → refusal_here s e ≡ Some Stopped → ⊥
-here_other s (Deliver seqno w) own is = absurd own
-here_other s Log own is = log_other s s.phase is
-here_other s Sync own is = none_other is
-here_other s Check own is = check_other s s.stage is
-here_other s (Flush page) own is = flush_other s.stage page is
-here_other s (Read key at) own is = absurd own
+not_stopped : (s : Standing) (e : Event) → s.stopped ≡ false → IsOwn e → refusal s e ≡ Some Stopped → ⊥
+not_stopped = refusal_other Stopped (λ is. let never : NotDue ≡ Stopped = is in cc) (λ is. let never : LogFull ≡ Stopped = is in cc)
 
-answers_other : (s : Standing) (e : Event) (f : Found) → IsOwn e → Refused Stopped ≡ answer s e f → ⊥
-answers_other s (Deliver seqno w) f own is = absurd own
-answers_other s Log f own is = cc
-answers_other s Sync f own is = cc
-answers_other s Check f own is = begins_other s.stage is
+not_a_fault : (s : Standing) (e : Event) → s.stopped ≡ false → IsOwn e → refusal s e ≡ Some DiskFault → ⊥
+not_a_fault = refusal_other DiskFault (λ is. let never : NotDue ≡ DiskFault = is in cc) (λ is. let never : LogFull ≡ DiskFault = is in cc)
+
+-- no own step is answered by a refusal where none came
+answers_none : (r : Refusal) (s : Standing) (e : Event) (f : Found) → IsOwn e → Refused r ≡ answer s e f → ⊥
+answers_none r s (Deliver seqno w) f own is = absurd own
+answers_none r s Log f own is = cc
+answers_none r s Sync f own is = cc
+answers_none r s Check f own is = begins s.stage is
   where
-    begins_other : (stage : Stage) → Refused Stopped ≡ check_answer s stage → ⊥
-    begins_other Off is = cc
-    begins_other (Toward goal part) is = cc
-    begins_other (Retiring written) is = cc
-answers_other s (Flush page) f own is = cc
-answers_other s (Read key at) f own is = absurd own
+    begins : (stage : Stage) → Refused r ≡ check_answer s stage → ⊥
+    begins Off is = cc
+    begins (Toward goal part) is = cc
+    begins (Retiring written) is = cc
+answers_none r s (Flush page) f own is = cc
+answers_none r s (Read key at) f own is = absurd own
 
-step_other : (s : Standing) (e : Event) (t : Standing) → s.stopped ≡ false → IsOwn e → (o : Option Refusal) → refusal s e ≡ o
-    → MatchOption o (((found : Found) × (Refused Stopped ≡ answer s e found) × (t ≡ after s e found)) ⊎ (Fails s e (Refused Stopped) t ⊎ MeetsCorruption s e (Refused Stopped) t)) (λ r. (Refused Stopped ≡ Refused r) × (t ≡ s)) → ⊥
-step_other s e t running own (Some r) is m =
-    let same : r ≡ Stopped = let told = m.0 in cc in
-    here_other s e own (sym (ap (λ b. if b then Some Stopped else refusal_here s e) running) ∙ is ∙ ap Some same)
-step_other s e t running own None is (inl went) = answers_other s e went.0 own went.1
-step_other s e t running own None is (inr (inl (inl hungry))) = let never = hungry.1 in cc
-step_other s e t running own None is (inr (inl (inr fault))) = let never = fault.1 in cc
-step_other s e t running own None is (inr (inr corrupt)) = let never = corrupt.1 in cc
+own_runs : (s : Standing) (e : Event) (f : Found) → IsOwn e → (after s e f).stopped ≡ s.stopped
+own_runs s (Deliver seqno w) f own = absurd own
+own_runs s Log f own = refl
+own_runs s Sync f own = refl
+own_runs s Check f own = refl
+own_runs s (Flush page) f own = refl
+own_runs s (Read key at) f own = absurd own
 
-runs_other : (done : List Answer) (events : List Event) (s t : Standing) → s.stopped ≡ false → AreOwn events → AreDone done → Runs IsDue s events (done ++ Refused Stopped ∷ []) t → ⊥
-runs_other [] [] s t running own are run = run
-runs_other [] (e ∷ events) s t running own are run = step_other s e run.0 running own.0 (refusal s e) refl run.1.1
-runs_other (a ∷ done) [] s t running own are run = run
-runs_other (a ∷ done) (e ∷ events) s t running own are run =
-    runs_other done events run.0 t ((move_stays_by s e a run.0 own.0 are.0 (refusal s e) run.1.1).stopped ∙ running) own.1 are.1 run.2
+-- Where a device failed it is stopped, and nowhere else.
+abbrev pub StopsBy : Refusal → Standing → Type 0
+StopsBy e t = ((e ≡ DiskFault) × (t.stopped ≡ true)) ⊎ ((e ≢ DiskFault) × (t.stopped ≡ false))
+
+memory_is_none : OutOfMemory ≢ DiskFault
+memory_is_none is = cc
+
+corrupt_is_none : Corrupt Pages ≢ DiskFault
+corrupt_is_none is = cc
+
+pub failed_stops : (s : Standing) (e : Event) (r : Refusal) (t : Standing) → s.stopped ≡ false → Fails s e (Refused r) t ⊎ MeetsCorruption s e (Refused r) t → StopsBy r t
+failed_stops s e r t running (inl (inl hungry)) = let is = same_refusal OutOfMemory r hungry.1 in inr (λ fault. memory_is_none (sym is ∙ fault), ap (λ (u : Standing). u.stopped) hungry.2 ∙ running)
+failed_stops s e r t running (inl (inr fault)) = inl (same_refusal DiskFault r fault.1, ap (λ (u : Standing). u.stopped) fault.3)
+failed_stops s e r t running (inr corrupt) = let is = same_refusal (Corrupt Pages) r corrupt.1 in inr (λ fault. corrupt_is_none (sym is ∙ fault), ap (λ (u : Standing). u.stopped) corrupt.2 ∙ running)
+
+done_runs : (s : Standing) (e : Event) (a : Answer) (t : Standing) → IsOwn e → outcome_of a ≡ Ok tt → (o : Option Refusal) → MatchOption o (Outcome s e a t) (λ r. (a ≡ Refused r) × (t ≡ s)) → t.stopped ≡ s.stopped
+done_runs s e a t own done (Some r) m = absurd (not_refused r a m.0 done)
+done_runs s e a t own done None (inl went) = ap (λ (u : Standing). u.stopped) went.2 ∙ own_runs s e went.0 own
+done_runs s e a t own done None (inr (inl (inl hungry))) = absurd (not_refused OutOfMemory a hungry.1 done)
+done_runs s e a t own done None (inr (inl (inr fault))) = absurd (not_refused DiskFault a fault.1 done)
+done_runs s e a t own done None (inr (inr corrupt)) = absurd (not_refused (Corrupt Pages) a corrupt.1 done)
+
+-- none of them tells that it is stopped; and where one is refused the replica is stopped by the device alone
+last_stops : (s : Standing) (e : Event) (r : Refusal) (t : Standing) → s.stopped ≡ false → IsOwn e → (o : Option Refusal) → refusal s e ≡ o → MatchOption o (Outcome s e (Refused r) t) (λ q. (Refused r ≡ Refused q) × (t ≡ s)) → (r ≢ Stopped) × StopsBy r t
+last_stops s e r t running own (Some q) is m =
+    let same : r ≡ q = same_refusal q r m.0 in (
+      λ stopped. not_stopped s e running own (is ∙ ap Some (sym same ∙ stopped)),
+      inr (λ fault. not_a_fault s e running own (is ∙ ap Some (sym same ∙ fault)), ap (λ (u : Standing). u.stopped) m.1 ∙ running),
+    )
+last_stops s e r t running own None is (inl went) = absurd (answers_none r s e went.0 own went.1)
+last_stops s e r t running own None is (inr failed) = (other failed, failed_stops s e r t running failed)
+  where
+    other : Fails s e (Refused r) t ⊎ MeetsCorruption s e (Refused r) t → r ≢ Stopped
+    other (inl (inl hungry)) is = let never : OutOfMemory ≡ Stopped = sym (same_refusal OutOfMemory r hungry.1) ∙ is in cc
+    other (inl (inr fault)) is = let never : DiskFault ≡ Stopped = sym (same_refusal DiskFault r fault.1) ∙ is in cc
+    other (inr corrupt) is = let never : Corrupt Pages ≡ Stopped = sym (same_refusal (Corrupt Pages) r corrupt.1) ∙ is in cc
+
+runs_on : (events : List Event) (answers : List Answer) (s t : Standing) → AreOwn events → AreDone answers → Runs IsDue s events answers t → t.stopped ≡ s.stopped
+runs_on [] [] s t own done run = ap (λ (u : Standing). u.stopped) (sym run)
+runs_on [] (a ∷ answers) s t own done run = absurd run
+runs_on (e ∷ events) [] s t own done run = absurd run
+runs_on (e ∷ events) (a ∷ answers) s t own done run = runs_on events answers run.0 t own.1 done.1 run.2 ∙ done_runs s e a run.0 own.0 done.0 (refusal s e) run.1.1
+
+runs_stop : (r : Refusal) (done : List Answer) (events : List Event) (s t : Standing) → s.stopped ≡ false → AreOwn events → AreDone done → Runs IsDue s events (done ++ Refused r ∷ []) t → (r ≢ Stopped) × StopsBy r t
+runs_stop r [] [] s t running own are run = absurd run
+runs_stop r [] (e ∷ []) s t running own are run = subst (λ (u : Standing). (r ≢ Stopped) × StopsBy r u) run.2 (last_stops s e r run.0 running own.0 (refusal s e) refl run.1.1)
+runs_stop r [] (e ∷ (f ∷ events)) s t running own are run = absurd run.2
+runs_stop r (a ∷ done) [] s t running own are run = absurd run
+runs_stop r (a ∷ done) (e ∷ events) s t running own are run = runs_stop r done events run.0 t (done_runs s e a run.0 own.0 are.0 (refusal s e) run.1.1 ∙ running) own.1 are.1 run.2
 
 -- ---- the same of a node: as much was delivered then
 
@@ -228,19 +293,22 @@ own_count n Check node own = refl
 own_count n (Flush page) node own = refl
 own_count n (Read key at) node own = absurd own
 
-step_count_by : (n m : Node) (e : Event) (a : Answer) → IsNode n → IsOwn e → outcome_of a ≡ Ok tt → (o : Option Refusal)
-    → MatchOption o (((a ≡ answer n.facts e (found n e)) × (m ≡ moved n e)) ⊎ (Fails n.facts e a m.facts × (m ≡ record n { facts = m.facts }))) (λ r. (a ≡ Refused r) × (m ≡ n)) → delivered m.facts ≡ delivered n.facts
-step_count_by n m e a node own done (Some r) st = absurd (not_refused r a st.0 done)
-step_count_by n m e a node own done None (inl went) = ap (λ (k : Node). delivered k.facts) went.1 ∙ own_count n e node own
-step_count_by n m e a node own done None (inr (inl hungry, rest)) = absurd (not_refused OutOfMemory a hungry.1 done)
-step_count_by n m e a node own done None (inr (inr fault, rest)) = absurd (not_refused DiskFault a fault.1 done)
+failed_count : (n m : Node) (e : Event) (a : Answer) → Fails n.facts e a m.facts → delivered m.facts ≡ delivered n.facts
+failed_count n m e a (inl hungry) = ap delivered hungry.2
+failed_count n m e a (inr fault) = ap delivered fault.3
 
-runs_count : NodesStayNodes → (events : List Event) (answers : List Answer) (n m : Node) → IsNode n → AreOwn events → AreDone answers → Runs Steps n events answers m → delivered m.facts ≡ delivered n.facts
-runs_count stay [] [] n m node own done run = ap (λ (k : Node). delivered k.facts) (sym run)
-runs_count stay [] (a ∷ answers) n m node own done run = absurd run
-runs_count stay (e ∷ events) [] n m node own done run = absurd run
-runs_count stay (e ∷ events) (a ∷ answers) n m node own done run =
-    runs_count stay events answers run.0 m (stay n run.0 e a node run.1) own.1 done.1 run.2 ∙ step_count_by n run.0 e a node own.0 done.0 (refusal n.facts e) run.1
+step_count_by : (n m : Node) (e : Event) (a : Answer) → IsNode n → IsOwn e → (o : Option Refusal)
+    → MatchOption o (((a ≡ answer n.facts e (found n e)) × (m ≡ moved n e)) ⊎ (Fails n.facts e a m.facts × (m ≡ record n { facts = m.facts }))) (λ r. (a ≡ Refused r) × (m ≡ n)) → delivered m.facts ≡ delivered n.facts
+step_count_by n m e a node own (Some r) st = ap (λ (k : Node). delivered k.facts) st.1
+step_count_by n m e a node own None (inl went) = ap (λ (k : Node). delivered k.facts) went.1 ∙ own_count n e node own
+step_count_by n m e a node own None (inr (failed, rest)) = failed_count n m e a failed
+
+runs_count : NodesStayNodes → (events : List Event) (answers : List Answer) (n m : Node) → IsNode n → AreOwn events → Runs Steps n events answers m → delivered m.facts ≡ delivered n.facts
+runs_count stay [] [] n m node own run = ap (λ (k : Node). delivered k.facts) (sym run)
+runs_count stay [] (a ∷ answers) n m node own run = absurd run
+runs_count stay (e ∷ events) [] n m node own run = absurd run
+runs_count stay (e ∷ events) (a ∷ answers) n m node own run =
+    runs_count stay events answers run.0 m (stay n run.0 e a node run.1) own.1 run.2 ∙ step_count_by n run.0 e a node own.0 (refusal n.facts e) run.1
 
 -- ---- what stands behind an order
 
@@ -293,60 +361,75 @@ module _ (by_items : HistoryByItems) where
     same_setting : (n : Node) (r : Replica D) → Holds honest history_of failures n r → n.facts.setting ≡ (facts_of failures r).setting
     same_setting n r holds = ap (λ (s : Standing). s.setting) holds.facts
 
-    pub grown_none : (r : Replica D) → IsRunning r → Grown honest history_of failures r r []
-    grown_none r running = record {
-      running = running;
-      uuid = refl;
-      setting = refl;
-      count = omega arith;
-      node = λ n holds. (n, grows_none n n refl (λ L of. subst (λ (M : Order). IsOf M n) (sym (append-nil L)) of), holds);
-    }
+    module _ (joined : RunsAreJoined honest history_of failures) where
+      pub grown_none : (r : Replica D) → Grown honest history_of failures r r []
+      grown_none r = record {
+        uuid = refl;
+        setting = refl;
+        count = omega arith;
+        events = [];
+        answers = [];
+        paired = refl;
+        ran = joined.no_run r;
+        accepted = refl;
+        node = λ n holds. (n, grows_none n n refl (λ L of. subst (λ (M : Order). IsOf M n) (sym (append-nil L)) of), holds);
+      }
 
-    pub grown_then : (a b c : Replica D) (xs ys : List Judged) → Grown honest history_of failures a b xs → Grown honest history_of failures b c ys → Grown honest history_of failures a c (xs ++ ys)
-    grown_then a b c xs ys first second = record {
-      running = second.running;
-      uuid = second.uuid ∙ first.uuid;
-      setting = second.setting ∙ first.setting;
-      count = omega (arith, first.count, second.count, length-append xs ys);
-      node = λ n holds.
-          let one = first.node n holds in
-          let two = second.node one.0 one.2 in
-          let same = same_setting one.0 b one.2 ∙ first.setting ∙ sym (same_setting n a holds) in
-          (two.0, grows_then n one.0 two.0 xs ys same one.1 two.1, two.2);
-    }
+      pub grown_then : (a b c : Replica D) (xs ys : List Judged) → Grown honest history_of failures a b xs → Grown honest history_of failures b c ys → Grown honest history_of failures a c (xs ++ ys)
+      grown_then a b c xs ys first second = record {
+        uuid = second.uuid ∙ first.uuid;
+        setting = second.setting ∙ first.setting;
+        count = omega (arith, first.count, second.count, length-append xs ys);
+        events = first.events ++ second.events;
+        answers = first.answers ++ second.answers;
+        paired = omega (arith, first.paired, second.paired, length-append first.events second.events, length-append first.answers second.answers);
+        ran = joined.both_runs a b c first.events first.answers second.events second.answers first.ran second.ran;
+        accepted = accepted_both first.events first.answers second.events second.answers first.paired ∙ ap (λ (L : Order). L ++ accepted_by second.events second.answers) first.accepted ∙ ap (λ (L : Order). items_of xs ++ L) second.accepted ∙ sym (map-append (λ (j : Judged). j.item) xs ys);
+        node = λ n holds.
+            let one = first.node n holds in
+            let two = second.node one.0 one.2 in
+            let same = same_setting one.0 b one.2 ∙ first.setting ∙ sym (same_setting n a holds) in
+            (two.0, grows_then n one.0 two.0 xs ys same one.1 two.1, two.2);
+      }
 
-    -- it settled
-    settled : NodesStayNodes → RunsComeTo → (old new : Replica D) (x : Unit {0}) → IsRunning old → Works honest history_of failures old new (Ok x) → Grown honest history_of failures old new []
-    settled stay comes old new x running w =
-        let stays = runs_stay w.events w.answers (facts_of failures old) (facts_of failures new) w.own w.ends w.moves in
+    -- it settled, as far as it came
+    pub settled : NodesStayNodes → RunsComeTo → (old new : Replica D) (result : Result (Unit {0}) Refusal) → Works honest history_of failures old new result → Grown honest history_of failures old new []
+    settled stay comes old new result w =
+        let stays = runs_stay w.events w.answers (facts_of failures old) (facts_of failures new) w.own w.moves in
         record {
-          running = is_running new (stays.stopped ∙ is_stopped failures old running);
           uuid = stays.uuid;
           setting = stays.setting;
           count = omega (arith, stays.count);
+          events = w.events;
+          answers = w.answers;
+          paired = runs_paired IsDue w.events w.answers (facts_of failures old) (facts_of failures new) w.moves;
+          ran = w.ran;
+          accepted = own_accept w.events w.answers w.own;
           node = λ n holds.
               let ran = w.ran n holds in
-              (ran.0, grows_none n ran.0 (runs_count stay w.events w.answers n ran.0 holds.node w.own w.ends ran.1.runs) (λ L of. subst (λ (M : Order). IsOf (L ++ M) ran.0) (own_accept w.events w.answers w.own) (comes L n ran.0 w.events w.answers holds.node of ran.1.runs).order), ran.2);
+              (ran.0, grows_none n ran.0 (runs_count stay w.events w.answers n ran.0 holds.node w.own ran.1.runs) (λ L of. subst (λ (M : Order). IsOf (L ++ M) ran.0) (own_accept w.events w.answers w.own) (comes L n ran.0 w.events w.answers holds.node of ran.1.runs).order), ran.2);
         }
 
-    pub settled_on : NodesStayNodes → RunsComeTo → (old new : Replica D) (result : Result (Unit {0}) Refusal) → IsRunning old → Works honest history_of failures old new result → OnOk result (Grown honest history_of failures old new [])
-    settled_on stay comes old new (Ok x) running w = settled stay comes old new x running w
-    settled_on stay comes old new (Err e) running w = tt
+    pub ends_running : (new : Replica D) (e : Refusal) → StopsBy e (facts_of failures new) → EndsRunning {T = Unit {0}} (Err e) new
+    ends_running new e (inl fault) = inl fault
+    ends_running new e (inr other) = inr (other.0, is_running new other.1)
 
-    settle_early_by : (old new : Replica D) (e : Refusal) → IsRunning old → Works honest history_of failures old new (Err e) → (e ≡ Stopped) ⊎ EndsEarly e → JoinsEarly e
-    settle_early_by old new e running w (inl stopped) =
-        let ends : w.answers ≡ w.ends.0 ++ Refused Stopped ∷ [] = w.ends.2 ∙ ap (λ (r : Refusal). w.ends.0 ++ Refused r ∷ []) stopped in
-        absurd (runs_other w.ends.0 w.events (facts_of failures old) (facts_of failures new) (is_stopped failures old running) w.own w.ends.1
-        (subst (λ (answers : List Answer). Runs IsDue (facts_of failures old) w.events answers (facts_of failures new)) ends w.moves))
-    settle_early_by old new e running w (inr early) = early_work e early
+    ended_in : (old new : Replica D) (e : Refusal) → IsRunning old → Works honest history_of failures old new (Err e) → (e ≢ Stopped) × StopsBy e (facts_of failures new)
+    ended_in old new e running w =
+        runs_stop e w.ends.0 w.events (facts_of failures old) (facts_of failures new) (is_stopped failures old running) w.own w.ends.1 (subst (λ (answers : List Answer). Runs IsDue (facts_of failures old) w.events answers (facts_of failures new)) w.ends.2 w.moves)
 
-    pub settle_early : (old new : Replica D) (result : Result (Unit {0}) Refusal) → IsRunning old → Works honest history_of failures old new result → IfErr result (λ e. (e ≡ Stopped) ⊎ EndsEarly e) → IfErr result JoinsEarly
+    pub settled_ends : (old new : Replica D) (result : Result (Unit {0}) Refusal) → IsRunning old → Works honest history_of failures old new result → EndsRunning result new
+    settled_ends old new (Ok x) running w = is_running new (runs_on w.events w.answers (facts_of failures old) (facts_of failures new) w.own w.ends w.moves ∙ is_stopped failures old running)
+    settled_ends old new (Err e) running w = ends_running new e (ended_in old new e running w).1
+
+    pub settle_early : (old new : Replica D) (result : Result (Unit {0}) Refusal) → IsRunning old → Works honest history_of failures old new result → IfErr result (λ e. (e ≡ Stopped) ⊎ EndsEarly e) → IfErr result EndsEarly
     settle_early old new (Ok x) running w early = tt
-    settle_early old new (Err e) running w early = settle_early_by old new e running w early
+    settle_early old new (Err e) running w (inl stopped) = absurd ((ended_in old new e running w).0 stopped)
+    settle_early old new (Err e) running w (inr early) = early
 
     -- ---- an item was delivered
 
-    module _ (holds_order : NodesHoldTheOrder) (follow : StepsFollowTheOrder) (old new : Replica D) (seqno : ℕ) (w : Transaction) where
+    module _ (joined : RunsAreJoined honest history_of failures) (holds_order : NodesHoldTheOrder) (follow : StepsFollowTheOrder) (old new : Replica D) (seqno : ℕ) (w : Transaction) where
       abbrev one_item : ℕ → Verdict → List Judged
       one_item k v = record { seqno = k; item = WriteSet w; verdict = v } ∷ []
 
@@ -366,9 +449,7 @@ module _ (by_items : HistoryByItems) where
         pub count : delivered t ≡ delivered s + 1
         pub stopped : t.stopped ≡ s.stopped
 
-      came_by : (s t : Standing) (v : Verdict) (o : Option Refusal)
-          → MatchOption o (((found : Found) × (Gave v ≡ answer s (Deliver seqno w) found) × (t ≡ after s (Deliver seqno w) found)) ⊎ (Fails s (Deliver seqno w) (Gave v) t ⊎ MeetsCorruption s (Deliver seqno w) (Gave v) t))
-          (λ r. (Gave v ≡ Refused r) × (t ≡ s)) → Came s t
+      came_by : (s t : Standing) (v : Verdict) (o : Option Refusal) → MatchOption o (Outcome s (Deliver seqno w) (Gave v) t) (λ r. (Gave v ≡ Refused r) × (t ≡ s)) → Came s t
       came_by s t v (Some r) m = let never = m.0 in absurd cc
       came_by s t v None (inl went) = subst (Came s) (sym went.2) (record { uuid = refl; setting = refl; count = omega (arith, length_push s.ahead (next_item s w went.0.verdict)); stopped = refl })
       came_by s t v None (inr (inl (inl hungry))) = let never = hungry.1 in absurd cc
@@ -378,15 +459,21 @@ module _ (by_items : HistoryByItems) where
       pub came : (v : Verdict) → Moves (facts_of failures old) (Deliver seqno w) (Gave v) (facts_of failures new) → Came (facts_of failures old) (facts_of failures new)
       came v m = came_by (facts_of failures old) (facts_of failures new) v (refusal (facts_of failures old) (Deliver seqno w)) m
 
-      pub delivered_one : (v : Verdict) → IsRunning old → seqno ≡ delivered (facts_of failures old) + 1 → IsStep honest history_of failures old (Deliver seqno w) (Gave v) new
-          → Grown honest history_of failures old new (record { seqno = seqno; item = WriteSet w; verdict = v } ∷ [])
-      delivered_one v running next step =
+      pub delivered_runs : (v : Verdict) → IsRunning old → Moves (facts_of failures old) (Deliver seqno w) (Gave v) (facts_of failures new) → IsRunning new
+      delivered_runs v running m = is_running new ((came v m).stopped ∙ is_stopped failures old running)
+
+      delivered_one : (v : Verdict) → seqno ≡ delivered (facts_of failures old) + 1 → IsStep honest history_of failures old (Deliver seqno w) (Gave v) new → Grown honest history_of failures old new (record { seqno = seqno; item = WriteSet w; verdict = v } ∷ [])
+      delivered_one v next step =
           let is = came v step.moves in
           record {
-            running = is_running new (is.stopped ∙ is_stopped failures old running);
             uuid = is.uuid;
             setting = is.setting;
             count = omega (arith, is.count);
+            events = Deliver seqno w ∷ [];
+            answers = Gave v ∷ [];
+            paired = refl;
+            ran = joined.one_run old new (Deliver seqno w) (Gave v) step;
+            accepted = refl;
             node = λ n holds.
                 let st = step.steps n holds in
                 let there : seqno ≡ delivered n.facts + 1 = next ∙ ap (λ (s : Standing). delivered s + 1) (sym holds.facts) in (
@@ -400,16 +487,43 @@ module _ (by_items : HistoryByItems) where
                 );
           }
 
-      pub delivered_judged : (j : Judged) (v : Verdict) → IsRunning old → j.seqno ≡ seqno → j.item ≡ WriteSet w → v ≡ j.verdict → seqno ≡ delivered (facts_of failures old) + 1 → IsStep honest history_of failures old (Deliver seqno w) (Gave v) new
+      pub delivered_judged : (j : Judged) (v : Verdict) → j.seqno ≡ seqno → j.item ≡ WriteSet w → v ≡ j.verdict → seqno ≡ delivered (facts_of failures old) + 1 → IsStep honest history_of failures old (Deliver seqno w) (Gave v) new
           → Grown honest history_of failures old new (j ∷ [])
-      delivered_judged j v running at item judged next step =
+      delivered_judged j v at item judged next step =
           subst (λ (k : Judged). Grown honest history_of failures old new (k ∷ []))
           (ap (λ (n : ℕ). judged_as n (WriteSet w) v) (sym at) ∙ ap (λ (i : Item). judged_as j.seqno i v) (sym item) ∙ ap (judged_as j.seqno j.item) judged)
-          (delivered_one v running next step)
+          (delivered_one v next step)
 
-    pub grown_on : (a b c : Replica D) (xs ys : List Judged) (result : Result (Unit {0}) Refusal) → Grown honest history_of failures a b xs → OnOk result (Grown honest history_of failures b c ys) → OnOk result (Grown honest history_of failures a c (xs ++ ys))
-    grown_on a b c xs ys (Ok x) first second = grown_then a b c xs ys first second
-    grown_on a b c xs ys (Err e) first second = tt
+      -- one that was refused
+
+      pub refused_stays : (r : Refusal) (s t : Standing) (o : Option Refusal) → MatchOption o (Outcome s (Deliver seqno w) (Refused r) t) (λ q. (Refused r ≡ Refused q) × (t ≡ s)) → Stays s t
+      refused_stays r s t (Some q) m = subst (Stays s) (sym m.1) (stays_here s)
+      refused_stays r s t None (inl went) = let never = went.1 in absurd cc
+      refused_stays r s t None (inr failed) = failed_stays s (Deliver seqno w) (Refused r) t failed
+
+      refused_count : (r : Refusal) (n m : Node) (o : Option Refusal)
+          → MatchOption o (((Refused r ≡ answer n.facts (Deliver seqno w) (found n (Deliver seqno w))) × (m ≡ moved n (Deliver seqno w))) ⊎ (Fails n.facts (Deliver seqno w) (Refused r) m.facts × (m ≡ record n { facts = m.facts }))) (λ q. (Refused r ≡ Refused q) × (m ≡ n))
+          → delivered m.facts ≡ delivered n.facts
+      refused_count r n m (Some q) st = ap (λ (k : Node). delivered k.facts) st.1
+      refused_count r n m None (inl went) = let never = went.0 in absurd cc
+      refused_count r n m None (inr (failed, rest)) = failed_count n m (Deliver seqno w) (Refused r) failed
+
+      pub delivered_none : (r : Refusal) → IsStep honest history_of failures old (Deliver seqno w) (Refused r) new → Grown honest history_of failures old new []
+      delivered_none r step =
+          let stays = refused_stays r (facts_of failures old) (facts_of failures new) (refusal (facts_of failures old) (Deliver seqno w)) step.moves in
+          record {
+            uuid = stays.uuid;
+            setting = stays.setting;
+            count = omega (arith, stays.count);
+            events = Deliver seqno w ∷ [];
+            answers = Refused r ∷ [];
+            paired = refl;
+            ran = joined.one_run old new (Deliver seqno w) (Refused r) step;
+            accepted = refl;
+            node = λ n holds.
+                let st = step.steps n holds in
+                (st.0, grows_none n st.0 (refused_count r n st.0 (refusal n.facts (Deliver seqno w)) st.1) (λ L of. (follow L n st.0 (Deliver seqno w) (Refused r) holds.node of st.1).order), st.2);
+          }
 
 -- ---- why an item is refused that is the next one
 
@@ -426,17 +540,46 @@ next_free s seqno w running not next limit few =
     ap (λ t. if t then Some Stopped else delivery_refusal s seqno) running
     ∙ free_by s.uuid (delivered s) seqno s.ahead (not_nil s.uuid not (is_nil_bytes s.uuid) refl) (grind (arith, nat_tests, next, limit)) (grind (arith, nat_tests, next)) (grind (arith, nat_tests, few))
 
-same_refusal : (r e : Refusal) → Refused e ≡ Refused r → e ≡ r
-same_refusal r e is = cc
+-- a delivery is answered by a verdict or a refusal
+pub delivery_answers : (s t : Standing) (seqno : ℕ) (w : Transaction) (a : Answer) → Moves s (Deliver seqno w) a t → ((v : Verdict) × (a ≡ Gave v)) ⊎ ((r : Refusal) × (a ≡ Refused r))
+delivery_answers s t seqno w a m = by (refusal s (Deliver seqno w)) m
+  where
+    by : (o : Option Refusal) → MatchOption o (Outcome s (Deliver seqno w) a t) (λ r. (a ≡ Refused r) × (t ≡ s)) → ((v : Verdict) × (a ≡ Gave v)) ⊎ ((r : Refusal) × (a ≡ Refused r))
+    by (Some r) m = inr (r, m.0)
+    by None (inl went) = inl (went.0.verdict, went.1)
+    by None (inr (inl (inl hungry))) = inr (OutOfMemory, hungry.1)
+    by None (inr (inl (inr fault))) = inr (DiskFault, fault.1)
+    by None (inr (inr corrupt)) = inr (Corrupt Pages, corrupt.1)
 
-early_by : (s t : Standing) (seqno : ℕ) (w : Transaction) (e : Refusal) → ((found : Found) × (Refused e ≡ answer s (Deliver seqno w) found) × (t ≡ after s (Deliver seqno w) found)) ⊎ (Fails s (Deliver seqno w) (Refused e) t ⊎ MeetsCorruption s (Deliver seqno w) (Refused e) t) → JoinsEarly e
-early_by s t seqno w e (inl went) = let never = went.1 in absurd cc
-early_by s t seqno w e (inr (inl (inl hungry))) = early_memory e (same_refusal OutOfMemory e hungry.1)
-early_by s t seqno w e (inr (inl (inr fault))) = early_fault e (same_refusal DiskFault e fault.1)
-early_by s t seqno w e (inr (inr corrupt)) = inr (inr (inr (inr (inr (same_refusal (Corrupt Pages) e corrupt.1)))))
+early_by : (s t : Standing) (seqno : ℕ) (w : Transaction) (e : Refusal) → s.stopped ≡ false → Outcome s (Deliver seqno w) (Refused e) t → EndsEarly e × StopsBy e t
+early_by s t seqno w e running (inl went) = let never = went.1 in absurd cc
+early_by s t seqno w e running (inr failed) = (by failed, failed_stops s (Deliver seqno w) e t running failed)
+  where
+    by : Fails s (Deliver seqno w) (Refused e) t ⊎ MeetsCorruption s (Deliver seqno w) (Refused e) t → EndsEarly e
+    by (inl (inl hungry)) = inl (same_refusal OutOfMemory e hungry.1)
+    by (inl (inr fault)) = inr (inl (same_refusal DiskFault e fault.1))
+    by (inr corrupt) = inr (inr (same_refusal (Corrupt Pages) e corrupt.1))
 
-pub delivery_early : (s t : Standing) (seqno : ℕ) (w : Transaction) (e : Refusal) → s.stopped ≡ false → (IsNil s.uuid → ⊥) → seqno ≡ delivered s + 1 → seqno ≤ MAX_SEQNO → length s.ahead < MAX_AHEAD → Moves s (Deliver seqno w) (Refused e) t → JoinsEarly e
+pub delivery_early : (s t : Standing) (seqno : ℕ) (w : Transaction) (e : Refusal) → s.stopped ≡ false → (IsNil s.uuid → ⊥) → seqno ≡ delivered s + 1 → seqno ≤ MAX_SEQNO → length s.ahead < MAX_AHEAD → Moves s (Deliver seqno w) (Refused e) t → EndsEarly e × StopsBy e t
 delivery_early s t seqno w e running not next limit few m =
-    early_by s t seqno w e
-    (subst (λ (o : Option Refusal). MatchOption o (((found : Found) × (Refused e ≡ answer s (Deliver seqno w) found) × (t ≡ after s (Deliver seqno w) found)) ⊎ (Fails s (Deliver seqno w) (Refused e) t ⊎ MeetsCorruption s (Deliver seqno w) (Refused e) t)) (λ r. (Refused e ≡ Refused r) × (t ≡ s)))
+    early_by s t seqno w e running
+    (subst (λ (o : Option Refusal). MatchOption o (Outcome s (Deliver seqno w) (Refused e) t) (λ r. (Refused e ≡ Refused r) × (t ≡ s)))
     (next_free s seqno w running not next limit few) m)
+
+-- ---- why an item isn't the next one
+
+same_set : (v w : Transaction) → WriteSet v ≡ WriteSet w → v ≡ w
+same_set v w is = cc
+
+module _ {D : Type 0} (honest : D → Type 0) (history_of : D → History) (failures : D → ℕ) (r : Replica D) (j : Judged) (at : ℕ) where
+  pub out_by_seqno : (n : ℕ) → n ≡ delivered (facts_of failures r) → (j.seqno ≡ n + 1 → ⊥) → IsOut honest history_of failures r (Record j) at (Malformed at)
+  out_by_seqno n here other = inr (refl, λ m holds may. other (may.1.seqno ∙ ap (λ (s : Standing). delivered s + 1) holds.facts ∙ ap (λ k. k + 1) (sym here)))
+
+  pub out_by_verdict : (w : Transaction) (v : Verdict) → j.item ≡ WriteSet w → ((n : Node) (seqno : ℕ) → Holds honest history_of failures n r → v ≡ verdict_on n (Deliver seqno w)) → (v ≡ j.verdict → ⊥) → IsOut honest history_of failures r (Record j) at (Malformed at)
+  out_by_verdict w v is judged other =
+      inr (
+        refl,
+        λ m holds may.
+            let same : may.1.write_set ≡ w = same_set may.1.write_set w (sym may.1.item ∙ is) in
+            other (judged m j.seqno holds ∙ ap (λ (x : Transaction). verdict_on m (Deliver j.seqno x)) (sym same) ∙ sym may.1.verdict),
+      )

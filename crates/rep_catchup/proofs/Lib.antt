@@ -6,6 +6,9 @@ mod DonateWindow
 mod DonatePages
 mod DonateTail
 mod Donated
+mod JoinTaking
 mod JoinGrowing
+mod JoinWent
 mod JoinFollowing
+mod JoinCutting
 mod JoinBringing

@@ -1,14 +1,11 @@
 -- A joiner that took what a donor gave it is of the donor's order.
-use Rattle.std.proofs.Common.{◌≡◌, ◌⊎◌, inl, inr, ℕ, suc, ◌+◌, ◌-◌, ◌<◌, ◌≤◌, true, false, List, [], ◌∷◌, ◌++◌, length, fold, take, drop, Option, None, Some, append-nil, append_assoc, arith, refl, sym, ap, subst, ◌∙◌}
-use Rattle.std.specs.Prelude.{nat_lt}
+use Rattle.std.proofs.Common.{◌≡◌, ◌⊎◌, inl, inr, ℕ, suc, ◌+◌, ◌-◌, ◌<◌, ◌≤◌, List, [], ◌∷◌, ◌++◌, fold, take, drop, Option, None, Some, append-nil, append_assoc, arith, refl, sym, ap, subst, ◌∙◌}
 use Rattle.std.proofs.lemmas.Bool.{cases_lt, le-ltb, lt-ltb}
 use Rattle.std.proofs.lemmas.List.{map-append, drop-map, take-map, drop-take, drop-drop, drop_all, take-take, take-append-drop}
 use Rattle.rep_types.specs.declared.judged.Judged.{Judged}
 use Rattle.rep_types.specs.Settings.{Setting}
-use Rattle.rep_types.specs.Order.{Order, items_of, joined, history, state}
+use Rattle.rep_types.specs.Order.{Order, items_of, joined, history}
 use Rattle.rep_record.specs.Blocks.{SeqnosFrom}
-use Rattle.rep_layout.specs.Supers.{IsNil}
-use Rattle.rep_steps.specs.Standings.{delivered}
 use Rattle.rep_steps.specs.Nodes.{Node, IsNode}
 use Rattle.rep_steps.specs.Images.{AreJudgedFrom, JudgedItemsExtendTheOrder}
 use Rattle.rep_steps.specs.Judging.{JudgingGoesOn}
@@ -16,7 +13,7 @@ use Rattle.rep_steps.specs.Orders.{IsOf}
 use Rattle.rep_transfer.specs.declared.have.Have.{Have}
 use Rattle.rep_transfer.specs.Transfers.{Snapshot, Transfer}
 use Rattle.rep_catchup.specs.Donating.{above, durable_items, Brings, IsDonated}
-use Rattle.rep_catchup.specs.Joining.{IsFor, StartsAt, Becomes}
+use Rattle.rep_catchup.specs.Joining.{StartsAt, Becomes}
 use Rattle.rep_catchup.specs.Orders.{IsJoiner}
 use Rattle.rep_catchup.proofs.Alike.{state_alike, snapshot_alike}
 

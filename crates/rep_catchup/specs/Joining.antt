@@ -1,26 +1,35 @@
 -- What a transfer makes of the node that joins.
-use Rattle.std.specs.Prelude.{◌≡◌, ◌⊎◌, ℕ, ◌+◌, ◌^◌, ◌<◌, ◌≤◌, true, List, [], ◌++◌, length, drop, Option, None, Some, MatchOption, IfSome}
+use Rattle.std.specs.Prelude.{◌≡◌, ◌⊎◌, ℕ, ◌+◌, ◌^◌, ◌<◌, true, List, [], ◌++◌, length, take, drop, Option, None, Some, MatchOption, IfSome}
 use Rattle.std.specs.List.{flat_map, AllByRecursion}
 use Rattle.std.specs.Io.KnownBytes.{Consumes}
 use Rattle.rep_types.specs.declared.judged.Judged.{Judged}
 use Rattle.rep_types.specs.declared.refusal.Refusal.{Refusal}
 use Rattle.rep_types.specs.declared.refusal.Refusal.TheVariants.{OutOfMemory, DiskFault, Corrupt, Malformed, WrongCluster, StreamFault}
 use Rattle.rep_types.specs.declared.refusal.Part.TheVariants.{Pages}
+use Rattle.rep_types.specs.declared.item.Item.TheVariants.{WriteSet}
+use Rattle.rep_types.specs.Settings.{Setting}
+use Rattle.rep_types.specs.Transactions.{Transaction}
 use Rattle.rep_types.specs.Order.{Order, items_of, state, history as history_of}
 use Rattle.rep_record.specs.Records.{IsRecord}
 use Rattle.rep_disk.specs.History.{History}
 use Rattle.rep_layout.specs.Supers.{IsNil}
+use Rattle.rep_steps.specs.declared.event.Event.TheVariants.{Deliver}
 use Rattle.rep_steps.specs.Standings.{Standing, delivered}
-use Rattle.rep_steps.specs.Nodes.{Node}
+use Rattle.rep_steps.specs.Nodes.{Node, verdict_on}
 use Rattle.rep_steps.specs.Orders.{IsOf}
 use Rattle.rep_replica.specs.Replicas.{Replica, facts_of}
 use Rattle.rep_replica.specs.Holding.{Holds}
-use Rattle.rep_replica.specs.Settling.{is_quiet, IsRunning}
+use Rattle.rep_replica.specs.Settling.{is_quiet, EndsEarly as WorksEarly}
+use Rattle.rep_replica.specs.Episodes.{Episode, AreEpisodes, IsSnapshotOf, FedFrom}
 use Rattle.rep_transfer.specs.declared.header.Header.{Header}
+use Rattle.rep_transfer.specs.declared.part.Part.{Part}
+use Rattle.rep_transfer.specs.declared.part.Part.TheVariants.{Snapshot as OfSnapshot, Record as OfRecord, End as OfEnd}
 use Rattle.rep_transfer.specs.Haves.{IsHeader, header_bytes}
 use Rattle.rep_transfer.specs.Shapes.{shape_of}
-use Rattle.rep_transfer.specs.Transfers.{Snapshot, Transfer, SnapshotFits, IsTransfer, snapshot_part, record_part, end_bytes, transfer_bytes}
-use Rattle.rep_catchup.specs.Snapshots.{state_of, IsSnapshot}
+use Rattle.rep_transfer.specs.Taking.{counted, BeginWithNone}
+use Rattle.rep_transfer.specs.Transfers.{Snapshot, Transfer, SnapshotFits, IsTransfer, snapshot_bytes, snapshot_part, record_part, end_bytes, transfer_bytes, PartFits, part_bytes}
+use Rattle.rep_catchup.specs.Snapshots.{state_of, IsSnapshot, Took}
+use Rattle.rep_catchup.specs.Growing.{Grown}
 
 -- Why a transfer isn't taken to its end, besides `Stopped`: the reader failed, a part is not of its form or not the one that may come
 -- there, it is of another cluster, there was no room, the device failed, or the base's page that a checkpoint flushes is not of its form.
@@ -49,8 +58,31 @@ pub record Becomes (n : Node) (t : Transfer) (m : Node) : Type 0 where
   pub order : (L : Order) → StartsAt n t.snapshot L → IsOf (L ++ items_of t.records) m
   pub judged : (L : Order) → StartsAt n t.snapshot L → t.records ≡ drop (length L) (history_of n.facts.setting (L ++ items_of t.records))
 
+-- ---- what it does, as parts of a life
+
+-- These items are the order's behind so many of them.
+abbrev pub GoOnIn : Order → ℕ → List Judged → Type 0
+GoOnIn O k records = (rest : Order) × ((take k O ++ items_of records) ++ rest ≡ O)
+
+-- What was taken of a transfer is the order's: the items behind where so many were delivered; or the snapshot, and the items behind that.
+abbrev pub AreOf : List ℕ → Setting → Order → ℕ → Option Snapshot → List Judged → Type 0
+AreOf uuid p O k None records = GoOnIn O k records
+AreOf uuid p O k (Some s) records = IsSnapshotOf uuid p O uuid (state_of p s) × GoOnIn O s.position records
+
+-- Parts of a life led from one replica to the other; and where what was taken is an order's, they were fed that.
+pub record Went {D : Type 0} (honest : D → Type 0) (history : D → History) (failures : D → ℕ) (old new : Replica D) (uuid : List ℕ) (snapshot : Option Snapshot) (records : List Judged) : Type 0 where
+  pub episodes : List (Episode D)
+  pub are : AreEpisodes honest history failures old episodes new
+  pub fed : (O : Order) (k : ℕ) → AreOf uuid (facts_of failures old).setting O k snapshot records → FedFrom uuid (facts_of failures old).setting O k episodes
+
+-- What a join does, wherever it ends and whatever the reader hands out, are parts of a life.
+abbrev pub Lived : {D : Type 0} → (D → Type 0) → (D → History) → (D → ℕ) → Replica D → Replica D → Type 0
+Lived honest history failures old new = (uuid : List ℕ) × (snapshot : Option Snapshot) × (records : List Judged) × Went honest history failures old new uuid snapshot records
+
+-- ---- where a transfer is taken to its end
+
 -- The bytes began with a transfer for the node, which is what was taken of them; and the replica stands for what it makes of the node.
-pub record Joined {D : Type 0} (honest : D → Type 0) (history : D → History) (failures : D → ℕ) (n : Node) (bytes : List ℕ) (left : Option (List ℕ)) (new : Replica D) (last : ℕ) : Type 0 where
+pub record Joined {D : Type 0} (honest : D → Type 0) (history : D → History) (failures : D → ℕ) (n : Node) (bytes : List ℕ) (left : Option (List ℕ)) (old new : Replica D) (last : ℕ) : Type 0 where
   pub transfer : Transfer
   pub is_transfer : IsTransfer transfer
   pub is_for : IsFor n transfer
@@ -62,8 +94,49 @@ pub record Joined {D : Type 0} (honest : D → Type 0) (history : D → History)
   pub becomes : Becomes n transfer node
   pub holds : Holds honest history failures node new
   pub quiet : is_quiet (facts_of failures new) ≡ true
+  pub went : Went honest history failures old new transfer.header.uuid transfer.snapshot transfer.records
 
--- ---- how it is taken, part by part
+-- ---- where it is not
+
+-- The record is the node's next item, and is judged as the node does.
+pub record IsNext (m : Node) (j : Judged) : Type 0 where
+  pub seqno : j.seqno ≡ delivered m.facts + 1
+  pub write_set : Transaction
+  pub item : j.item ≡ WriteSet write_set
+  pub verdict : j.verdict ≡ verdict_on m (Deliver j.seqno write_set)
+
+-- The part may come behind what the node took: it is of a cluster; a record is its next item, an end is where it is. No second snapshot
+-- comes.
+abbrev pub MayFollow : Node → Part → Type 0
+MayFollow m (OfSnapshot front) = ⊥
+MayFollow m (OfRecord j) = (IsNil m.facts.uuid → ⊥) × IsNext m j
+MayFollow m (OfEnd last) = (IsNil m.facts.uuid → ⊥) × (last ≡ delivered m.facts)
+
+-- The bytes go on with no part that may come.
+abbrev pub NoneFollows : {D : Type 0} → (D → Type 0) → (D → History) → (D → ℕ) → Replica D → List ℕ → Type 0
+NoneFollows honest history failures r bytes = (m : Node) → Holds honest history failures m r → (part : Part) (rest : List ℕ) → PartFits part → bytes ≡ part_bytes part ++ rest → MayFollow m part → ⊥
+
+-- nor with a snapshot that may
+abbrev pub NoSnapshotComes : Standing → List ℕ → Type 0
+NoSnapshotComes s bytes = (y : Snapshot) (rest : List ℕ) → SnapshotFits y → bytes ≡ snapshot_bytes y ++ rest → IsSnapshot s.setting y → (delivered s < y.position) ⊎ IsNil s.uuid → ⊥
+
+-- Why no more was taken, behind so many bytes, of what is left: the reader or the device failed, there was no room, the base's page that a
+-- checkpoint flushes is not of its form; or no part goes on there that may come.
+abbrev pub EndsHere : {D : Type 0} → (D → Type 0) → (D → History) → (D → ℕ) → Replica D → ℕ → Option (List ℕ) → Refusal → Type 0
+EndsHere honest history failures r at left e = (e ≡ StreamFault) ⊎ (WorksEarly e ⊎ ((e ≡ Malformed at) × IfSome left (NoneFollows honest history failures r)))
+
+-- Behind the header, which has so many bytes, a snapshot was taken where one comes, and records, and then no more. What was taken was
+-- done; where not even a snapshot was, none that may come goes on there.
+pub record CutShort {D : Type 0} (honest : D → Type 0) (history : D → History) (failures : D → ℕ) (old new : Replica D) (uuid : List ℕ) (before : Option (List ℕ)) (start : ℕ) (e : Refusal) : Type 0 where
+  pub snapshot : Option Snapshot
+  pub comes : IfSome snapshot (λ y. SnapshotFits y × IsSnapshot (facts_of failures old).setting y × ((delivered (facts_of failures old) < y.position) ⊎ IsNil (facts_of failures old).uuid))
+  pub records : List Judged
+  pub are_records : AllByRecursion IsRecord records
+  pub left : Option (List ℕ)
+  pub taken : Consumes before left (snapshot_part snapshot ++ flat_map record_part records)
+  pub went : Went honest history failures old new uuid snapshot records
+  pub ends : EndsHere honest history failures new (counted start (length (snapshot_part snapshot ++ flat_map record_part records))) left e
+  pub none : snapshot ≡ None → records ≡ [] → (at : ℕ) → e ≡ Malformed at → IfSome before (NoSnapshotComes (facts_of failures old))
 
 -- A header was taken that is for the replica: of its cluster, or the replica is of none, and of its shape.
 pub record TakesHeader (s : Standing) (uuid : List ℕ) (before left : Option (List ℕ)) : Type 0 where
@@ -74,21 +147,23 @@ pub record TakesHeader (s : Standing) (uuid : List ℕ) (before left : Option (L
   pub shape : header.shape ≡ shape_of s.setting
   pub taken : Consumes before left (header_bytes header)
 
--- The node grew by these items: so many more are delivered, and it is of each order that it was of before, with them behind that, where
--- they were judged so.
-pub record Grows (n : Node) (records : List Judged) (m : Node) : Type 0 where
-  pub count : delivered m.facts ≡ delivered n.facts + length records
-  pub order : (L : Order) → IsOf L n → IsOf (L ++ items_of records) m
-  pub judged : (L : Order) → IsOf L n → records ≡ drop (length L) (history_of n.facts.setting (L ++ items_of records))
+-- The header isn't taken: the reader failed, there is none, or it is one for another node.
+abbrev pub IsOtherHeader : Standing → List ℕ → Type 0
+IsOtherHeader s bytes = (header : Header) × (rest : List ℕ) × IsHeader header × (bytes ≡ header_bytes header ++ rest) × ((header.uuid ≡ s.uuid) ⊎ IsNil s.uuid → header.shape ≡ shape_of s.setting → ⊥)
 
--- The replica grew by these items, and runs on: it is of the cluster and has the parameters that it had, on any device; and for each node
--- that it stood for it stands for one that grew by them.
-pub record Grown {D : Type 0} (honest : D → Type 0) (history : D → History) (failures : D → ℕ) (old new : Replica D) (records : List Judged) : Type 0 where
-  pub running : IsRunning new
-  pub uuid : (facts_of failures new).uuid ≡ (facts_of failures old).uuid
-  pub setting : (facts_of failures new).setting ≡ (facts_of failures old).setting
-  pub count : delivered (facts_of failures old) + length records ≤ delivered (facts_of failures new)
-  pub node : (n : Node) → Holds honest history failures n old → (m : Node) × Grows n records m × Holds honest history failures m new
+abbrev pub RefusesHeader : Standing → Option (List ℕ) → Refusal → Type 0
+RefusesHeader s before e = (e ≡ StreamFault) ⊎ (((e ≡ Malformed 0) × IfSome before (BeginWithNone IsHeader header_bytes)) ⊎ ((e ≡ WrongCluster) × IfSome before (IsOtherHeader s)))
+
+-- What stands where a transfer was not taken to its end. The replica settled, as far as it came; then the header was not taken, or it was,
+-- and what came behind it was cut short.
+pub record Ended {D : Type 0} (honest : D → Type 0) (history : D → History) (failures : D → ℕ) (old new : Replica D) (before : Option (List ℕ)) (e : Refusal) : Type 0 where
+  pub settled : Replica D
+  pub grown : Grown honest history failures old settled []
+  pub why :
+      ((WorksEarly e ⊎ RefusesHeader (facts_of failures settled) before e) × (settled ≡ new))
+      ⊎ ((uuid : List ℕ) × (left : Option (List ℕ)) × TakesHeader (facts_of failures settled) uuid before left × CutShort honest history failures settled new uuid left 59 e)
+
+-- ---- how it is taken, part by part
 
 -- The transfer ends at this position behind these items: all that was delivered, and durable.
 pub record EndsAt {D : Type 0} (honest : D → Type 0) (history : D → History) (failures : D → ℕ) (old new : Replica D) (records : List Judged) (last : ℕ) : Type 0 where
@@ -110,12 +185,25 @@ pub record Follows {D : Type 0} (honest : D → Type 0) (history : D → History
   pub ends : IfSome ended (EndsAt honest history failures old new records)
 
 -- What was taken of a reader are such bytes.
-abbrev pub Followed : {D : Type 0} → (D → Type 0) → (D → History) → (D → ℕ) → Replica D → Replica D → Option (List ℕ) → Option (List ℕ) → Option ℕ → Type 0
-Followed honest history failures old new before left ended = (bytes : List ℕ) × Consumes before left bytes × Follows honest history failures old new ended bytes
+abbrev pub Followed : {D : Type 0} → (D → Type 0) → (D → History) → (D → ℕ) → Replica D → Replica D → ℕ → ℕ → Option (List ℕ) → Option (List ℕ) → Option ℕ → Type 0
+Followed honest history failures old new start now before left ended = (bytes : List ℕ) × Took start now before left bytes × Follows honest history failures old new ended bytes
 
 -- So are those in hand, which were taken before, with them.
 abbrev pub FollowedFrom : {D : Type 0} → (D → Type 0) → (D → History) → (D → ℕ) → Replica D → Replica D → List ℕ → Option (List ℕ) → Option (List ℕ) → ℕ → Type 0
 FollowedFrom honest history failures old new hand before left last = (bytes : List ℕ) × Consumes before left bytes × Follows honest history failures old new (Some last) (hand ++ bytes)
+
+-- Some records were taken, behind so many bytes, and then no more.
+pub record Cut {D : Type 0} (honest : D → Type 0) (history : D → History) (failures : D → ℕ) (old new : Replica D) (before : Option (List ℕ)) (start : ℕ) (e : Refusal) : Type 0 where
+  pub records : List Judged
+  pub are_records : AllByRecursion IsRecord records
+  pub grown : Grown honest history failures old new records
+  pub left : Option (List ℕ)
+  pub taken : Consumes before left (flat_map record_part records)
+  pub ends : EndsHere honest history failures new (counted start (length (flat_map record_part records))) left e
+
+-- This part, which stands at this byte, isn't taken: its own work was refused, or it may not come.
+abbrev pub IsOut : {D : Type 0} → (D → Type 0) → (D → History) → (D → ℕ) → Replica D → Part → ℕ → Refusal → Type 0
+IsOut honest history failures r part at e = WorksEarly e ⊎ ((e ≡ Malformed at) × ((m : Node) → Holds honest history failures m r → MayFollow m part → ⊥))
 
 -- The items behind where it starts make this node, where so many are delivered.
 pub record Continues (n : Node) (snapshot : Option Snapshot) (records : List Judged) (last : ℕ) (m : Node) : Type 0 where
@@ -142,3 +230,4 @@ pub record TakesAll {D : Type 0} (honest : D → Type 0) (history : D → Histor
   pub quiet : is_quiet (facts_of failures new) ≡ true
   pub limit : last < 2 ^ 64
   pub node : (n : Node) → Holds honest history failures n old → (m : Node) × Continues n snapshot records last m × Holds honest history failures m new
+  pub went : Went honest history failures old new uuid snapshot records

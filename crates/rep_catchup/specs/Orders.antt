@@ -1,5 +1,5 @@
 -- Catch-up, end to end.
-use Rattle.std.specs.Prelude.{◌≡◌, ℕ, List, [], take, length}
+use Rattle.std.specs.Prelude.{◌≡◌, take}
 use Rattle.rep_types.specs.Order.{Order}
 use Rattle.rep_layout.specs.Supers.{IsNil}
 use Rattle.rep_steps.specs.Standings.{delivered}

@@ -1,31 +1,36 @@
 -- What a snapshot brings to a node.
-use Rattle.std.specs.Prelude.{◌≡◌, ◌⊎◌, ℕ, ◌^◌, ◌<◌, ◌≤◌, List, [], ◌∷◌, ◌++◌, length, map, None, Option}
+use Rattle.std.specs.Prelude.{◌≡◌, ◌⊎◌, ℕ, ◌^◌, ◌<◌, ◌≤◌, List, [], ◌∷◌, ◌++◌, length, map, None, Option, IfSome}
 use Rattle.std.specs.List.{flat_map, AllByRecursion}
 use Rattle.std.specs.List.Sorted.{IsStrictlyIncreasing}
 use Rattle.std.specs.Io.KnownBytes.{Consumes}
 use Rattle.rep_types.specs.declared.key.Key.{Key}
 use Rattle.rep_types.specs.declared.limits.TheConstants.{MAX_SEQNO, ROWS_PER_PAGE}
+use Rattle.rep_types.specs.declared.refusal.Refusal.{Refusal}
+use Rattle.rep_types.specs.declared.refusal.Refusal.TheVariants.{OutOfMemory, DiskFault, Malformed, StreamFault}
 use Rattle.rep_types.specs.Settings.{Setting}
 use Rattle.rep_types.specs.Entries.{Entry}
-use Rattle.rep_types.specs.Order.{Order, State, state}
+use Rattle.rep_types.specs.Order.{State}
 use Rattle.rep_types.specs.Windows.{Window, fixed}
 use Rattle.rep_forms.specs.Forms.{number_bytes}
 use Rattle.rep_forms.specs.Entries.{EntryFits, entry_bytes}
 use Rattle.rep_disk.specs.History.{History}
+use Rattle.rep_disk.specs.Moments.{LeavesOnly}
 use Rattle.rep_layout.specs.Supers.{IsNil}
 use Rattle.rep_pages.specs.Pages.{IsFirstRow, EndWithTheTable}
 use Rattle.rep_checkpoint.specs.Coming.{blank, with_page}
 use Rattle.rep_checkpoint.specs.Windows.{IsWindowAt}
 use Rattle.rep_steps.specs.Standings.{Standing, delivered}
 use Rattle.rep_steps.specs.Nodes.{Node}
-use Rattle.rep_steps.specs.Orders.{IsOf}
+use Rattle.rep_steps.specs.Images.{IsFrontAt}
+use Rattle.rep_image.specs.Meanings.{Means}
 use Rattle.rep_replica.specs.Replicas.{Replica, facts_of}
 use Rattle.rep_replica.specs.Holding.{Holds}
-use Rattle.rep_replica.specs.Settling.{IsRunning}
+use Rattle.rep_replica.specs.Episodes.{IsStill, GaveUp as GaveUpAt, Brought as BroughtAt, Broke as BrokeAt}
 use Rattle.rep_replica.specs.Installing.{Bringing, HoldsBoth}
 use Rattle.rep_transfer.specs.declared.pieces.Front.{Front}
 use Rattle.rep_transfer.specs.declared.pieces.NumberedPage.{NumberedPage}
 use Rattle.rep_transfer.specs.Pieces.{PageFits, page_bytes}
+use Rattle.rep_transfer.specs.Taking.{counted}
 use Rattle.rep_transfer.specs.Transfers.{Snapshot, SnapshotFits, front_of, rest_of}
 
 -- the state with the rows of these pages
@@ -57,14 +62,23 @@ pub record IsSnapshot (p : Setting) (s : Snapshot) : Type 0 where
 
 -- ---- how it is taken, piece by piece
 
+-- These bytes were taken of a reader, of which so many were taken before and so many then.
+pub record Took (start now : ℕ) (before left : Option (List ℕ)) (bytes : List ℕ) : Type 0 where
+  pub taken : Consumes before left bytes
+  pub counts : counted now 0 ≡ counted start (length bytes)
+
 -- So many entries were taken.
-pub record TakesEntries (count : ℕ) (entries : List Entry) (before left : Option (List ℕ)) : Type 0 where
+pub record TakesEntries (count : ℕ) (entries : List Entry) (start now : ℕ) (before left : Option (List ℕ)) : Type 0 where
   pub size : length entries ≡ count
   pub fit : AllByRecursion EntryFits entries
-  pub taken : Consumes before left (flat_map entry_bytes entries)
+  pub took : Took start now before left (flat_map entry_bytes entries)
+
+-- Not so many entries come.
+abbrev pub NoEntriesCome : ℕ → List ℕ → Type 0
+NoEntriesCome count bytes = (entries : List Entry) (rest : List ℕ) → length entries ≡ count → AllByRecursion EntryFits entries → bytes ≡ flat_map entry_bytes entries ++ rest → ⊥
 
 -- The window of a snapshot that begins so was taken, and how many pages come behind it: it can stand there, and the snapshot may come.
-pub record TakesWindow (s : Standing) (front : Front) (window : Window) (count : ℕ) (before left : Option (List ℕ)) : Type 0 where
+pub record TakesWindow (s : Standing) (front : Front) (window : Window) (count : ℕ) (start now : ℕ) (before left : Option (List ℕ)) : Type 0 where
   pub later : (s.durable < front.position) ⊎ IsNil s.uuid
   pub limit : front.position ≤ MAX_SEQNO
   pub entries : List Entry
@@ -73,31 +87,73 @@ pub record TakesWindow (s : Standing) (front : Front) (window : Window) (count :
   pub window_is : window ≡ fixed s.setting.window front.position entries
   pub is_window : IsWindowAt s.setting front.position window
   pub few : count < 2 ^ 16
-  pub taken : Consumes before left (flat_map entry_bytes entries ++ number_bytes 2 count)
+  pub took : Took start now before left (flat_map entry_bytes entries ++ number_bytes 2 count)
 
 -- These pages were taken one after another, and put beside the base: each is one of the schema, and their numbers ascend strictly.
-pub record TakesPages {D : Type 0} (honest : D → Type 0) (history : D → History) (failures : D → ℕ) (old new : Bringing D) (pages : List NumberedPage) (before left : Option (List ℕ)) : Type 0 where
+pub record TakesPages {D : Type 0} (honest : D → Type 0) (history : D → History) (failures : D → ℕ) (old new : Bringing D) (pages : List NumberedPage) (start now : ℕ) (before left : Option (List ℕ)) : Type 0 where
   pub fit : AllByRecursion PageFits pages
   pub ascend : IsStrictlyIncreasing (map number_of pages)
   pub of_schema : AllByRecursion (IsPageOf old.engine.checkpoint.base.params.rows) pages
-  pub taken : Consumes before left (flat_map page_bytes pages)
+  pub took : Took start now before left (flat_map page_bytes pages)
   pub running : new.engine.halted ≡ None
   pub uuid : new.coming.next.super.uuid ≡ old.coming.next.super.uuid
   pub params : new.coming.next.super.params ≡ old.coming.next.super.params
   pub base : new.engine.checkpoint.base ≡ old.engine.checkpoint.base
   pub holds : (n : Node) (y : State) → HoldsBoth honest history failures n y old → HoldsBoth honest history failures n (with_pages old.engine.checkpoint.base.params.rows pages y) new
+  pub leaves : (n : Node) (y : State) → HoldsBoth honest history failures n y old → LeavesOnly (history old.engine.disk) (history new.engine.disk) (IsFrontAt Means n)
 
--- The rest of a snapshot that begins so was taken, and took the base's place: on any device the replica is of its cluster, runs and is
--- quiet; and for each node it stands for one of each order whose state the snapshot is.
-pub record Brought {D : Type 0} (honest : D → Type 0) (history : D → History) (failures : D → ℕ) (old new : Replica D) (uuid : List ℕ) (front : Front) (before left : Option (List ℕ)) : Type 0 where
-  pub snapshot : Snapshot
+-- Some were, and then no more: the replica still stands for the node, if its device has not failed; and each image means a front of that.
+pub record LeavesPages {D : Type 0} (honest : D → Type 0) (history : D → History) (failures : D → ℕ) (n : Node) (old new : Bringing D) : Type 0 where
+  pub node : Node
+  pub still : IsStill n node
+  pub state : State
+  pub holds : HoldsBoth honest history failures node state new
+  pub leaves : LeavesOnly (history old.engine.disk) (history new.engine.disk) (IsFrontAt Means n)
+
+-- What came behind what a snapshot begins with is the rest of this one, which can come to the replica: it is a snapshot for its
+-- parameters, above what was delivered, or the replica is of no cluster.
+pub record TakesSnapshot (s : Standing) (front : Front) (snapshot : Snapshot) (start now : ℕ) (before left : Option (List ℕ)) : Type 0 where
   pub fits : SnapshotFits snapshot
   pub front_is : front ≡ front_of snapshot
-  pub is_snapshot : IsSnapshot (facts_of failures old).setting snapshot
-  pub later : (delivered (facts_of failures old) < snapshot.position) ⊎ IsNil (facts_of failures old).uuid
-  pub taken : Consumes before left (rest_of snapshot)
-  pub running : IsRunning new
+  pub is_snapshot : IsSnapshot s.setting snapshot
+  pub later : (delivered s < snapshot.position) ⊎ IsNil s.uuid
+  pub took : Took start now before left (rest_of snapshot)
+
+-- It took the base's place: on any device the replica is of its cluster, and has the parameters that it had.
+pub record Brought {D : Type 0} (honest : D → Type 0) (history : D → History) (failures : D → ℕ) (old new : Replica D) (uuid : List ℕ) (front : Front) (start now : ℕ) (before left : Option (List ℕ)) : Type 0 where
+  pub snapshot : Snapshot
+  pub takes : TakesSnapshot (facts_of failures old) front snapshot start now before left
   pub uuid_is : (facts_of failures new).uuid ≡ uuid
   pub setting : (facts_of failures new).setting ≡ (facts_of failures old).setting
-  pub node : (n : Node) → Holds honest history failures n old
-      → (m : Node) × ((L : Order) → state_of n.facts.setting snapshot ≡ state n.facts.setting L → IsOf L m) × Holds honest history failures m new
+  pub node : (n : Node) → Holds honest history failures n old → BroughtAt honest history failures n uuid (state_of (facts_of failures old).setting snapshot) old new
+
+-- The device failed while it did.
+pub record Broken {D : Type 0} (honest : D → Type 0) (history : D → History) (failures : D → ℕ) (old new : Replica D) (uuid : List ℕ) (front : Front) (start : ℕ) (before : Option (List ℕ)) : Type 0 where
+  pub snapshot : Snapshot
+  pub now : ℕ
+  pub left : Option (List ℕ)
+  pub takes : TakesSnapshot (facts_of failures old) front snapshot start now before left
+  pub node : (n : Node) → Holds honest history failures n old → BrokeAt history n uuid (state_of (facts_of failures old).setting snapshot) old new
+
+-- Some of it came, and it was given up.
+abbrev pub GivenUp : {D : Type 0} → (D → Type 0) → (D → History) → (D → ℕ) → Replica D → Replica D → Type 0
+GivenUp honest history failures old new = (n : Node) → Holds honest history failures n old → GaveUpAt honest history failures n old new
+
+-- Behind so many pages, the rest of them, goes on none that can come: no pages of the schema of strictly ascending numbers.
+abbrev pub NoPagesCome : List ℕ → ℕ → List ℕ → Type 0
+NoPagesCome schema count bytes =
+    (pages : List NumberedPage) (rest : List ℕ) → length pages ≡ count → AllByRecursion PageFits pages → bytes ≡ flat_map page_bytes pages ++ rest → IsStrictlyIncreasing (map number_of pages) → AllByRecursion (IsPageOf schema) pages → ⊥
+
+-- Behind what a snapshot begins with goes on none that can come to the replica.
+abbrev pub NoneComes : Standing → Front → List ℕ → Type 0
+NoneComes s front bytes =
+    (y : Snapshot) (rest : List ℕ) → SnapshotFits y → front_of y ≡ front → bytes ≡ rest_of y ++ rest → IsSnapshot s.setting y → (delivered s < y.position) ⊎ IsNil s.uuid → ⊥
+
+-- Why it wasn't taken to its end, where what it begins with stands at this byte: the reader or the device failed, there was no room, or
+-- no snapshot goes on there that can come.
+abbrev pub BringsEarly : Standing → Front → ℕ → Option (List ℕ) → Refusal → Type 0
+BringsEarly s front at before e = (e ≡ StreamFault) ⊎ ((e ≡ OutOfMemory) ⊎ ((e ≡ DiskFault) ⊎ ((e ≡ Malformed at) × IfSome before (NoneComes s front))))
+
+-- What is left of one that wasn't: it was given up, or the device failed while it took the base's place.
+abbrev pub LeavesSnapshot : {D : Type 0} → (D → Type 0) → (D → History) → (D → ℕ) → Replica D → Replica D → List ℕ → Front → ℕ → Option (List ℕ) → Refusal → Type 0
+LeavesSnapshot honest history failures old new uuid front start before e = GivenUp honest history failures old new ⊎ ((e ≡ DiskFault) × Broken honest history failures old new uuid front start before)

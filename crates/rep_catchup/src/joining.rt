@@ -1,6 +1,7 @@
 //! How a joiner takes a transfer.
 
-ghost use Rattle.std.specs.Prelude.{◌≡◌, ◌||◌, ◌⊎◌, ◌<◌, ◌≤◌, [], ◌∷◌, true, false, is_some, length, None, Some, Ok, Err, IfOk, IfErr, IfSome, OnOk};
+ghost use Rattle.std.specs.Prelude.{◌≡◌, ◌||◌, ◌⊎◌, ℕ, ◌<◌, ◌≤◌, List, [], ◌∷◌, true, false, is_some, length, Option, None, Some, Ok, Err, IfOk, IfErr, IfSome, OnOk, OnErr};
+ghost use Rattle.std.specs.Io.KnownBytes.{Consumes};
 ghost use Rattle.rep_types.specs.declared.limits.TheConstants.{MAX_SEQNO, MAX_AHEAD};
 ghost use Rattle.rep_types.specs.declared.refusal.Refusal.TheVariants.{Stopped};
 ghost use Rattle.rep_forms.specs.Forms.{IsPart};
@@ -10,15 +11,17 @@ ghost use Rattle.rep_steps.specs.Standings.{delivered};
 ghost use Rattle.rep_steps.specs.Nodes.{Node};
 ghost use Rattle.rep_replica.specs.Replicas.{facts_of};
 ghost use Rattle.rep_replica.specs.Holding.{Holds};
-ghost use Rattle.rep_replica.specs.Settling.{is_quiet, IsRunning};
-ghost use Rattle.rep_transfer.specs.declared.part.Part.TheVariants.{Snapshot};
+ghost use Rattle.rep_replica.specs.Settling.{is_quiet, IsRunning, EndsEarly};
+ghost use Rattle.rep_transfer.specs.declared.part.Part.TheVariants.{Snapshot, Record};
+ghost use Rattle.rep_transfer.specs.Taking.{counted};
 ghost use Rattle.rep_transfer.specs.Pieces.{FrontFits};
 ghost use Rattle.rep_transfer.specs.Transfers.{PartFits, part_bytes};
-ghost use Rattle.rep_catchup.specs.Joining.{JoinsEarly, Joined, TakesHeader, Grown, Follows, Followed, FollowedFrom, TakesAll};
+ghost use Rattle.rep_catchup.specs.Growing.{Grown, where_ok, EndsRunning};
+ghost use Rattle.rep_catchup.specs.Joining.{JoinsEarly, Lived, Joined, TakesHeader, RefusesHeader, Follows, Followed, FollowedFrom, IsOut, Cut, TakesAll, CutShort, Ended};
 
 use crate::snapshot::bring;
 use rep_disk::Disk;
-use rep_replica::Replica;
+use rep_replica::{Replica, runs_are_joined};
 use rep_steps::{
     Answer, Event, nodes_hold_the_order, nodes_stay_nodes, runs_come_to, steps_follow_the_order,
 };
@@ -38,7 +41,8 @@ fn take_header<D: Disk, R: Read>(
     reader: &mut R,
 ) -> Result<Uuid, Refusal>
     ensures taken { IfOk result (λ uuid. TakesHeader (facts_of D.failures replica.now) uuid (R.remaining reader.old) (R.remaining reader.new)) }
-    ensures refused { IfErr result JoinsEarly }
+    ensures refused { IfErr result (RefusesHeader (facts_of D.failures replica.now) (R.remaining reader.old)) }
+    ensures counted { OnOk result (transfer.new ≡ counted transfer.old 59) }
 {
     let Some(header) = transfer.next::<Header, R>(reader)? else {
         return Err(Refusal::Malformed { at: 0 });
@@ -53,9 +57,10 @@ fn take_header<D: Disk, R: Read>(
 /// Lets the replica do what is due, until all that was delivered is durable.
 fn settle<D: Disk>(replica: &mut Replica<D>) -> Result<(), Refusal>
     requires running { IsRunning replica.old }
-    ensures grown { OnOk result (Grown D.honest D.history D.failures replica.old replica.new []) }
+    ensures grown { Grown D.honest D.history D.failures replica.old replica.new [] }
+    ensures ends { EndsRunning result replica.new }
     ensures quiet { OnOk result (is_quiet (facts_of D.failures replica.new) ≡ true) }
-    ensures refused { IfErr result JoinsEarly }
+    ensures refused { IfErr result EndsEarly }
 {
     history_by_items();
     nodes_stay_nodes();
@@ -66,11 +71,13 @@ fn settle<D: Disk>(replica: &mut Replica<D>) -> Result<(), Refusal>
 /// Lets it do so where it would take no further item before.
 fn make_room<D: Disk>(replica: &mut Replica<D>) -> Result<(), Refusal>
     requires running { IsRunning replica.old }
-    ensures grown { OnOk result (Grown D.honest D.history D.failures replica.old replica.new []) }
+    ensures grown { Grown D.honest D.history D.failures replica.old replica.new [] }
+    ensures ends { EndsRunning result replica.new }
     ensures room { OnOk result (length (facts_of D.failures replica.new).ahead < MAX_AHEAD) }
-    ensures refused { IfErr result JoinsEarly }
+    ensures refused { IfErr result EndsEarly }
 {
     history_by_items();
+    runs_are_joined::<D>();
     if replica.delivered() - replica.durable() >= MAX_AHEAD {
         return settle(replica);
     }
@@ -83,13 +90,15 @@ fn deliver<D: Disk>(replica: &mut Replica<D>, judged: Judged, at: u64) -> Result
     requires defined { IsNil (facts_of D.failures replica.old).uuid → ⊥ }
     requires fits { IsRecord judged }
     requires room { length (facts_of D.failures replica.old).ahead < MAX_AHEAD }
-    ensures grown { OnOk result (Grown D.honest D.history D.failures replica.old replica.new (judged ∷ [])) }
+    ensures grown { Grown D.honest D.history D.failures replica.old replica.new (where_ok result (judged ∷ [])) }
+    ensures ends { EndsRunning result replica.new }
     ensures limit { OnOk result (delivered (facts_of D.failures replica.new) ≤ MAX_SEQNO) }
-    ensures refused { IfErr result JoinsEarly }
+    ensures refused { IfErr result (IsOut D.honest D.history D.failures replica.new (Record judged) at) }
 {
     history_by_items();
     nodes_hold_the_order();
     steps_follow_the_order();
+    runs_are_joined::<D>();
     let malformed = Refusal::Malformed { at };
     // Tells the proof what holds of the replica.
     let _durable = replica.durable();
@@ -105,7 +114,7 @@ fn deliver<D: Disk>(replica: &mut Replica<D>, judged: Judged, at: u64) -> Result
         return Err(malformed);
     }
     match replica.step(Event::Deliver(seqno, item)) {
-        Answer::Gave(given) if given == verdict => Ok(()),
+        Answer::Gave(_) => Ok(()),
         Answer::Refused(refusal) => Err(refusal),
         _ => Err(malformed),
     }
@@ -116,11 +125,13 @@ fn take_record<D: Disk>(replica: &mut Replica<D>, judged: Judged, at: u64) -> Re
     requires running { IsRunning replica.old }
     requires defined { IsNil (facts_of D.failures replica.old).uuid → ⊥ }
     requires fits { IsRecord judged }
-    ensures grown { OnOk result (Grown D.honest D.history D.failures replica.old replica.new (judged ∷ [])) }
+    ensures grown { Grown D.honest D.history D.failures replica.old replica.new (where_ok result (judged ∷ [])) }
+    ensures ends { EndsRunning result replica.new }
     ensures limit { OnOk result (delivered (facts_of D.failures replica.new) ≤ MAX_SEQNO) }
-    ensures refused { IfErr result JoinsEarly }
+    ensures refused { IfErr result (IsOut D.honest D.history D.failures replica.new (Record judged) at) }
 {
     history_by_items();
+    runs_are_joined::<D>();
     make_room(replica)?;
     deliver(replica, judged, at)
 }
@@ -132,8 +143,12 @@ fn take_part<D: Disk>(replica: &mut Replica<D>, part: Part, at: u64) -> Result<O
     requires fits { PartFits part }
     ensures took { IfOk result (λ ended. Follows D.honest D.history D.failures replica.old replica.new ended (part_bytes part)) }
     ensures more { IfOk result (λ ended. ended ≡ None → (delivered (facts_of D.failures replica.old) < delivered (facts_of D.failures replica.new)) × (delivered (facts_of D.failures replica.new) ≤ MAX_SEQNO)) }
-    ensures refused { IfErr result JoinsEarly }
+    ensures kept { OnErr result (Grown D.honest D.history D.failures replica.old replica.new []) }
+    ensures ends { EndsRunning result replica.new }
+    ensures refused { IfErr result (IsOut D.honest D.history D.failures replica.new part at) }
 {
+    history_by_items();
+    runs_are_joined::<D>();
     match part {
         Part::Record(judged) => {
             take_record(replica, judged, at)?;
@@ -155,10 +170,12 @@ fn follow<D: Disk, R: Read>(
 ) -> Result<u64, Refusal>
     requires running { IsRunning replica.old }
     requires defined { IsNil (facts_of D.failures replica.old).uuid → ⊥ }
-    ensures followed { IfOk result (λ last. Followed D.honest D.history D.failures replica.old replica.new (R.remaining reader.old) (R.remaining reader.new) (Some last)) }
-    ensures refused { IfErr result JoinsEarly }
+    ensures followed { IfOk result (λ last. Followed D.honest D.history D.failures replica.old replica.new transfer.old transfer.new (R.remaining reader.old) (R.remaining reader.new) (Some last)) }
+    ensures ends { EndsRunning result replica.new }
+    ensures cut { IfErr result (Cut D.honest D.history D.failures replica.old replica.new (R.remaining reader.old) transfer.old) }
 {
     history_by_items();
+    runs_are_joined::<D>();
     loop {
         let at = transfer.taken();
         let Some(part) = next_part(transfer, reader)? else {
@@ -181,11 +198,14 @@ fn follow_from<D: Disk, R: Read>(
 ) -> Result<u64, Refusal>
     requires running { IsRunning replica.old }
     requires fits { PartFits part }
+    requires counted { transfer.old ≡ counted at (length (part_bytes part)) }
     ensures defined { OnOk result (IsNil (facts_of D.failures replica.old).uuid → ⊥) }
     ensures followed { IfOk result (FollowedFrom D.honest D.history D.failures replica.old replica.new (part_bytes part) (R.remaining reader.old) (R.remaining reader.new)) }
-    ensures refused { IfErr result JoinsEarly }
+    ensures ends { EndsRunning result replica.new }
+    ensures cut { (before : Option (List ℕ)) → Consumes before (R.remaining reader.old) (part_bytes part) → IfErr result (Cut D.honest D.history D.failures replica.old replica.new before at) }
 {
     history_by_items();
+    runs_are_joined::<D>();
     if replica.uuid().is_nil() {
         return Err(Refusal::Malformed { at });
     }
@@ -211,9 +231,12 @@ fn take_snapshot<D: Disk, R: Read>(
     requires named { IsNil uuid → ⊥ }
     requires cluster { (uuid ≡ (facts_of D.failures replica).uuid) ⊎ IsNil (facts_of D.failures replica).uuid }
     requires fits { FrontFits front }
+    requires counted { transfer.old ≡ counted at (length (part_bytes (Snapshot front))) }
     ensures taken { IfOk result.1 (λ last. TakesAll D.honest D.history D.failures replica result.0 uuid last (part_bytes (Snapshot front)) (R.remaining reader.old) (R.remaining reader.new)) }
-    ensures refused { IfErr result.1 JoinsEarly }
+    ensures ends { EndsRunning result.1 result.0 }
+    ensures cut { (before : Option (List ℕ)) → Consumes before (R.remaining reader.old) (part_bytes (Snapshot front)) → IfErr result.1 (CutShort D.honest D.history D.failures replica result.0 uuid before at) }
 {
+    history_by_items();
     let (mut replica, brought) = bring(alloc, replica, uuid, front, at, transfer, reader);
     match brought {
         Ok(()) => {
@@ -238,8 +261,11 @@ fn take_parts<D: Disk, R: Read>(
     requires named { IsNil uuid → ⊥ }
     requires cluster { (uuid ≡ (facts_of D.failures replica).uuid) ⊎ IsNil (facts_of D.failures replica).uuid }
     ensures taken { IfOk result.1 (λ last. TakesAll D.honest D.history D.failures replica result.0 uuid last [] (R.remaining reader.old) (R.remaining reader.new)) }
-    ensures refused { IfErr result.1 JoinsEarly }
+    ensures ends { EndsRunning result.1 result.0 }
+    ensures cut { IfErr result.1 (CutShort D.honest D.history D.failures replica result.0 uuid (R.remaining reader.old) transfer.old) }
 {
+    history_by_items();
+    runs_are_joined::<D>();
     let at = transfer.taken();
     let part = match next_part(transfer, reader) {
         Ok(Some(part)) => part,
@@ -271,8 +297,11 @@ pub fn join<D: Disk, R: Read>(
     ensures stopped { (replica.stopped || is_some replica.engine.halted) ≡ true → result ≡ (replica, Err Stopped) }
     ensures refused { IfErr result.1 (λ e. (e ≡ Stopped) ⊎ JoinsEarly e) }
     ensures early { (replica.stopped || is_some replica.engine.halted) ≡ false → IfErr result.1 JoinsEarly }
+    ensures ends { (replica.stopped || is_some replica.engine.halted) ≡ false → EndsRunning result.1 result.0 }
     ensures quiet { OnOk result.1 (is_quiet (facts_of D.failures result.0) ≡ true) }
-    ensures joined { (n : Node) → Holds D.honest D.history D.failures n replica → IfSome (R.remaining reader.old) (λ bytes. IfOk result.1 (Joined D.honest D.history D.failures n bytes (R.remaining reader.new) result.0)) }
+    ensures lived { Lived D.honest D.history D.failures replica result.0 }
+    ensures joined { (n : Node) → Holds D.honest D.history D.failures n replica → IfSome (R.remaining reader.old) (λ bytes. IfOk result.1 (Joined D.honest D.history D.failures n bytes (R.remaining reader.new) replica result.0)) }
+    ensures ended { (replica.stopped || is_some replica.engine.halted) ≡ false → IfErr result.1 (Ended D.honest D.history D.failures replica result.0 (R.remaining reader.old)) }
 {
     if replica.is_stopped() {
         return (replica, Err(Refusal::Stopped));

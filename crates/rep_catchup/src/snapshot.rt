@@ -1,16 +1,23 @@
 //! How a joiner is brought a snapshot.
 
-ghost use Rattle.std.specs.Prelude.{◌≡◌, ◌↔◌, ◌⊎◌, ◌<◌, List, None, length, true, IfOk, IfErr, OnOk};
+ghost use Rattle.std.specs.Prelude.{◌≡◌, ◌↔◌, ◌⊎◌, ℕ, ◌<◌, List, None, length, true, IfOk, IfErr, IfSome, OnOk, OnErr};
+ghost use Rattle.rep_types.specs.declared.refusal.Refusal.TheVariants.{OutOfMemory, DiskFault, Malformed, StreamFault};
+ghost use Rattle.rep_types.specs.Order.{State};
 ghost use Rattle.rep_types.specs.Windows.{fixed};
 ghost use Rattle.rep_forms.specs.Forms.{IsPart};
 ghost use Rattle.rep_layout.specs.Supers.{IsNil};
+ghost use Rattle.rep_layout.specs.declared.page_state.PageState.TheVariants.{Nowhere};
+ghost use Rattle.rep_pages.specs.Slots.{state_of_page};
 ghost use Rattle.rep_checkpoint.specs.Windows.{IsWindowAt};
+ghost use Rattle.rep_steps.specs.Nodes.{Node};
 ghost use Rattle.rep_replica.specs.Replicas.{facts_of};
+ghost use Rattle.rep_replica.specs.Holding.{Holds};
 ghost use Rattle.rep_replica.specs.Settling.{is_quiet, IsRunning};
+ghost use Rattle.rep_replica.specs.Installing.{HoldsBoth, given_up};
 ghost use Rattle.rep_transfer.specs.declared.pieces.NumberedPage.{NumberedPage as Page};
 ghost use Rattle.rep_transfer.specs.Pieces.{FrontFits};
-ghost use Rattle.rep_catchup.specs.Snapshots.{TakesEntries, TakesWindow, TakesPages, Brought};
-ghost use Rattle.rep_catchup.specs.Joining.{JoinsEarly};
+ghost use Rattle.rep_catchup.specs.Snapshots.{TakesEntries, NoEntriesCome, TakesWindow, TakesPages, LeavesPages, NoPagesCome, NoneComes, BringsEarly, Brought, LeavesSnapshot};
+ghost use Rattle.rep_catchup.specs.Growing.{EndsRunning};
 
 use rep_checkpoint::windows_go_on;
 use rep_disk::Disk;
@@ -30,8 +37,8 @@ fn take_entries<R: Read>(
     transfer: &mut TransferReader,
     reader: &mut R,
 ) -> Result<Vec<Entry>, Refusal>
-    ensures taken { IfOk result (λ entries. TakesEntries count entries.items (R.remaining reader.old) (R.remaining reader.new)) }
-    ensures refused { IfErr result JoinsEarly }
+    ensures taken { IfOk result (λ entries. TakesEntries count entries.items transfer.old transfer.new (R.remaining reader.old) (R.remaining reader.new)) }
+    ensures refused { IfErr result (λ e. (e ≡ StreamFault) ⊎ ((e ≡ OutOfMemory) ⊎ ((e ≡ Malformed at) × IfSome (R.remaining reader.old) (NoEntriesCome count)))) }
 {
     let mut entries = Vec::new(alloc);
     for _index in 0..count {
@@ -65,8 +72,11 @@ fn take_pages<D: Disk, R: Read>(
     reader: &mut R,
 ) -> Result<(), Refusal>
     requires running { installation.old.engine.halted ≡ None }
-    ensures taken { OnOk result ((pages : List Page) × (length pages ≡ count) × TakesPages D.honest D.history D.failures installation.old installation.new pages (R.remaining reader.old) (R.remaining reader.new)) }
-    ensures refused { IfErr result JoinsEarly }
+    requires none { (page : ℕ) → state_of_page installation.old.coming.next.super page ≡ Nowhere }
+    ensures taken { OnOk result ((pages : List Page) × (length pages ≡ count) × TakesPages D.honest D.history D.failures installation.old installation.new pages transfer.old transfer.new (R.remaining reader.old) (R.remaining reader.new)) }
+    ensures kept { (n : Node) → (y : State) → HoldsBoth D.honest D.history D.failures n y installation.old → OnErr result (LeavesPages D.honest D.history D.failures n installation.old installation.new) }
+    ensures ends { EndsRunning result (given_up installation.new) }
+    ensures refused { IfErr result (λ e. (e ≡ StreamFault) ⊎ ((e ≡ DiskFault) ⊎ ((e ≡ Malformed at) × IfSome (R.remaining reader.old) (NoPagesCome installation.old.engine.checkpoint.base.params.rows count)))) }
 {
     let mut least = 0;
     for _index in 0..count {
@@ -85,7 +95,7 @@ fn take_pages<D: Disk, R: Read>(
 
 /// Whether a snapshot at this position may come: the replica is of no cluster, or has less of the order.
 fn may_come<D: Disk>(replica: &Replica<D>, position: u64) -> bool
-    ensures { result ≡ true → ((facts_of D.failures replica.now).durable < position) ⊎ IsNil (facts_of D.failures replica.now).uuid }
+    ensures { (result ≡ true) ↔ (((facts_of D.failures replica.now).durable < position) ⊎ IsNil (facts_of D.failures replica.now).uuid) }
 {
     replica.uuid().is_nil() || replica.durable() < position
 }
@@ -99,8 +109,8 @@ fn take_window<D: Disk, R: Read>(
     transfer: &mut TransferReader,
     reader: &mut R,
 ) -> Result<(Window, u16), Refusal>
-    ensures taken { IfOk result (λ x. TakesWindow (facts_of D.failures replica.now) front x.0 x.1 (R.remaining reader.old) (R.remaining reader.new)) }
-    ensures refused { IfErr result JoinsEarly }
+    ensures taken { IfOk result (λ x. TakesWindow (facts_of D.failures replica.now) front x.0 x.1 transfer.old transfer.new (R.remaining reader.old) (R.remaining reader.new)) }
+    ensures refused { IfErr result (λ e. (e ≡ StreamFault) ⊎ ((e ≡ OutOfMemory) ⊎ ((e ≡ Malformed at) × IfSome (R.remaining reader.old) (NoneComes (facts_of D.failures replica.now) front)))) }
 {
     let malformed = Refusal::Malformed { at };
     if !may_come(replica, front.position) || front.position > MAX_SEQNO {
@@ -141,8 +151,10 @@ pub(crate) fn bring<D: Disk, R: Read>(
     requires named { IsNil uuid → ⊥ }
     requires cluster { (uuid ≡ (facts_of D.failures replica).uuid) ⊎ IsNil (facts_of D.failures replica).uuid }
     requires fits { FrontFits front }
-    ensures brought { OnOk result.1 (Brought D.honest D.history D.failures replica result.0 uuid front (R.remaining reader.old) (R.remaining reader.new)) }
-    ensures refused { IfErr result.1 JoinsEarly }
+    ensures brought { OnOk result.1 (Brought D.honest D.history D.failures replica result.0 uuid front transfer.old transfer.new (R.remaining reader.old) (R.remaining reader.new)) }
+    ensures left { IfErr result.1 (LeavesSnapshot D.honest D.history D.failures replica result.0 uuid front transfer.old (R.remaining reader.old)) }
+    ensures ends { EndsRunning result.1 result.0 }
+    ensures refused { IfErr result.1 (BringsEarly (facts_of D.failures replica) front at (R.remaining reader.old)) }
 {
     history_by_items();
     let (window, count) = match take_window(alloc, &replica, front, at, transfer, reader) {

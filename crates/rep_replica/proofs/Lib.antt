@@ -17,3 +17,4 @@ pub mod Forgetting
 pub mod Stopping
 pub mod Donating
 pub mod Lives
+pub mod Episodes

@@ -14,7 +14,7 @@ use Rattle.rep_types.specs.declared.refusal.Refusal.TheVariants.{Stopped, BadKey
 use Rattle.rep_types.specs.Settings.{Setting, has_row}
 use Rattle.rep_types.specs.Replies.{reply_of}
 use Rattle.rep_types.specs.Order.{Order, history as history_of, read, rows, state}
-use Rattle.rep_disk.specs.History.{History, IsImage}
+use Rattle.rep_disk.specs.History.{History, IsImage, seen}
 use Rattle.rep_disk.specs.Moments.{moment, ImageSince}
 use Rattle.rep_disk.specs.Laws.{MomentsOfCalls}
 use Rattle.rep_steps.specs.declared.event.Event.{Event}
@@ -28,8 +28,9 @@ use Rattle.rep_steps.specs.Orders.{IsOf, accepted, answer_of, NodesHoldTheOrder,
 use Rattle.rep_steps.specs.Runs.{Runs, accepted_by, verdicts, acknowledged, verdict_of, ComesTo, AnswersOf, RunsComeTo, RunsAnswerTheOrder}
 use Rattle.rep_steps.specs.Images.{StandsFor, opened, IsFrontOf}
 use Rattle.rep_image.specs.Meanings.{Means, ImagesMeanOneThing}
-use Rattle.rep_replica.specs.Replicas.{facts_of}
+use Rattle.rep_replica.specs.Replicas.{Replica, facts_of}
 use Rattle.rep_replica.specs.Holding.{Holds}
+use Rattle.rep_replica.specs.Opening.{Opens}
 use Rattle.rep_replica.specs.Stopping.{StoppedReplicasHold}
 use Rattle.rep_replica.specs.Lives.{Life, IsLife, Lives, IsFed, AreFed, IsRowOf, AreRowsOf, AreRepliesOf, NeverStopped, AnswersAs, Follows, gtid_at, OpensOn, LifeFollows, LivesFollow, LivesFollowTheOrder}
 
@@ -99,7 +100,7 @@ module _ (hold : NodesHoldTheOrder) (follow : StepsFollowTheOrder) (come : RunsC
 
 -- ---- fronts of longer orders
 
-front_longer : (uuid : List ℕ) (p : Setting) (L M : Order) (d : ℕ) (image : List ℕ) → IsFrontOf Means uuid p L d image → IsFrontOf Means uuid p (L ++ M) d image
+pub front_longer : (uuid : List ℕ) (p : Setting) (L M : Order) (d : ℕ) (image : List ℕ) → IsFrontOf Means uuid p L d image → IsFrontOf Means uuid p (L ++ M) d image
 front_longer uuid p L M d image f = record {
   meaning = f.meaning;
   reads = f.reads;
@@ -118,7 +119,7 @@ front_short (suc h) [] = (omega arith, omega arith)
 front_short (suc h) (x ∷ xs) = let rest = front_short h xs in (omega (arith, rest.0), omega (arith, rest.1))
 
 -- what is among the replies of a front is among those of a longer one
-replies_longer : (d e : ℕ) (items : List Judged) (given : List Reply) → d ≤ e → AreRepliesOf (take d items) given → AreRepliesOf (take e items) given
+pub replies_longer : (d e : ℕ) (items : List Judged) (given : List Reply) → d ≤ e → AreRepliesOf (take d items) given → AreRepliesOf (take e items) given
 replies_longer d e items given le are r has =
     let both : map reply_of (take d items) ++ map reply_of (drop d (take e items)) ≡ map reply_of (take e items) =
     ap (λ (js : List Judged). map reply_of js ++ map reply_of (drop d (take e items))) (sym (take-take d e items le)) ∙ sym (map-append reply_of (take d (take e items)) (drop d (take e items)))
@@ -126,7 +127,7 @@ replies_longer d e items given le are r has =
     subst (λ (rs : List Reply). Contains rs r) both (Contains-append_left (map reply_of (take d items)) (map reply_of (drop d (take e items))) r (are r has))
 
 -- and so are those that were given for the items behind it
-replies_more : (d k : ℕ) (items : List Judged) (given told : List Reply) → AreRepliesOf (take d items) given → told ≡ map reply_of (take k (drop d items)) → AreRepliesOf (take (d + k) items) (given ++ told)
+pub replies_more : (d k : ℕ) (items : List Judged) (given told : List Reply) → AreRepliesOf (take d items) given → told ≡ map reply_of (take k (drop d items)) → AreRepliesOf (take (d + k) items) (given ++ told)
 replies_more d k items given told are is r has =
     subst (λ (rs : List Reply). Contains rs r) both (by (Contains-append_cases given told r has))
   where
@@ -155,29 +156,28 @@ module _ {D : Type 0} (honest : D → Type 0) (history : D → History) (failure
   -- ---- an opening
 
   -- what is opened on an image that stands for a front of the order
-  opened_on : (uuid : List ℕ) (p : Setting) (O : Order) (d h : ℕ) (given : List Reply) (image : List ℕ) (life : Life D) (f : IsFrontOf Means uuid p (take h O) d image) → AreRepliesOf (take d (history_of p O)) given
-      → IsLife honest history failures image life → (n : Node) × OpensOn honest history failures uuid p O d h given life.start f.end n
-  opened_on uuid p O d h given image life f kept is =
+  pub opened_on : (uuid : List ℕ) (p : Setting) (O : Order) (d h : ℕ) (given : List Reply) (image : List ℕ) (old : History) (r : Replica D) (f : IsFrontOf Means uuid p (take h O) d image) → AreRepliesOf (take d (history_of p O)) given
+      → seen old ≡ image → Opens honest history failures old r → (n : Node) × OpensOn honest history failures uuid p O d h given r f.end n
+  opened_on uuid p O d h given image old r f kept on opens =
       let e = f.end in
       let L : Order = take e O in
       let short = front_short h O in
       let most : e ≤ h = omega (arith, f.most, short.0) in
       let within : e ≤ length O = omega (arith, f.most, short.1) in
-      let opens = is.opens in
-      let reads : Means image opens.meaning = subst (λ (bytes : List ℕ). Means bytes opens.meaning) is.on opens.means in
+      let reads : Means image opens.meaning = subst (λ (bytes : List ℕ). Means bytes opens.meaning) on opens.means in
       let same : f.meaning ≡ opens.meaning = one_thing image f.meaning opens.meaning f.reads reads in
       let stands : StandsFor uuid p L opens.meaning = subst (StandsFor uuid p L) same (subst (λ (M : Order). StandsFor uuid p M f.meaning) (take-take e h O most) f.stands) in
       let own : StandsFor opens.meaning.uuid opens.meaning.setting L opens.meaning =
       subst (λ (u : List ℕ). StandsFor u opens.meaning.setting L opens.meaning) (sym stands.uuid_is) (subst (λ (q : Setting). StandsFor uuid q L opens.meaning) (sym stands.setting_is) stands) in
-      let n : Node = opened (facts_of failures life.start) opens.gates opens.meaning in
-      let holds : Holds honest history failures n life.start = opens.holds in
+      let n : Node = opened (facts_of failures r) opens.gates opens.meaning in
+      let holds : Holds honest history failures n r = opens.holds in
       let of : IsOf L n = opens.opens.order L own in
       let size : length L ≡ e = length-take-le e O within in
       let held = hold L n holds.node of in
-      let durable : (facts_of failures life.start).durable ≡ e = sym (ap (λ (s : Standing). s.durable) holds.facts) ∙ omega (arith, held.count, size) in
+      let durable : (facts_of failures r).durable ≡ e = sym (ap (λ (s : Standing). s.durable) holds.facts) ∙ omega (arith, held.count, size) in
       let uuid_is : n.facts.uuid ≡ uuid = stands.uuid_is in
       let setting_is : n.facts.setting ≡ p = stands.setting_is in
-      let own_uuid : (facts_of failures life.start).uuid ≡ uuid = sym (ap (λ (s : Standing). s.uuid) holds.facts) ∙ uuid_is in (
+      let own_uuid : (facts_of failures r).uuid ≡ uuid = sym (ap (λ (s : Standing). s.uuid) holds.facts) ∙ uuid_is in (
         n,
         record {
           least = f.least;
@@ -186,7 +186,7 @@ module _ {D : Type 0} (honest : D → Type 0) (history : D → History) (failure
           kept = replies_longer d e (history_of p O) given f.least kept;
           durable = durable;
           delivered_is = sym (ap delivered holds.facts) ∙ held.count ∙ size;
-          gtid = ap (λ (u : List ℕ). gtid_at u (facts_of failures life.start).durable) own_uuid ∙ ap (gtid_at uuid) durable;
+          gtid = ap (λ (u : List ℕ). gtid_at u (facts_of failures r).durable) own_uuid ∙ ap (gtid_at uuid) durable;
           state_is =
               held.state e (omega (arith, of.within, size)) (omega (arith, size)) ∙ ap (λ (q : Setting). state q (take e L)) setting_is ∙ ap (state p) (take-take e e O (omega arith));
           holds = holds;
@@ -232,7 +232,7 @@ module _ {D : Type 0} (honest : D → Type 0) (history : D → History) (failure
             ∙ ap (λ (rs : List Reply). take y (drop n.facts.durable rs)) (sym replies_are);
       }
 
-  ran_on : (O L rest : Order) (n : Node) (events : List Event) (answers : List Answer) (m : Node) → IsNode n → IsOf L n → Runs Steps n events answers m → (L ++ accepted_by events answers) ++ rest ≡ O → Follows O L n events answers m
+  pub ran_on : (O L rest : Order) (n : Node) (events : List Event) (answers : List Answer) (m : Node) → IsNode n → IsOf L n → Runs Steps n events answers m → (L ++ accepted_by events answers) ++ rest ≡ O → Follows O L n events answers m
   ran_on O L rest n events answers m node of runs fed = record {
     answers_are = subst (λ (M : Order). AnswersOf M n answers m) fed (answer L rest n m events answers node of runs);
     as_unbroken = λ all told last never.
@@ -248,7 +248,7 @@ module _ {D : Type 0} (honest : D → Type 0) (history : D → History) (failure
   one_life uuid p O d h given image life f kept is is_fed =
       let e = f.end in
       let L : Order = take e O in
-      let opening = opened_on uuid p O d h given image life f kept is in
+      let opening = opened_on uuid p O d h given image life.old life.start f kept is.on is.opens in
       let n : Node = opening.0 in
       let opens = opening.1 in
       let first = is.ran n opens.holds in

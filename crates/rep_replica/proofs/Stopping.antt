@@ -3,7 +3,7 @@ use Rattle.std.proofs.Common.{◌≡◌, ℕ, ◌+◌, ◌-◌, List, length, le
 use Rattle.rep_types.specs.Order.{Order}
 use Rattle.rep_disk.specs.History.{History, IsImage}
 use Rattle.rep_steps.specs.Standings.{Standing}
-use Rattle.rep_steps.specs.Nodes.{Node}
+use Rattle.rep_steps.specs.Nodes.{Node, IsNode}
 use Rattle.rep_steps.specs.Orders.{IsOf, NodesHoldTheOrder}
 use Rattle.rep_steps.specs.Images.{IsFrontAt, IsFrontOf, FrontsStandForTheOrder}
 use Rattle.rep_image.specs.Meanings.{Means}
@@ -12,6 +12,21 @@ use Rattle.rep_replica.specs.Replicas.{Replica}
 use Rattle.rep_replica.specs.Holding.{Holds}
 use Rattle.rep_replica.specs.Stopping.{HoldsStopped, StoppedReplicasHold}
 use Rattle.rep_replica.proofs.Widening.{whole_front}
+
+-- what means a front of a node of an order stands for a front of that order
+pub front_of : NodesHoldTheOrder → FrontsStandForTheOrder → (L : Order) (n : Node) (image : List ℕ) → IsNode n → IsOf L n → IsFrontAt Means n image → IsFrontOf Means n.facts.uuid n.facts.setting L n.facts.durable image
+front_of hold fronts L n image node o f =
+    let count = (hold L n node o).count in
+    let rest = ap length node.ahead ∙ length-drop (n.facts.durable - n.facts.base) n.items in
+    let whole : n.base.position + length n.items ≡ length L = omega (arith, count, rest, node.enough, node.position, node.facts.based) in
+    record {
+      meaning = f.meaning;
+      reads = f.reads;
+      end = f.end;
+      least = f.least;
+      most = omega (arith, f.front.within, whole);
+      stands = fronts L n f.end f.meaning node o f.front;
+    }
 
 module _ {D : Type 0} (honest : D → Type 0) (history : D → History) (failures : D → ℕ) where
   of_node : (n : Node) (r : Replica D) → Holds honest history failures n r → HoldsStopped honest history failures n r
@@ -36,19 +51,7 @@ module _ {D : Type 0} (honest : D → Type 0) (history : D → History) (failure
 
   module _ (hold : NodesHoldTheOrder) (fronts : FrontsStandForTheOrder) where
     leaves : (L : Order) (n : Node) (r : Replica D) → HoldsStopped honest history failures n r → IsOf L n → (image : List ℕ) → IsImage (history r.engine.disk) image → IsFrontOf Means n.facts.uuid n.facts.setting L n.facts.durable image
-    leaves L n r h o image is =
-        let f : IsFrontAt Means n image = h.images image is in
-        let count = (hold L n h.node o).count in
-        let rest = ap length h.node.ahead ∙ length-drop (n.facts.durable - n.facts.base) n.items in
-        let whole : n.base.position + length n.items ≡ length L = omega (arith, count, rest, h.node.enough, h.node.position, h.node.facts.based) in
-        record {
-          meaning = f.meaning;
-          reads = f.reads;
-          end = f.end;
-          least = f.least;
-          most = omega (arith, f.front.within, whole);
-          stands = fronts L n f.end f.meaning h.node o f.front;
-        }
+    leaves L n r h o image is = front_of hold fronts L n image h.node o (h.images image is)
 
     pub stopped_hold : StoppedReplicasHold honest history failures
     stopped_hold = record { of_node = of_node; of_engine = of_engine; leaves = leaves }

@@ -2,9 +2,12 @@
 use Rattle.std.specs.Prelude.{◌≡◌, ℕ, ◌≤◌, false, List, length, drop, None}
 use Rattle.rep_disk.specs.History.{History, IsImage}
 use Rattle.rep_disk.specs.Moments.{LeavesOnly}
-use Rattle.rep_cert.specs.Holdings.{IsAskable, window_of}
+use Rattle.rep_types.specs.declared.item.Item.TheVariants.{WriteSet}
+use Rattle.rep_cert.specs.Holdings.{Holding, IsAskable, window_of, verdict_of}
 use Rattle.rep_steps.specs.declared.event.Event.{Event}
+use Rattle.rep_steps.specs.declared.event.Event.TheVariants.{Deliver}
 use Rattle.rep_steps.specs.declared.answer.Answer.{Answer}
+use Rattle.rep_steps.specs.declared.answer.Answer.TheVariants.{Gave}
 use Rattle.rep_steps.specs.Moves.{Moves}
 use Rattle.rep_steps.specs.Nodes.{Node, IsNode, Steps, window_at}
 use Rattle.rep_steps.specs.Parts.{part_of}
@@ -39,6 +42,11 @@ pub record IsStep {D : Type 0} (honest : D → Type 0) (history : D → History)
   pub leaves : (n : Node) → Holds honest history failures n old → LeavesOnly (history old.engine.disk) (history new.engine.disk) (IsFrontAt Means n)
   pub unchanged : RefusesUnchanged e a old new
   pub spelled : Spells honest history old e a new
+
+-- The verdict by which a delivery is answered is the certifier's, on any device.
+abbrev pub IsJudgedBy : Holding → Event → Answer → Type 0
+IsJudgedBy h (Deliver seqno w) (Gave v) = v ≡ verdict_of h (WriteSet w)
+IsJudgedBy h e a = Unit {0}
 
 -- More is so while it isn't stopped: each image means a front that ends exactly at what is durable, or, where a log's gate is opening,
 -- at that with its block. So what was only delivered, and what was only written, doesn't come back.

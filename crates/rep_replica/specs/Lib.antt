@@ -7,6 +7,7 @@ pub mod Opening
 pub mod Reading
 pub mod Stopping
 pub mod Lives
+pub mod Episodes
 pub mod Settling
 pub mod Installing
 pub mod Donating

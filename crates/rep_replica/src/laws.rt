@@ -5,6 +5,7 @@ ghost use Rattle.rep_replica.specs.Running.{RunsAreJoined};
 ghost use Rattle.rep_replica.specs.Reading.{ReadsForgetNothing};
 ghost use Rattle.rep_replica.specs.Stopping.{StoppedReplicasHold};
 ghost use Rattle.rep_replica.specs.Lives.{LivesFollowTheOrder};
+ghost use Rattle.rep_replica.specs.Episodes.{LivesWithSnapshotsFollowTheOrder};
 
 use crate::replica::Replica;
 use rep_disk::{Disk, moments_of_calls};
@@ -14,6 +15,7 @@ use rep_steps::{
     fronts_stand_for_the_order, nodes_hold_the_order, nodes_outlast_failures,
     runs_answer_the_order, runs_come_to, steps_follow_the_order,
 };
+use rep_types::history_by_items;
 
 /// A replica is opened on a device, runs events, and is stopped at any moment, within a call or between
 /// two; then it is opened on what the stop left, any number of times, whatever the device does meanwhile; and
@@ -35,6 +37,31 @@ pub fn lives_follow_the_order<D: Disk>()
     runs_answer_the_order();
     stopped_replicas_hold::<D>();
     moments_of_calls();
+}
+
+/// A replica is opened on a device, runs events, and is stopped at any moment, any number of times, as in
+/// `lives_follow_the_order`; and snapshots of its cluster come to it between the runs. Each is the state after a front
+/// of the order, and above what was delivered, or the replica belongs to no cluster yet. It takes the base's place, or
+/// is given up, or the device fails; and the stop comes within that too, at any moment.
+///
+/// Then opening the disk gives a front of the order again: of what was delivered or brought by then, and with all that
+/// was durable behind the last answer, so with each item to whose origin any of these lives replied. A run gives the
+/// verdicts, the replies and the rows of a node that never stopped, and a snapshot leads to where it is. A replica that
+/// belonged to no cluster belongs to this one then, or still to none and has no item.
+///
+/// The first image stands for a front of the order, or is of no cluster, as one is that was formatted to join.
+pub fn lives_with_snapshots_follow_the_order<D: Disk>()
+    ensures { LivesWithSnapshotsFollowTheOrder D.honest D.history D.failures }
+{
+    images_mean_one_thing();
+    nodes_hold_the_order();
+    steps_follow_the_order();
+    runs_come_to();
+    runs_answer_the_order();
+    stopped_replicas_hold::<D>();
+    moments_of_calls();
+    fronts_stand_for_the_order();
+    history_by_items();
 }
 
 /// Where a replica on an honest device is not stopped, every image of the device means a front of what the

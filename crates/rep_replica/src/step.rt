@@ -17,7 +17,7 @@ ghost use Rattle.rep_engine.specs.Writing.{written_in};
 ghost use Rattle.rep_replica.specs.Replicas.{facts_of};
 ghost use Rattle.rep_replica.specs.Refusing.{Gathers};
 ghost use Rattle.rep_replica.specs.Spelling.{ReadIsSpelled};
-ghost use Rattle.rep_replica.specs.Holding.{Holds, IsStep};
+ghost use Rattle.rep_replica.specs.Holding.{Holds, IsStep, IsJudgedBy};
 ghost use Rattle.rep_replica.specs.Settling.{outcome_of};
 
 use crate::replica::Replica;
@@ -98,7 +98,8 @@ impl<D: Disk> Replica<D> {
     /// Takes the item with this seqno.
     fn deliver(&mut self, seqno: u64, item: WriteSet) -> Answer
         requires running { (self.old.stopped ≡ false) × (self.old.engine.halted ≡ None) }
-        ensures { IsStep D.honest D.history D.failures self.old (Deliver seqno item) result self.new }
+        ensures step { IsStep D.honest D.history D.failures self.old (Deliver seqno item) result self.new }
+        ensures judged { IsJudgedBy self.old.certifier.current (Deliver seqno item) result }
     {
         nodes_stay_nodes();
         judging_goes_on();
@@ -258,6 +259,7 @@ impl<D: Disk> Replica<D> {
     /// still is then, and as much is durable; of what waits, `Log` had gathered what its block takes.
     pub fn step(&mut self, event: Event) -> Answer
         ensures step { IsStep D.honest D.history D.failures self.old event result self.new }
+        ensures judged { IsJudgedBy self.old.certifier.current event result }
         // Where it is stopped, nothing changes.
         ensures stopped { (self.old.stopped || is_some self.old.engine.halted) ≡ true → (result ≡ Refused Refusal.Stopped) × (self.new ≡ self.old) }
     {

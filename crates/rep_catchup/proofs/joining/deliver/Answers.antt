@@ -1,13 +1,65 @@
-use Rattle.std.proofs.Common.{◌≡◌, ◌+◌, refl, rules, arith}
+use Rattle.std.proofs.Common.{◌≡◌, ◌+◌, refl, rules, arith, sym, ◌∙◌, inl, inr}
 use Rattle.rep_steps.specs.Standings.{delivered}
 use Rattle.rep_replica.specs.Replicas.{facts_of}
-use Rattle.rep_catchup.proofs.JoinGrowing.{delivered_judged}
+use Rattle.rep_catchup.proofs.JoinGrowing.{grown_none, delivered_judged, delivered_none, delivered_runs, delivery_answers, delivery_early, ends_running, is_stopped, out_by_seqno, out_by_verdict}
 use Rattle.rep_catchup.proofs.joining.deliver.Goals as goal
+use Rattle.rep_catchup.proofs.joining.deliver.Goals.{then-seqno-delivered-via-then-seqno-delivered, then-seqno-delivered-via-else-seqno-delivered+then-ne}
+
+-- ---- an item that isn't the next one
+
+pub returns-then-seqno-delivered-clause-grown : goal.returns-then-seqno-delivered-clause-grown
+returns-then-seqno-delivered-clause-grown g c = grown_none c.history_by_items.ensures g.D.Disk.honest g.D.Disk.history g.D.Disk.failures c.runs_are_joined.ensures c.args.replica.now
+
+pub returns-then-seqno-delivered-clause-refused : goal.returns-then-seqno-delivered-clause-refused
+returns-then-seqno-delivered-clause-refused g c =
+    elim c.then-seqno-delivered.branch [
+      | then-seqno-delivered-via-then-seqno-delivered w ↦
+          out_by_seqno g.D.Disk.honest g.D.Disk.history g.D.Disk.failures c.args.replica.now c.args.judged c.args.at c.delivered.result (c.delivered.ensures.facts c.requires.running.inside)
+          (let other : c.args.judged.seqno ≡ c.delivered.result + 1 → ⊥ = search rules in other)
+      | then-seqno-delivered-via-else-seqno-delivered+then-ne w ↦
+          out_by_verdict g.D.Disk.honest g.D.Disk.history g.D.Disk.failures c.args.replica.now c.args.judged c.args.at c.in-WriteSet.item w.judge.result c.in-WriteSet.is w.judge.ensures.node
+          (let other : w.judge.result ≡ c.args.judged.verdict → ⊥ = search rules in other)
+    ]
+
+-- ---- one that was delivered
 
 pub returns-in-Gave-clause-grown : goal.returns-in-Gave-clause-grown
 returns-in-Gave-clause-grown g c =
-    let judged : c.in-Gave.given ≡ c.args.judged.verdict = search rules in
+    let same : c.judge.result ≡ c.args.judged.verdict = search rules in
+    let judged : c.in-Gave.field-0 ≡ c.args.judged.verdict = c.in-Gave.ensures.judged ∙ sym c.judge.ensures.certifier ∙ same in
     let here = c.delivered.ensures.facts c.requires.running.inside in
     let next : c.args.judged.seqno ≡ delivered (facts_of g.D.Disk.failures c.args.replica.now) + 1 = omega (arith, here) in
-    delivered_judged c.history_by_items.ensures g.D.Disk.honest g.D.Disk.history g.D.Disk.failures c.nodes_hold_the_order.ensures c.steps_follow_the_order.ensures c.args.replica.now c.step.new.self c.args.judged.seqno c.in-WriteSet.item
-    c.args.judged c.in-Gave.given c.requires.running refl c.in-WriteSet.is judged next c.in-Gave.ensures.step
+    delivered_judged c.history_by_items.ensures g.D.Disk.honest g.D.Disk.history g.D.Disk.failures c.runs_are_joined.ensures c.nodes_hold_the_order.ensures c.steps_follow_the_order.ensures c.args.replica.now c.step.new.self c.args.judged.seqno
+    c.in-WriteSet.item c.args.judged c.in-Gave.field-0 refl c.in-WriteSet.is judged next c.in-Gave.ensures.step
+
+pub returns-in-Gave-clause-ends : goal.returns-in-Gave-clause-ends
+returns-in-Gave-clause-ends g c =
+    delivered_runs c.history_by_items.ensures g.D.Disk.honest g.D.Disk.history g.D.Disk.failures c.runs_are_joined.ensures c.nodes_hold_the_order.ensures c.steps_follow_the_order.ensures c.args.replica.now c.step.new.self c.args.judged.seqno
+    c.in-WriteSet.item c.in-Gave.field-0 c.requires.running c.in-Gave.ensures.step.moves
+
+-- ---- one that was refused
+
+pub returns-in-Refused : goal.returns-in-Refused
+returns-in-Refused g c =
+    let here = c.delivered.ensures.facts c.requires.running.inside in
+    let next : c.args.judged.seqno ≡ delivered (facts_of g.D.Disk.failures c.args.replica.now) + 1 = omega (arith, here) in
+    let early =
+    delivery_early (facts_of g.D.Disk.failures c.args.replica.now) (facts_of g.D.Disk.failures c.step.new.self) c.args.judged.seqno c.in-WriteSet.item c.in-Refused.refusal (is_stopped g.D.Disk.failures c.args.replica.now c.requires.running)
+    c.requires.defined next c.requires.fits.seqno c.requires.room c.in-Refused.ensures.step.moves in
+    record {
+      grown =
+          delivered_none c.history_by_items.ensures g.D.Disk.honest g.D.Disk.history g.D.Disk.failures c.runs_are_joined.ensures c.nodes_hold_the_order.ensures c.steps_follow_the_order.ensures c.args.replica.now c.step.new.self c.args.judged.seqno
+          c.in-WriteSet.item c.in-Refused.refusal c.in-Refused.ensures.step;
+      ends = ends_running c.history_by_items.ensures g.D.Disk.honest g.D.Disk.history g.D.Disk.failures c.step.new.self c.in-Refused.refusal early.1;
+      limit = tt;
+      refused = inl early.0;
+    }
+
+-- ---- there is no other answer
+
+pub returns-in_default-step : goal.returns-in_default-step
+returns-in_default-step g c =
+    absurd (elim (delivery_answers (facts_of g.D.Disk.failures c.args.replica.now) (facts_of g.D.Disk.failures c.step.new.self) c.args.judged.seqno c.in-WriteSet.item c.step.result c.step.ensures.step.moves) [
+      | inl gave ↦ c.in_default-step.not-Gave gave.0 gave.1
+      | inr refused ↦ c.in_default-step.not-Refused refused.0 refused.1
+    ])

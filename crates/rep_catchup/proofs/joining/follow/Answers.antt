@@ -1,25 +1,26 @@
-use Rattle.std.proofs.Common.{◌≡◌, None, Ok, ap, sym, subst, ◌∙◌, Option, ℕ, rules}
+use Rattle.std.proofs.Common.{◌≡◌, ◌<◌, ◌^◌, None, Ok, ap, sym, subst, ◌∙◌, Option, ℕ, rules}
+use Rattle.std.proofs.lemmas.Result.{err_from_is_err_and}
+use Rattle.rep_transfer.specs.Transfers.{PartFits, part_bytes}
 use Rattle.rep_catchup.specs.Joining.{Followed}
-use Rattle.rep_catchup.proofs.JoinGrowing.{grown_none}
+use Rattle.rep_catchup.proofs.JoinTaking.{consumed, found_fits, counted_small}
+use Rattle.rep_catchup.proofs.JoinCutting.{cut_at_part}
 use Rattle.rep_catchup.proofs.JoinFollowing.{followed_none, part_followed}
 use Rattle.rep_catchup.proofs.joining.follow.Goals as goal
 
 pub loop-part-init : goal.loop-part-init
-loop-part-init g c =
-    let grown = grown_none c.history_by_items.ensures g.D.Disk.honest g.D.Disk.history g.D.Disk.failures c.args.replica.now c.requires.running in
-    record {
-      running = c.requires.running;
-      defined = c.requires.defined;
-      followed = followed_none g.D.Disk.honest g.D.Disk.history g.D.Disk.failures c.history_by_items.ensures c.args.replica.now (g.R.Read.remaining c.args.reader.now) grown;
-    }
+loop-part-init g c = record {
+  running = c.requires.running;
+  defined = c.requires.defined;
+  followed = followed_none g.D.Disk.honest g.D.Disk.history g.D.Disk.failures c.history_by_items.ensures c.runs_are_joined.ensures c.args.replica.now c.args.transfer.now (g.R.Read.remaining c.args.reader.now);
+}
 
 pub returns-in-Some-2-clause-followed : goal.returns-in-Some-2-clause-followed
 returns-in-Some-2-clause-followed g c =
     let start = g.R.Read.remaining c.args.reader.now in
     let left = g.R.Read.remaining c.next_part.new.reader in
-    subst (λ (ended : Option ℕ). Followed g.D.Disk.honest g.D.Disk.history g.D.Disk.failures c.args.replica.now c.take_part.new.replica start left ended) c.in-Some-2.is
-    (part_followed g.D.Disk.honest g.D.Disk.history g.D.Disk.failures c.history_by_items.ensures c.args.replica.now c.loop-part.replica c.take_part.new.replica start (g.R.Read.remaining c.loop-part.reader) left c.in_ok-last.field-0
-    c.in-Some.part c.next_part.result (c.in_ok-part.was ∙ ap Ok c.in-Some.is) c.loop-part.invariant.followed c.next_part.ensures.known c.in_ok-last.ensures.took)
+    subst (λ (ended : Option ℕ). Followed g.D.Disk.honest g.D.Disk.history g.D.Disk.failures c.args.replica.now c.take_part.new.replica c.args.transfer.now c.next_part.new.transfer start left ended) c.in-Some-2.is
+    (part_followed g.D.Disk.honest g.D.Disk.history g.D.Disk.failures c.history_by_items.ensures c.runs_are_joined.ensures c.args.replica.now c.loop-part.replica c.take_part.new.replica c.args.transfer.now c.loop-part.transfer c.next_part.new.transfer start
+    (g.R.Read.remaining c.loop-part.reader) left c.in_ok-last.field-0 c.in-Some.part c.next_part.result (c.in_ok-part.was ∙ ap Ok c.in-Some.is) c.loop-part.invariant.followed c.next_part.ensures.known c.next_part.ensures.taken c.in_ok-last.ensures.took)
 
 pub loop-part-preserved : goal.loop-part-preserved
 loop-part-preserved g c =
@@ -27,11 +28,27 @@ loop-part-preserved g c =
     let left = g.R.Read.remaining c.next_part.new.reader in
     let none : c.in_ok-last.field-0 ≡ None = search rules in
     let followed =
-    subst (λ (ended : Option ℕ). Followed g.D.Disk.honest g.D.Disk.history g.D.Disk.failures c.args.replica.now c.take_part.new.replica start left ended) none
-    (part_followed g.D.Disk.honest g.D.Disk.history g.D.Disk.failures c.history_by_items.ensures c.args.replica.now c.loop-part.replica c.take_part.new.replica start (g.R.Read.remaining c.loop-part.reader) left c.in_ok-last.field-0
-    c.in-Some.part c.next_part.result (c.in_ok-part.was ∙ ap Ok c.in-Some.is) c.loop-part.invariant.followed c.next_part.ensures.known c.in_ok-last.ensures.took) in
+    subst (λ (ended : Option ℕ). Followed g.D.Disk.honest g.D.Disk.history g.D.Disk.failures c.args.replica.now c.take_part.new.replica c.args.transfer.now c.next_part.new.transfer start left ended) none
+    (part_followed g.D.Disk.honest g.D.Disk.history g.D.Disk.failures c.history_by_items.ensures c.runs_are_joined.ensures c.args.replica.now c.loop-part.replica c.take_part.new.replica c.args.transfer.now c.loop-part.transfer c.next_part.new.transfer start
+    (g.R.Read.remaining c.loop-part.reader) left c.in_ok-last.field-0 c.in-Some.part c.next_part.result (c.in_ok-part.was ∙ ap Ok c.in-Some.is) c.loop-part.invariant.followed c.next_part.ensures.known c.next_part.ensures.taken c.in_ok-last.ensures.took) in
     record {
-      running = followed.2.grown.running;
+      running = c.in_ok-last.ensures.ends;
       defined = λ nil. c.requires.defined (sym followed.2.grown.uuid ∙ nil);
       followed = followed;
     }
+
+-- ---- where a part isn't taken
+
+pub returns-in_err-last-clause-cut : goal.returns-in_err-last-clause-cut
+returns-in_err-last-clause-cut g c =
+    let p = err_from_is_err_and c.from_residual-in_err-last.result c.from_residual-in_err-last.ensures.1 in
+    let e = c.in_err-last.field-0.0 in
+    let start = g.R.Read.remaining c.args.reader.now in
+    let before = g.R.Read.remaining c.loop-part.reader in
+    let part = c.in-Some.part in
+    let is = c.in_ok-part.was ∙ ap Ok c.in-Some.is in
+    let small : c.taken-at.result < 2 ^ 64 = search rules in
+    let followed = subst (λ k. Followed g.D.Disk.honest g.D.Disk.history g.D.Disk.failures c.args.replica.now c.loop-part.replica c.args.transfer.now k start before None) (sym c.taken-at.ensures) c.loop-part.invariant.followed in
+    rw (p.1, p.2) (cut_at_part g.D.Disk.honest g.D.Disk.history g.D.Disk.failures c.history_by_items.ensures c.runs_are_joined.ensures c.args.replica.now c.loop-part.replica c.take_part.new.replica c.args.transfer.now c.taken-at.result start before
+    (g.R.Read.remaining c.next_part.new.reader) part e (counted_small c.taken-at.result small) followed c.in_err-last.ensures.kept (found_fits PartFits part c.next_part.result is c.next_part.ensures.fits)
+    (consumed PartFits part_bytes before (g.R.Read.remaining c.next_part.new.reader) part c.next_part.result is c.next_part.ensures.known) c.in_err-last.ensures.refused)

@@ -12,7 +12,7 @@ abbrev pub invariant-loop-part : goal.invariant-loop-part
 invariant-loop-part g l = record {
   running : IsRunning l.replica;
   defined : IsNil (facts_of g.D.Disk.failures l.replica).uuid → ⊥;
-  followed : Followed g.D.Disk.honest g.D.Disk.history g.D.Disk.failures l.initial.replica l.replica (g.R.Read.remaining l.initial.reader) (g.R.Read.remaining l.reader) None;
+  followed : Followed g.D.Disk.honest g.D.Disk.history g.D.Disk.failures l.initial.replica l.replica l.initial.transfer l.transfer (g.R.Read.remaining l.initial.reader) (g.R.Read.remaining l.reader) None;
 }
 
 abbrev pub decreases-loop-part : goal.decreases-loop-part

@@ -1,38 +1,89 @@
-use Rattle.std.proofs.Common.{List, ℕ, inr, sym, ◌∙◌}
+use Rattle.std.proofs.Common.{List, ℕ, refl, inl, inr, sym, ap, ◌∙◌, arith}
 use Rattle.rep_types.specs.declared.refusal.Refusal.TheVariants.{Stopped}
+use Rattle.rep_transfer.specs.Taking.{counted}
+use Rattle.rep_replica.specs.Replicas.{facts_of}
 use Rattle.rep_catchup.specs.Joining.{Joined}
-use Rattle.rep_catchup.proofs.JoinGrowing.{is_running}
+use Rattle.rep_catchup.proofs.JoinGrowing.{early_work, is_running}
+use Rattle.rep_catchup.proofs.JoinWent.{lived_none, lived_settling, lived_parts}
 use Rattle.rep_catchup.proofs.JoinFollowing.{not_joined, joined_on}
+use Rattle.rep_catchup.proofs.JoinCutting.{early_header, early_parts, ended_parts, or_stopped}
 use Rattle.rep_catchup.proofs.joining.join.Goals as goal
 
 pub settle-requires : goal.settle-requires
 settle-requires g c = record { running = is_running c.args.replica (sym c.is_stopped.ensures ∙ c.if-is_stopped.false) }
 
--- ---- what is so where it is taken to its end
+-- ---- what is so behind the header
+
+pub returns-in-Ok-clause-refused : goal.returns-in-Ok-clause-refused
+returns-in-Ok-clause-refused g c =
+    or_stopped c.take_parts.result.1
+    (early_parts g.D.Disk.honest g.D.Disk.history g.D.Disk.failures c.settle.new.replica c.take_parts.result.0 c.in-Ok.uuid (g.R.Read.remaining c.take_header.new.reader) c.take_header.new.transfer c.take_parts.result.1 c.take_parts.ensures.cut)
+
+pub returns-in-Ok-clause-early : goal.returns-in-Ok-clause-early
+returns-in-Ok-clause-early g c = λ running.
+    early_parts g.D.Disk.honest g.D.Disk.history g.D.Disk.failures c.settle.new.replica c.take_parts.result.0 c.in-Ok.uuid (g.R.Read.remaining c.take_header.new.reader) c.take_header.new.transfer c.take_parts.result.1 c.take_parts.ensures.cut
 
 pub returns-in-Ok-clause-joined : goal.returns-in-Ok-clause-joined
 returns-in-Ok-clause-joined g c = λ n holds.
     joined_on g.D.Disk.honest g.D.Disk.history g.D.Disk.failures c.args.replica c.settle.new.replica c.take_parts.result.0 c.in-Ok.uuid n (g.R.Read.remaining c.args.reader.now) (g.R.Read.remaining c.take_header.new.reader)
-    (g.R.Read.remaining c.take_parts.new.reader) c.take_parts.result.1 c.in_default.ensures.grown holds c.in-Ok.ensures.taken c.take_parts.ensures.taken
+    (g.R.Read.remaining c.take_parts.new.reader) c.take_parts.result.1 c.settle.ensures.grown holds c.in-Ok.ensures.taken c.take_parts.ensures.taken
 
--- ---- where it isn't
+pub returns-in-Ok-clause-ended : goal.returns-in-Ok-clause-ended
+returns-in-Ok-clause-ended g c = λ running.
+    ended_parts g.D.Disk.honest g.D.Disk.history g.D.Disk.failures c.args.replica c.settle.new.replica c.take_parts.result.0 c.in-Ok.uuid (g.R.Read.remaining c.args.reader.now) (g.R.Read.remaining c.take_header.new.reader) c.take_header.new.transfer
+    c.take_parts.result.1 c.settle.ensures.grown c.in-Ok.ensures.taken (c.in-Ok.ensures.counted ∙ ap (λ k. counted k 59) c.new-transfer.ensures ∙ omega arith) c.take_parts.ensures.cut
+
+-- ---- where it was stopped before, or didn't settle
 
 pub returns-then-is_stopped-clause-joined : goal.returns-then-is_stopped-clause-joined
 returns-then-is_stopped-clause-joined g c = λ n holds.
     let start = g.R.Read.remaining c.args.reader.now in
-    not_joined start (λ (bytes : List ℕ). Joined g.D.Disk.honest g.D.Disk.history g.D.Disk.failures n bytes start c.args.replica) Stopped
+    not_joined start (λ (bytes : List ℕ). Joined g.D.Disk.honest g.D.Disk.history g.D.Disk.failures n bytes start c.args.replica c.args.replica) Stopped
 
 pub returns-in-Err-clause-refused : goal.returns-in-Err-clause-refused
-returns-in-Err-clause-refused g c = inr c.in-Err.ensures.refused
+returns-in-Err-clause-refused g c = inr (early_work c.in-Err.refusal c.in-Err.ensures.refused)
+
+pub returns-in-Err-clause-early : goal.returns-in-Err-clause-early
+returns-in-Err-clause-early g c = λ running. early_work c.in-Err.refusal c.in-Err.ensures.refused
 
 pub returns-in-Err-clause-joined : goal.returns-in-Err-clause-joined
 returns-in-Err-clause-joined g c = λ n holds.
     let start = g.R.Read.remaining c.args.reader.now in
-    not_joined start (λ (bytes : List ℕ). Joined g.D.Disk.honest g.D.Disk.history g.D.Disk.failures n bytes start c.settle.new.replica) c.in-Err.refusal
+    not_joined start (λ (bytes : List ℕ). Joined g.D.Disk.honest g.D.Disk.history g.D.Disk.failures n bytes start c.args.replica c.settle.new.replica) c.in-Err.refusal
+
+pub returns-in-Err-clause-ended : goal.returns-in-Err-clause-ended
+returns-in-Err-clause-ended g c = λ running. record { settled = c.settle.new.replica; grown = c.settle.ensures.grown; why = inl (inl c.in-Err.ensures.refused, refl) }
+
+-- ---- where the header is not taken
 
 pub returns-in-Err-take_header-clause-refused : goal.returns-in-Err-take_header-clause-refused
-returns-in-Err-take_header-clause-refused g c = inr c.in-Err-take_header.ensures.refused
+returns-in-Err-take_header-clause-refused g c =
+    inr (early_header (facts_of g.D.Disk.failures c.settle.new.replica) (g.R.Read.remaining c.args.reader.now) c.in-Err-take_header.refusal c.in-Err-take_header.ensures.refused)
+
+pub returns-in-Err-take_header-clause-early : goal.returns-in-Err-take_header-clause-early
+returns-in-Err-take_header-clause-early g c = λ running.
+    early_header (facts_of g.D.Disk.failures c.settle.new.replica) (g.R.Read.remaining c.args.reader.now) c.in-Err-take_header.refusal c.in-Err-take_header.ensures.refused
 
 pub returns-in-Err-take_header-clause-joined : goal.returns-in-Err-take_header-clause-joined
 returns-in-Err-take_header-clause-joined g c = λ n holds.
-    not_joined (g.R.Read.remaining c.args.reader.now) (λ (bytes : List ℕ). Joined g.D.Disk.honest g.D.Disk.history g.D.Disk.failures n bytes (g.R.Read.remaining c.take_header.new.reader) c.settle.new.replica) c.in-Err-take_header.refusal
+    not_joined (g.R.Read.remaining c.args.reader.now) (λ (bytes : List ℕ). Joined g.D.Disk.honest g.D.Disk.history g.D.Disk.failures n bytes (g.R.Read.remaining c.take_header.new.reader) c.args.replica c.settle.new.replica) c.in-Err-take_header.refusal
+
+pub returns-in-Err-take_header-clause-ended : goal.returns-in-Err-take_header-clause-ended
+returns-in-Err-take_header-clause-ended g c = λ running.
+    record { settled = c.settle.new.replica; grown = c.settle.ensures.grown; why = inl (inr c.in-Err-take_header.ensures.refused, refl) }
+
+-- ---- what it did
+
+pub returns-then-is_stopped-clause-lived : goal.returns-then-is_stopped-clause-lived
+returns-then-is_stopped-clause-lived g c = lived_none g.D.Disk.honest g.D.Disk.history g.D.Disk.failures c.args.replica
+
+pub returns-in-Err-clause-lived : goal.returns-in-Err-clause-lived
+returns-in-Err-clause-lived g c = lived_settling g.D.Disk.honest g.D.Disk.history g.D.Disk.failures c.args.replica c.settle.new.replica c.settle.ensures.grown
+
+pub returns-in-Err-take_header-clause-lived : goal.returns-in-Err-take_header-clause-lived
+returns-in-Err-take_header-clause-lived g c = lived_settling g.D.Disk.honest g.D.Disk.history g.D.Disk.failures c.args.replica c.settle.new.replica c.settle.ensures.grown
+
+pub returns-in-Ok-clause-lived : goal.returns-in-Ok-clause-lived
+returns-in-Ok-clause-lived g c =
+    lived_parts g.D.Disk.honest g.D.Disk.history g.D.Disk.failures c.args.replica c.settle.new.replica c.take_parts.result.0 c.in-Ok.uuid (g.R.Read.remaining c.take_header.new.reader) (g.R.Read.remaining c.take_parts.new.reader) c.take_header.new.transfer
+    c.take_parts.result.1 c.settle.ensures.grown c.take_parts.ensures.taken c.take_parts.ensures.cut

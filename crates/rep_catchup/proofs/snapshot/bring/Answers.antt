@@ -1,8 +1,44 @@
-use Rattle.rep_catchup.proofs.JoinBringing.{brought_on}
+use Rattle.std.proofs.Common.{Err, inl, sym, subst}
+use Rattle.rep_checkpoint.specs.Coming.{blank}
+use Rattle.rep_replica.specs.Replicas.{Replica}
+use Rattle.rep_catchup.specs.Growing.{EndsRunning}
+use Rattle.rep_catchup.specs.Snapshots.{GivenUp}
+use Rattle.rep_catchup.proofs.JoinBringing.{brought_on, none_came, given_at_once, given_behind, early_pages}
 use Rattle.rep_catchup.proofs.snapshot.bring.Goals as goal
+
+pub take_pages-requires-clause-none : goal.take_pages-requires-clause-none
+take_pages-requires-clause-none g c = none_came c.args.replica.engine.checkpoint.base c.args.uuid c.args.front.position c.args.replica.engine.log.next c.in-Ok.taken.0.entries c.in-Ok-install.installation.coming c.in-Ok-install.ensures.begun.1
 
 pub returns-in-Ok-take_pages-clause-brought : goal.returns-in-Ok-take_pages-clause-brought
 returns-in-Ok-take_pages-clause-brought g c =
-    brought_on g.D.Disk.honest g.D.Disk.history g.D.Disk.failures c.args.replica c.end.result.0 c.in-Ok-install.installation c.take_pages.new.installation c.args.uuid c.args.front c.in-Ok.taken.0 c.in-Ok.taken.1
-    (g.R.Read.remaining c.args.reader.now) (g.R.Read.remaining c.take_window.new.reader) (g.R.Read.remaining c.take_pages.new.reader) c.in-Ok.ensures.taken c.in-Ok-install.ensures.begun c.history_by_items.ensures c.requires.fits c.requires.quiet
-    c.end.result.1 c.in-Ok-take_pages.ensures.taken c.end.ensures.lands (λ n holds. c.in-Ok-install.ensures.holds n holds) (λ n y h. c.end.ensures.installs n y h)
+    let took = c.in-Ok-take_pages.ensures.taken in
+    (brought_on g.D.Disk.honest g.D.Disk.history g.D.Disk.failures c.args.replica c.end.result.0 c.in-Ok-install.installation c.take_pages.new.installation c.args.uuid c.args.front c.in-Ok.taken.0 c.in-Ok.taken.1
+    c.args.transfer.now c.take_window.new.transfer c.take_pages.new.transfer (g.R.Read.remaining c.args.reader.now) (g.R.Read.remaining c.take_window.new.reader) (g.R.Read.remaining c.take_pages.new.reader) c.in-Ok.ensures.taken
+    c.in-Ok-install.ensures.begun c.requires.fits c.requires.quiet took.0 took.1 took.2 c.requires.cluster c.end.result.1 (c.end.ensures.lands took.2.running) (λ n holds. c.in-Ok-install.ensures.holds n holds) (λ n y h. c.end.ensures.installs n y h)).0
+
+pub returns-in-Ok-take_pages-clause-left : goal.returns-in-Ok-take_pages-clause-left
+returns-in-Ok-take_pages-clause-left g c =
+    let took = c.in-Ok-take_pages.ensures.taken in
+    (brought_on g.D.Disk.honest g.D.Disk.history g.D.Disk.failures c.args.replica c.end.result.0 c.in-Ok-install.installation c.take_pages.new.installation c.args.uuid c.args.front c.in-Ok.taken.0 c.in-Ok.taken.1
+    c.args.transfer.now c.take_window.new.transfer c.take_pages.new.transfer (g.R.Read.remaining c.args.reader.now) (g.R.Read.remaining c.take_window.new.reader) (g.R.Read.remaining c.take_pages.new.reader) c.in-Ok.ensures.taken
+    c.in-Ok-install.ensures.begun c.requires.fits c.requires.quiet took.0 took.1 took.2 c.requires.cluster c.end.result.1 (c.end.ensures.lands took.2.running) (λ n holds. c.in-Ok-install.ensures.holds n holds) (λ n y h. c.end.ensures.installs n y h)).1
+
+-- ---- where it isn't taken
+
+pub returns-in-Err-take_pages-clause-left : goal.returns-in-Err-take_pages-clause-left
+returns-in-Err-take_pages-clause-left g c =
+    inl (given_behind g.D.Disk.honest g.D.Disk.history g.D.Disk.failures c.args.replica c.in-Ok-install.installation c.take_pages.new.installation (blank c.args.front.position c.in-Ok.taken.0) c.in-Ok-install.ensures.begun.0
+    (λ n holds. c.in-Ok-install.ensures.holds n holds) (λ n z h. c.in-Err-take_pages.ensures.kept n z h) c.give_up.result c.give_up.ensures.replica (λ n z h. c.give_up.ensures.holds n z h))
+
+pub returns-in-Err-take_pages-clause-ends : goal.returns-in-Err-take_pages-clause-ends
+returns-in-Err-take_pages-clause-ends g c = subst (λ (r : Replica g.row.D.Denot). EndsRunning {T = Unit {0}} (Err c.in-Err-take_pages.refusal) r) (sym c.give_up.ensures.replica) c.in-Err-take_pages.ensures.ends
+
+pub returns-in-Err-take_pages-clause-refused : goal.returns-in-Err-take_pages-clause-refused
+returns-in-Err-take_pages-clause-refused g c =
+    early_pages g.D.Disk.honest g.D.Disk.history g.D.Disk.failures c.args.replica c.give_up.result c.in-Ok-install.installation c.take_pages.new.installation c.args.uuid c.args.front c.in-Ok.taken.0 c.in-Ok.taken.1
+    c.args.transfer.now c.take_window.new.transfer c.take_pages.new.transfer (g.R.Read.remaining c.args.reader.now) (g.R.Read.remaining c.take_window.new.reader) (g.R.Read.remaining c.take_pages.new.reader) c.in-Ok.ensures.taken
+    c.in-Ok-install.ensures.begun c.args.at c.in-Err-take_pages.refusal c.in-Ok.ensures.taken.few c.in-Err-take_pages.ensures.refused
+
+pub returns-in-Err-install-clause-left : goal.returns-in-Err-install-clause-left
+returns-in-Err-install-clause-left g c =
+    inl (subst (λ (r : Replica g.row.D.Denot). GivenUp g.D.Disk.honest g.D.Disk.history g.D.Disk.failures c.args.replica r) (sym c.in-Err-install.ensures.refused.0) (given_at_once g.D.Disk.honest g.D.Disk.history g.D.Disk.failures c.args.replica))

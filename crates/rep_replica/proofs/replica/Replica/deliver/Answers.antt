@@ -44,7 +44,7 @@ returns-in-Some g c =
     let r : Replica g.row.D.Denot = c.args.self.now in
     let runs : (facts_of g.D.Disk.failures r).stopped ≡ false = ap (λ b. b || is_some r.engine.halted) c.requires.running.0 ∙ ap is_some c.requires.running.1 in
     let due = running_refusal (facts_of g.D.Disk.failures r) c.args.seqno c.args.item runs ∙ sym c.delivery_refusal.ensures ∙ c.in-Some.is in
-    refused_step g.D.Disk.honest g.D.Disk.history g.D.Disk.failures r (Deliver c.args.seqno c.args.item) c.in-Some.refusal due tt
+    record { step = refused_step g.D.Disk.honest g.D.Disk.history g.D.Disk.failures r (Deliver c.args.seqno c.args.item) c.in-Some.refusal due tt; judged = tt }
 
 -- the backlog has room for one that is not
 is_an_err : {T E : Type 0} (r : Result T E) → true ≡ is_err r → IsErr r
@@ -69,5 +69,9 @@ pub returns : goal.returns
 returns g c =
     let runs = runs_inside c.self.view_is c.requires.running in
     let step = delivered_step g.D.Disk.honest g.D.Disk.history g.D.Disk.failures (old g c) (new g c) c.args.seqno c.args.item (item g c) runs.0 runs.1 (none g c) c.self.invariant (item_is g c) c.in-Ok.ensures.admitted refl (pushed g c) refl c.judging_goes_on.ensures c.nodes_stay_nodes.ensures in
-    subst (λ (r : Replica g.row.D.Denot). IsStep g.D.Disk.honest g.D.Disk.history g.D.Disk.failures r (Deliver c.args.seqno c.args.item) (Gave c.in-Ok.verdict) (new g c)) c.self.view_is
-    (subst (λ (a : Answer). IsStep g.D.Disk.honest g.D.Disk.history g.D.Disk.failures (old g c) (Deliver c.args.seqno c.args.item) a (new g c)) (ap Gave (sym c.in-Ok.ensures.verdict)) step)
+    record {
+      step =
+          subst (λ (r : Replica g.row.D.Denot). IsStep g.D.Disk.honest g.D.Disk.history g.D.Disk.failures r (Deliver c.args.seqno c.args.item) (Gave c.in-Ok.verdict) (new g c)) c.self.view_is
+          (subst (λ (a : Answer). IsStep g.D.Disk.honest g.D.Disk.history g.D.Disk.failures (old g c) (Deliver c.args.seqno c.args.item) a (new g c)) (ap Gave (sym c.in-Ok.ensures.verdict)) step);
+      judged = c.in-Ok.ensures.verdict ∙ ap (λ (r : Replica g.row.D.Denot). verdict_of r.certifier.current (WriteSet c.args.item)) c.self.view_is;
+    }

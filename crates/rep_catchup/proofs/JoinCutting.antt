@@ -1,0 +1,302 @@
+-- What stands where a transfer is not taken to its end.
+use Rattle.std.proofs.Common.{◌≡◌, ◌⊎◌, inl, inr, ℕ, ◌+◌, List, [], ◌∷◌, ◌++◌, length, Option, None, Some, Result, Ok, Err, refl, sym, ap, subst, ◌∙◌, append_assoc, append-nil, arith, length-append}
+use Rattle.std.specs.Prelude.{IfErr, IfSome}
+use Rattle.std.specs.List.{flat_map}
+use Rattle.std.specs.Io.KnownBytes.{Consumes}
+use Rattle.std.proofs.KnownBytes.{Consumes-nil, Consumes-trans}
+use Rattle.rep_types.specs.declared.refusal.Refusal.{Refusal}
+use Rattle.rep_types.specs.declared.refusal.Refusal.TheVariants.{Stopped, OutOfMemory, DiskFault, Malformed, StreamFault}
+use Rattle.rep_types.specs.ByItems.{HistoryByItems}
+use Rattle.rep_record.specs.Records.{IsRecord}
+use Rattle.rep_disk.specs.History.{History}
+use Rattle.rep_layout.specs.Supers.{IsNil}
+use Rattle.rep_steps.specs.Standings.{Standing}
+use Rattle.rep_steps.specs.Nodes.{Node}
+use Rattle.rep_replica.specs.Replicas.{Replica, facts_of}
+use Rattle.rep_replica.specs.Holding.{Holds}
+use Rattle.rep_replica.specs.Running.{RunsAreJoined}
+use Rattle.rep_transfer.specs.declared.pieces.Front.{Front}
+use Rattle.rep_transfer.specs.declared.part.Part.{Part}
+use Rattle.rep_transfer.specs.declared.part.Part.TheVariants.{Snapshot as OfSnapshot, Record as OfRecord, End as OfEnd}
+use Rattle.rep_transfer.specs.Pieces.{FrontFits, front_bytes}
+use Rattle.rep_transfer.specs.Taking.{counted, BeginWithNone}
+use Rattle.rep_transfer.specs.Transfers.{Snapshot, SnapshotFits, front_of, rest_of, snapshot_bytes, snapshot_part, record_part, PartFits, part_bytes}
+use Rattle.rep_catchup.specs.Snapshots.{Brought, NoneComes, BringsEarly, LeavesSnapshot}
+use Rattle.rep_catchup.specs.Growing.{Grown}
+use Rattle.rep_catchup.specs.Joining.{JoinsEarly, Follows, Followed, MayFollow, NoneFollows, NoSnapshotComes, EndsHere, IsOut, Cut, CutShort, TakesHeader, RefusesHeader, Ended}
+use Rattle.rep_catchup.proofs.JoinGrowing.{early_work, grown_none, grown_then}
+use Rattle.rep_catchup.proofs.JoinTaking.{same_part}
+use Rattle.rep_catchup.proofs.JoinFollowing.{all_both, flat_both}
+use Rattle.rep_catchup.proofs.JoinWent.{went_records, went_snapshot, went_nowhere, went_broken}
+
+-- ---- what stands at the front of known bytes
+
+-- known bytes that began with these
+known_front : (P : List ℕ → Type 0) (before left : Option (List ℕ)) (bs : List ℕ) → Consumes before left bs → ((rest : List ℕ) → P (bs ++ rest)) → IfSome before P
+known_front P None left bs taken h = tt
+known_front P (Some bytes) None bs taken h = absurd taken
+known_front P (Some bytes) (Some rest) bs taken h = subst P (sym taken) (h rest)
+
+-- a snapshot begins with its front
+fronted : (y : Snapshot) (rest : List ℕ) → snapshot_bytes y ++ rest ≡ part_bytes (OfSnapshot (front_of y)) ++ (rest_of y ++ rest)
+fronted y rest = append_assoc (83 ∷ front_bytes (front_of y)) (rest_of y) rest
+
+fits_front : (y : Snapshot) → SnapshotFits y → FrontFits (front_of y)
+fits_front y fits = record { position = fits.position; count = fits.few }
+
+front_same : (f g : Front) → OfSnapshot f ≡ OfSnapshot g → f ≡ g
+front_same f g is = cc
+
+-- how many bytes were taken then
+counted_still : (at now n m : ℕ) → counted now 0 ≡ counted at n → counted now m ≡ counted at (n + m)
+counted_still at now n m is = omega (arith, is)
+
+counted_from : (at now n m : ℕ) → now ≡ counted at n → counted now m ≡ counted at (n + m)
+counted_from at now n m is = omega (arith, is)
+
+-- what a snapshot begins with, and its rest
+all_bytes : {front : Front} (s : Snapshot) → front ≡ front_of s → part_bytes (OfSnapshot front) ++ rest_of s ≡ snapshot_bytes s
+all_bytes s is = ap (λ (f : Front). (83 ∷ front_bytes f) ++ rest_of s) is
+
+behind : (bs xs ys : List ℕ) → bs ++ xs ≡ bs ++ ys → xs ≡ ys
+behind [] xs ys is = is
+behind (b ∷ bs) xs ys is = behind bs xs ys (let rest : bs ++ xs ≡ bs ++ ys = cc in rest)
+
+behind_same : (f g : Front) (xs ys : List ℕ) → f ≡ g → part_bytes (OfSnapshot f) ++ xs ≡ part_bytes (OfSnapshot g) ++ ys → xs ≡ ys
+behind_same f g xs ys is same = behind (part_bytes (OfSnapshot g)) xs ys (ap (λ (h : Front). part_bytes (OfSnapshot h) ++ xs) (sym is) ∙ same)
+
+module _ {D : Type 0} (honest : D → Type 0) (history : D → History) (failures : D → ℕ) where
+  -- where no part stands none follows
+  none_stands : (r : Replica D) (before : Option (List ℕ)) → IfSome before (BeginWithNone PartFits part_bytes) → IfSome before (NoneFollows honest history failures r)
+  none_stands r None none = tt
+  none_stands r (Some bytes) none = λ m holds part rest fits is may. none part rest fits is
+
+  pub no_snapshot_stands : (s : Standing) (before : Option (List ℕ)) → IfSome before (BeginWithNone PartFits part_bytes) → IfSome before (NoSnapshotComes s)
+  no_snapshot_stands s None none = tt
+  no_snapshot_stands s (Some bytes) none = λ y rest fits is snapshot later. none (OfSnapshot (front_of y)) (rest_of y ++ rest) (fits_front y fits) (is ∙ fronted y rest)
+
+  pub ends_at_none : (r : Replica D) (at : ℕ) (before : Option (List ℕ)) → IfSome before (BeginWithNone PartFits part_bytes) → EndsHere honest history failures r at before (Malformed at)
+  ends_at_none r at before none = inr (inr (refl, none_stands r before none))
+
+  -- nor where one stands that may not
+  ends_out : (r : Replica D) (part : Part) (at : ℕ) (before left : Option (List ℕ)) (e : Refusal) → PartFits part → Consumes before left (part_bytes part) → IsOut honest history failures r part at e → EndsHere honest history failures r at before e
+  ends_out r part at before left e fits taken (inl work) = inr (inl work)
+  ends_out r part at before left e fits taken (inr out) =
+      inr (inr (out.0, known_front (NoneFollows honest history failures r) before left (part_bytes part) taken (λ rest m holds q more fit is may. out.1 m holds (subst (MayFollow m) (sym (same_part part q rest more fits fit is)) may))))
+
+  -- no part but a snapshot comes to a node of no cluster
+  pub nil_is_out : (r : Replica D) (part : Part) (at : ℕ) → IsNil (facts_of failures r).uuid → IsOut honest history failures r part at (Malformed at)
+  nil_is_out r part at nil = inr (refl, λ m holds may. never m holds part may)
+    where
+      never : (m : Node) → Holds honest history failures m r → (p : Part) → MayFollow m p → ⊥
+      never m holds (OfSnapshot front) may = may
+      never m holds (OfRecord j) may = may.0 (subst IsNil (sym (ap (λ (s : Standing). s.uuid) holds.facts)) nil)
+      never m holds (OfEnd last) may = may.0 (subst IsNil (sym (ap (λ (s : Standing). s.uuid) holds.facts)) nil)
+
+  -- ---- records that were taken
+
+  module _ (by_items : HistoryByItems) (joined : RunsAreJoined honest history failures) where
+    -- behind those that were taken no more
+    cut_at : (old now new : Replica D) (start at : ℕ) (first before : Option (List ℕ)) (e : Refusal) → counted at 0 ≡ at → Followed honest history failures old now start at first before None → Grown honest history failures now new [] → EndsHere honest history failures new at before e
+        → Cut honest history failures old new first start e
+    cut_at old now new start at first before e small f grown ends =
+        let h = f.2 in
+        let bytes_are : f.0 ≡ flat_map record_part h.records = h.spelled ∙ append-nil (flat_map record_part h.records) in
+        record {
+          records = h.records;
+          are_records = h.are_records;
+          grown = subst (Grown honest history failures old new) (append-nil h.records) (grown_then by_items honest history failures joined old now new h.records [] h.grown grown);
+          left = before;
+          taken = subst (Consumes first before) bytes_are f.1.taken;
+          ends = subst (λ k. EndsHere honest history failures new k before e) (sym small ∙ f.1.counts ∙ ap (λ (bs : List ℕ). counted start (length bs)) bytes_are) ends;
+        }
+
+    pub cut_by_reader : (old now : Replica D) (start at : ℕ) (first before : Option (List ℕ)) (e : Refusal) → counted at 0 ≡ at → Followed honest history failures old now start at first before None → e ≡ StreamFault → Cut honest history failures old now first start e
+    cut_by_reader old now start at first before e small f is = cut_at old now now start at first before e small f (grown_none by_items honest history failures joined now) (inl is)
+
+    pub cut_at_none : (old now : Replica D) (start at : ℕ) (first before : Option (List ℕ)) → counted at 0 ≡ at → Followed honest history failures old now start at first before None → IfSome before (BeginWithNone PartFits part_bytes)
+        → Cut honest history failures old now first start (Malformed at)
+    cut_at_none old now start at first before small f none = cut_at old now now start at first before (Malformed at) small f (grown_none by_items honest history failures joined now) (ends_at_none now at before none)
+
+    pub cut_at_part : (old now new : Replica D) (start at : ℕ) (first before left : Option (List ℕ)) (part : Part) (e : Refusal) → counted at 0 ≡ at → Followed honest history failures old now start at first before None → Grown honest history failures now new []
+        → PartFits part → Consumes before left (part_bytes part) → IsOut honest history failures new part at e → Cut honest history failures old new first start e
+    cut_at_part old now new start at first before left part e small f grown fits taken out = cut_at old now new start at first before e small f grown (ends_out new part at before left e fits taken out)
+
+    -- the part in hand isn't taken
+    pub cut_in_hand : (old new : Replica D) (at : ℕ) (before left : Option (List ℕ)) (part : Part) (e : Refusal) → counted at 0 ≡ at → Grown honest history failures old new [] → PartFits part → Consumes before left (part_bytes part) → IsOut honest history failures new part at e
+        → Cut honest history failures old new before at e
+    cut_in_hand old new at before left part e small grown fits taken out = record {
+      records = [];
+      are_records = tt;
+      grown = grown;
+      left = before;
+      taken = Consumes-nil before;
+      ends = subst (λ k. EndsHere honest history failures new k before e) (sym small) (ends_out new part at before left e fits taken out);
+    }
+
+    -- it was, and some of those behind it
+    pub cut_behind : (a b c : Replica D) (at now : ℕ) (before left : Option (List ℕ)) (hand : List ℕ) (e : Refusal) → now ≡ counted at (length hand) → Consumes before left hand → Follows honest history failures a b None hand → Cut honest history failures b c left now e
+        → Cut honest history failures a c before at e
+    cut_behind a b c at now before left hand e counts taken first cut =
+        let xs = flat_map record_part first.records in
+        let ys = flat_map record_part cut.records in
+        let hand_is : hand ≡ xs = first.spelled ∙ append-nil xs in
+        let both : hand ++ ys ≡ flat_map record_part (first.records ++ cut.records) = ap (λ (bs : List ℕ). bs ++ ys) hand_is ∙ sym (flat_both first.records cut.records) in
+        record {
+          records = first.records ++ cut.records;
+          are_records = all_both IsRecord first.records cut.records first.are_records cut.are_records;
+          grown = grown_then by_items honest history failures joined a b c first.records cut.records first.grown cut.grown;
+          left = cut.left;
+          taken = subst (Consumes before cut.left) both (Consumes-trans before left cut.left hand ys taken cut.taken);
+          ends = subst (λ k. EndsHere honest history failures c k cut.left e) (counted_from at now (length hand) (length ys) counts ∙ ap (counted at) (sym (length-append hand ys)) ∙ ap (λ (bs : List ℕ). counted at (length bs)) both) cut.ends;
+        }
+
+    pub cut_behind_on : (a b c : Replica D) (at now : ℕ) (before left : Option (List ℕ)) (ended : Option ℕ) (hand : List ℕ) (result : Result ℕ Refusal) → ended ≡ None → now ≡ counted at (length hand) → Consumes before left hand → Follows honest history failures a b ended hand
+        → IfErr result (Cut honest history failures b c left now) → IfErr result (Cut honest history failures a c before at)
+    cut_behind_on a b c at now before left ended hand (Ok last) is counts taken first cut = tt
+    cut_behind_on a b c at now before left ended hand (Err e) is counts taken first cut = cut_behind a b c at now before left hand e counts taken (subst (λ (o : Option ℕ). Follows honest history failures a b o hand) is first) cut
+
+    -- nothing was taken
+    pub short_none : (old : Replica D) (uuid : List ℕ) (at : ℕ) (before : Option (List ℕ)) (e : Refusal) → counted at 0 ≡ at → EndsHere honest history failures old at before e → ((k : ℕ) → e ≡ Malformed k → IfSome before (NoSnapshotComes (facts_of failures old)))
+        → CutShort honest history failures old old uuid before at e
+    short_none old uuid at before e small ends none = record {
+      snapshot = None;
+      comes = tt;
+      records = [];
+      are_records = tt;
+      left = before;
+      taken = Consumes-nil before;
+      went = went_records honest history failures old old uuid [] (grown_none by_items honest history failures joined old);
+      ends = subst (λ k. EndsHere honest history failures old k before e) (sym small) ends;
+      none = λ _ _ k is. none k is;
+    }
+
+  -- records alone were taken
+  pub short_records : (old new : Replica D) (uuid : List ℕ) (at : ℕ) (before : Option (List ℕ)) (e : Refusal) → Cut honest history failures old new before at e → IfSome before (NoSnapshotComes (facts_of failures old)) → CutShort honest history failures old new uuid before at e
+  short_records old new uuid at before e cut other = record {
+    snapshot = None;
+    comes = tt;
+    records = cut.records;
+    are_records = cut.are_records;
+    left = cut.left;
+    taken = cut.taken;
+    went = went_records honest history failures old new uuid cut.records cut.grown;
+    ends = cut.ends;
+    none = λ _ _ _ _. other;
+  }
+
+  pub short_records_on : (old new : Replica D) (uuid : List ℕ) (at : ℕ) (before : Option (List ℕ)) (result : Result ℕ Refusal) → IfErr result (Cut honest history failures old new before at) → IfSome before (NoSnapshotComes (facts_of failures old))
+      → IfErr result (CutShort honest history failures old new uuid before at)
+  short_records_on old new uuid at before (Ok last) cut other = tt
+  short_records_on old new uuid at before (Err e) cut other = short_records old new uuid at before e cut other
+
+  -- a part that is none of a snapshot stands there
+  pub no_front : (s : Standing) (part : Part) (before left : Option (List ℕ)) → PartFits part → Consumes before left (part_bytes part) → ((f : Front) → part ≡ OfSnapshot f → ⊥) → IfSome before (NoSnapshotComes s)
+  no_front s part before left fits taken other =
+      known_front (NoSnapshotComes s) before left (part_bytes part) taken
+      (λ rest y more fit is snapshot later. other (front_of y) (same_part part (OfSnapshot (front_of y)) rest (rest_of y ++ more) fits (fits_front y fit) (is ∙ fronted y more)))
+
+  -- ---- a snapshot
+
+  -- what it begins with was taken, and the rest of it not
+  module _ (old new : Replica D) (uuid : List ℕ) (front : Front) (at start : ℕ) (before left : Option (List ℕ)) (e : Refusal) (fits : FrontFits front) (small : counted at 0 ≡ at) (counts : start ≡ counted at (length (part_bytes (OfSnapshot front)))) (taken : Consumes before left (part_bytes (OfSnapshot front))) where
+    -- no other part stands there, and none of a second snapshot may come
+    none_else : IfSome before (NoneFollows honest history failures new)
+    none_else = known_front (NoneFollows honest history failures new) before left (part_bytes (OfSnapshot front)) taken (λ rest m holds q more fit is may. subst (MayFollow m) (sym (same_part (OfSnapshot front) q rest more fits fit is)) may)
+
+    ends_early : BringsEarly (facts_of failures old) front at left e → EndsHere honest history failures new at before e
+    ends_early (inl stream) = inl stream
+    ends_early (inr (inl memory)) = inr (inl (inl memory))
+    ends_early (inr (inr (inl fault))) = inr (inl (inr (inl fault)))
+    ends_early (inr (inr (inr (is, none)))) = inr (inr (is, none_else))
+
+    none_here : (k : ℕ) → e ≡ Malformed k → BringsEarly (facts_of failures old) front at left e → IfSome before (NoSnapshotComes (facts_of failures old))
+    none_here k is (inl stream) = absurd (let never : Malformed k ≡ StreamFault = sym is ∙ stream in cc)
+    none_here k is (inr (inl memory)) = absurd (let never : Malformed k ≡ OutOfMemory = sym is ∙ memory in cc)
+    none_here k is (inr (inr (inl fault))) = absurd (let never : Malformed k ≡ DiskFault = sym is ∙ fault in cc)
+    none_here k is (inr (inr (inr (same, none)))) = by before left taken none
+      where
+        by : (b l : Option (List ℕ)) → Consumes b l (part_bytes (OfSnapshot front)) → IfSome l (NoneComes (facts_of failures old) front) → IfSome b (NoSnapshotComes (facts_of failures old))
+        by None l taken none = tt
+        by (Some bytes) None taken none = absurd taken
+        by (Some bytes) (Some behind) taken none = λ y rest fit is snapshot later.
+            let same = sym taken ∙ is ∙ fronted y rest in
+            let part : front ≡ front_of y = front_same front (front_of y) (same_part (OfSnapshot front) (OfSnapshot (front_of y)) behind (rest_of y ++ rest) fits (fits_front y fit) same) in
+            none y rest fit (sym part) (behind_same front (front_of y) behind (rest_of y ++ rest) part same) snapshot later
+
+    pub short_left : BringsEarly (facts_of failures old) front at left e → LeavesSnapshot honest history failures old new uuid front start left e → CutShort honest history failures old new uuid before at e
+    short_left early (inl given) = record {
+      snapshot = None;
+      comes = tt;
+      records = [];
+      are_records = tt;
+      left = before;
+      taken = Consumes-nil before;
+      went = went_nowhere honest history failures old new uuid given;
+      ends = subst (λ k. EndsHere honest history failures new k before e) (sym small) (ends_early early);
+      none = λ _ _ k is. none_here k is early;
+    }
+    short_left early (inr (fault, b)) = record {
+      snapshot = Some b.snapshot;
+      comes = (b.takes.fits, b.takes.is_snapshot, b.takes.later);
+      records = [];
+      are_records = tt;
+      left = b.left;
+      taken = subst (Consumes before b.left) (all_bytes b.snapshot b.takes.front_is ∙ sym (append-nil (snapshot_bytes b.snapshot))) (Consumes-trans before left b.left (part_bytes (OfSnapshot front)) (rest_of b.snapshot) taken b.takes.took.taken);
+      went = went_broken honest history failures old new uuid front start left b;
+      ends = inr (inl (inr (inl fault)));
+      none = λ is _ _ _. absurd (let never : Some b.snapshot ≡ None = is in cc);
+    }
+
+    -- all of it was taken, and some records
+    pub short_behind : (mid : Replica D) (now : ℕ) (second : Option (List ℕ)) → Brought honest history failures old mid uuid front start now left second → Cut honest history failures mid new second now e → CutShort honest history failures old new uuid before at e
+    short_behind mid now second b cut =
+        let s = b.snapshot in
+        let ys = flat_map record_part cut.records in
+        let hand = part_bytes (OfSnapshot front) ++ rest_of s in
+        let whole : hand ≡ snapshot_bytes s = all_bytes s b.takes.front_is in
+        let count : counted now 0 ≡ counted at (length hand) = b.takes.took.counts ∙ counted_from at start (length (part_bytes (OfSnapshot front))) (length (rest_of s)) counts ∙ ap (counted at) (sym (length-append (part_bytes (OfSnapshot front)) (rest_of s))) in
+        record {
+          snapshot = Some s;
+          comes = (b.takes.fits, b.takes.is_snapshot, b.takes.later);
+          records = cut.records;
+          are_records = cut.are_records;
+          left = cut.left;
+          taken =
+              subst (Consumes before cut.left) (ap (λ (bs : List ℕ). bs ++ ys) whole)
+              (Consumes-trans before second cut.left hand ys (Consumes-trans before left second (part_bytes (OfSnapshot front)) (rest_of s) taken b.takes.took.taken) cut.taken);
+          went = went_snapshot honest history failures old mid new uuid front start now left second cut.records b cut.grown;
+          ends = subst (λ k. EndsHere honest history failures new k cut.left e) (counted_still at now (length hand) (length ys) count ∙ ap (counted at) (sym (length-append hand ys)) ∙ ap (λ (bs : List ℕ). counted at (length (bs ++ ys))) whole) cut.ends;
+          none = λ is _ _ _. absurd (let never : Some s ≡ None = is in cc);
+        }
+
+  pub short_behind_on : (old new : Replica D) (uuid : List ℕ) (front : Front) (at start : ℕ) (before left : Option (List ℕ)) (result : Result ℕ Refusal) → FrontFits front → counted at 0 ≡ at → start ≡ counted at (length (part_bytes (OfSnapshot front))) → Consumes before left (part_bytes (OfSnapshot front))
+      → (mid : Replica D) (now : ℕ) (second : Option (List ℕ)) → Brought honest history failures old mid uuid front start now left second → IfErr result (Cut honest history failures mid new second now) → IfErr result (CutShort honest history failures old new uuid before at)
+  short_behind_on old new uuid front at start before left (Ok last) fits small counts taken mid now second b cut = tt
+  short_behind_on old new uuid front at start before left (Err e) fits small counts taken mid now second b cut = short_behind old new uuid front at start before left e fits small counts taken mid now second b cut
+
+-- ---- where a join ends
+
+pub early_header : (s : Standing) (before : Option (List ℕ)) (e : Refusal) → RefusesHeader s before e → JoinsEarly e
+early_header s before e (inl stream) = inl stream
+early_header s before e (inr (inl none)) = inr (inl (0, none.0))
+early_header s before e (inr (inr other)) = inr (inr (inl other.0))
+
+module _ {D : Type 0} (honest : D → Type 0) (history : D → History) (failures : D → ℕ) where
+  early_here : (r : Replica D) (at : ℕ) (left : Option (List ℕ)) (e : Refusal) → EndsHere honest history failures r at left e → JoinsEarly e
+  early_here r at left e (inl stream) = inl stream
+  early_here r at left e (inr (inl work)) = early_work e work
+  early_here r at left e (inr (inr out)) = inr (inl (at, out.0))
+
+  pub early_parts : (old new : Replica D) (uuid : List ℕ) (before : Option (List ℕ)) (start : ℕ) (result : Result ℕ Refusal) → IfErr result (CutShort honest history failures old new uuid before start) → IfErr result JoinsEarly
+  early_parts old new uuid before start (Ok last) cut = tt
+  early_parts old new uuid before start (Err e) cut = early_here new (counted start (length (snapshot_part cut.snapshot ++ flat_map record_part cut.records))) cut.left e cut.ends
+
+  pub ended_parts : (old mid new : Replica D) (uuid : List ℕ) (first before : Option (List ℕ)) (start : ℕ) (result : Result ℕ Refusal) → Grown honest history failures old mid [] → TakesHeader (facts_of failures mid) uuid first before → start ≡ 59
+      → IfErr result (CutShort honest history failures mid new uuid before start) → IfErr result (Ended honest history failures old new first)
+  ended_parts old mid new uuid first before start (Ok last) grown header at cut = tt
+  ended_parts old mid new uuid first before start (Err e) grown header at cut = record { settled = mid; grown = grown; why = inr (uuid, before, header, subst (λ k. CutShort honest history failures mid new uuid before k e) at cut) }
+
+pub or_stopped : (result : Result ℕ Refusal) → IfErr result JoinsEarly → IfErr result (λ e. (e ≡ Stopped) ⊎ JoinsEarly e)
+or_stopped (Ok last) early = tt
+or_stopped (Err e) early = inr early

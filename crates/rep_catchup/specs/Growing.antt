@@ -1,0 +1,47 @@
+-- How a replica grows, by its own steps and by the items that are delivered to it.
+use Rattle.std.specs.Prelude.{◌≡◌, ◌≢◌, ◌⊎◌, ℕ, ◌+◌, ◌≤◌, ◌||◌, true, List, [], ◌++◌, length, drop, is_some, Result, Ok, Err}
+use Rattle.rep_types.specs.declared.judged.Judged.{Judged}
+use Rattle.rep_types.specs.declared.refusal.Refusal.{Refusal}
+use Rattle.rep_types.specs.declared.refusal.Refusal.TheVariants.{DiskFault}
+use Rattle.rep_types.specs.Order.{Order, items_of, history as history_of}
+use Rattle.rep_disk.specs.History.{History}
+use Rattle.rep_steps.specs.declared.event.Event.{Event}
+use Rattle.rep_steps.specs.declared.answer.Answer.{Answer}
+use Rattle.rep_steps.specs.Standings.{delivered}
+use Rattle.rep_steps.specs.Nodes.{Node}
+use Rattle.rep_steps.specs.Orders.{IsOf}
+use Rattle.rep_steps.specs.Runs.{accepted_by}
+use Rattle.rep_replica.specs.Replicas.{Replica, facts_of}
+use Rattle.rep_replica.specs.Holding.{Holds}
+use Rattle.rep_replica.specs.Running.{Ran}
+use Rattle.rep_replica.specs.Settling.{IsRunning}
+
+-- The node grew by these items: so many more are delivered, and it is of each order that it was of before, with them behind that, where
+-- they were judged so.
+pub record Grows (n : Node) (records : List Judged) (m : Node) : Type 0 where
+  pub count : delivered m.facts ≡ delivered n.facts + length records
+  pub order : (L : Order) → IsOf L n → IsOf (L ++ items_of records) m
+  pub judged : (L : Order) → IsOf L n → records ≡ drop (length L) (history_of n.facts.setting (L ++ items_of records))
+
+-- The replica grew by these items, by a run: it is of the cluster and has the parameters that it had, on any device; and for each node
+-- that it stood for it stands for one that grew by them.
+pub record Grown {D : Type 0} (honest : D → Type 0) (history : D → History) (failures : D → ℕ) (old new : Replica D) (records : List Judged) : Type 0 where
+  pub uuid : (facts_of failures new).uuid ≡ (facts_of failures old).uuid
+  pub setting : (facts_of failures new).setting ≡ (facts_of failures old).setting
+  pub count : delivered (facts_of failures old) + length records ≤ delivered (facts_of failures new)
+  pub events : List Event
+  pub answers : List Answer
+  pub paired : length events ≡ length answers
+  pub ran : Ran honest history failures old new events answers
+  pub accepted : accepted_by events answers ≡ items_of records
+  pub node : (n : Node) → Holds honest history failures n old → (m : Node) × Grows n records m × Holds honest history failures m new
+
+-- these, where it succeeded
+abbrev pub where_ok : {T X : Type 0} → Result T Refusal → List X → List X
+where_ok (Ok x) xs = xs
+where_ok (Err e) xs = []
+
+-- Whether it is stopped then: where the device failed, and nowhere else.
+abbrev pub EndsRunning : {D T : Type 0} → Result T Refusal → Replica D → Type 0
+EndsRunning (Ok x) r = IsRunning r
+EndsRunning (Err e) r = ((e ≡ DiskFault) × ((r.stopped || is_some r.engine.halted) ≡ true)) ⊎ ((e ≢ DiskFault) × IsRunning r)
