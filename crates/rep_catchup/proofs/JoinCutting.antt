@@ -199,7 +199,7 @@ module _ {D : Type 0} (honest : D → Type 0) (history : D → History) (failure
   -- ---- a snapshot
 
   -- what it begins with was taken, and the rest of it not
-  module _ (old new : Replica D) (uuid : List ℕ) (front : Front) (at start : ℕ) (before left : Option (List ℕ)) (e : Refusal) (fits : FrontFits front) (small : counted at 0 ≡ at) (counts : start ≡ counted at (length (part_bytes (OfSnapshot front)))) (taken : Consumes before left (part_bytes (OfSnapshot front))) where
+  module _ (by_items : HistoryByItems) (old new : Replica D) (uuid : List ℕ) (front : Front) (at start : ℕ) (before left : Option (List ℕ)) (e : Refusal) (fits : FrontFits front) (small : counted at 0 ≡ at) (counts : start ≡ counted at (length (part_bytes (OfSnapshot front)))) (taken : Consumes before left (part_bytes (OfSnapshot front))) where
     -- no other part stands there, and none of a second snapshot may come
     none_else : IfSome before (NoneFollows honest history failures new)
     none_else = known_front (NoneFollows honest history failures new) before left (part_bytes (OfSnapshot front)) taken (λ rest m holds q more fit is may. subst (MayFollow m) (sym (same_part (OfSnapshot front) q rest more fits fit is)) may)
@@ -232,7 +232,7 @@ module _ {D : Type 0} (honest : D → Type 0) (history : D → History) (failure
       are_records = tt;
       left = before;
       taken = Consumes-nil before;
-      went = went_nowhere honest history failures old new uuid given;
+      went = went_nowhere honest history failures by_items old new uuid given;
       ends = subst (λ k. EndsHere honest history failures new k before e) (sym small) (ends_early early);
       none = λ _ _ k is. none_here k is early;
     }
@@ -243,7 +243,7 @@ module _ {D : Type 0} (honest : D → Type 0) (history : D → History) (failure
       are_records = tt;
       left = b.left;
       taken = subst (Consumes before b.left) (all_bytes b.snapshot b.takes.front_is ∙ sym (append-nil (snapshot_bytes b.snapshot))) (Consumes-trans before left b.left (part_bytes (OfSnapshot front)) (rest_of b.snapshot) taken b.takes.took.taken);
-      went = went_broken honest history failures old new uuid front start left b;
+      went = went_broken honest history failures by_items old new uuid front start left b;
       ends = inr (inl (inr (inl fault)));
       none = λ is _ _ _. absurd (let never : Some b.snapshot ≡ None = is in cc);
     }
@@ -265,15 +265,15 @@ module _ {D : Type 0} (honest : D → Type 0) (history : D → History) (failure
           taken =
               subst (Consumes before cut.left) (ap (λ (bs : List ℕ). bs ++ ys) whole)
               (Consumes-trans before second cut.left hand ys (Consumes-trans before left second (part_bytes (OfSnapshot front)) (rest_of s) taken b.takes.took.taken) cut.taken);
-          went = went_snapshot honest history failures old mid new uuid front start now left second cut.records b cut.grown;
+          went = went_snapshot honest history failures by_items old mid new uuid front start now left second cut.records b cut.grown;
           ends = subst (λ k. EndsHere honest history failures new k cut.left e) (counted_still at now (length hand) (length ys) count ∙ ap (counted at) (sym (length-append hand ys)) ∙ ap (λ (bs : List ℕ). counted at (length (bs ++ ys))) whole) cut.ends;
           none = λ is _ _ _. absurd (let never : Some s ≡ None = is in cc);
         }
 
-  pub short_behind_on : (old new : Replica D) (uuid : List ℕ) (front : Front) (at start : ℕ) (before left : Option (List ℕ)) (result : Result ℕ Refusal) → FrontFits front → counted at 0 ≡ at → start ≡ counted at (length (part_bytes (OfSnapshot front))) → Consumes before left (part_bytes (OfSnapshot front))
+  pub short_behind_on : HistoryByItems → (old new : Replica D) (uuid : List ℕ) (front : Front) (at start : ℕ) (before left : Option (List ℕ)) (result : Result ℕ Refusal) → FrontFits front → counted at 0 ≡ at → start ≡ counted at (length (part_bytes (OfSnapshot front))) → Consumes before left (part_bytes (OfSnapshot front))
       → (mid : Replica D) (now : ℕ) (second : Option (List ℕ)) → Brought honest history failures old mid uuid front start now left second → IfErr result (Cut honest history failures mid new second now) → IfErr result (CutShort honest history failures old new uuid before at)
-  short_behind_on old new uuid front at start before left (Ok last) fits small counts taken mid now second b cut = tt
-  short_behind_on old new uuid front at start before left (Err e) fits small counts taken mid now second b cut = short_behind old new uuid front at start before left e fits small counts taken mid now second b cut
+  short_behind_on by_items old new uuid front at start before left (Ok last) fits small counts taken mid now second b cut = tt
+  short_behind_on by_items old new uuid front at start before left (Err e) fits small counts taken mid now second b cut = short_behind by_items old new uuid front at start before left e fits small counts taken mid now second b cut
 
 -- ---- where a join ends
 

@@ -5,11 +5,10 @@ use Rattle.std.specs.List.{flat_map, AllByRecursion}
 use Rattle.std.specs.Io.KnownBytes.{Consumes}
 use Rattle.std.proofs.KnownBytes.{Consumes-nil, Consumes-trans}
 use Rattle.std.proofs.lemmas.Bool.Decides.{nat_tests}
-use Rattle.std.proofs.lemmas.List.{take_all, drop_all}
 use Rattle.rep_types.specs.declared.judged.Judged.{Judged}
 use Rattle.rep_types.specs.declared.refusal.Refusal.{Refusal}
 use Rattle.rep_types.specs.Settings.{Setting}
-use Rattle.rep_types.specs.Order.{Order, State, items_of, state, history as history_of}
+use Rattle.rep_types.specs.Order.{Order, items_of, state, history as history_of}
 use Rattle.rep_types.specs.ByItems.{HistoryByItems}
 use Rattle.rep_record.specs.Records.{IsRecord}
 use Rattle.rep_disk.specs.History.{History}
@@ -22,7 +21,6 @@ use Rattle.rep_replica.specs.Replicas.{Replica, facts_of}
 use Rattle.rep_replica.specs.Holding.{Holds}
 use Rattle.rep_replica.specs.Running.{RunsAreJoined}
 use Rattle.rep_replica.specs.Settling.{is_quiet}
-use Rattle.rep_replica.specs.Episodes.{StandsAt}
 use Rattle.rep_transfer.specs.declared.pieces.Front.{Front}
 use Rattle.rep_transfer.specs.declared.part.Part.{Part}
 use Rattle.rep_transfer.specs.Haves.{header_bytes}
@@ -32,24 +30,10 @@ use Rattle.rep_transfer.specs.Taking.{counted, TakesOne}
 use Rattle.rep_transfer.specs.Transfers.{Snapshot, Transfer, front_of, rest_of, snapshot_bytes, record_part, end_bytes, PartFits, part_bytes}
 use Rattle.rep_catchup.specs.Snapshots.{Brought, IsSnapshot, Took, state_of}
 use Rattle.rep_catchup.specs.Growing.{Grown}
-use Rattle.rep_catchup.specs.Joining.{Follows, Followed, FollowedFrom, StartsAt, MayCome, TakesAll, TakesHeader, EndsAt, Joined, Went, end_part}
+use Rattle.rep_catchup.specs.Joining.{Follows, Followed, FollowedFrom, MayCome, TakesAll, TakesHeader, EndsAt, Joined, Went, end_part}
 use Rattle.rep_catchup.proofs.JoinGrowing.{grown_none, grown_then}
 use Rattle.rep_catchup.proofs.JoinTaking.{took_none, took_then, took_piece}
-use Rattle.rep_catchup.proofs.JoinWent.{went_records, went_snapshot, went_behind}
-
--- ---- a node that stands at a snapshot
-
--- it is of each order whose state that is
-stands_is : (n : Node) (uuid : List ℕ) (y : State) (m : Node) (L : Order) → HistoryByItems → StandsAt n uuid y m → y ≡ state n.facts.setting L → IsOf L m
-stands_is n uuid y m L by_items is same =
-    let p : Setting = m.facts.setting in
-    let base : m.base ≡ state p L = is.base ∙ same ∙ ap (λ (q : Setting). state q L) (sym is.setting_is) in
-    let at : m.base.position ≡ length L = ap (λ (s : State). s.position) base in
-    record {
-      within = omega (arith, at);
-      base = base ∙ ap (state p) (sym (take_all m.base.position L (omega (arith, at))));
-      items = is.none ∙ sym (drop_all m.base.position (history_of p L) (omega (arith, at, by_items.as_many p L)));
-    }
+use Rattle.rep_catchup.proofs.JoinWent.{stands_is, starts_there, went_records, went_snapshot, went_behind}
 
 -- ---- the parts behind a snapshot
 
@@ -186,7 +170,7 @@ module _ {D : Type 0} (honest : D → Type 0) (history : D → History) (failure
                   },
                   one.2,
                 );
-            went = went_snapshot honest history failures old second new uuid front start between before mid h.records b h.grown;
+            went = went_snapshot honest history failures by_items old second new uuid front start between before mid h.records b h.grown;
           }
 
     -- with what was taken before
@@ -256,10 +240,6 @@ pub none_ahead : (s : Standing) → is_quiet s ≡ true → s.ahead ≡ []
 none_ahead s quiet = quiet_by s.ahead (is_off s.stage) quiet
 
 module _ {D : Type 0} (honest : D → Type 0) (history : D → History) (failures : D → ℕ) (old mid new : Replica D) (uuid : List ℕ) (last : ℕ) (settled : Grown honest history failures old mid []) where
-  starts_there : (n m : Node) (snapshot : Option Snapshot) (L : Order) → m.facts.setting ≡ n.facts.setting → ((M : Order) → IsOf M n → IsOf (M ++ []) m) → StartsAt n snapshot L → StartsAt m snapshot L
-  starts_there n m None L same goes is = subst (λ (M : Order). IsOf M m) (append-nil L) (goes L is)
-  starts_there n m (Some s) L same goes is = subst (λ (p : Setting). state_of p s ≡ state p L) (sym same) is
-
   may_come : (n : Node) (snapshot : Option Snapshot) → Holds honest history failures n old → MayCome (facts_of failures mid) snapshot → MatchOption snapshot (IsNil n.facts.uuid → ⊥) (λ s. IsSnapshot n.facts.setting s × ((delivered n.facts < s.position) ⊎ IsNil n.facts.uuid))
   may_come n None holds comes = λ nil. comes (subst IsNil (ap (λ (s : Standing). s.uuid) holds.facts ∙ sym settled.uuid) nil)
   may_come n (Some s) holds comes = (subst (λ (p : Setting). IsSnapshot p s) (settled.setting ∙ ap (λ (x : Standing). x.setting) (sym holds.facts)) comes.0, later comes.1)

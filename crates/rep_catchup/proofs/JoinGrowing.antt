@@ -320,7 +320,7 @@ module _ (by_items : HistoryByItems) where
   as_many p L = by_items.as_many p L
 
   -- nothing, where nothing came
-  none_behind : (p : Setting) (L : Order) → drop (length L) (history p (L ++ [])) ≡ []
+  pub none_behind : (p : Setting) (L : Order) → drop (length L) (history p (L ++ [])) ≡ []
   none_behind p L = ap (λ (M : Order). drop (length L) (history p M)) (append-nil L) ∙ drop_all (length L) (history p L) (omega (arith, as_many p L))
 
   -- what a front has stays, and the rest stands behind it

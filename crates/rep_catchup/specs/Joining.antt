@@ -20,7 +20,7 @@ use Rattle.rep_steps.specs.Orders.{IsOf}
 use Rattle.rep_replica.specs.Replicas.{Replica, facts_of}
 use Rattle.rep_replica.specs.Holding.{Holds}
 use Rattle.rep_replica.specs.Settling.{is_quiet, EndsEarly as WorksEarly}
-use Rattle.rep_replica.specs.Episodes.{Episode, AreEpisodes, IsSnapshotOf, FedFrom}
+use Rattle.rep_replica.specs.Episodes.{Episode, AreEpisodes, IsSnapshotOf, FedFrom, reached_by}
 use Rattle.rep_transfer.specs.declared.header.Header.{Header}
 use Rattle.rep_transfer.specs.declared.part.Part.{Part}
 use Rattle.rep_transfer.specs.declared.part.Part.TheVariants.{Snapshot as OfSnapshot, Record as OfRecord, End as OfEnd}
@@ -69,10 +69,18 @@ abbrev pub AreOf : List ℕ → Setting → Order → ℕ → Option Snapshot �
 AreOf uuid p O k None records = GoOnIn O k records
 AreOf uuid p O k (Some s) records = IsSnapshotOf uuid p O uuid (state_of p s) × GoOnIn O s.position records
 
--- Parts of a life led from one replica to the other; and where what was taken is an order's, they were fed that.
+-- where the items come behind which it brings
+abbrev pub begins_at : ℕ → Option Snapshot → ℕ
+begins_at k None = k
+begins_at k (Some s) = s.position
+
+-- Parts of a life led from one replica to the other. They come to where the snapshot is, if one was taken, and as many items further as
+-- were taken, each of which was judged as it says; and where what was taken is an order's, they were fed that.
 pub record Went {D : Type 0} (honest : D → Type 0) (history : D → History) (failures : D → ℕ) (old new : Replica D) (uuid : List ℕ) (snapshot : Option Snapshot) (records : List Judged) : Type 0 where
   pub episodes : List (Episode D)
   pub are : AreEpisodes honest history failures old episodes new
+  pub reaches : (k : ℕ) → reached_by k episodes ≡ begins_at k snapshot + length records
+  pub judged : (n : Node) → Holds honest history failures n old → (L : Order) → StartsAt n snapshot L → records ≡ drop (length L) (history_of n.facts.setting (L ++ items_of records))
   pub fed : (O : Order) (k : ℕ) → AreOf uuid (facts_of failures old).setting O k snapshot records → FedFrom uuid (facts_of failures old).setting O k episodes
 
 -- What a join does, wherever it ends and whatever the reader hands out, are parts of a life.

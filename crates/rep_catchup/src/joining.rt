@@ -303,6 +303,7 @@ pub fn join<D: Disk, R: Read>(
     ensures joined { (n : Node) → Holds D.honest D.history D.failures n replica → IfSome (R.remaining reader.old) (λ bytes. IfOk result.1 (Joined D.honest D.history D.failures n bytes (R.remaining reader.new) replica result.0)) }
     ensures ended { (replica.stopped || is_some replica.engine.halted) ≡ false → IfErr result.1 (Ended D.honest D.history D.failures replica result.0 (R.remaining reader.old)) }
 {
+    history_by_items();
     if replica.is_stopped() {
         return (replica, Err(Refusal::Stopped));
     }

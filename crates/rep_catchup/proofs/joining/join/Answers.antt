@@ -75,7 +75,7 @@ returns-in-Err-take_header-clause-ended g c = λ running.
 -- ---- what it did
 
 pub returns-then-is_stopped-clause-lived : goal.returns-then-is_stopped-clause-lived
-returns-then-is_stopped-clause-lived g c = lived_none g.D.Disk.honest g.D.Disk.history g.D.Disk.failures c.args.replica
+returns-then-is_stopped-clause-lived g c = lived_none g.D.Disk.honest g.D.Disk.history g.D.Disk.failures c.history_by_items.ensures c.args.replica
 
 pub returns-in-Err-clause-lived : goal.returns-in-Err-clause-lived
 returns-in-Err-clause-lived g c = lived_settling g.D.Disk.honest g.D.Disk.history g.D.Disk.failures c.args.replica c.settle.new.replica c.settle.ensures.grown
