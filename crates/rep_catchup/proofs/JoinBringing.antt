@@ -20,7 +20,8 @@ use Rattle.rep_forms.specs.FormLaws.{number_is_form}
 use Rattle.rep_forms.specs.Entries.{EntryFits, entry_bytes, entry_form}
 use Rattle.rep_forms.specs.EntryLaws.{entry_is_form}
 use Rattle.rep_disk.specs.History.{History}
-use Rattle.rep_disk.specs.Moments.{moment, ImageSince, LeavesOnly}
+use Rattle.rep_disk.specs.Moments.{LeavesOnly}
+use Rattle.rep_disk.specs.Leaving.{leaves_none, leaves_weaker, leaves_both, leaves_then}
 use Rattle.rep_layout.specs.Supers.{IsNil}
 use Rattle.rep_layout.specs.Windows.{IsWindowBody, window}
 use Rattle.rep_layout.specs.declared.super_body.SuperBody.{SuperBody}
@@ -196,27 +197,6 @@ all_below xs y ys up =
     let apart : get_or (xs ++ y ∷ ys) i 0 < get_or (xs ++ y ∷ ys) (length xs) 0 = AllPairs-from_increasing (xs ++ y ∷ ys) up i (length xs) 0 within (omega (arith, size)) in
     omega (arith, apart, low, high))
 
--- what a stop leaves where nothing was called, and in two goes
-leaves_none : (h : History) (P : List ℕ → Type 0) → LeavesOnly h h P
-leaves_none h P = record { later = omega arith; since = λ t image within is. inl is }
-
-pub leaves_then : (old mid new : History) (P Q R : List ℕ → Type 0) → ((image : List ℕ) → P image → R image) → ((image : List ℕ) → Q image → R image) → LeavesOnly old mid P → LeavesOnly mid new Q → LeavesOnly old new R
-leaves_then old mid new P Q R one two first second = record {
-  later = omega (arith, first.later, second.later);
-  since = λ t image within is. by t image within (second.since t image (omega (arith, within, first.later)) is);
-}
-  where
-    last : (t : ℕ) (image : List ℕ) → ImageSince old t image ⊎ P image → ImageSince old t image ⊎ R image
-    last t image (inl since) = inl since
-    last t image (inr p) = inr (one image p)
-
-    by : (t : ℕ) (image : List ℕ) → t ≤ moment old → ImageSince mid t image ⊎ Q image → ImageSince old t image ⊎ R image
-    by t image within (inl since) = last t image (first.since t image within since)
-    by t image within (inr q) = inr (two image q)
-
-both_leave : (old mid new : History) (P : List ℕ → Type 0) → LeavesOnly old mid P → LeavesOnly mid new P → LeavesOnly old new P
-both_leave old mid new P first second = leaves_then old mid new P P P (λ image p. p) (λ image p. p) first second
-
 module _ {D : Type 0} (honest : D → Type 0) (history : D → History) (failures : D → ℕ) where
   pub came_none : (old : Bringing D) (start : ℕ) (before : Option (List ℕ)) → old.engine.halted ≡ None → ((page : ℕ) → state_of_page old.coming.next.super page ≡ Nowhere) → Came honest history failures old old 0 0 start start before before
   came_none old start before running free = record {
@@ -235,7 +215,7 @@ module _ {D : Type 0} (honest : D → Type 0) (history : D → History) (failure
       params = refl;
       base = refl;
       holds = λ n y h. h;
-      leaves = λ n y h. leaves_none (history old.engine.disk) (IsFrontAt Means n);
+      leaves = λ n y h. leaves_none (history old.engine.disk) (history old.engine.disk) refl;
     };
   }
 
@@ -272,7 +252,7 @@ module _ {D : Type 0} (honest : D → Type 0) (history : D → History) (failure
                 let z : State = with_pages old.engine.checkpoint.base.params.rows pages y in
                 subst (λ (x : State). HoldsBoth honest history failures n x new) (sym (with_more old.engine.checkpoint.base.params.rows pages p y))
                 (subst (λ (b : SuperBody). HoldsBoth honest history failures n (with_page b.params.rows p.number p.rows z) new) base_is (holds n z was));
-            leaves = λ n y h. both_leave (history old.engine.disk) (history now.engine.disk) (history new.engine.disk) (IsFrontAt Means n) (t.leaves n y h) (leaves n (with_pages old.engine.checkpoint.base.params.rows pages y) (t.holds n y h));
+            leaves = λ n y h. leaves_both (history old.engine.disk) (history now.engine.disk) (history new.engine.disk) (t.leaves n y h) (leaves n (with_pages old.engine.checkpoint.base.params.rows pages y) (t.holds n y h));
           };
         }
 
@@ -323,7 +303,7 @@ module _ {D : Type 0} (honest : D → Type 0) (history : D → History) (failure
           still = refl;
           state = z;
           holds = halts n z was;
-          leaves = both_leave (history old.engine.disk) (history now.engine.disk) (history new.engine.disk) (IsFrontAt Means n) (came.takes.leaves n y h) (leaves n z was);
+          leaves = leaves_both (history old.engine.disk) (history now.engine.disk) (history new.engine.disk) (came.takes.leaves n y h) (leaves n z was);
         }
 
   -- no page stands there
@@ -365,7 +345,7 @@ none_came b uuid position start entries i is page = ap (λ (c : Coming). state_o
 module _ {D : Type 0} (honest : D → Type 0) (history : D → History) (failures : D → ℕ) where
   -- nothing was asked of the device
   pub given_at_once : (r : Replica D) → GivenUp honest history failures r r
-  given_at_once r n holds = record { node = n; still = refl; holds = holds; leaves = leaves_none (history r.engine.disk) (IsFrontAt Means n) }
+  given_at_once r n holds = record { node = n; still = refl; holds = holds; leaves = leaves_none (history r.engine.disk) (history r.engine.disk) refl }
 
   pub given_behind : (old : Replica D) (i k : Bringing D) (y : State) → i.engine ≡ old.engine → ((n : Node) → Holds honest history failures n old → HoldsBoth honest history failures n y i) → ((n : Node) (z : State) → HoldsBoth honest history failures n z i → LeavesPages honest history failures n i k)
       → (new : Replica D) → new ≡ given_up k → ((n : Node) (z : State) → HoldsBoth honest history failures n z k → Holds honest history failures n new) → GivenUp honest history failures old new
@@ -456,8 +436,9 @@ module _ {D : Type 0} (honest : D → Type 0) (history : D → History) (failure
 
       leaves : LeavesOnly (history k.engine.disk) (history new.engine.disk) (MeansEither n k.coming.next.super state) → LeavesOnly (history old.engine.disk) (history new.engine.disk) (MeansOneOf n uuid state)
       leaves last =
-          leaves_then (history old.engine.disk) (history k.engine.disk) (history new.engine.disk) (IsFrontAt Means n) (MeansEither n k.coming.next.super state) (MeansOneOf n uuid state) (λ image. inl) either
-          (subst (λ (e : Engine D). LeavesOnly (history e.disk) (history k.engine.disk) (IsFrontAt Means n)) begun.0 (t.leaves n (blank front.position v) (both n holds))) last
+          leaves_then (history old.engine.disk) (history k.engine.disk) (history new.engine.disk)
+          (leaves_weaker (history old.engine.disk) (history k.engine.disk) (λ image f. inl f) (subst (λ (e : Engine D). LeavesOnly (history e.disk) (history k.engine.disk) (IsFrontAt Means n)) begun.0 (t.leaves n (blank front.position v) (both n holds))))
+          last either
 
       came_whole : (m : Node) × IsInstalled k.coming.next.super state m × Holds honest history failures m new → LeavesOnly (history k.engine.disk) (history new.engine.disk) (MeansEither n k.coming.next.super state) → BroughtAt honest history failures n uuid state old new
       came_whole (m, is, stands) last = record {
