@@ -18,6 +18,15 @@ NOT_DUE = refused("7 not-due")
 BAD_KEY = refused("10 bad-key")
 
 
+def does(calls, count=None):
+    """Does the first so many of these calls of a device, each of which is yielded before it is made, and says whether they are all: the
+    next one is not served then, and changes nothing."""
+    for done, _ in enumerate(calls):
+        if done == count:
+            return False
+    return True
+
+
 def key_text(key):
     return "%d/%d" % key
 
@@ -164,9 +173,17 @@ class Checkpoint:
 
     def __init__(self):
         self.base, self.phase, self.position, self.start, self.left = 0, "off", 0, 0, set()
+        # The pages that are in a slot, of the base and of the next one; and whether that is another node's.
+        self.held, self.next, self.is_snapshot = set(), set(), False
 
     def begin(self, position, start, pages):
         self.position, self.start, self.phase, self.left = position, start, "flushing", set(pages)
+        self.next = self.held | self.left
+
+    def bring(self, position, start, pages):
+        """Begins to install the base of another node, of which these pages were put."""
+        self.begin(position, start, ())
+        self.next, self.is_snapshot = set(pages), True
 
     def flush(self, page):
         """Flushes the page, and says whether it was left."""
@@ -188,7 +205,7 @@ class Checkpoint:
 
     def rise(self):
         """The next base is the base. Gives the number of the log's block behind it."""
-        self.base, self.phase = self.position, "retiring"
+        self.base, self.phase, self.held, self.is_snapshot = self.position, "retiring", self.next, False
         return self.start
 
     def sync(self):
@@ -202,7 +219,7 @@ class Checkpoint:
         """What a stop leaves: the next base is the base where the loss keeps its superblock's gate, and else it is lost; and the
         superblock before it still stands open unless its closed gate is pending and not dropped, since a gate of junk is closed.
         Where the base rose, gives the number of the log's block behind it."""
-        self.left = set()
+        self.left, self.is_snapshot = set(), False
         if self.phase == "opening" and loss == "keep":
             return self.rise()
         is_retiring = self.phase == "retiring" or (self.phase == "closing" and loss == "drop")
@@ -288,17 +305,33 @@ class Node:
         """Whether the snapshot of its cluster at this position can be installed."""
         return self.is_quiet() and (not self.is_defined or position > self.durable)
 
-    def install(self, position, calls=8):
-        """The snapshot of its cluster at this position takes the base's place, or so many of the calls of that are done: four writes, of
+    def install(self, position, pages):
+        """The snapshot of its cluster at this position, of which these pages came, takes the base's place, call by call: four writes, of
         the window, the superblock, its open gate and the closed gate of the one before, each with a sync behind it. They are those of
         a checkpoint behind its pages."""
         assert self.takes(position)
-        self.checkpoint.begin(position, self.log.next, ())
-        for call in range(calls):
-            if call % 2 == 0:
-                self.checkpoint.write()
-            else:
-                self.rose(self.checkpoint.sync())
+        self.checkpoint.bring(position, self.log.next, pages)
+        for _ in range(4):
+            yield
+            self.checkpoint.write()
+            yield
+            self.rose(self.checkpoint.sync())
+
+    def join(self, snapshot, last, is_whole=True):
+        """Takes a transfer, call by call: with a snapshot at a position, of these pages, or with none, and the items behind it up to the
+        last. It settles first, behind 256 items, and last, where the transfer is whole."""
+        yield from self.settle()
+        if snapshot:
+            position, pages = snapshot
+            for _ in pages:
+                yield
+            yield from self.install(position, pages)
+        for _ in range(self.delivered, last):
+            if self.delivered - self.durable == 256:
+                yield from self.settle()
+            self.delivered += 1
+        if is_whole:
+            yield from self.settle()
 
     def sync(self):
         count = self.log.sync()
@@ -369,15 +402,29 @@ class Node:
         return "check" if self.durable > self.base() else None
 
     def is_quiet(self):
-        """Whether nothing is left to do for a node that settles."""
-        return self.delivered == self.durable and self.phase() == "off"
+        """Whether nothing is left to do for a node that settles. A snapshot that comes is none of its doing."""
+        return self.delivered == self.durable and (self.phase() == "off" or self.checkpoint.is_snapshot)
+
+    def next_step(self):
+        """What a node does next that settles: it ends the checkpoint that is under way, makes durable what was delivered, and takes a
+        checkpoint where the log is full."""
+        if self.phase() == "off":
+            return "sync" if self.log.awaits_sync() else "check" if self.log.is_full() else "log"
+        if self.checkpoint.awaits_sync():
+            return "sync"
+        return "flush %d" % min(self.checkpoint.left) if self.checkpoint.left else "check"
+
+    def calls_of(self, event):
+        """How many calls the event makes of the device, where no page is kept: to begin a checkpoint makes none, and a page that is in a
+        slot is read before it is written."""
+        if event.startswith("flush"):
+            return 1 + (int(event.split()[1]) in self.checkpoint.held)
+        return 0 if event == "check" and self.phase() == "off" else 1
 
     def settle(self):
-        """Does all that a node does by itself that settles: it ends the checkpoint that is under way, makes durable what was
-        delivered, and takes a checkpoint where the log is full."""
+        """Does all that a node does by itself that settles, call by call."""
         while not self.is_quiet():
-            if self.phase() == "off" and not self.log.awaits_sync():
-                self.answer("check" if self.log.is_full() else "log")
-            else:
-                self.answer(self.due() or "sync")
-        return ["settled"]
+            event = self.next_step()
+            for _ in range(self.calls_of(event)):
+                yield
+            self.answer(event)

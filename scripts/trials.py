@@ -1,7 +1,7 @@
 """Texts for the proved program `rep_harness`, line by line with what each has to be answered by, and how they are tried."""
 import subprocess
 
-from node_model import CLUSTER, Item, Node
+from node_model import CLUSTER, Item, Node, does
 
 # A window of 4, four cells and one table of 126 rows, and the size of its disk.
 SMALL = (4, 4, (126,))
@@ -101,7 +101,8 @@ class Life:
     def settle(self, keys=KEYS):
         """The node settles by itself."""
         self.shows()
-        self.trial.say("settle", *self.node.settle())
+        does(self.node.settle())
+        self.trial.say("settle", "settled")
         self.agrees(keys)
 
     def does_what_is_due(self, keys=KEYS):

@@ -1,6 +1,6 @@
 """Snapshots of a donor's base that are installed in other nodes: into new ones, ones of no cluster and used ones; stops with each loss and
 faults at each call of an installation, which leave the node as it was or the snapshot, whole; and what is given up or not taken."""
-from node_model import CLUSTER, LOSSES, UNDEFINED, Item, Node, Order
+from node_model import CLUSTER, LOSSES, UNDEFINED, Item, Node, Order, does
 from trials import Life, Trial, params_line
 from trials_damage import calls_of_an_opening
 from trials_faults import FAULT, STOPPED
@@ -49,10 +49,10 @@ ROWS = {
 IN_SLOTS = {AT: (0, 1, 2), LATER: (0, 1, 2, 3)}
 
 
-def order_of():
-    """The order of all items, of which each is judged as it stands above."""
+def order_of(items):
+    """The order of these items, of which each is judged as it stands with it."""
     order = Order(PARAMS[0], PARAMS[2])
-    for seqno, (last_seen, writes, reads, verdict) in enumerate(ITEMS, 1):
+    for seqno, (last_seen, writes, reads, verdict) in enumerate(items, 1):
         order.add(Item(last_seen, sorted(writes.items()), reads=reads, trx=seqno))
         assert order.verdicts[-1] == verdict, (seqno, order.verdicts[-1])
     return order
@@ -61,18 +61,21 @@ def order_of():
 class Scene:
     """A trial of several nodes of one order: what is done to the one on the disk, and to the donor beside it."""
 
-    def __init__(self, title):
-        self.trial, self.order, self.life = Trial(title), order_of(), None
+    def __init__(self, title, items=ITEMS, keys=KEYS):
+        self.trial, self.order, self.life, self.keys = Trial(title), order_of(items), None, keys
         self.trial.orders.append((self.order, PARAMS[1]))
+        # The pages that came of the snapshot that is on its way.
+        self.came = []
 
     def say(self, line, *wanted):
         self.trial.say(line, *wanted)
 
-    def new_node(self, is_defined=True):
+    def new_node(self, is_defined=True, cells=PARAMS[1]):
         """A new node on a new disk, of the cluster or of none."""
-        node = Node(*PARAMS, order=self.order, is_defined=is_defined)
-        self.say("disk %d 0" % SIZE, "blank")
-        self.say(("" if is_defined else "undefined ") + params_line(PARAMS), "formatted " + node.gtid())
+        params = (PARAMS[0], cells, PARAMS[2])
+        node = Node(*params, order=self.order, is_defined=is_defined)
+        self.say("disk %d 0" % (SIZE + 8_192 * (cells - PARAMS[1])), "blank")
+        self.say(("" if is_defined else "undefined ") + params_line(params), "formatted " + node.gtid())
         self.open_as(node)
 
     def open_as(self, node):
@@ -110,16 +113,18 @@ class Scene:
         self.say("lend", "lent %s:%d base %d" % (CLUSTER, AT + behind, AT))
 
     def brings(self, position=AT):
+        self.came = []
         self.say("bring", "installing %d" % position)
 
     def puts(self, pages, position=AT):
         """These pages of the donor come, of which it has some in no slot."""
         for page in pages:
             self.say("page %d" % page, "page" if page in IN_SLOTS[position] else "no page")
+            self.came += [page] * (page in IN_SLOTS[position])
 
     def ends(self, position=AT):
         self.say("end", "installed %s:%d" % (CLUSTER, position))
-        self.node().install(position)
+        does(self.node().install(position, self.came))
 
     def installs(self, position=AT):
         """The donor's snapshot is installed."""
@@ -136,7 +141,7 @@ class Scene:
             self.say("read %d/%d %d" % (*key, position), row)
             self.say("read %d/%d %d" % (*key, position - 1), "refused 8 too-old %d" % position)
             self.say("read %d/%d %d" % (*key, position + 1), "refused 9 not-yet %d" % position)
-        self.life.agrees(KEYS)
+        self.life.agrees(self.keys)
 
     def goes_on(self):
         """The node is handed the rest of the order, all of it becomes durable, and the base stands there. One of no cluster is handed the
@@ -144,8 +149,8 @@ class Scene:
         if not self.node().is_defined:
             self.say(self.order.items[0].delivery(1), "refused 11 undefined")
             self.installs()
-        self.life.goes_on(self.order, KEYS)
-        assert (self.node().base(), self.node().durable) == (len(ITEMS), len(ITEMS))
+        self.life.goes_on(self.order, self.keys)
+        assert self.node().base() == self.node().durable == len(self.order.items)
 
 
 # ---- the nodes that a snapshot comes to
@@ -182,8 +187,8 @@ def wrapped(scene):
     assert (scene.node().base(), scene.node().durable, scene.node().log.next) == (4, 6, 6)
 
 
-def both_open(scene):
-    """The same with its base at 6, stopped where both superblocks stand open: it settles first."""
+def still_open(scene):
+    """The same with its base at 6, stopped where both superblocks stand open."""
     wrapped(scene)
     while scene.node().phase() != "retiring":
         scene.life.do(scene.node().due())
@@ -192,6 +197,11 @@ def both_open(scene):
         scene.say("bytes %d 1" % gate, OPEN)
     scene.say("open", *scene.node().stop("drop"))
     scene.say("node", "node 6 6 6 busy running")
+
+
+def both_open(scene):
+    """The same, which settles first."""
+    still_open(scene)
     scene.say("bring", NOT_FOR_IT)
     scene.life.settle(KEYS)
     scene.say("node", "node 6 6 6 quiet running")
@@ -337,7 +347,7 @@ def is_refused(scene, before, done):
         scene.say("page %d" % page, "page" if page < done else FAULT if page == done else STOPPED)
     scene.say("page 3", "no page")
     scene.say("end", STOPPED if done < PUT else FAULT if done < CALLS else "installed %s:8" % CLUSTER)
-    scene.node().install(AT, max(done - PUT, 0))
+    does(scene.node().install(AT, range(PUT)), max(done - PUT, 0))
     if done == CALLS:
         # These were all of its calls: the one that fails is that of a read.
         scene.say("node", "node 8 8 8 quiet running")

@@ -1,16 +1,15 @@
 //! Does what the lines of a text ask for: to the disk, and to a node on it.
 
 use crate::device::{
-    Device, armed, blank, changed, copied, crashed, cut, damaged, failures, written,
+    Device, armed, blank, bytes, changed, copied, crashed, cut, damaged, failures, written,
 };
-use crate::donor::lent;
+use crate::donor::{Donor, lent};
 use crate::join::joined;
 use crate::node::{Bench, kept, opened};
 use crate::order::{Change, DiskOrder, NodeOrder, Order, Sight, read_order};
 use crate::shown::{write_bytes, write_sum};
 use arrayvec::ArrayVec;
 use rep_disk::Disk;
-use rep_engine::Engine;
 use rep_record::{MAX_LINE, TextReader, is_blank};
 use rep_replica::Replica;
 use rep_script::{Command, format_text, read_command, write_line, write_refused};
@@ -96,7 +95,7 @@ fn change<W: Write>(
 fn show<W: Write>(device: &Device, sight: Sight, writer: &mut W) -> Result<(), Refusal> {
     match sight {
         Sight::Bytes(at, count) => write_bytes(writer, device, at as usize, count as usize),
-        Sight::Sum => write_sum(writer, device),
+        Sight::Sum => write_sum(writer, bytes(device)),
         Sight::Failures => write_line(writer, format_args!("failures {}", failures(device))),
     }
 }
@@ -215,7 +214,7 @@ fn batch<R: Read, W: Write>(
 fn lend<W: Write>(
     alloc: Global,
     bench: Bench<Device>,
-    donor: &mut Option<Engine<Device>>,
+    donor: &mut Option<Donor<Device>>,
     writer: &mut W,
 ) -> Result<Bench<Device>, Refusal> {
     let device = bench.into_disk();
@@ -227,7 +226,7 @@ fn lend<W: Write>(
 fn swap<W: Write>(
     alloc: Global,
     bench: Bench<Device>,
-    donor: &mut Option<Engine<Device>>,
+    donor: &mut Option<Donor<Device>>,
     writer: &mut W,
 ) -> Result<Bench<Device>, Refusal> {
     let Some(before) = donor.take() else {
@@ -235,7 +234,7 @@ fn swap<W: Write>(
         return Ok(bench);
     };
     *donor = lent(alloc, bench.into_disk(), writer)?;
-    Ok(Bench::Disk(before.into_disk()))
+    Ok(Bench::Disk(before.node.into_disk()))
 }
 
 /// Does what a line asks for, and writes what came of it. Where there is no node, what asks for one is answered by `off`, and so it is
@@ -243,7 +242,7 @@ fn swap<W: Write>(
 fn done<R: Read, W: Write>(
     alloc: Global,
     mut bench: Bench<Device>,
-    donor: &mut Option<Engine<Device>>,
+    donor: &mut Option<Donor<Device>>,
     order: Order,
     text: &mut TextReader,
     reader: &mut R,
@@ -284,7 +283,7 @@ fn next_order<R: Read>(text: &mut TextReader, reader: &mut R) -> Result<Option<O
 fn answer_next<R: Read, W: Write>(
     alloc: Global,
     bench: &mut Option<Bench<Device>>,
-    donor: &mut Option<Engine<Device>>,
+    donor: &mut Option<Donor<Device>>,
     text: &mut TextReader,
     reader: &mut R,
     writer: &mut W,
@@ -303,7 +302,7 @@ fn answer_next<R: Read, W: Write>(
 fn answer_all<R: Read, W: Write>(
     alloc: Global,
     bench: &mut Option<Bench<Device>>,
-    donor: &mut Option<Engine<Device>>,
+    donor: &mut Option<Donor<Device>>,
     text: &mut TextReader,
     reader: &mut R,
     writer: &mut W,

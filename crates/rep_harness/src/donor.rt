@@ -1,19 +1,25 @@
-//! The donor: a node on a disk of its own, whose snapshot another node is handed.
+//! The donor: a node on a disk of its own, whose snapshot, or what it writes for another node, that is handed.
 
 ghost use Rattle.std.specs.Prelude.{◌≡◌, ◌++◌, IfOk, OnOk};
 ghost use Rattle.rep_checkpoint.specs.Windows.{IsWindowAt};
 
 use rep_checkpoint::windows_go_on;
 use rep_disk::Disk;
-use rep_engine::Engine;
 use rep_layout::{WINDOW_BODY, WindowReader};
-use rep_recover::open_disk;
+use rep_replica::Replica;
 use rep_script::{write_line, write_refused};
 use rep_types::{Entry, Refusal, Window};
 use std::alloc::Global;
 use std::io::Write;
 use std::marker::Model;
 use uuid::Uuid;
+
+/// A donor, and the transfer that it wrote last.
+#[derive(Drop)]
+pub(crate) struct Donor<D: Disk> {
+    pub(crate) node: Replica<D>,
+    pub(crate) transfer: Vec<u8>,
+}
 
 /// What a donor tells of its base: the cluster, the position, and the window there.
 #[derive(Drop)]
@@ -28,12 +34,15 @@ pub(crate) fn lent<D: Disk + Drop, W: Write>(
     alloc: Global,
     disk: D,
     writer: &mut W,
-) -> Result<Option<Engine<D>>, Refusal> {
-    match open_disk(alloc, disk) {
-        Ok((donor, _)) => {
-            let (gtid, base) = (donor.gtid(), donor.base());
+) -> Result<Option<Donor<D>>, Refusal> {
+    match Replica::open(alloc, disk) {
+        Ok(node) => {
+            let (gtid, base) = (node.gtid(), node.base());
             write_line(writer, format_args!("lent {gtid} base {base}"))?;
-            Ok(Some(donor))
+            Ok(Some(Donor {
+                node,
+                transfer: Vec::new(alloc),
+            }))
         }
         Err((_, refusal)) => {
             write_refused(writer, refusal)?;
@@ -64,9 +73,9 @@ fn entries_of(alloc: Global, reader: WindowReader<'_>) -> Result<Vec<Entry>, Ref
 /// What the donor tells of its base.
 pub(crate) fn snapshot_of<D: Disk>(
     alloc: Global,
-    donor: &mut Engine<D>,
+    donor: &mut Replica<D>,
 ) -> Result<Snapshot, Refusal>
-    ensures { IfOk result (λ snapshot. IsWindowAt donor.new.checkpoint.base.params snapshot.position snapshot.window) }
+    ensures { IfOk result (λ snapshot. IsWindowAt donor.new.engine.checkpoint.base.params snapshot.position snapshot.window) }
 {
     windows_go_on();
     let uuid = donor.uuid();

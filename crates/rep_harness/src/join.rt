@@ -1,4 +1,4 @@
-//! How a node is handed the snapshot of a donor.
+//! How a node is handed the snapshot of a donor, or what the donor writes for it.
 
 ghost use Rattle.std.specs.Prelude.{◌≡◌, ◌<◌, ◌↔◌, ◌⊎◌, true};
 ghost use Rattle.rep_forms.specs.Forms.{IsPart};
@@ -9,12 +9,12 @@ ghost use Rattle.rep_engine.specs.Installing.{CanBring};
 ghost use Rattle.rep_replica.specs.Replicas.{facts_of};
 ghost use Rattle.rep_replica.specs.Settling.{is_quiet};
 
-use crate::donor::{Snapshot, snapshot_of};
+use crate::catchup::{spoilt, taken, written_for};
+use crate::donor::{Donor, Snapshot, snapshot_of};
 use crate::node::Bench;
 use crate::order::JoinOrder;
 use arrayvec::ArrayVec;
 use rep_disk::Disk;
-use rep_engine::Engine;
 use rep_forms::put_bytes;
 use rep_pages::PageRows;
 use rep_replica::{Installation, Replica};
@@ -102,7 +102,7 @@ fn begun<D: Disk + Drop, W: Write>(
 fn bring<D: Disk + Drop, E: Disk, W: Write>(
     alloc: Global,
     node: Replica<D>,
-    donor: &mut Engine<E>,
+    donor: &mut Replica<E>,
     writer: &mut W,
 ) -> Result<Bench<D>, Refusal> {
     match snapshot_of(alloc, donor) {
@@ -139,7 +139,7 @@ fn put_page<D: Disk, W: Write>(
 /// Puts this page of the donor's base, where that has it, and writes what came of it.
 fn put_page_of<D: Disk, E: Disk, W: Write>(
     installation: &mut Installation<D>,
-    donor: &mut Engine<E>,
+    donor: &mut Replica<E>,
     page: u32,
     writer: &mut W,
 ) -> Result<(), Refusal> {
@@ -169,15 +169,11 @@ fn ended<D: Disk + Drop, W: Write>(
 /// Does this to the snapshot that comes to a node, and writes what came of it.
 fn coming<D: Disk + Drop, E: Disk, W: Write>(
     mut installation: Installation<D>,
-    donor: &mut Engine<E>,
+    donor: &mut Replica<E>,
     order: JoinOrder,
     writer: &mut W,
 ) -> Result<Bench<D>, Refusal> {
     match order {
-        JoinOrder::Bring => {
-            write_line(writer, "off")?;
-            Ok(Bench::Coming(installation))
-        }
         JoinOrder::Page(page) => {
             put_page_of(&mut installation, donor, page, writer)?;
             Ok(Bench::Coming(installation))
@@ -187,23 +183,59 @@ fn coming<D: Disk + Drop, E: Disk, W: Write>(
             write_line(writer, "as before")?;
             Ok(Bench::Node(installation.give_up()))
         }
+        _ => {
+            write_line(writer, "off")?;
+            Ok(Bench::Coming(installation))
+        }
     }
 }
 
-/// Does this with the donor's snapshot: begins to install it where there is a node, and goes on with it where that is under way. Writes
-/// what came of it.
+/// Does this with the transfer that comes from the donor, for a node that stays as it is, and writes what came of it.
+fn at_transfer<D: Disk, E: Disk, W: Write>(
+    node: &Replica<D>,
+    donor: &mut Donor<E>,
+    order: JoinOrder,
+    writer: &mut W,
+) -> Result<(), Refusal> {
+    match order {
+        JoinOrder::Donate => written_for(node, donor, writer),
+        JoinOrder::Spoil(harm) => spoilt(&mut donor.transfer, harm, writer),
+        _ => write_line(writer, "off"),
+    }
+}
+
+/// Does this with the donor for a node to which no snapshot comes, and writes what came of it.
+fn at_joiner<D: Disk + Drop, E: Disk, W: Write>(
+    alloc: Global,
+    node: Replica<D>,
+    donor: &mut Donor<E>,
+    order: JoinOrder,
+    writer: &mut W,
+) -> Result<Bench<D>, Refusal> {
+    match order {
+        JoinOrder::Bring => bring(alloc, node, &mut donor.node, writer),
+        JoinOrder::Join => taken(alloc, node, &donor.transfer, writer),
+        order => {
+            at_transfer(&node, donor, order, writer)?;
+            Ok(Bench::Node(node))
+        }
+    }
+}
+
+/// Does this with the donor: what is done for a node where there is one, and what is done with a snapshot where one comes to it. Writes what
+/// came of it.
 pub(crate) fn joined<D: Disk + Drop, E: Disk, W: Write>(
     alloc: Global,
     bench: Bench<D>,
-    donor: &mut Option<Engine<E>>,
+    donor: &mut Option<Donor<E>>,
     order: JoinOrder,
     writer: &mut W,
 ) -> Result<Bench<D>, Refusal> {
     match (bench, donor) {
-        (Bench::Node(node), Some(donor)) if matches!(order, JoinOrder::Bring) => {
-            bring(alloc, node, donor, writer)
+        (Bench::Node(node), Some(donor)) => at_joiner(alloc, node, donor, order, writer),
+        (Bench::Coming(installation), Some(donor)) => {
+            coming(installation, &mut donor.node, order, writer)
         }
-        (Bench::Coming(installation), Some(donor)) => coming(installation, donor, order, writer),
         (bench, _) => {
             write_line(writer, "off")?;
             Ok(bench)

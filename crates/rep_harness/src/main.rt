@@ -1,10 +1,11 @@
 //! `rep_harness`: reads from standard input what is to be done to a replica and to the disk below it, line by line, and writes what
 //! came of each line: a device that fails at a call, or is damaged behind one, stops, bytes that change, snapshots of
-//! another node that are installed, and the events between them.
+//! another node that are installed, what another node donates, whole or cut, that is joined, and the events between them.
 //! It compares nothing itself: `scripts/lives` writes such texts, beside models of what has to come.
 #![tactic(auto)]
 
 mod bench;
+mod catchup;
 mod damaged;
 mod device;
 mod donor;

@@ -72,10 +72,25 @@ pub(crate) enum NodeOrder {
     Window,
 }
 
-/// What is done with the donor's snapshot.
+/// What becomes of a transfer on its way.
+#[derive(Clone, Copy)]
+pub(crate) enum Harm {
+    /// It ends behind so many bytes.
+    Shorten(u64),
+    /// At this place this byte comes.
+    Change(u64, u8),
+}
+
+/// What is done with the donor.
 #[derive(Clone, Copy)]
 pub(crate) enum JoinOrder {
-    /// The node begins to install it.
+    /// It writes a transfer for the node.
+    Donate,
+    /// So much becomes of that on its way.
+    Spoil(Harm),
+    /// The node takes it.
+    Join,
+    /// The node begins to install the donor's snapshot.
     Bring,
     /// The page of this number is taken from the donor's base, and put.
     Page(u32),
@@ -216,7 +231,30 @@ fn read_node(words: &mut Words) -> Option<NodeOrder> {
     }
 }
 
-/// What is done with the donor's snapshot.
+/// What becomes of a transfer on its way.
+fn read_harm(words: &mut Words) -> Option<Harm> {
+    if words.skip(b"shorten") {
+        Some(Harm::Shorten(next_number(words)?))
+    } else if words.skip(b"spoil") {
+        let at = next_number(words)?;
+        Some(Harm::Change(at, u8::try_from(next_number(words)?).ok()?))
+    } else {
+        None
+    }
+}
+
+/// What is done with the donor's transfer.
+fn read_transfer(words: &mut Words) -> Option<JoinOrder> {
+    if words.skip(b"donate") {
+        Some(JoinOrder::Donate)
+    } else if words.skip(b"join") {
+        Some(JoinOrder::Join)
+    } else {
+        read_harm(words).map(JoinOrder::Spoil)
+    }
+}
+
+/// What is done with the donor: with its snapshot, or with its transfer.
 fn read_join(words: &mut Words) -> Option<JoinOrder> {
     if words.skip(b"bring") {
         Some(JoinOrder::Bring)
@@ -227,7 +265,7 @@ fn read_join(words: &mut Words) -> Option<JoinOrder> {
     } else if words.skip(b"give_up") {
         Some(JoinOrder::GiveUp)
     } else {
-        None
+        read_transfer(words)
     }
 }
 

@@ -1,4 +1,4 @@
-//! The lines that show a disk or a node.
+//! The lines that show a disk, a node or a transfer.
 
 use crate::device::{Device, bytes};
 use arrayvec::ArrayVec;
@@ -80,8 +80,8 @@ fn sum_of(bytes: &[u8]) -> u64 {
     sum
 }
 
-/// Writes how many bytes the disk has, and a sum over them.
-pub(crate) fn write_sum<W: Write>(writer: &mut W, device: &Device) -> Result<(), Refusal> {
-    let (size, sum) = (bytes(device).len(), sum_of(bytes(device)));
+/// Writes how many bytes there are, and a sum over them.
+pub(crate) fn write_sum<W: Write>(writer: &mut W, bytes: &[u8]) -> Result<(), Refusal> {
+    let (size, sum) = (bytes.len(), sum_of(bytes));
     write_line(writer, format_args!("sum {size} {sum}"))
 }

@@ -1,0 +1,64 @@
+//! How a node is brought up to date by a donor: what that writes for it goes through a list of bytes, which may come to harm on its way.
+
+use crate::donor::Donor;
+use crate::node::Bench;
+use crate::order::Harm;
+use crate::shown::write_sum;
+use rep_catchup::{donate, have, join};
+use rep_disk::Disk;
+use rep_replica::Replica;
+use rep_script::{write_line, write_refused};
+use rep_types::Refusal;
+use std::alloc::Global;
+use std::io::Write;
+
+/// Has the donor write a transfer for the node, and writes what came of it, and which bytes were written.
+pub(crate) fn written_for<D: Disk, E: Disk, W: Write>(
+    node: &Replica<D>,
+    donor: &mut Donor<E>,
+    writer: &mut W,
+) -> Result<(), Refusal> {
+    donor.transfer.clear();
+    match donate(&mut donor.node, &have(node), &mut donor.transfer) {
+        Ok(last) => write_line(writer, format_args!("donated {last}"))?,
+        Err(refusal) => write_refused(writer, refusal)?,
+    }
+    write_sum(writer, &donor.transfer)
+}
+
+/// Lets the transfer come to harm, and writes how many bytes it has then.
+pub(crate) fn spoilt<W: Write>(
+    transfer: &mut Vec<u8>,
+    harm: Harm,
+    writer: &mut W,
+) -> Result<(), Refusal> {
+    match harm {
+        Harm::Shorten(size) => transfer.truncate(size as usize),
+        Harm::Change(at, byte) => {
+            if let Some(place) = transfer.get_mut(at as usize) {
+                *place = byte;
+            }
+        }
+    }
+    let size = transfer.len();
+    write_line(writer, format_args!("spoilt {size}"))
+}
+
+/// Has the node take the transfer, and writes what came of it.
+pub(crate) fn taken<D: Disk + Drop, W: Write>(
+    alloc: Global,
+    node: Replica<D>,
+    transfer: &[u8],
+    writer: &mut W,
+) -> Result<Bench<D>, Refusal> {
+    let mut transfer = transfer;
+    let (node, joined) = join(alloc, node, &mut transfer);
+    match joined {
+        Ok(last) => {
+            let uuid = node.uuid();
+            write_line(writer, format_args!("joined {uuid}:{last}"))?;
+        }
+        Err(refusal) => write_refused(writer, refusal)?,
+    }
+    Ok(Bench::Node(node))
+}

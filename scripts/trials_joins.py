@@ -1,0 +1,650 @@
+"""Joins over failing devices: nodes that are brought up to date by what a donor writes for them, whole; stops with each loss and faults at
+each call that a join makes; transfers that are cut behind each part and within it, or changed; donors that fail; and who is refused."""
+from functools import lru_cache
+
+from node_model import CLUSTER, LOSSES, UNDEFINED, does
+from trials import params_line
+from trials_damage import calls_of_an_opening
+from trials_faults import FAULT, STOPPED
+from trials_installs import (
+    AT, ITEMS, OFF, PARAMS, SIZE, Scene, behind_a_block, fresh, of_no_cluster, still_open, with_pages, wrapped,
+)
+from trials_opening import CELLS, FIRST, PAGES, SECOND, UUID, sum_of
+
+# Rows of each page that items write, the last two of them the long ones.
+KEYS = [(0, 1), (0, 62), (0, 69), (1, 0), (2, 0), (0, 10), (2, 17)]
+# What is durable at the donor: the items of the snapshots' trials, and eight of which six fill a block. Two more come later.
+LAST = 24
+LONG_KEYS = [(table, row) for table in (0, 2) for row in range(10, 18)]
+LONG = [(seqno - 1, dict.fromkeys(LONG_KEYS, bytes([seqno]) * 62), [], "commit") for seqno in range(17, 25)]
+LATE = [(20, {(0, 2): b"\x19"}, [(2, 17)], "conflict 24"), (25, {(0, 2): b"\x1a"}, [], "commit")]
+# How many bytes a header has: the first part stands behind it.
+HEADER = 59
+WRONG_CLUSTER = "refused 20 wrong-cluster"
+NOTHING = sum_of(b"")
+
+
+def malformed(at):
+    return "refused 16 malformed %d" % at
+
+
+# ---- the bytes of a transfer, by docs/formats.md
+
+
+def bytes_of(value, size=8):
+    return value.to_bytes(size, "big")
+
+
+def key_bytes(key):
+    return bytes_of(key[0], 1) + bytes_of(key[1], 4)
+
+
+def header_bytes(order, uuid=UUID):
+    """The header of a transfer of this cluster, with the shape of the order's nodes."""
+    rows = b"".join(bytes_of(rows, 4) for rows in order.rows)
+    return b"REPXFER1" + uuid + bytes_of(order.window, 2) + bytes_of(len(order.rows), 1) + rows.ljust(32, b"\0")
+
+
+def record_bytes(order, seqno):
+    """The record of this item."""
+    item, (kind, *conflict) = order.items[seqno - 1], order.verdicts[seqno - 1].split()
+    head = b"".join(map(bytes_of, (seqno, item.last_seen, item.source, item.trx)))
+    verdict = bytes_of(("commit", "conflict", "stale", "future", "badkey").index(kind), 1) + bytes_of(int(*conflict or (0,)))
+    counts = bytes_of(len(item.reads), 1) + bytes_of(len(item.writes), 1)
+    writes = [key_bytes(key) + bytes([value is not None, len(value or b"")]) + (value or b"") for key, value in item.writes]
+    record = head + verdict + counts + b"".join(map(key_bytes, item.reads)) + b"".join(writes)
+    return bytes_of(2 + len(record), 2) + record
+
+
+def page_bytes(order, page, position):
+    """The page's number and its rows at the position."""
+    firsts = [(table, row) for table, rows in enumerate(order.rows) for row in range(0, rows, 63)]
+    table, first = firsts[page]
+    values = [order.row((table, row), position) for row in range(first, first + 63)]
+    rows = [b"" if value is None else bytes([1, len(value)]) + value for value in values]
+    return bytes_of(page, 2) + b"".join(row.ljust(64, b"\0") for row in rows)
+
+
+def snapshot_pieces(order, position, pages):
+    """What a snapshot consists of: what it begins with, the entries of its window, how many pages there are, and these."""
+    window = order.window_at(position)
+    entries = [(seqno, order.items[seqno - 1].keys()) for seqno in window]
+    return (
+        [b"S" + bytes_of(position) + bytes_of(len(window), 2)]
+        + [bytes_of(seqno) + bytes_of(len(keys), 1) + b"".join(map(key_bytes, keys)) for seqno, keys in entries]
+        + [bytes_of(len(pages), 2)]
+        + [page_bytes(order, page, position) for page in pages]
+    )
+
+
+shown = lru_cache(None)(sum_of)
+
+
+class Transfer:
+    """What a donor writes for a node: its parts one by one, and of its snapshot, if there is one, the pieces."""
+
+    def __init__(self, donor, node):
+        self.snapshot, first, self.pieces = None, node.durable, []
+        if not node.is_defined or node.durable < donor.base():
+            self.snapshot, first = (donor.base(), sorted(donor.checkpoint.held)), donor.base()
+            self.pieces = snapshot_pieces(donor.order, *self.snapshot)
+        self.seqnos, self.last = range(first + 1, donor.durable + 1), donor.durable
+        self.parts = [header_bytes(donor.order)] + [b"".join(self.pieces)] * bool(self.pieces)
+        self.parts += [b"I" + record_bytes(donor.order, seqno) for seqno in self.seqnos] + [b"E" + bytes_of(self.last)]
+        self.starts = [sum(map(len, self.parts[:at])) for at in range(len(self.parts))]
+
+    def bytes(self):
+        return b"".join(self.parts)
+
+    def taken(self, node, count):
+        """The calls of a join of which so many parts behind the header are taken: whether the snapshot is, and up to which item."""
+        snapshot = self.snapshot if count else None
+        records = count - bool(self.snapshot)
+        last = self.seqnos[records - 1] if records > 0 else self.snapshot[0] if snapshot else node.delivered
+        return node.join(snapshot, last, is_whole=False)
+
+
+class Meeting(Scene):
+    """A donor, and a node that joins it."""
+
+    def __init__(self, title, items=ITEMS + LONG + LATE, keys=KEYS):
+        super().__init__(title, items, keys)
+        self.donor = None
+
+    def lends(self, last=LAST, base=AT, cells=PARAMS[1]):
+        """A donor's disk is lent whose base stands there, with items behind that in steps: the first four in a block of their own."""
+        self.new_node(cells=cells)
+        self.does_all(base)
+        for until in (base + 4, base + 132, last):
+            self.logs(min(until, last))
+        self.is_lent()
+
+    def is_lent(self):
+        """A copy of the node's disk is the donor's."""
+        self.donor = self.node()
+        self.say("lend", "lent %s base %d" % (self.donor.gtid(), self.donor.base()))
+
+    def donates(self):
+        transfer = Transfer(self.donor, self.node())
+        self.say("donate", "donated %d" % transfer.last, shown(transfer.bytes()))
+        return transfer
+
+    def calls(self):
+        """The calls of a whole join."""
+        transfer = Transfer(self.donor, self.node())
+        return self.node().join(transfer.snapshot, transfer.last)
+
+    def joins(self):
+        """The node takes what the donor writes for it, whole."""
+        self.donates()
+        does(self.calls())
+        self.say("join", "joined " + self.node().gtid())
+        assert self.node().durable == self.node().delivered == self.donor.durable
+        self.life.agrees(self.keys)
+
+    def is_refused(self):
+        """All that is asked of the node is refused, but what shows it."""
+        for line in ("log", "sync", "check", "flush 0", "read 0/1 0", self.order.items[0].delivery(1), "settle", "join"):
+            self.say(line, STOPPED)
+
+    def shows_stopped(self):
+        self.say("node", *self.node().shown(stopped=True))
+        self.life.do("state")
+        self.say("window", *self.node().window())
+
+    def opens_again(self, loss):
+        """A stop with this loss, and an opening."""
+        self.say("crash " + loss, "crashed")
+        self.say("open", *self.node().stop(loss))
+        self.life.agrees(self.keys)
+
+
+# ---- the nodes that join
+
+
+def behind_by_items(scene):
+    """Ten items in one block: what is missing begins in the middle of a block of the donor's."""
+    scene.new_node()
+    scene.logs(10)
+
+
+def with_full_log(scene):
+    """The base at 8, and each item behind it in a block of its own: the log is full, and went round."""
+    scene.new_node()
+    scene.does_all(AT)
+    for seqno in range(AT + 1, AT + 5):
+        scene.logs(seqno)
+    assert scene.node().log.is_full()
+
+
+def with_all(scene):
+    """All that the donor has."""
+    scene.new_node()
+    scene.logs(LAST)
+
+
+# Each with the number of calls that its join makes. A snapshot of three pages: a write each, and four writes with a sync behind each. A
+# block: two of each, and one of each more where an earlier block stands open in its cell. The items from 9 on take two blocks.
+JOINERS = {
+    fresh: 3 + 8 + 2 * 4,
+    of_no_cluster: 3 + 8 + 2 * 4,
+    behind_a_block: 3 + 8 + 2 * 4,
+    with_pages: 3 + 8 + 2 * 4,
+    # The next cell is the third of a lap in which all were written.
+    wrapped: 3 + 8 + 2 * 6,
+    # The superblock before the base is closed first.
+    still_open: 2 + 3 + 8 + 2 * 6,
+    behind_by_items: 2 * 4,
+    # A checkpoint of two pages, of which one is read before it is written anew.
+    with_full_log: 2 + 1 + 8 + 2 * 6,
+    with_all: 0,
+}
+# Where the blocks behind a snapshot, and behind ten and twelve items, end: what else can be durable in the middle of a join.
+ENDS = (AT, 22, LAST)
+
+
+def met_by(title, make):
+    """The donor's disk, and behind it this node on its own."""
+    scene = Meeting("%s, %s" % (title, make.__name__))
+    scene.lends()
+    make(scene)
+    return scene
+
+
+def joined(make):
+    """The node joins: it stands there, also behind a stop with each loss, has all, and goes on with its order."""
+
+    def trials(_):
+        for loss in LOSSES:
+            scene = met_by("joined, " + loss, make)
+            is_behind = not scene.node().is_defined or scene.node().durable < AT
+            scene.joins()
+            if is_behind:
+                scene.say("node", "node 24 24 8 quiet running")
+                scene.say("state", "state %s:24 base 8 window 21 22 23 24" % CLUSTER)
+            scene.life.stop(loss, KEYS)
+            scene.joins()
+            assert scene.life.do((25, scene.order.items[24])) == ["25 conflict 24"]
+            scene.goes_on()
+            scene.say("donate", "refused 21 ahead 24", NOTHING)
+            scene.life.stop(loss, KEYS)
+            yield scene.trial
+
+    return trials
+
+
+def far(title):
+    """A donor with a log of eight cells that has 300 items, all but eight of them behind its base, and a node of no cluster: more
+    items than may wait, and more than its log of four cells has room for."""
+    items = [(seqno - 1, {(0, seqno % 70): bytes([seqno % 256])}, [], "commit") for seqno in range(1, 303)]
+    scene = Meeting(title, items, [(0, 0), (0, 1), (0, 69)])
+    scene.lends(300, cells=8)
+    scene.new_node(is_defined=False)
+    return scene
+
+
+# A snapshot of one page; four blocks of the 256 items that may wait; a checkpoint of two pages, one of which is read; and a block in a cell
+# that stands open.
+FAR_CALLS, FAR_ENDS = 1 + 8 + 4 * 4 + 3 + 8 + 6, (AT, 72, 136, 200, 264, 300)
+
+
+def far_behind(program):
+    scene = far("far behind")
+    scene.joins()
+    scene.say("node", "node 300 300 264 quiet running")
+    scene.life.stop("drop", scene.keys)
+    scene.goes_on()
+    yield scene.trial
+    # One loss behind each call: blocks and calls are many.
+    yield from at_each_call(far, FAR_CALLS, "once", FAR_ENDS, program, lambda done: LOSSES[done % 3 :][:1])
+
+
+def at_nothing(_):
+    """A node of no cluster joins a donor to which nothing was delivered, and is of its cluster then."""
+    for loss in LOSSES:
+        scene = Meeting("at nothing, " + loss)
+        scene.lends(0, base=0)
+        of_no_cluster(scene)
+        assert len(scene.donates().bytes()) == 81
+        scene.joins()
+        scene.life.stop(loss, KEYS)
+        scene.joins()
+        scene.goes_on()
+        yield scene.trial
+
+
+def through_another(_):
+    """A node that joined is a donor itself; and one that joined joins again once a donor has moved on."""
+    for loss in LOSSES:
+        scene = met_by("through another, " + loss, with_pages)
+        scene.joins()
+        scene.is_lent()
+        for make in (of_no_cluster, wrapped, behind_by_items):
+            make(scene)
+            scene.joins()
+        scene.life.stop(loss, KEYS)
+        third = scene.node()
+        of_no_cluster(scene)
+        scene.joins()
+        scene.does_all(26)
+        scene.donor = scene.node()
+        scene.say("swap", "lent %s:26 base 26" % CLUSTER)
+        of_no_cluster(scene)
+        scene.joins()
+        scene.goes_on()
+        assert third.durable == LAST
+        yield scene.trial
+
+
+def not_quiet(_):
+    """A node with a block or a checkpoint under way settles first. Where it has more by then than it said, the transfer is not for it,
+    and it joins again."""
+    steps, is_done = 0, False
+    while not is_done:
+        for delivered in (6, 7, 9):
+            scene = met_by("%d delivered, %d steps" % (delivered, steps), wrapped)
+            scene.delivers(delivered)
+            for _ in range(steps):
+                if scene.node().due():
+                    scene.life.do(scene.node().due())
+            is_done = delivered == 9 and not scene.node().due()
+            if scene.node().durable < AT <= scene.node().delivered:
+                transfer = scene.donates()
+                does(transfer.taken(scene.node(), 0))
+                scene.say("join", malformed(HEADER))
+                scene.life.agrees(KEYS)
+            scene.joins()
+            scene.goes_on()
+            yield scene.trial
+        steps += 1
+
+
+# ---- stops and faults at each call
+
+
+def fails_at(scene, kind, calls, done, ends, loss):
+    """A join on a device that fails so behind this number of its calls, and a stop with this loss. Before the gate of the snapshot's
+    superblock is written the node is as it was, behind its sync it is at the snapshot, and then behind some of the blocks."""
+    before = scene.node().durable
+    scene.say("fail %s %d" % (kind, calls + done), "armed")
+    scene.say("open", "open " + scene.node().gtid())
+    transfer = scene.donates()
+    if does(scene.calls(), done):
+        # These were all of its calls: the one that fails is that of a sync.
+        scene.say("join", "joined %s:%d" % (CLUSTER, transfer.last))
+        scene.say("sync", FAULT)
+    else:
+        scene.say("join", FAULT)
+    scene.shows_stopped()
+    scene.is_refused()
+    scene.shows_stopped()
+    scene.say("failures", "failures 1")
+    scene.opens_again(loss)
+    assert scene.node().durable >= before and scene.node().durable in (before,) + ends
+    scene.joins()
+    scene.goes_on()
+    return scene.trial
+
+
+def at_each_call(make, count, kind, ends, program, losses=lambda done: LOSSES):
+    calls = calls_of_an_opening(program, make("the opening").trial.text())
+    assert sum(1 for _ in make("all calls").calls()) == count, make("").trial.title
+    for done in range(count + 1):
+        for loss in losses(done):
+            yield fails_at(make("%s %d, %s" % (kind, done, loss)), kind, calls, done, ends, loss)
+
+
+def failing(kind):
+    return lambda make: lambda program: at_each_call(lambda title: met_by(title, make), JOINERS[make], kind, ENDS, program)
+
+
+# ---- donors that fail
+
+
+# The donor reads its window, three pages, and of three blocks the gate and the body each. Where the blocks end.
+READS, BLOCKS = 1 + 3 + 2 * 3, (AT, 12, 22)
+
+
+def written_by(transfer, done):
+    """How many parts of the transfer are written whole, and how many bytes, where so many reads of the donor are served, but not all."""
+    if done < 4:
+        pieces = transfer.pieces[: len(transfer.pieces) - 4 + done] if done else []
+        return 1, HEADER + sum(map(len, pieces))
+    parts = 2 + BLOCKS[(done - 4) // 2] - AT
+    return parts, transfer.starts[parts]
+
+
+def failing_donors(program):
+    """A donor whose device fails at each of its reads is stopped, and nothing changes on its disk. What it wrote is a transfer that is cut,
+    and the node joins another donor."""
+    alone = Meeting("the opening")
+    alone.lends()
+    calls = calls_of_an_opening(program, alone.trial.text())
+    for done in range(READS + 1):
+        for kind in ("once", "from"):
+            scene = Meeting("a donor fails %s %d" % (kind, done))
+            scene.lends()
+            scene.say("fail %s %d" % (kind, calls + done), "armed")
+            scene.say("swap", "lent %s:24 base 8" % CLUSTER)
+            fresh(scene)
+            transfer = Transfer(scene.donor, scene.node())
+            if done == READS:
+                scene.joins()
+                scene.say("donate", FAULT, shown(header_bytes(scene.order)))
+                yield scene.trial
+                continue
+            parts, size = written_by(transfer, done)
+            scene.say("donate", FAULT, shown(transfer.bytes()[:size]))
+            does(transfer.taken(scene.node(), parts - 1))
+            scene.say("join", malformed(transfer.starts[parts]))
+            scene.life.agrees(KEYS)
+            scene.say("donate", STOPPED, NOTHING)
+            does(transfer.taken(scene.node(), 0))
+            scene.say("join", malformed(0))
+            scene.life.agrees(KEYS)
+            node = scene.node()
+            scene.say("swap", "lent %s base %d" % (node.gtid(), node.base()))
+            scene.say("crash drop", "crashed")
+            scene.open_as(scene.donor)
+            scene.life.agrees(KEYS)
+            scene.say("swap", "lent %s:24 base 8" % CLUSTER)
+            scene.open_as(node)
+            scene.joins()
+            scene.goes_on()
+            yield scene.trial
+
+
+def bad_donors(program):
+    """A donor whose window, a page of whose base, or one of whose blocks is bad, writes no transfer, but is not stopped."""
+    alone = Meeting("the opening")
+    alone.lends()
+    calls = calls_of_an_opening(program, alone.trial.text())
+    for part, place, done in (("window", SECOND[2], 0), ("pages", PAGES, 1), ("pages", PAGES + 4 * 4_096, 3), ("log", CELLS + 8_192, 4)):
+        scene = Meeting("a bad donor, " + part)
+        scene.lends()
+        scene.say("damage %d %d ff" % (calls, place), "damaged")
+        scene.say("swap", "lent %s:24 base 8" % CLUSTER)
+        fresh(scene)
+        transfer = Transfer(scene.donor, scene.node())
+        parts, size = written_by(transfer, done)
+        for _ in range(2):
+            scene.say("donate", "refused 13 corrupt " + part, shown(transfer.bytes()[:size]))
+        does(transfer.taken(scene.node(), parts - 1))
+        scene.say("join", malformed(transfer.starts[parts]))
+        scene.life.agrees(KEYS)
+        scene.life.settle(KEYS)
+        scene.goes_on()
+        yield scene.trial
+
+
+# ---- transfers that are cut, or changed
+
+ENDINGS = LOSSES + ("settle", "at once")
+
+
+def cuts_of(transfer):
+    """Where a transfer is cut: each with how many parts behind the header stand before it, and where the part begins that is not whole."""
+    for index, (start, part) in enumerate(zip(transfer.starts, transfer.parts)):
+        within = {1, len(part) // 2, len(part) - 1}
+        if index == 1 and transfer.pieces:
+            ends = [sum(map(len, transfer.pieces[:at])) for at in range(1, len(transfer.pieces) + 1)]
+            within |= {place for end in ends for place in (end - 1, end, end + 1) if place < len(part)}
+        for place in [0] + sorted(within):
+            yield start + place, max(index - 1, 0), start
+
+
+def is_cut(scene, transfer, count, refusal, ending):
+    """The node takes so many parts, and refuses the next one: what it took stays delivered. Then it is stopped with this loss, or settles
+    by itself, or joins at once; and joins whole."""
+    does(transfer.taken(scene.node(), count))
+    scene.say("join", refusal)
+    scene.life.agrees(KEYS)
+    if ending in LOSSES:
+        scene.life.stop(ending, KEYS)
+    elif ending == "settle":
+        scene.life.settle(KEYS)
+    elif scene.node().delivered > scene.node().durable:
+        # What comes begins behind what was durable, and all that was delivered is durable by now.
+        again = scene.donates()
+        does(again.taken(scene.node(), 0))
+        scene.say("join", malformed(HEADER))
+        scene.life.agrees(KEYS)
+    scene.joins()
+    scene.goes_on()
+    return scene.trial
+
+
+def transfer_for(make):
+    scene = met_by("a pair", make)
+    return Transfer(scene.donor, scene.node())
+
+
+def cut(make):
+    def trials(_):
+        for number, (place, count, at) in enumerate(cuts_of(transfer_for(make))):
+            # Behind each part all of the endings, and within it one.
+            for ending in ENDINGS if place == at else ENDINGS[number % 5 :][:1]:
+                scene = met_by("cut at %d, %s" % (place, ending), make)
+                transfer = scene.donates()
+                scene.say("shorten %d" % place, "spoilt %d" % place)
+                yield is_cut(scene, transfer, count, malformed(at), ending)
+
+    return trials
+
+
+def changes_of(transfer, is_defined):
+    """Changes of one byte: where, and to what; how many parts behind the header stand before it, and how the rest is refused."""
+    data = transfer.bytes()
+    yield 0, 0, 0, malformed(0)
+    if is_defined:
+        yield 8, 0x22, 0, WRONG_CLUSTER
+    # The window, and the rows of each table.
+    for place in (25, 30, 34, 38):
+        yield place, data[place] + 1, 0, WRONG_CLUSTER
+    for index, start in list(enumerate(transfer.starts))[1:]:
+        yield start, ord("X"), index - 1, malformed(start)
+        # A snapshot's position, a record's seqno, the position of the end.
+        place = start + (10 if data[start] == ord("I") else 8)
+        yield place, data[place] + 1, index - 1, malformed(start)
+        if data[start] == ord("I"):
+            # Its verdict.
+            yield start + 35, (data[start + 35] + 2) % 5, index - 1, malformed(start)
+    if transfer.pieces:
+        # More entries than the window's seqnos, a key of another table, more pages than there are, and pages of other numbers.
+        starts = [HEADER + sum(map(len, transfer.pieces[:at])) for at in range(len(transfer.pieces))]
+        for piece, within, byte in ((0, 10, 5), (1, 9, 4), (5, 1, 4), (6, 1, 3), (7, 1, 4), (8, 1, 0)):
+            yield starts[piece] + within, byte, 0, malformed(HEADER)
+
+
+def changed(make):
+    def trials(_):
+        for number, (place, byte, count, refusal) in enumerate(changes_of(transfer_for(make), make != of_no_cluster)):
+            ending = ENDINGS[number % 5]
+            scene = met_by("changed at %d, %s" % (place, ending), make)
+            transfer = scene.donates()
+            scene.say("spoil %d %d" % (place, byte), "spoilt %d" % len(transfer.bytes()))
+            yield is_cut(scene, transfer, count, refusal, ending)
+
+    return trials
+
+
+# ---- who is refused
+
+
+def other_nodes(_):
+    """A node with another window or other tables, or of another cluster, gets nothing, and takes nothing. How many cells its log has is
+    its own affair."""
+    others = [(3, 4, PARAMS[2])] + [(4, 4, rows) for rows in ((70, 4), (70, 4, 62), (70, 63, 4), (70, 4, 63, 1))]
+    for other in others:
+        for first, gtid in (("", CLUSTER + ":0"), ("undefined ", UNDEFINED)):
+            scene = met_by("other parameters", fresh)
+            scene.donates()
+            scene.say("disk %d 0" % (2 * SIZE), "blank")
+            scene.say(first + params_line(other), "formatted " + gtid)
+            scene.say("open", "open " + gtid)
+            scene.say("join", WRONG_CLUSTER)
+            scene.say("donate", WRONG_CLUSTER, NOTHING)
+            scene.say("node", "node 0 0 0 quiet running")
+            yield scene.trial
+    for make in (of_no_cluster, behind_a_block):
+        scene = met_by("another cluster", make)
+        scene.donates()
+        another = CLUSTER.replace("11", "22", 1)
+        fresh(scene)
+        scene.say("put %d 22" % (FIRST[0] + 16), "put")
+        scene.say("open", "open %s:0" % another)
+        scene.say("join", WRONG_CLUSTER)
+        scene.say("donate", WRONG_CLUSTER, NOTHING)
+        scene.say("state", "state %s:0 base 0 window" % another)
+        yield scene.trial
+    scene = Meeting("other cells")
+    scene.lends()
+    scene.new_node(cells=7)
+    scene.joins()
+    scene.goes_on()
+    yield scene.trial
+
+
+def other_transfers(_):
+    """What was written for another node: it is taken where it is one that the node could have got, and else nothing of it is."""
+    below, above = (behind_a_block, of_no_cluster), (behind_by_items, with_full_log)
+    for make, other in [(behind_by_items, other) for other in below] + [(fresh, other) for other in above]:
+        scene = met_by("for another", make)
+        scene.donates()
+        other(scene)
+        scene.say("join", malformed(HEADER))
+        scene.life.agrees(KEYS)
+        scene.joins()
+        scene.goes_on()
+        yield scene.trial
+    scene = met_by("for one of no cluster", of_no_cluster)
+    transfer = scene.donates()
+    wrapped(scene)
+    does(scene.node().join(transfer.snapshot, transfer.last))
+    scene.say("join", "joined %s:24" % CLUSTER)
+    scene.life.agrees(KEYS)
+    scene.goes_on()
+    yield scene.trial
+
+
+def donors_refuse(_):
+    """A donor of no cluster has nothing to give, and none has for a node that has more; and without a donor or a node nothing is done."""
+    scene = Meeting("a donor of no cluster")
+    of_no_cluster(scene)
+    scene.is_lent()
+    for make in (fresh, of_no_cluster):
+        make(scene)
+        scene.say("donate", "refused 11 undefined", NOTHING)
+        scene.say("join", malformed(0))
+        scene.life.agrees(KEYS)
+    yield scene.trial
+    scene = met_by("ahead", with_all)
+    scene.logs(25)
+    scene.say("donate", "refused 21 ahead 24", NOTHING)
+    scene.life.agrees(KEYS)
+    yield scene.trial
+    scene = Meeting("off")
+    lines = ("donate", "join", "shorten 59", "spoil 0 0")
+    for line in lines:
+        scene.say(line, OFF)
+    fresh(scene)
+    for line in lines:
+        scene.say(line, OFF)
+    scene.does_all(AT)
+    scene.is_lent()
+    for line in lines:
+        scene.say(line, OFF)
+    fresh(scene)
+    scene.brings()
+    for line in lines:
+        scene.say(line, OFF)
+    scene.puts(range(4))
+    scene.ends()
+    scene.stands_at()
+    yield scene.trial
+
+
+def each(title, make, joiners=JOINERS):
+    return [("%s, %s" % (title, joiner.__name__.replace("_", " ")), make(joiner)) for joiner in joiners]
+
+
+CUT = (of_no_cluster, wrapped, behind_by_items)
+TRIALS = (
+    each("a node joins, and goes on from there", joined)
+    + [
+        ("a node that is far behind joins", far_behind),
+        ("a node of no cluster joins a new one", at_nothing),
+        ("a node that joined is a donor", through_another),
+        ("a node that is not quiet settles before it joins", not_quiet),
+    ]
+    + each("a fault at each call of a join leaves the node, the snapshot or some items", failing("once"))
+    + each("a stop at each call of a join leaves the node, the snapshot or some items", failing("from"))
+    + [("a donor that fails is as it was", failing_donors), ("a donor whose base or log is bad writes no transfer", bad_donors)]
+    + each("a transfer that is cut is taken up to there", cut, CUT)
+    + each("a transfer that is changed is taken up to there", changed, CUT)
+    + [
+        ("a node of other parameters or another cluster joins nothing", other_nodes),
+        ("a transfer for another node is taken where it fits", other_transfers),
+        ("a donor gives nothing where it has nothing to give", donors_refuse),
+    ]
+)
