@@ -1,0 +1,5 @@
+pub mod Judging
+pub mod Waiting
+pub mod Taking
+pub mod Orders
+pub mod Ending
