@@ -124,6 +124,7 @@ module _ {V E : Type 0} (law : List E → Type 0) (at_home : ℕ → ℕ → ℕ
           halted = omega arith;
           stays = λ halted. let c = known.stays halted in let d = over (omega arith) in omega arith;
           once = once_each k s r id m at;
+          within = let d = r.dealt in let tickets = d.tickets in let many = d.many in let left = total_at allowance_of s.views id m at in omega arith;
           inside = every_map _ _ v.held (λ (h : Hold) o. known.reached h.station h.word o.word) known.holds;
         },
       )

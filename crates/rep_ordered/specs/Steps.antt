@@ -37,6 +37,8 @@ module _ {V E : Type 0} (law : List E → Type 0) where
     -- after a halt the durable number stays
     pub stays : 0 < v.halted → w.durable ≡ v.durable
     pub once : (x : ℕ) → times x v.own ≤ 1
+    -- no seat may draw more numbers than the lock has
+    pub within : w.allowance ≤ w.whole
     -- one holder at a time: of a station that it holds, no seat that it knows of has seen the turn beyond its own
     pub inside : Every (λ (h : Hold). reached_at h.station v.reached ≤ h.word / 4) v.held
 

@@ -60,8 +60,8 @@ impl<V: Keeps<E>, E> OrderedLock<V, E> {
 
     /// Takes in another seat of the lock, which holds no station. The seat then may draw what both
     /// might, has drawn what both had, no number twice, and has seen at least what both had: the
-    /// whole history, which is lawful. Where it then has all the numbers, it learns of no halt that
-    /// neither of the two knew.
+    /// whole history, which is lawful. It may draw no more numbers than the lock has. Where it then has
+    /// all the numbers, it learns of no halt that neither of the two knew.
     ///
     /// It takes no memory and does not wait.
     pub fn join(&self, seat: &mut Seat<V, E>, other: Seat<V, E>)
