@@ -452,10 +452,12 @@ module _ {D : Type 0} (honest : D → Type 0) (history : D → History) (failure
       broke : LeavesOnly (history k.engine.disk) (history new.engine.disk) (MeansEither n k.coming.next.super state) → BrokeAt history n uuid state old new
       broke last = record { can = can; leaves = leaves last }
 
-    pub brought_on : (uuid ≡ (facts_of failures old).uuid) ⊎ IsNil (facts_of failures old).uuid → (result : Result (Unit {0}) Refusal) → Lands failures k new result
+    -- where it took the base's place, or the device failed while it did
+    pub brought_on : (uuid ≡ (facts_of failures old).uuid) ⊎ IsNil (facts_of failures old).uuid → (at : ℕ) (result : Result (Unit {0}) Refusal) → Lands failures k new result
         → ((n : Node) → Holds honest history failures n old → HoldsBoth honest history failures n (blank front.position v) i) → ((n : Node) (y : State) → HoldsBoth honest history failures n y k → Installs honest history failures n y k new result)
         → OnOk result (Brought honest history failures old new uuid front from now start left) × IfErr result (LeavesSnapshot honest history failures old new uuid front from start)
-    brought_on cluster (Ok x) lands both installs = (
+        × EndsRunning result new × IfErr result (BringsEarly (facts_of failures old) front at start)
+    brought_on cluster at (Ok x) lands both installs = (
       record {
         snapshot = snapshot;
         takes = takes;
@@ -464,13 +466,17 @@ module _ {D : Type 0} (honest : D → Type 0) (history : D → History) (failure
         node = λ n holds. let ends = installs n state (stood cluster both n holds) in came_whole cluster both n holds ends.holds ends.leaves;
       },
       tt,
+      is_running new lands.done.running,
+      tt,
     )
-    brought_on cluster (Err e) lands both installs = (
+    brought_on cluster at (Err e) lands both installs = (
       tt,
       inr (
         lands.fault.0,
         record { snapshot = snapshot; now = now; left = left; takes = takes; node = λ n holds. let ends = installs n state (stood cluster both n holds) in broke cluster both n holds ends.leaves },
       ),
+      inl lands.fault,
+      inr (inr (inl lands.fault.0)),
     )
 
   -- why it wasn't taken
@@ -478,7 +484,3 @@ module _ {D : Type 0} (honest : D → Type 0) (history : D → History) (failure
   early_pages at e small (inl stream) = inl stream
   early_pages at e small (inr (inl fault)) = inr (inr (inl fault))
   early_pages at e small (inr (inr (is, none))) = inr (inr (inr (is, no_pages (facts_of failures old) front v count from mid start before small window (subst (λ (p : Setting). IfSome before (NoPagesCome p.rows count)) setting_is none))))
-
-  pub lands_on : (result : Result (Unit {0}) Refusal) → Lands failures k new result → EndsRunning result new
-  lands_on (Ok x) lands = is_running new lands.done.running
-  lands_on (Err e) lands = inl lands.fault

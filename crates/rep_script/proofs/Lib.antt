@@ -7,3 +7,4 @@ pub mod OrderTexts
 pub mod SavedTexts
 pub mod Scripting
 pub mod Formatting
+pub mod CatchingUp

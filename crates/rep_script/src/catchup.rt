@@ -1,13 +1,20 @@
 //! What a donor, a joiner and who asks a node for its state say.
 
-ghost use Rattle.std.specs.Prelude.{◌≡◌, ◌≢◌, ◌⊎◌, ℕ, [], take, true, is_some, ◌||◌, Err, IfErr, IfSome, OnOk, OnErr};
+ghost use Rattle.std.specs.Prelude.{◌≡◌, ◌≢◌, ◌||◌, ◌⊎◌, ℕ, true, false, is_some, take, Option, None, Err, IfErr, IfSome, OnOk, OnErr};
 ghost use Rattle.std.specs.Io.KnownBytes.{Appends, Keeps};
-ghost use Rattle.rep_steps.specs.Nodes.{Node};
-ghost use Rattle.rep_replica.specs.Holding.{Holds};
+ghost use Rattle.rep_types.specs.declared.refusal.Part.{Part};
+ghost use Rattle.rep_disk.specs.Calls.{Rises};
 ghost use Rattle.rep_engine.specs.Engines.{gtid_of};
+ghost use Rattle.rep_steps.specs.Nodes.{Node};
+ghost use Rattle.rep_replica.specs.Replicas.{facts_of};
+ghost use Rattle.rep_replica.specs.Holding.{Holds};
 ghost use Rattle.rep_transfer.specs.Haves.{have_bytes};
 ghost use Rattle.rep_catchup.specs.Haves.{have_of};
-ghost use Rattle.rep_script.specs.CatchingUp.{donated_line, joined_line};
+ghost use Rattle.rep_catchup.specs.Donating.{IsFirstRefusal, EndsEarly, ReadsAlone};
+ghost use Rattle.rep_catchup.specs.Growing.{EndsRunning};
+ghost use Rattle.rep_catchup.specs.Joining.{Lived, Ended};
+ghost use Rattle.rep_script.specs.Answering.{Tells};
+ghost use Rattle.rep_script.specs.CatchingUp.{donated_line, joined_line, Donates, Taken};
 
 use crate::answers::write_line;
 use rep_catchup::{donate, have, join};
@@ -35,14 +42,24 @@ pub fn write_have<D: Disk, W: Write>(replica: &Replica<D>, writer: &mut W) -> Re
 
 /// Writes the transfer for the joiner, and then the line `donated <position>`, of the position that it brings the joiner to.
 ///
-/// Refuses as `donate` does, and then writes no line; and with `StreamFault` where a writer fails.
+/// Refuses as `donate` does, and then writes no line; and with `StreamFault` where the line's writer fails, which has then taken a
+/// front of it: the transfer is whole then.
 pub fn donate_text<D: Disk, T: Write, W: Write>(
     replica: &mut Replica<D>,
     have: &Have,
     transfer: &mut T,
     writer: &mut W,
 ) -> Result<(), Refusal>
-    ensures told { OnOk result ((last : ℕ) × Appends (W.contents writer.old) (W.contents writer.new) (donated_line last)) }
+    ensures told { (last : ℕ) × Tells (donated_line last) (W.contents writer.old) (W.contents writer.new) result }
+    ensures refusal { (o : Option Refusal) → IsFirstRefusal (facts_of D.failures replica.old) have.now o → IfSome o (λ e. (result ≡ Err e) × (replica.new ≡ replica.old) × Keeps (T.contents transfer.old) (T.contents transfer.new) × Keeps (W.contents writer.old) (W.contents writer.new)) }
+    ensures early { IsFirstRefusal (facts_of D.failures replica.old) have.now None → IfErr result EndsEarly }
+    ensures reads { ReadsAlone D.honest D.history replica.old replica.new }
+    ensures holds { (n : Node) → Holds D.honest D.history D.failures n replica.old → result ≢ Err Refusal.DiskFault → Holds D.honest D.history D.failures n replica.new }
+    ensures whole { (n : Node) → Holds D.honest D.history D.failures n replica.old → (part : Part) → result ≢ Err (Refusal.Corrupt part) }
+    ensures fault { result ≡ Err Refusal.DiskFault → Rises (D.failures replica.old.engine.disk) (D.failures replica.new.engine.disk) × (is_some replica.new.engine.halted ≡ true) }
+    ensures no_fault { result ≢ Err Refusal.DiskFault → D.failures replica.new.engine.disk ≡ D.failures replica.old.engine.disk }
+    // On an honest device of a node what is written is what the joiner lacks, whole, and then the line of that transfer.
+    ensures donated { (n : Node) → Holds D.honest D.history D.failures n replica.old → Donates n have.now (T.contents transfer.old) (T.contents transfer.new) (W.contents writer.old) (W.contents writer.new) result }
 {
     let last = donate(replica, have, transfer)?;
     write_line(writer, format_args!("donated {last}"))
@@ -50,14 +67,21 @@ pub fn donate_text<D: Disk, T: Write, W: Write>(
 
 /// Takes the transfer, and then writes the line `joined <gtid>`. The replica comes back beside the answer.
 ///
-/// Refuses as `join` does, and then writes no line; and with `StreamFault` where the writer fails: the transfer was taken then.
+/// Refuses as `join` does, and then writes no line; and with `StreamFault` where the writer fails, which has then taken a front of it:
+/// the transfer was taken then.
 pub fn join_text<D: Disk, R: Read, W: Write>(
     alloc: Global,
     replica: Replica<D>,
     transfer: &mut R,
     writer: &mut W,
 ) -> (Replica<D>, Result<(), Refusal>)
-    ensures told { OnOk result.1 (Appends (W.contents writer.old) (W.contents writer.new) (joined_line (gtid_of result.0.engine))) }
+    ensures told { Tells (joined_line (gtid_of result.0.engine)) (W.contents writer.old) (W.contents writer.new) result.1 }
+    ensures stopped { (replica.stopped || is_some replica.engine.halted) ≡ true → (result ≡ (replica, Err Refusal.Stopped)) × Keeps (W.contents writer.old) (W.contents writer.new) }
+    ensures ends { (replica.stopped || is_some replica.engine.halted) ≡ false → EndsRunning result.1 result.0 }
+    ensures lived { Lived D.honest D.history D.failures replica result.0 }
+    ensures joined { OnOk result.1 (Taken D.honest D.history D.failures replica result.0 (R.remaining transfer.old) (R.remaining transfer.new)) }
+    // Where it is refused, the transfer was not taken to its end, and nothing of the line was written; or it was, and the line's writer failed.
+    ensures ended { (replica.stopped || is_some replica.engine.halted) ≡ false → IfErr result.1 (λ e. (Ended D.honest D.history D.failures replica result.0 (R.remaining transfer.old) e × Keeps (W.contents writer.old) (W.contents writer.new)) ⊎ ((e ≡ Refusal.StreamFault) × Taken D.honest D.history D.failures replica result.0 (R.remaining transfer.old) (R.remaining transfer.new))) }
 {
     let (replica, joined) = join(alloc, replica, transfer);
     if let Err(refusal) = joined {

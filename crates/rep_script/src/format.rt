@@ -3,7 +3,8 @@
 ghost use Rattle.std.specs.Prelude.{◌≡◌, ◌≢◌, ◌<◌, ◌≤◌, ◌⊎◌, [], Err, IfErr, OnOk, MatchResult};
 ghost use Rattle.rep_layout.specs.Places.{layout_of, need_of};
 ghost use Rattle.rep_recover.specs.Formatting.{uuid_of, ImagesStandFor};
-ghost use Rattle.rep_script.specs.Formatting.{first_gtid, formatted_line, Tells};
+ghost use Rattle.rep_script.specs.Formatting.{first_gtid, formatted_line};
+ghost use Rattle.rep_script.specs.Answering.{Tells};
 
 use crate::answers::write_line;
 use rep_disk::Disk;

@@ -9,19 +9,13 @@ use Rattle.rep_catchup.proofs.snapshot.bring.Goals as goal
 pub take_pages-requires-clause-none : goal.take_pages-requires-clause-none
 take_pages-requires-clause-none g c = none_came c.args.replica.engine.checkpoint.base c.args.uuid c.args.front.position c.args.replica.engine.log.next c.in-Ok.taken.0.entries c.in-Ok-install.installation.coming c.in-Ok-install.ensures.begun.1
 
-pub returns-in-Ok-take_pages-clause-brought : goal.returns-in-Ok-take_pages-clause-brought
-returns-in-Ok-take_pages-clause-brought g c =
+pub returns-in-Ok-take_pages : goal.returns-in-Ok-take_pages
+returns-in-Ok-take_pages g c =
     let took = c.in-Ok-take_pages.ensures.taken in
-    (brought_on g.D.Disk.honest g.D.Disk.history g.D.Disk.failures c.args.replica c.end.result.0 c.in-Ok-install.installation c.take_pages.new.installation c.args.uuid c.args.front c.in-Ok.taken.0 c.in-Ok.taken.1
+    let all = brought_on g.D.Disk.honest g.D.Disk.history g.D.Disk.failures c.args.replica c.end.result.0 c.in-Ok-install.installation c.take_pages.new.installation c.args.uuid c.args.front c.in-Ok.taken.0 c.in-Ok.taken.1
     c.args.transfer.now c.take_window.new.transfer c.take_pages.new.transfer (g.R.Read.remaining c.args.reader.now) (g.R.Read.remaining c.take_window.new.reader) (g.R.Read.remaining c.take_pages.new.reader) c.in-Ok.ensures.taken
-    c.in-Ok-install.ensures.begun c.requires.fits c.requires.quiet took.0 took.1 took.2 c.requires.cluster c.end.result.1 (c.end.ensures.lands took.2.running) (λ n holds. c.in-Ok-install.ensures.holds n holds) (λ n y h. c.end.ensures.installs n y h)).0
-
-pub returns-in-Ok-take_pages-clause-left : goal.returns-in-Ok-take_pages-clause-left
-returns-in-Ok-take_pages-clause-left g c =
-    let took = c.in-Ok-take_pages.ensures.taken in
-    (brought_on g.D.Disk.honest g.D.Disk.history g.D.Disk.failures c.args.replica c.end.result.0 c.in-Ok-install.installation c.take_pages.new.installation c.args.uuid c.args.front c.in-Ok.taken.0 c.in-Ok.taken.1
-    c.args.transfer.now c.take_window.new.transfer c.take_pages.new.transfer (g.R.Read.remaining c.args.reader.now) (g.R.Read.remaining c.take_window.new.reader) (g.R.Read.remaining c.take_pages.new.reader) c.in-Ok.ensures.taken
-    c.in-Ok-install.ensures.begun c.requires.fits c.requires.quiet took.0 took.1 took.2 c.requires.cluster c.end.result.1 (c.end.ensures.lands took.2.running) (λ n holds. c.in-Ok-install.ensures.holds n holds) (λ n y h. c.end.ensures.installs n y h)).1
+    c.in-Ok-install.ensures.begun c.requires.fits c.requires.quiet took.0 took.1 took.2 c.requires.cluster c.args.at c.end.result.1 (c.end.ensures.lands took.2.running) (λ n holds. c.in-Ok-install.ensures.holds n holds) (λ n y h. c.end.ensures.installs n y h) in
+    record { brought = all.0; left = all.1; ends = all.2; refused = all.3 }
 
 -- ---- where it isn't taken
 

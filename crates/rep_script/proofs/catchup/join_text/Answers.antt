@@ -1,0 +1,35 @@
+use Rattle.std.proofs.Common.{◌≡◌, inl, inr, subst, rules}
+use Rattle.std.proofs.KnownBytes.{Keeps-refl}
+use Rattle.std.proofs.lemmas.Result.{IfErr-weaker}
+use Rattle.rep_types.specs.declared.refusal.Refusal.TheVariants.{StreamFault}
+use Rattle.rep_engine.specs.Engines.{gtid_of}
+use Rattle.rep_script.specs.Answering.{Tells}
+use Rattle.rep_script.specs.CatchingUp.{joined_line}
+use Rattle.rep_script.proofs.CatchingUp.{nothing_told, taken, either_way}
+use Rattle.rep_script.proofs.catchup.join_text.Goals as goal
+
+-- ---- where it is refused
+
+pub returns-in-Err-clause-told : goal.returns-in-Err-clause-told
+returns-in-Err-clause-told g c = nothing_told (joined_line (gtid_of c.join-replica.result.0.engine)) (g.W.Write.contents c.args.writer.now) c.in-Err.refusal
+
+pub returns-in-Err-clause-ended : goal.returns-in-Err-clause-ended
+returns-in-Err-clause-ended g c = λ running. inl (rw c.in-Err.is at (c.join-replica.ensures.ended running), Keeps-refl (g.W.Write.contents c.args.writer.now))
+
+-- ---- where it is not
+
+pub returns-clause-told : goal.returns-clause-told
+returns-clause-told g c =
+    let before = g.W.Write.contents c.args.writer.now in
+    let after = g.W.Write.contents c.write_line-told.new.writer in
+    let told : Tells (joined_line c.gtid-gtid.result) before after c.write_line-told.result = search rules in
+    subst (λ gtid. Tells (joined_line gtid) before after c.write_line-told.result) c.gtid-gtid.ensures told
+
+pub returns-clause-joined : goal.returns-clause-joined
+returns-clause-joined g c =
+    either_way c.write_line-told.result _ (taken _ _ _ _ _ _ _ c.join-replica.result.1 c.in_default.field-0 c.in_default.is c.join-replica.ensures.quiet (λ n holds. c.join-replica.ensures.joined n holds))
+
+pub returns-clause-ended : goal.returns-clause-ended
+returns-clause-ended g c = λ running.
+    IfErr-weaker c.write_line-told.result (λ e. e ≡ StreamFault) _
+    (λ e is. inr (is, taken _ _ _ _ _ _ _ c.join-replica.result.1 c.in_default.field-0 c.in_default.is c.join-replica.ensures.quiet (λ n holds. c.join-replica.ensures.joined n holds))) c.write_line-told.ensures.err
