@@ -1,0 +1,75 @@
+-- What the engine and the publisher are behind a step of the log.
+use Rattle.std.proofs.Common.{◌≡◌, ℕ, ◌+◌, ◌≤◌, List, [], ◌∷◌, ◌++◌, length, None, refl, sym, ap, subst, ◌∙◌, arith}
+use Rattle.std.proofs.lemmas.List.{length-map}
+use Rattle.rep_types.specs.declared.judged.Judged.{Judged}
+use Rattle.rep_disk.specs.History.{History}
+use Rattle.rep_cert.specs.Holdings.{Holding, Holdings}
+use Rattle.rep_engine.specs.Engines.{Engine, durable_of}
+use Rattle.rep_snap.specs.declared.change.Pair.{Pair}
+use Rattle.rep_snap.specs.Lists.{published}
+use Rattle.rep_snap.specs.Views.{Listing}
+use Rattle.rep_stations.specs.Taking.{HasTaken}
+use Rattle.rep_node.specs.declared.home.Desk.{Desk}
+use Rattle.rep_node.specs.declared.origin.Origin.{Origin}
+use Rattle.rep_node.specs.Publishing.{AreShown, shown}
+use Rattle.rep_node.specs.Homes.{Start, DeskAt, position_of}
+use Rattle.rep_node.specs.Keeping.{AtWork, common_of_desk}
+use Rattle.rep_node.proofs.Publishes.{shown_both, shown_front}
+
+module _ {D : Type 0} (honest : D → Type 0) (history : D → History) (failures : D → ℕ) (s : Start D) (items : List Judged) (d : Desk D) (w : AtWork honest history failures s items d) where
+  -- what is published and what waits is of the items that the engine has taken
+  as_long : length (published d.publisher.list ++ d.waiting) ≡ length w.desk.front
+  as_long = ap length (w.desk.shown refl).shown_or_waits ∙ length-map w.desk.front _
+
+  start_is : d.publisher.start ≡ position_of s
+  start_is = w.desk.publisher.2 ∙ w.begins.start
+
+  pub are_allowed : (c : Holdings) × (d.publisher.basis.certifier.log ≡ c ∷ []) × (d.publisher.start ≡ c.current.delivered) × AreShown c.current (published d.publisher.list ++ d.waiting)
+  are_allowed =
+      let b = w.desk.begins in
+      let all : AreShown s.certifier.current (shown w.desk.front ++ shown b.0) = record { items = items; legal = w.legal.legal; are = sym (ap shown b.1 ∙ shown_both w.desk.front b.0) } in (
+        s.certifier,
+        ap (λ (o : Origin). o.certifier.log) w.desk.publisher.1 ∙ w.begins.origin,
+        start_is,
+        subst (AreShown s.certifier.current) (sym (w.desk.shown refl).shown_or_waits) (shown_front s.certifier.current (shown w.desk.front) (shown b.0) all),
+      )
+
+  module _ (e : Engine D) (stays : (first : Engine D) (c : Holding) (items : List Judged) → HasTaken honest history failures first c items d.engine → HasTaken honest history failures first c items e) where
+    taken_still : HasTaken honest history failures s.desk.engine s.certifier.current w.desk.front e
+    taken_still = stays s.desk.engine s.certifier.current w.desk.front w.desk.taken
+
+    -- what is durable is published or waits
+    pub is_within : durable_of e.log ≤ d.publisher.start + length (published d.publisher.list ++ d.waiting)
+    is_within = let count = taken_still.count in let long = as_long in let start = start_is in omega (arith, count, long, start)
+
+    -- and what was published is durable
+    pub is_behind : durable_of d.engine.log ≤ durable_of e.log → d.publisher.start + length (published d.publisher.list) ≤ durable_of e.log
+    is_behind rises = let start = start_is in let durable = (w.desk.shown refl).durable in omega (arith, start, durable, rises)
+
+    pub same_common : durable_of e.log + length e.block ≡ common_of_desk d
+    same_common = let after = taken_still.count in let before = w.desk.taken.count in omega (arith, after, before)
+
+    module _ (p : Listing Origin) (waiting : List Pair) (same : (p.book ≡ d.publisher.book) × (p.basis ≡ d.publisher.basis) × (p.start ≡ d.publisher.start)) where
+      pub given_up : DeskAt honest history failures s 1 items (record { engine = e; publisher = p; waiting = waiting })
+      given_up = record {
+        front = w.desk.front;
+        begins = w.desk.begins;
+        taken = taken_still;
+        publisher = (same.0 ∙ w.desk.publisher.0, same.1 ∙ w.desk.publisher.1, same.2 ∙ w.desk.publisher.2);
+        works = λ (z : 1 ≡ 0). absurd (omega arith);
+        shown = λ (z : 1 ≡ 0). absurd (omega arith);
+      }
+
+      pub works_on : e.halted ≡ None → published p.list ++ waiting ≡ published d.publisher.list ++ d.waiting → d.publisher.start + length (published p.list) ≡ durable_of e.log → AtWork honest history failures s items (record { engine = e; publisher = p; waiting = waiting })
+      works_on works whole durable = record {
+        begins = w.begins;
+        legal = w.legal;
+        desk = record {
+          front = w.desk.front;
+          begins = w.desk.begins;
+          taken = taken_still;
+          publisher = (same.0 ∙ w.desk.publisher.0, same.1 ∙ w.desk.publisher.1, same.2 ∙ w.desk.publisher.2);
+          works = λ _. works;
+          shown = λ _. record { shown_or_waits = whole ∙ (w.desk.shown refl).shown_or_waits; durable = let start = start_is in omega (arith, start, durable) };
+        };
+      }

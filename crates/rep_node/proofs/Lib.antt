@@ -1,0 +1,16 @@
+pub mod Lists
+pub mod Standing
+pub mod Moves
+pub mod Stepping
+pub mod Publishes
+pub mod Accepting
+pub mod Advancing
+pub mod Sharing
+pub mod Values
+pub mod Beginning
+pub mod Closing
+pub mod AtEngine
+pub mod Keeps
+pub mod Accepts
+pub mod Checks
+pub mod Lending

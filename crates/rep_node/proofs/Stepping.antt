@@ -1,0 +1,136 @@
+-- What a step of the log leaves of the engine.
+use Rattle.std.proofs.Common.{◌≡◌, ◌⊎◌, inl, inr, ℕ, ◌≤◌, Bool, true, false, List, Option, None, Some, Result, Ok, Err, refl, sym, ap, subst, ◌∙◌, arith}
+use Rattle.std.specs.Prelude.{is_some, is_ok, IfErr, OnOk, MatchOption, MatchResult}
+use Rattle.rep_types.specs.declared.judged.Judged.{Judged}
+use Rattle.rep_types.specs.declared.reply.Reply.{Reply}
+use Rattle.rep_types.specs.declared.refusal.Refusal.{Refusal}
+use Rattle.rep_types.specs.declared.refusal.Refusal.TheVariants.{DiskFault, LogFull, NotDue}
+use Rattle.rep_disk.specs.History.{History}
+use Rattle.rep_log.specs.declared.phase.Phase.{Phase}
+use Rattle.rep_cert.specs.Holdings.{Holding}
+use Rattle.rep_steps.specs.declared.event.Event.{Event}
+use Rattle.rep_steps.specs.declared.event.Event.TheVariants.{Deliver, Log, Sync, Check, Flush, Read}
+use Rattle.rep_steps.specs.declared.answer.Answer.{Answer}
+use Rattle.rep_steps.specs.declared.answer.Answer.TheVariants.{Gave, Wrote, Began, Synced, Row, Refused}
+use Rattle.rep_steps.specs.Standings.{Standing, refusal}
+use Rattle.rep_steps.specs.Moves.{Found, Moves, Fails, after}
+use Rattle.rep_steps.specs.Nodes.{Node, Steps}
+use Rattle.rep_engine.specs.Engines.{Engine, facts_of, durable_of}
+use Rattle.rep_engine.specs.Holding.{Holds, wrote, synced}
+use Rattle.rep_stations.specs.Taking.{HasTaken, TakenItemsStay, IsAnEngine, IsOfAnEngine}
+
+-- ---- the facts
+
+by_refusal : (A : Type 0) (B : Refusal → Type 0) (C : Type 0) (o : Option Refusal) → MatchOption o A B → (A → C) → ((r : Refusal) → B r → C) → C
+by_refusal A B C None m done refused = done m
+by_refusal A B C (Some r) m done refused = refused r m
+
+-- a call was answered, and not refused
+abbrev pub is_refusal : Answer → Bool
+is_refusal (Gave v) = false
+is_refusal Wrote = false
+is_refusal (Began position) = false
+is_refusal (Synced rs) = false
+is_refusal (Row row) = false
+is_refusal (Refused r) = true
+
+answered : (a : Answer) (r : Refusal) → is_refusal a ≡ false → a ≡ Refused r → ⊥
+answered a r told is = let e : true ≡ false = sym (ap is_refusal is) ∙ told in absurd cc
+
+-- What is durable rises, and who is answered was not stopped by it.
+pub record Rises (s t : Standing) (a : Answer) : Type 0 where
+  pub durable : s.durable ≤ t.durable
+  pub stopped : is_refusal a ≡ false → t.stopped ≡ s.stopped
+
+same_rises : (s t : Standing) (a : Answer) → t ≡ s → Rises s t a
+same_rises s t a is = subst (λ (u : Standing). Rises s u a) (sym is) (record { durable = omega arith; stopped = λ _. refl })
+
+done_rises : (s : Standing) (e : Event) (f : Found) (a : Answer) → IsOfAnEngine e → Rises s (after s e f) a
+done_rises s (Deliver seqno w) f a own = absurd own
+done_rises s Log f a own = record { durable = omega arith; stopped = λ _. refl }
+done_rises s Sync f a own = record { durable = omega arith; stopped = λ _. refl }
+done_rises s Check f a own = record { durable = omega arith; stopped = λ _. refl }
+done_rises s (Flush page) f a own = record { durable = omega arith; stopped = λ _. refl }
+done_rises s (Read key at) f a own = record { durable = omega arith; stopped = λ _. refl }
+
+fails_rises : (s t : Standing) (e : Event) (a : Answer) → Fails s e a t → Rises s t a
+fails_rises s t e a (inl h) = same_rises s t a h.2
+fails_rises s t e a (inr h) = subst (λ (u : Standing). Rises s u a) (sym h.3) (record { durable = omega arith; stopped = λ told. absurd (answered a DiskFault told h.1) })
+
+pub moves_rise : (s t : Standing) (e : Event) (a : Answer) → IsOfAnEngine e → Moves s e a t → Rises s t a
+moves_rise s t e a own moves =
+    by_refusal _ _ (Rises s t a) (refusal s e) moves
+    (λ went. elim went [
+      | inl f ↦ subst (λ (u : Standing). Rises s u a) (sym f.2) (done_rises s e f.0 a own)
+      | inr other ↦ elim other [ inl fails ↦ fails_rises s t e a fails | inr corrupt ↦ same_rises s t a corrupt.2 ]
+    ])
+    (λ r is. same_rises s t a is.1)
+
+-- ---- the engine
+
+running : (o : Option Phase) → is_some o ≡ false → o ≡ None
+running None e = refl
+running (Some p) e = absurd (let never : true ≡ false = e in cc)
+
+module _ {D : Type 0} (honest : D → Type 0) (history : D → History) (failures : D → ℕ) where
+  -- What the log's step leaves: the engine has what it had taken, no less of it is durable, and it works still where nothing is refused; and
+  -- it has changed nothing that is refused by anything but the device.
+  pub record Goes (old new : Engine D) (done : Result (Unit {0}) Refusal) : Type 0 where
+    pub taken : (first : Engine D) (c : Holding) (items : List Judged) → HasTaken honest history failures first c items old → HasTaken honest history failures first c items new
+    pub rises : durable_of old.log ≤ durable_of new.log
+    pub works : OnOk done (old.halted ≡ None → new.halted ≡ None)
+    pub same : IfErr done (λ e. (e ≡ DiskFault) ⊎ (new ≡ old))
+
+  pub runs_on : (old new : Engine D) (a : Answer) → Rises (facts_of failures old) (facts_of failures new) a → is_refusal a ≡ false → old.halted ≡ None → new.halted ≡ None
+  runs_on old new a h told works = running new.halted (h.stopped told ∙ ap is_some works)
+
+  pub goes_logged : TakenItemsStay honest history failures → (old new : Engine D) (done : Result (Unit {0}) Refusal) → IsAnEngine old → Moves (facts_of failures old) Log (wrote done) (facts_of failures new)
+      → ((n : Node) → Holds honest history failures n old → (m : Node) × Steps n Log (wrote done) m × Holds honest history failures m new) → IfErr done (λ e. (e ≡ DiskFault) ⊎ (new ≡ old)) → Goes old new done
+  goes_logged laws old new (Ok u) is moves steps same = let h = moves_rise (facts_of failures old) (facts_of failures new) Log Wrote tt moves in record {
+    taken = laws.step old new Log Wrote tt is moves steps;
+    rises = h.durable;
+    works = runs_on old new Wrote h refl;
+    same = same;
+  }
+  goes_logged laws old new (Err r) is moves steps same = let h = moves_rise (facts_of failures old) (facts_of failures new) Log (Refused r) tt moves in record {
+    taken = laws.step old new Log (Refused r) tt is moves steps;
+    rises = h.durable;
+    works = tt;
+    same = same;
+  }
+
+  -- the same of a sync, whose replies are let go
+  pub goes_synced : TakenItemsStay honest history failures → (old new : Engine D) (told : Result (List Reply) Refusal) (done : Result (Unit {0}) Refusal) (P : List Reply → Type 0) → is_ok done ≡ is_ok told → MatchResult told P (λ e. done ≡ Err e) → IsAnEngine old
+      → Moves (facts_of failures old) Sync (synced told) (facts_of failures new) → ((n : Node) → Holds honest history failures n old → (m : Node) × Steps n Sync (synced told) m × Holds honest history failures m new)
+      → IfErr told (λ e. (e ≡ DiskFault) ⊎ (new ≡ old)) → Goes old new done
+  goes_synced laws old new (Ok rs) (Ok u) P ok err is moves steps same = let h = moves_rise (facts_of failures old) (facts_of failures new) Sync (Synced rs) tt moves in record {
+    taken = laws.step old new Sync (Synced rs) tt is moves steps;
+    rises = h.durable;
+    works = runs_on old new (Synced rs) h refl;
+    same = same;
+  }
+  goes_synced laws old new (Ok rs) (Err r) P ok err is moves steps same = absurd (let e : false ≡ true = ok in cc)
+  goes_synced laws old new (Err r) (Ok u) P ok err is moves steps same = absurd (let e : true ≡ false = ok in cc)
+  goes_synced laws old new (Err r) (Err e) P ok err is moves steps same = let h = moves_rise (facts_of failures old) (facts_of failures new) Sync (Refused r) tt moves in record {
+    taken = laws.step old new Sync (Refused r) tt is moves steps;
+    rises = h.durable;
+    works = tt;
+    same = subst (λ (d : Result (Unit {0}) Refusal). IfErr d (λ e. (e ≡ DiskFault) ⊎ (new ≡ old))) (sym err) same;
+  }
+
+  -- ---- the same with an answer that says nothing of a step that was not due
+
+  not_the_device : (old new : Engine D) (r : Refusal) → (r ≡ DiskFault → ⊥) → (r ≡ DiskFault) ⊎ (new ≡ old) → new ≡ old
+  not_the_device old new r other (inl fault) = absurd (other fault)
+  not_the_device old new r other (inr same) = same
+
+  pub goes_working : (old new : Engine D) (done : Result (Unit {0}) Refusal) → Goes old new done → old.halted ≡ None → OnOk done (new.halted ≡ None)
+  goes_working old new (Ok u) h works = h.works works
+  goes_working old new (Err r) h works = tt
+
+  pub goes_full : (old new : Engine D) (done : Result (Unit {0}) Refusal) → Goes old new done → IfErr done (λ r. r ≡ LogFull → new ≡ old)
+  goes_full old new (Ok u) h = tt
+  goes_full old new (Err r) h = λ full. not_the_device old new r (λ fault. let e : LogFull ≡ DiskFault = sym full ∙ fault in absurd cc) h.same
+
+  pub goes_not_due : (old new : Engine D) (done : Result (Unit {0}) Refusal) → Goes old new done → done ≡ Err NotDue → new ≡ old
+  goes_not_due old new done h is = not_the_device old new NotDue (λ fault. let e : NotDue ≡ DiskFault = fault in absurd cc) (subst (λ (d : Result (Unit {0}) Refusal). IfErr d (λ e. (e ≡ DiskFault) ⊎ (new ≡ old))) is h.same)

@@ -1,0 +1,54 @@
+-- How a node begins with a replica, and ends in one.
+use Rattle.std.specs.Prelude.{◌≡◌, ℕ, ◌+◌, ◌≤◌, ◌++◌, false, None, All, List, length}
+use Rattle.rep_types.specs.declared.judged.Judged.{Judged}
+use Rattle.rep_types.specs.Order.{Order, items_of}
+use Rattle.rep_disk.specs.History.{History, IsImage}
+use Rattle.rep_engine.specs.Engines.{durable_of}
+use Rattle.rep_steps.specs.Nodes.{Node}
+use Rattle.rep_steps.specs.Orders.{IsOf}
+use Rattle.rep_steps.specs.Images.{IsFrontOf}
+use Rattle.rep_image.specs.Meanings.{Means}
+use Rattle.rep_replica.specs.Replicas.{Replica}
+use Rattle.rep_replica.specs.Holding.{Holds}
+use Rattle.rep_stations.specs.Taking.{StartsAs}
+use Rattle.rep_stations.specs.Ending.{Ends}
+use Rattle.rep_snap.specs.Views.{Watching, watching}
+use Rattle.rep_ordered.specs.declared.view.View.{View}
+use Rattle.rep_ordered.specs.Counts.{times, once_below}
+use Rattle.rep_node.specs.declared.home.Home.{Home}
+use Rattle.rep_node.specs.declared.origin.Origin.{Origin}
+use Rattle.rep_node.specs.Homes.{Start, Begins, values_of}
+
+module _ {D : Type 0} (honest : D → Type 0) (history : D → History) (failures : D → ℕ) where
+  -- The first seat of a node that was started from a replica, and its readers: what it was started with is the replica's certifier and
+  -- engine, it stands for each node that the replica stood for, and each reader was told the empty list.
+  pub record StartsFrom (r : Replica D) (v : View (Home D) Judged) (watch : List (Watching Origin)) : Type 0 where
+    pub start : Start D
+    pub first : v.first ≡ values_of start
+    pub begins : Begins honest history failures start
+    pub certifier : start.certifier ≡ r.certifier
+    pub engine : start.desk.engine ≡ r.engine
+    pub stands : (n : Node) → Holds honest history failures n r → StartsAs honest history failures r.engine r.certifier.current n
+    pub readers : All (λ (reader : Watching Origin). reader ≡ watching start.desk.publisher) watch
+
+  -- The replica that a node is closed with, by a seat to which all others were joined: it ends the history that the seat saw, and has all
+  -- durable that the seat knows to be so. The seat's numbers are those from the first on, each once, and without a halt each has its
+  -- entry, and the device has not failed.
+  pub record EndsAs (v : View (Home D) Judged) (r : Replica D) : Type 0 where
+    pub start : Start D
+    pub first : v.first ≡ values_of start
+    pub one : (s : Start D) → v.first ≡ values_of s → s ≡ start
+    pub taken : List Judged
+    pub waits : List Judged
+    pub ends : Ends honest history failures start.desk.engine start.certifier.current v.seen taken waits r
+    pub durable : v.durable ≤ durable_of r.engine.log
+    pub numbers : (x : ℕ) → times x v.own + once_below x v.start ≡ once_below x (v.start + length v.own)
+    pub drawn : length v.seen ≤ length v.own
+    pub whole : v.halted ≡ 0 → length v.seen ≡ length v.own
+    pub works : v.halted ≡ 0 → r.engine.halted ≡ None
+    -- Where the first parts stood for a node of an order: unless it was stopped, the replica stands for a node of that order with the
+    -- history's items at its end; and stopped or not, each image that the device leaves stands for a front of that order with the items that
+    -- the engine has taken, with all that is durable.
+    pub stands : (L : Order) (n : Node) → IsOf L n → StartsAs honest history failures start.desk.engine start.certifier.current n → r.stopped ≡ false → (m : Node) × IsOf (L ++ items_of v.seen) m × Holds honest history failures m r
+    pub images : (L : Order) (n : Node) → IsOf L n → StartsAs honest history failures start.desk.engine start.certifier.current n → (image : List ℕ) → IsImage (history r.engine.disk) image
+        → IsFrontOf Means start.desk.engine.checkpoint.base.uuid start.certifier.current.setting (L ++ items_of taken) (durable_of r.engine.log) image

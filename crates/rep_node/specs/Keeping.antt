@@ -1,0 +1,40 @@
+-- What the engine and the queue are while somebody works at them, and what a keeper says.
+use Rattle.std.specs.Prelude.{◌≡◌, ℕ, ◌+◌, ◌-◌, ◌≤◌, List, length, take}
+use Rattle.rep_types.specs.declared.judged.Judged.{Judged}
+use Rattle.rep_types.specs.declared.limits.TheConstants.{MAX_SEQNO}
+use Rattle.rep_disk.specs.History.{History}
+use Rattle.rep_engine.specs.Engines.{durable_of}
+use Rattle.rep_snap.specs.Lists.{published}
+use Rattle.rep_ordered.specs.declared.view.View.{View}
+use Rattle.rep_node.specs.declared.home.Desk.{Desk}
+use Rattle.rep_node.specs.declared.home.Queue.{Queue}
+use Rattle.rep_node.specs.declared.home.Home.{Home}
+use Rattle.rep_node.specs.declared.keeping.Kept.{Kept}
+use Rattle.rep_node.specs.Publishing.{shown}
+use Rattle.rep_node.specs.Homes.{Start, Begins, DeskAt, IsLegalBehind, QueueAt, position_of, values_of}
+
+-- the number that the value of the engine's station names for queue and engine
+abbrev pub common_of_desk : {D : Type 0} → Desk D → ℕ
+common_of_desk d = durable_of d.engine.log + length d.engine.block
+
+module _ {D : Type 0} (honest : D → Type 0) (history : D → History) (failures : D → ℕ) where
+  -- At the engine: it has taken a front of a history that is legal behind what the node was started with.
+  pub record AtWork (s : Start D) (items : List Judged) (d : Desk D) : Type 0 where
+    pub begins : Begins honest history failures s
+    pub legal : IsLegalBehind s.certifier.current items
+    pub desk : DeskAt honest history failures s 0 items d
+
+  -- At both engine and queue: they name the same item as the last that the engine accepted.
+  pub record AreAtWork (s : Start D) (number : ℕ) (items : List Judged) (d : Desk D) (q : Queue) : Type 0 where
+    pub work : AtWork s items d
+    pub queue : QueueAt s number items q
+    pub common : q.accepted ≡ common_of_desk d
+    pub limit : number ≤ MAX_SEQNO + 1
+
+-- What a keeper says: an item that is durable, which the seat has seen durable since; and readers may be told the list of all items up
+-- to there, each with what it wrote, which is nothing unless it committed.
+pub record IsKept {D : Type 0} (v w : View (Home D) Judged) (kept : Kept) : Type 0 where
+  pub durable : kept.durable ≤ w.durable
+  pub told : (s : Start D) → v.first ≡ values_of s → kept.told.book ≡ s.desk.publisher.book
+  pub least : (s : Start D) → v.first ≡ values_of s → position_of s ≤ kept.durable
+  pub list : (s : Start D) → v.first ≡ values_of s → published kept.told.list ≡ shown (take (kept.durable - position_of s) w.seen)

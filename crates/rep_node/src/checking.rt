@@ -1,0 +1,308 @@
+//! Checkpoints of a node that threads run.
+
+ghost use Rattle.std.specs.Prelude.{◌≡◌, ◌⊎◌, ℕ, ◌≤◌, [], List, None, Err, IsOk, IfOk, IfErr, OnOk};
+ghost use Rattle.rep_types.specs.declared.judged.Judged.{Judged as Entry};
+ghost use Rattle.rep_types.specs.declared.refusal.Refusal.TheVariants.{NotDue, OutOfMemory, Stopped as is_stopped};
+ghost use Rattle.rep_cert.specs.Holdings.{Holding};
+ghost use Rattle.rep_engine.specs.Engines.{Engine as Contents, durable_of};
+ghost use Rattle.rep_stations.specs.Taking.{HasTaken};
+ghost use Rattle.rep_ordered.specs.Views.{Holds, HoldsSide, Names, except, floor_of, turn_of};
+ghost use Rattle.rep_node.specs.Homes.{Start, AtHome, DeskAt};
+ghost use Rattle.rep_node.specs.Keeping.{AtWork, common_of_desk};
+ghost use Rattle.rep_node.specs.Seats.{IsSeat, SeesLegal, WentIdle};
+ghost use Rattle.rep_node.specs.Checking.{MayLend};
+
+use crate::home::{Desk, Home};
+use crate::node::{LockSeat, Node};
+use crate::parts::{certifier_of, desk_of};
+use crate::publishing::publish_upto;
+use crate::seat::Seat;
+use rep_cert::Certifier;
+use rep_checkpoint::Step;
+use rep_disk::Disk;
+use rep_engine::Engine;
+use rep_snap::histories_grow;
+use rep_stations::taken_items_stay;
+use rep_types::Refusal;
+use std::sync::Wait;
+
+/// Begins a checkpoint at what is durable, which it says, or takes the one that is under way on by its next write: `begins` says which is
+/// wanted.
+///
+/// Refuses with `NotDue` where the other is due, or neither, or where the base stands at what is durable: the engine is then as it was. Any
+/// other refusal, of the device or of a growth, leaves an engine to be given up.
+fn check<D: Disk>(
+    engine: &mut Engine<D>,
+    certifier: &Certifier,
+    begins: bool,
+) -> Result<u64, Refusal>
+    requires lent { (s : Start D) × (taken : List Entry) × (more : List Entry) × MayLend D.honest D.history D.failures s taken more certifier.now.current engine.old }
+    ensures taken { (s : Start D) → (taken : List Entry) → (more : List Entry) → MayLend D.honest D.history D.failures s taken more certifier.now.current engine.old → HasTaken D.honest D.history D.failures s.desk.engine s.certifier.current taken engine.new }
+    ensures still { (engine.new.log ≡ engine.old.log) × (engine.new.block ≡ engine.old.block) }
+    ensures works { engine.old.halted ≡ None → OnOk result (engine.new.halted ≡ None) }
+    ensures position { IfOk result (λ position. position ≡ durable_of engine.old.log) }
+    ensures unchanged { IfErr result (λ refusal. refusal ≡ NotDue → engine.new ≡ engine.old) }
+{
+    taken_items_stay::<D>();
+    let position = engine.durable();
+    let is_due = match engine.checkpoint_step() {
+        Step::Begin => begins,
+        Step::Next => !begins,
+        Step::Flush(_) | Step::Sync => false,
+    };
+    if !is_due {
+        return Err(Refusal::NotDue);
+    }
+    engine.check(certifier)?;
+    Ok(position)
+}
+
+/// What the checkpoint under way waits for, behind a step of the engine alone.
+#[derive(Clone, Copy, Debug, PartialEq, Eq)]
+enum Progress {
+    /// Another step.
+    Goes,
+    /// A step that asks for the certifier.
+    ForCertifier,
+    /// Nothing: none is under way.
+    Ended,
+}
+
+/// The step that the checkpoint under way waits for, where that is a page's flush or a sync. It takes no memory.
+fn flush_or_sync<D: Disk>(engine: &mut Engine<D>) -> Result<Progress, Refusal>
+    ensures taken { (first : Contents D) → (c : Holding) → (items : List Entry) → HasTaken D.honest D.history D.failures first c items engine.old → HasTaken D.honest D.history D.failures first c items engine.new }
+    ensures rises { durable_of engine.old.log ≤ durable_of engine.new.log }
+    ensures works { engine.old.halted ≡ None → OnOk result (engine.new.halted ≡ None) }
+    ensures unchanged { IfErr result (λ refusal. refusal ≡ NotDue → engine.new ≡ engine.old) }
+{
+    taken_items_stay::<D>();
+    // Tells the proof what holds of the engine.
+    let _durable = engine.durable();
+    match engine.checkpoint_step() {
+        Step::Begin => Ok(Progress::Ended),
+        Step::Next => Ok(Progress::ForCertifier),
+        Step::Flush(page) => {
+            engine.flush(u64::from(page))?;
+            Ok(Progress::Goes)
+        }
+        Step::Sync => {
+            let _replies = engine.sync()?;
+            Ok(Progress::Goes)
+        }
+    }
+}
+
+/// The step that the checkpoint under way waits for, where that asks for no certifier; what is durable behind it is published.
+///
+/// Any refusal, of the device or of a growth, leaves an engine to be given up.
+fn take_on<D: Disk, R: Wait>(rt: &R, desk: Desk<D>) -> (Desk<D>, Result<Progress, Refusal>)
+    requires work { (s : Start D) × (items : List Entry) × AtWork D.honest D.history D.failures s items desk }
+    ensures works { (s : Start D) → (items : List Entry) → AtWork D.honest D.history D.failures s items desk → OnOk result.1 (AtWork D.honest D.history D.failures s items result.0) }
+    ensures given { (s : Start D) → (items : List Entry) → AtWork D.honest D.history D.failures s items desk → DeskAt D.honest D.history D.failures s 1 items result.0 }
+    ensures rises { durable_of desk.engine.log ≤ durable_of result.0.engine.log }
+    ensures common { common_of_desk result.0 ≡ common_of_desk desk }
+    ensures unchanged { IfErr result.1 (λ refusal. refusal ≡ NotDue → result.0 ≡ desk) }
+{
+    let Desk {
+        mut engine,
+        publisher,
+        mut waiting,
+    } = desk;
+    let progress = match flush_or_sync(&mut engine) {
+        Ok(progress) => progress,
+        Err(refusal) => {
+            let desk = Desk {
+                engine,
+                publisher,
+                waiting,
+            };
+            return (desk, Err(refusal));
+        }
+    };
+    let durable = engine.durable();
+    let (publisher, published) = publish_upto(rt, publisher, &mut waiting, durable);
+    let desk = Desk {
+        engine,
+        publisher,
+        waiting,
+    };
+    match published {
+        Ok(()) => (desk, Ok(progress)),
+        Err(refusal) => (desk, Err(refusal)),
+    }
+}
+
+/// Lets what was published up to the base go, once no checkpoint is under way: readers find no snapshot below it any more.
+///
+/// Refuses with `OutOfMemory` where a growth was refused.
+fn prune<D: Disk, R: Wait>(rt: &R, desk: Desk<D>) -> (Desk<D>, Result<Progress, Refusal>)
+    ensures works { (s : Start D) → (items : List Entry) → AtWork D.honest D.history D.failures s items desk → OnOk result.1 (AtWork D.honest D.history D.failures s items result.0) }
+    ensures given { (s : Start D) → (items : List Entry) → AtWork D.honest D.history D.failures s items desk → DeskAt D.honest D.history D.failures s 1 items result.0 }
+    ensures same { result.0.engine ≡ desk.engine }
+    ensures refused { IfErr result.1 (λ refusal. refusal ≡ OutOfMemory) }
+{
+    histories_grow();
+    let Desk {
+        engine,
+        publisher,
+        waiting,
+    } = desk;
+    let (publisher, done) = publisher.prune(rt, engine.base());
+    let desk = Desk {
+        engine,
+        publisher,
+        waiting,
+    };
+    match done {
+        Ok(()) => (desk, Ok(Progress::Ended)),
+        Err(refusal) => (desk, Err(refusal)),
+    }
+}
+
+/// The step that the checkpoint under way waits for, where that asks for no certifier. Where none is under way, readers' snapshots below the
+/// base go.
+///
+/// Any refusal, of the device or of a growth, leaves an engine to be given up.
+fn step_on<D: Disk, R: Wait>(rt: &R, desk: Desk<D>) -> (Desk<D>, Result<Progress, Refusal>)
+    requires work { (s : Start D) × (items : List Entry) × AtWork D.honest D.history D.failures s items desk }
+    ensures works { (s : Start D) → (items : List Entry) → AtWork D.honest D.history D.failures s items desk → OnOk result.1 (AtWork D.honest D.history D.failures s items result.0) }
+    ensures given { (s : Start D) → (items : List Entry) → AtWork D.honest D.history D.failures s items desk → DeskAt D.honest D.history D.failures s 1 items result.0 }
+    ensures rises { durable_of desk.engine.log ≤ durable_of result.0.engine.log }
+    ensures common { common_of_desk result.0 ≡ common_of_desk desk }
+    ensures unchanged { IfErr result.1 (λ refusal. refusal ≡ NotDue → result.0 ≡ desk) }
+{
+    let (desk, done) = take_on(rt, desk);
+    match done {
+        Ok(Progress::Ended) => prune(rt, desk),
+        done => (desk, done),
+    }
+}
+
+impl<D: Disk> Node<D> {
+    /// Puts the engine back, where the node goes on; else the node is halted, and the engine given up. It goes on after a success, and after
+    /// a refusal with `NotDue`.
+    fn put_back<T: Drop>(
+        &self,
+        seat: &mut LockSeat<D>,
+        desk: Desk<D>,
+        done: Result<T, Refusal>,
+    ) -> Result<T, Refusal>
+        requires lock { seat.old.lock ≡ self.now }
+        requires side { HoldsSide seat.old.view 1 × Holds seat.old.view 1 × (except 1 seat.old.view.held ≡ []) }
+        requires sees { SeesLegal seat.old.view seat.old.view }
+        requires works { (done ≡ Err NotDue) ⊎ IsOk done → AtHome D.honest D.history D.failures seat.old.view.first 1 (turn_of 1 seat.old.view) 0 seat.old.view.seen seat.old.view.durable (Home.Desk desk) }
+        requires given { AtHome D.honest D.history D.failures seat.old.view.first 1 (turn_of 1 seat.old.view) 1 seat.old.view.seen seat.old.view.durable (Home.Desk desk) }
+        requires floor { floor_of 1 seat.old.view ≤ durable_of desk.engine.log }
+        requires common { Names seat.old.view (common_of_desk desk) }
+        ensures lock { seat.new.lock ≡ seat.old.lock }
+        ensures idle { WentIdle seat.old.view seat.new.view }
+        ensures same { OnOk result (result ≡ done) }
+        ensures refused { IfErr result (λ refusal. (refusal ≡ NotDue) ⊎ ((refusal ≡ is_stopped) × (seat.new.view.halted ≡ 1))) }
+    {
+        match done {
+            Ok(value) => {
+                self.lock.side_leave(seat, 1, Home::Desk(desk));
+                Ok(value)
+            }
+            Err(Refusal::NotDue) => {
+                self.lock.side_leave(seat, 1, Home::Desk(desk));
+                Err(Refusal::NotDue)
+            }
+            Err(_) => {
+                self.lock.halt(seat);
+                self.lock.give_up(seat, 1, Home::Desk(desk));
+                Err(Refusal::Stopped)
+            }
+        }
+    }
+
+    /// The step of a checkpoint that asks for the certifier: it begins, or makes its next write. Where it begins, it does so at what is
+    /// durable, which it says: no less than the seat had seen durable.
+    ///
+    /// Refuses with `NotDue` where the other is due, or neither, or where the base stands at what is durable. Refuses with `Stopped` where
+    /// the node was halted, which it does itself where the device fails, or where there is no memory.
+    fn check_once<R: Wait>(
+        &self,
+        rt: &R,
+        seat: &mut LockSeat<D>,
+        begins: bool,
+    ) -> Result<u64, Refusal>
+        requires lock { seat.old.lock ≡ self.now }
+        requires seat { IsSeat D.honest D.history D.failures seat.old.view }
+        requires free { seat.old.view.held ≡ [] }
+        ensures lock { seat.new.lock ≡ seat.old.lock }
+        ensures idle { WentIdle seat.old.view seat.new.view }
+        ensures position { IfOk result (λ position. seat.old.view.durable ≤ position) }
+        ensures refused { IfErr result (λ refusal. (refusal ≡ NotDue) ⊎ ((refusal ≡ is_stopped) × (seat.new.view.halted ≡ 1))) }
+    {
+        let certifier = certifier_of(self.lock.side_enter(rt, seat, 0)?);
+        let home = match self.lock.side_enter(rt, seat, 1) {
+            Ok(home) => home,
+            Err(refusal) => {
+                self.lock.side_leave(seat, 0, Home::Certifier(certifier));
+                return Err(refusal);
+            }
+        };
+        let mut desk = desk_of(home);
+        let done = check(&mut desk.engine, &certifier, begins);
+        self.lock.side_leave(seat, 0, Home::Certifier(certifier));
+        self.put_back(seat, desk, done)
+    }
+
+    /// The step that the checkpoint under way waits for, where that asks for no certifier.
+    ///
+    /// Refuses with `Stopped` where the node was halted, which it does itself where the device fails, where a page of the base is not of its
+    /// form, or where there is no memory.
+    fn go_on<R: Wait>(&self, rt: &R, seat: &mut LockSeat<D>) -> Result<Progress, Refusal>
+        requires lock { seat.old.lock ≡ self.now }
+        requires seat { IsSeat D.honest D.history D.failures seat.old.view }
+        requires free { seat.old.view.held ≡ [] }
+        ensures lock { seat.new.lock ≡ seat.old.lock }
+        ensures idle { WentIdle seat.old.view seat.new.view }
+        ensures refused { IfErr result (λ refusal. (refusal ≡ NotDue) ⊎ ((refusal ≡ is_stopped) × (seat.new.view.halted ≡ 1))) }
+    {
+        let desk = desk_of(self.lock.side_enter(rt, seat, 1)?);
+        let (desk, done) = step_on(rt, desk);
+        self.put_back(seat, desk, done)
+    }
+
+    /// Takes the checkpoint under way to its end.
+    fn finish<R: Wait>(&self, rt: &R, seat: &mut LockSeat<D>) -> Result<(), Refusal>
+        requires lock { seat.old.lock ≡ self.now }
+        requires seat { IsSeat D.honest D.history D.failures seat.old.view }
+        requires free { seat.old.view.held ≡ [] }
+        ensures lock { seat.new.lock ≡ seat.old.lock }
+        ensures idle { WentIdle seat.old.view seat.new.view }
+        ensures refused { IfErr result (λ refusal. (refusal ≡ NotDue) ⊎ ((refusal ≡ is_stopped) × (seat.new.view.halted ≡ 1))) }
+    {
+        for _ in rt.forever() {
+            match self.go_on(rt, seat)? {
+                Progress::Goes => (),
+                Progress::ForCertifier => match self.check_once(rt, seat, false) {
+                    Ok(_) | Err(Refusal::NotDue) => (),
+                    Err(refusal) => return Err(refusal),
+                },
+                Progress::Ended => return Ok(()),
+            }
+        }
+        unreachable!()
+    }
+
+    /// Runs a whole checkpoint, to what is durable when it begins, and says at which position the base then is: no less than the seat had
+    /// seen durable. The log's cells before it are free again, and readers find no snapshot below the base any more. The certifier is held
+    /// where the checkpoint begins and for the few writes behind its pages; else items are judged and queued beside it.
+    ///
+    /// Refuses with `NotDue` where a checkpoint is under way, or the base stands at what is durable. Refuses with `Stopped` where the node was halted,
+    /// which it does itself where the device fails, where a page of the base is not of its form, or where there is no memory.
+    pub fn check_run<R: Wait>(&self, rt: &R, seat: &mut Seat<D>) -> Result<u64, Refusal>
+        requires { seat.old.lock ≡ self.now }
+        ensures lock { seat.new.lock ≡ seat.old.lock }
+        ensures idle { WentIdle seat.old.view seat.new.view }
+        ensures base { IfOk result (λ base. seat.old.view.durable ≤ base) }
+        ensures refused { IfErr result (λ refusal. (refusal ≡ NotDue) ⊎ ((refusal ≡ is_stopped) × (seat.new.view.halted ≡ 1))) }
+    {
+        let position = self.check_once(rt, &mut seat.seat, true)?;
+        self.finish(rt, &mut seat.seat)?;
+        Ok(position)
+    }
+}

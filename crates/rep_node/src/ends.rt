@@ -1,0 +1,193 @@
+//! How a node is started and closed.
+
+ghost use Rattle.std.specs.Prelude.{◌≡◌, ◌+◌, ◌-◌, ◌<◌, ◌≤◌, ◌⊎◌, ◌||◌, [], length, map, true, is_some, Some, ◌++◌, ◌∷◌, IsSome, IfOk, IfErr, IsTrue, IsFalse, vec_capacity};
+ghost use Rattle.uuid.specs.Parts.{is_nil_bytes};
+ghost use Rattle.rep_types.specs.declared.refusal.Refusal.TheVariants.{OutOfMemory, Stopped as is_stopped};
+ghost use Rattle.rep_replica.specs.Replicas.{facts_of};
+ghost use Rattle.rep_replica.specs.Settling.{is_quiet, IsRunning};
+ghost use Rattle.rep_engine.specs.Engines.{durable_of};
+ghost use Rattle.rep_ordered.specs.Views.{HasAll, opened};
+ghost use Rattle.rep_node.specs.Homes.{Start, IsLegal, durable_in, common_in, values_of};
+ghost use Rattle.rep_node.specs.Seats.{PassedOrStopped};
+ghost use Rattle.rep_node.specs.Ending.{StartsFrom, EndsAs};
+
+use crate::home::{Desk, Home, Queue};
+use crate::node::Node;
+use crate::origin::Origin;
+use crate::parts::{certifier_of, desk_of, queue_of};
+use crate::seat::Seat;
+use crate::waiting::Waiting;
+use rep_cert::Certifier;
+use rep_disk::Disk;
+use rep_ordered::{OrderedLock, Refused};
+use rep_replica::Replica;
+use rep_snap::Reader;
+use rep_stations::{histories_extend_the_order, histories_go_on, histories_lie_between_replicas};
+use rep_types::{MAX_SEQNO, Refusal};
+use std::alloc::Global;
+use std::sync::Wait;
+
+/// The memory that a node takes beside its lock and its publisher.
+struct Space<D: Disk> {
+    waiting: Waiting,
+    room: Vec<Home<D>>,
+}
+
+fn reserved<D: Disk>(alloc: Global) -> Result<Space<D>, Refusal>
+    ensures empty { IfOk result (λ s. (s.waiting ≡ []) × (s.room.items ≡ []) × (3 ≤ vec_capacity s.room)) }
+    ensures refused { IfErr result (λ refusal. refusal ≡ OutOfMemory) }
+{
+    let waiting = Waiting::new(alloc)?;
+    match Vec::with_capacity(alloc, 3) {
+        Ok(room) => Ok(Space { waiting, room }),
+        Err(_) => Err(Refusal::OutOfMemory),
+    }
+}
+
+/// The last of the values.
+fn last_of<T>(values: &mut Vec<T>) -> T
+    requires { 0 < length values.old.items }
+    ensures { values.old.items ≡ values.new.items ++ result ∷ [] }
+{
+    match values.pop() {
+        Some(value) => value,
+        None => unreachable!(),
+    }
+}
+
+/// What a slot has that is full.
+fn full<T>(slot: Option<T>) -> T
+    requires { IsSome slot }
+    ensures { slot ≡ Some result }
+{
+    match slot {
+        Some(value) => value,
+        None => unreachable!(),
+    }
+}
+
+/// The values of three stations.
+fn values_of<D: Disk>(mut homes: Vec<Home<D>>) -> (Certifier, Desk<D>, Queue)
+    requires { (s : Start D) × (homes.items ≡ values_of s) }
+    ensures { homes.items ≡ values_of (record { certifier = result.0; desk = result.1; queue = result.2 }) }
+{
+    let queue = queue_of(last_of(&mut homes));
+    let desk = desk_of(last_of(&mut homes));
+    let certifier = certifier_of(last_of(&mut homes));
+    homes.destroy_empty();
+    (certifier, desk, queue)
+}
+
+/// The values of three stations that were closed.
+fn closed_values_of<D: Disk>(mut homes: Vec<Option<Home<D>>>) -> (Certifier, Desk<D>, Queue)
+    requires { (s : Start D) × (homes.items ≡ map Some (values_of s)) }
+    ensures { homes.items ≡ map Some (values_of (record { certifier = result.0; desk = result.1; queue = result.2 })) }
+{
+    let queue = queue_of(full(last_of(&mut homes)));
+    let desk = desk_of(full(last_of(&mut homes)));
+    let certifier = certifier_of(full(last_of(&mut homes)));
+    homes.destroy_empty();
+    (certifier, desk, queue)
+}
+
+impl<D: Disk> Node<D> {
+    /// Starts a node from a replica that has nothing left to do and belongs to a cluster, with its first seat, which may draw every seqno
+    /// that is left, and so many readers, 1 to 64.
+    ///
+    /// Refuses with `Stopped` where the replica is stopped, and with `OutOfMemory` where a growth was refused; the replica is handed back
+    /// as it was. It may then wait, for readers that nobody has.
+    pub fn start<R: Wait>(
+        alloc: Global,
+        rt: &R,
+        replica: Replica<D>,
+        readers: usize,
+    ) -> Result<(Node<D>, Seat<D>, Vec<Reader<Origin>>), (Replica<D>, Refusal)>
+        requires quiet { is_quiet (facts_of D.failures replica) ≡ true }
+        requires defined { IsFalse (is_nil_bytes replica.engine.checkpoint.base.uuid) }
+        requires readers { (0 < readers) × (readers ≤ 64) }
+        ensures lock { IfOk result (λ made. made.1.lock ≡ made.0) }
+        ensures view { IfOk result (λ made. made.1.view ≡ opened durable_in common_in (durable_of replica.engine.log + 1) (MAX_SEQNO - durable_of replica.engine.log) made.1.view.first (durable_of replica.engine.log)) }
+        ensures starts { IfOk result (λ made. StartsFrom D.honest D.history D.failures replica made.1.view made.2.items) }
+        ensures readers { IfOk result (λ made. length made.2.items ≡ readers) }
+        ensures refused { IfErr result (λ back. (back.0 ≡ replica) × (((back.1 ≡ OutOfMemory) × IsRunning replica) ⊎ ((back.1 ≡ is_stopped) × ((replica.stopped || is_some replica.engine.halted) ≡ true)))) }
+    {
+        histories_lie_between_replicas::<D>();
+        histories_go_on();
+        if replica.is_stopped() {
+            return Err((replica, Refusal::Stopped));
+        }
+        let (certifier, backlog, engine) = replica.into_parts();
+        let Ok(Space { waiting, mut room }) = reserved(alloc) else {
+            let replica = Replica::from_parts(certifier, backlog, engine, false);
+            return Err((replica, Refusal::OutOfMemory));
+        };
+        let position = engine.durable();
+        let origin = Origin::of(&certifier);
+        let Ok((publisher, readers)) = rep_snap::start(alloc, rt, origin, position, readers) else {
+            room.destroy_empty();
+            let replica = Replica::from_parts(certifier, backlog, engine, false);
+            return Err((replica, Refusal::OutOfMemory));
+        };
+        room.push_reserved(Home::Certifier(certifier));
+        room.push_reserved(Home::Desk(Desk {
+            engine,
+            publisher,
+            waiting,
+        }));
+        room.push_reserved(Home::Queue(Queue {
+            backlog,
+            accepted: position,
+        }));
+        match OrderedLock::new(alloc, room, position, position) {
+            Ok((lock, seat)) => {
+                let seat = Seat {
+                    seat,
+                    allowance: MAX_SEQNO - position,
+                };
+                Ok((Node { lock }, seat, readers))
+            }
+            Err(Refused { values }) => {
+                let (certifier, desk, queue) = values_of(values);
+                let Desk {
+                    engine,
+                    publisher,
+                    waiting: _,
+                } = desk;
+                publisher.close(rt);
+                let replica = Replica::from_parts(certifier, queue.backlog, engine, false);
+                Err((replica, Refusal::OutOfMemory))
+            }
+        }
+    }
+
+    /// Closes the node by a seat to which all others were joined, and puts the replica together again. Readers find nothing from then on.
+    /// It waits for those that are just looking.
+    ///
+    /// The replica is stopped exactly where the seat knows of a halt. Otherwise it runs, and on an honest device it stands for the order of
+    /// the replica that the node was started from, with the items of the history at its end. There, stopped or not, each image that a crash
+    /// may leave of its device stands for a front of that order with all that is durable.
+    pub fn close<R: Wait>(self, rt: &R, seat: Seat<D>) -> Replica<D>
+        requires lock { seat.lock ≡ self }
+        requires all { HasAll seat.view }
+        requires passed { PassedOrStopped seat.view }
+        ensures stopped { (IsTrue result.stopped → seat.view.halted ≡ 1) × (IsFalse result.stopped → seat.view.halted ≡ 0) }
+        ensures legal { IsLegal seat.view.first seat.view.seen }
+        ensures ends { EndsAs D.honest D.history D.failures seat.view result }
+    {
+        histories_lie_between_replicas::<D>();
+        histories_extend_the_order::<D>();
+        histories_go_on();
+        let Node { lock } = self;
+        let Seat { mut seat, .. } = seat;
+        let stopped = lock.front(&mut seat).halted;
+        let homes = lock.close(seat);
+        let (certifier, desk, queue) = closed_values_of(homes);
+        let Desk {
+            engine,
+            publisher,
+            waiting: _,
+        } = desk;
+        publisher.close(rt);
+        Replica::from_parts(certifier, queue.backlog, engine, stopped)
+    }
+}

@@ -1,0 +1,226 @@
+//! What makes items durable, and shows them to readers.
+
+ghost use Rattle.std.specs.Prelude.{◌≡◌, ◌⊎◌, ℕ, ◌≤◌, [], List, None, IfOk, IfErr, OnOk, OnErr};
+ghost use Rattle.rep_types.specs.declared.judged.Judged.{Judged as Entry};
+ghost use Rattle.rep_types.specs.declared.refusal.Refusal.TheVariants.{LogFull, Stopped as is_stopped};
+ghost use Rattle.rep_cert.specs.Holdings.{Holding};
+ghost use Rattle.rep_engine.specs.Engines.{Engine as Contents, durable_of};
+ghost use Rattle.rep_stations.specs.Taking.{HasTaken};
+ghost use Rattle.rep_node.specs.Homes.{Start, DeskAt};
+ghost use Rattle.rep_node.specs.Seats.{IsSeat, WentIdle};
+ghost use Rattle.rep_node.specs.Keeping.{AtWork, AreAtWork, IsKept, common_of_desk};
+
+use crate::home::{Desk, Home, Queue};
+use crate::node::{LockSeat, Node};
+use crate::parts::{desk_of, queue_of};
+use crate::publishing::{publish_upto, wait_for};
+use crate::seat::Seat;
+use crossbeam_utils::Backoff;
+use rep_disk::Disk;
+use rep_engine::Engine;
+use rep_log::Step;
+use rep_record::fronts_are_determined;
+use rep_snap::Told;
+use rep_stations::{histories_go_on, take_next, taken_items_stay};
+use rep_types::Refusal;
+use std::sync::Wait;
+
+/// What is durable, and what readers may be told: up to there.
+#[derive(Drop)]
+pub struct Kept {
+    /// The seqno of the last durable item.
+    pub durable: u64,
+    /// The list that is published so far: its readers find no shorter one once they learn it.
+    pub told: Told,
+}
+
+/// Has the engine accept what comes next of the items that wait, and these wait to be published.
+///
+/// Refuses with `OutOfMemory` where the engine does: it is then as it was, and so is the queue.
+fn accept<D: Disk>(desk: &mut Desk<D>, queue: &mut Queue) -> Result<(), Refusal>
+    requires work { (s : Start D) × (number : ℕ) × (items : List Entry) × AreAtWork D.honest D.history D.failures s number items desk.old queue.old }
+    ensures accepted { (s : Start D) → (number : ℕ) → (items : List Entry) → AreAtWork D.honest D.history D.failures s number items desk.old queue.old → OnOk result (AreAtWork D.honest D.history D.failures s number items desk.new queue.new) }
+    ensures durable { OnOk result (durable_of desk.new.engine.log ≡ durable_of desk.old.engine.log) }
+    ensures rises { queue.old.accepted ≤ queue.new.accepted }
+    ensures unchanged { OnErr result ((desk.new.engine ≡ desk.old.engine) × (desk.new.publisher ≡ desk.old.publisher) × (queue.new ≡ queue.old)) }
+{
+    histories_go_on();
+    taken_items_stay::<D>();
+    fronts_are_determined();
+    // Tells the proof what holds of the engine.
+    let _durable = desk.engine.durable();
+    let count = desk.engine.next_items(&queue.backlog);
+    wait_for(&mut desk.waiting, &queue.backlog, count);
+    take_next(&mut desk.engine, &mut queue.backlog)?;
+    queue.accepted = desk.engine.delivered();
+    Ok(())
+}
+
+/// The step that the log waits for: its next write, where there is something to write, or a sync.
+///
+/// Refuses with `LogFull` where the log's next cell is still needed: the engine is then as it was; and with `DiskFault` where the device
+/// failed.
+fn write_or_sync<D: Disk>(engine: &mut Engine<D>) -> Result<(), Refusal>
+    ensures taken { (first : Contents D) → (c : Holding) → (items : List Entry) → HasTaken D.honest D.history D.failures first c items engine.old → HasTaken D.honest D.history D.failures first c items engine.new }
+    ensures rises { durable_of engine.old.log ≤ durable_of engine.new.log }
+    ensures works { engine.old.halted ≡ None → OnOk result (engine.new.halted ≡ None) }
+    ensures full { IfErr result (λ refusal. refusal ≡ LogFull → engine.new ≡ engine.old) }
+{
+    taken_items_stay::<D>();
+    // Tells the proof what holds of the engine.
+    let _durable = engine.durable();
+    let done = match engine.log_step() {
+        Step::Sync => engine.sync().map(|_replies| -> () {}),
+        Step::Recycle | Step::Seal | Step::Gate | Step::Full => engine.log(),
+    };
+    match done {
+        Err(Refusal::NotDue) => Ok(()),
+        done => done,
+    }
+}
+
+/// The step that the log waits for, after which what is durable is published.
+///
+/// Refuses with `LogFull` where the log's next cell is still needed: nothing has changed then. Any other refusal, of the device or of a
+/// growth, leaves an engine to be given up.
+fn advance<D: Disk, R: Wait>(rt: &R, desk: Desk<D>) -> (Desk<D>, Result<(), Refusal>)
+    requires work { (s : Start D) × (items : List Entry) × AtWork D.honest D.history D.failures s items desk }
+    ensures works { (s : Start D) → (items : List Entry) → AtWork D.honest D.history D.failures s items desk → OnOk result.1 (AtWork D.honest D.history D.failures s items result.0) }
+    ensures given { (s : Start D) → (items : List Entry) → AtWork D.honest D.history D.failures s items desk → DeskAt D.honest D.history D.failures s 1 items result.0 }
+    ensures rises { durable_of desk.engine.log ≤ durable_of result.0.engine.log }
+    ensures common { common_of_desk result.0 ≡ common_of_desk desk }
+    ensures full { IfErr result.1 (λ refusal. refusal ≡ LogFull → result.0 ≡ desk) }
+{
+    taken_items_stay::<D>();
+    let Desk {
+        mut engine,
+        publisher,
+        mut waiting,
+    } = desk;
+    let done = write_or_sync(&mut engine);
+    if let Err(refusal) = done {
+        let desk = Desk {
+            engine,
+            publisher,
+            waiting,
+        };
+        return (desk, Err(refusal));
+    }
+    let durable = engine.durable();
+    let (publisher, done) = publish_upto(rt, publisher, &mut waiting, durable);
+    let desk = Desk {
+        engine,
+        publisher,
+        waiting,
+    };
+    (desk, done)
+}
+
+impl<D: Disk> Node<D> {
+    /// Has the engine accept what comes next of the items that wait.
+    ///
+    /// Refuses with `Stopped` where the node was halted, which it does itself where there is no memory.
+    fn accept_next<R: Wait>(&self, rt: &R, seat: &mut LockSeat<D>) -> Result<(), Refusal>
+        requires lock { seat.old.lock ≡ self.now }
+        requires seat { IsSeat D.honest D.history D.failures seat.old.view }
+        requires free { seat.old.view.held ≡ [] }
+        ensures lock { seat.new.lock ≡ seat.old.lock }
+        ensures idle { WentIdle seat.old.view seat.new.view }
+        ensures stopped { IfErr result (λ refusal. (refusal ≡ is_stopped) × (seat.new.view.halted ≡ 1)) }
+    {
+        let mut desk = desk_of(self.lock.side_enter(rt, seat, 1)?);
+        let home = match self.lock.side_enter(rt, seat, 2) {
+            Ok(home) => home,
+            Err(refusal) => {
+                self.lock.side_leave(seat, 1, Home::Desk(desk));
+                return Err(refusal);
+            }
+        };
+        let mut queue = queue_of(home);
+        let done = accept(&mut desk, &mut queue);
+        self.lock.side_leave(seat, 2, Home::Queue(queue));
+        if done.is_err() {
+            self.lock.halt(seat);
+            self.lock.give_up(seat, 1, Home::Desk(desk));
+            return Err(Refusal::Stopped);
+        }
+        self.lock.side_leave(seat, 1, Home::Desk(desk));
+        Ok(())
+    }
+
+    /// The log's next step: a write, or a sync, after which what is durable is published. It says what is durable then.
+    ///
+    /// Refuses with `LogFull` where a checkpoint has to free the log's next cell. Refuses with `Stopped` where the node was halted, which it
+    /// does itself where the device fails, or where there is no memory.
+    fn keep_once<R: Wait>(&self, rt: &R, seat: &mut LockSeat<D>) -> Result<Kept, Refusal>
+        requires lock { seat.old.lock ≡ self.now }
+        requires seat { IsSeat D.honest D.history D.failures seat.old.view }
+        requires free { seat.old.view.held ≡ [] }
+        ensures lock { seat.new.lock ≡ seat.old.lock }
+        ensures idle { WentIdle seat.old.view seat.new.view }
+        ensures kept { IfOk result (IsKept seat.old.view seat.new.view) }
+        ensures refused { IfErr result (λ refusal. (refusal ≡ LogFull) ⊎ ((refusal ≡ is_stopped) × (seat.new.view.halted ≡ 1))) }
+    {
+        let desk = desk_of(self.lock.side_enter(rt, seat, 1)?);
+        let (desk, done) = advance(rt, desk);
+        let durable = desk.engine.durable();
+        let told = desk.publisher.tell();
+        match done {
+            Ok(()) => {
+                self.lock.side_leave(seat, 1, Home::Desk(desk));
+                self.lock.raise(seat, durable);
+                self.wait_durable(rt, seat, durable)?;
+                Ok(Kept { durable, told })
+            }
+            Err(Refusal::LogFull) => {
+                self.lock.side_leave(seat, 1, Home::Desk(desk));
+                Err(Refusal::LogFull)
+            }
+            Err(_) => {
+                self.lock.halt(seat);
+                self.lock.give_up(seat, 1, Home::Desk(desk));
+                Err(Refusal::Stopped)
+            }
+        }
+    }
+
+    /// Makes items durable until the seqno `upto` is.
+    fn keep_upto<R: Wait>(&self, rt: &R, seat: &mut LockSeat<D>, upto: u64) -> Result<Kept, Refusal>
+        requires lock { seat.old.lock ≡ self.now }
+        requires seat { IsSeat D.honest D.history D.failures seat.old.view }
+        requires free { seat.old.view.held ≡ [] }
+        ensures lock { seat.new.lock ≡ seat.old.lock }
+        ensures idle { WentIdle seat.old.view seat.new.view }
+        ensures kept { IfOk result (λ kept. (upto ≤ kept.durable) × IsKept seat.old.view seat.new.view kept) }
+        ensures refused { IfErr result (λ refusal. (refusal ≡ LogFull) ⊎ ((refusal ≡ is_stopped) × (seat.new.view.halted ≡ 1))) }
+    {
+        let backoff = Backoff::new();
+        for _ in rt.forever() {
+            self.accept_next(rt, seat)?;
+            let kept = self.keep_once(rt, seat)?;
+            if kept.durable >= upto {
+                return Ok(kept);
+            }
+            backoff.snooze();
+        }
+        unreachable!()
+    }
+
+    /// Makes items durable until the seqno `upto` is, and shows them to readers: it says what is durable, and what readers may be told.
+    ///
+    /// Each durable item is published, with what it wrote, which is nothing unless it committed.
+    ///
+    /// Refuses with `LogFull` where a checkpoint has to free the log's next cell: the node goes on, and `check_run` frees it. Refuses with
+    /// `Stopped` where the node was halted, which it does itself where the device fails, or where there is no memory.
+    ///
+    /// It is not promised that it returns: somebody has to hand items in up to there.
+    pub fn keep<R: Wait>(&self, rt: &R, seat: &mut Seat<D>, upto: u64) -> Result<Kept, Refusal>
+        requires { seat.old.lock ≡ self.now }
+        ensures lock { seat.new.lock ≡ seat.old.lock }
+        ensures idle { WentIdle seat.old.view seat.new.view }
+        ensures kept { IfOk result (λ kept. (upto ≤ kept.durable) × IsKept seat.old.view seat.new.view kept) }
+        ensures refused { IfErr result (λ refusal. (refusal ≡ LogFull) ⊎ ((refusal ≡ is_stopped) × (seat.new.view.halted ≡ 1))) }
+    {
+        self.keep_upto(rt, &mut seat.seat, upto)
+    }
+}

@@ -1,0 +1,24 @@
+//! The node that threads run: items are judged at one station, made durable at another, and wait between the two.
+//! [`Node`] says how.
+#![tactic(auto)]
+
+mod checking;
+mod ends;
+mod home;
+mod keeping;
+mod node;
+mod origin;
+mod pace;
+mod parts;
+mod publishing;
+mod seat;
+mod submitting;
+mod waiting;
+
+pub use home::{Desk, Home, Queue};
+pub use keeping::Kept;
+pub use node::Node;
+pub use origin::Origin;
+pub use pace::{Pace, Point};
+pub use seat::Seat;
+pub use waiting::Waiting;

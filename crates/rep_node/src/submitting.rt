@@ -1,0 +1,136 @@
+//! The way of an item: it is numbered, judged, queued, and waited for.
+
+ghost use Rattle.std.specs.Prelude.{◌≡◌, ℕ, ◌+◌, ◌<◌, ◌≤◌, ◌++◌, ◌∷◌, [], true, IfOk, IfErr, OnOk, List};
+ghost use Rattle.rep_types.specs.declared.item.Item.TheVariants.{WriteSet as OfWriteSet};
+ghost use Rattle.rep_types.specs.Items.{is_write_set};
+ghost use Rattle.rep_types.specs.declared.judged.Judged.{Judged as Entry};
+ghost use Rattle.rep_ordered.specs.declared.view.Joined.{Joined};
+ghost use Rattle.rep_ordered.specs.Views.{Later, OwnEntry, reached_at};
+ghost use Rattle.rep_ordered.specs.Going.{Went};
+ghost use Rattle.rep_node.specs.Seats.{Drew, DrewOne, IsSeat, PassedOrStopped, Joins, SeesLegal, IsGiven, own_entry};
+
+use crate::home::Home;
+use crate::node::{LockSeat, Node};
+use crate::pace::{Pace, Point};
+use crate::parts::{certifier_of, queue_of};
+use rep_disk::Disk;
+use rep_stations::{histories_go_on, judge_next};
+use rep_types::{Item, Judged, MAX_AHEAD, MAX_SEQNO, Refusal, Verdict, WriteSet};
+use std::sync::Wait;
+
+impl<D: Disk> Node<D> {
+    /// Judges the item at this number: it joins the history there.
+    fn certify<R: Wait>(
+        &self,
+        rt: &R,
+        seat: &mut LockSeat<D>,
+        ticket: u64,
+        item: Item,
+    ) -> Result<Judged, Refusal>
+        requires lock { seat.old.lock ≡ self.now }
+        requires seat { IsSeat D.honest D.history D.failures seat.old.view }
+        requires free { seat.old.view.held ≡ [] }
+        requires ticket { Drew ticket seat.old.view × (ticket ≤ MAX_SEQNO) }
+        requires room { ticket ≤ seat.old.view.durable + MAX_AHEAD }
+        requires item { is_write_set item ≡ true }
+        ensures lock { seat.new.lock ≡ seat.old.lock }
+        ensures went { Went seat.old.view seat.new.view }
+        ensures own { seat.new.view.own ≡ seat.old.view.own }
+        ensures joined { IfOk result (λ judged. (judged.item ≡ item) × (judged.seqno ≡ ticket) × (seat.new.view.joined ≡ own_entry judged ∷ seat.old.view.joined)) }
+        ensures none { IfErr result (λ refusal. seat.new.view.joined ≡ seat.old.view.joined) }
+        ensures stopped { IfErr result (λ refusal. (refusal ≡ Refusal.Stopped) × (seat.new.view.halted ≡ 1) × SeesLegal seat.old.view seat.new.view) }
+    {
+        histories_go_on();
+        let home = self.lock.enter(rt, seat, 0, ticket)?;
+        let mut certifier = certifier_of(home);
+        let Ok(judged) = judge_next(&mut certifier, item) else {
+            unreachable!()
+        };
+        let entry = Some(judged);
+        self.lock.leave(seat, 0, Home::Certifier(certifier), &entry);
+        Ok(entry.unwrap())
+    }
+
+    /// Puts the item that was judged last among those that wait for the engine.
+    fn queue<R: Wait>(&self, rt: &R, seat: &mut LockSeat<D>, judged: Judged) -> Result<(), Refusal>
+        requires lock { seat.old.lock ≡ self.now }
+        requires seat { IsSeat D.honest D.history D.failures seat.old.view }
+        requires free { seat.old.view.held ≡ [] }
+        requires ticket { Drew judged.seqno seat.old.view }
+        requires room { judged.seqno ≤ seat.old.view.durable + MAX_AHEAD }
+        requires judged { (others : List (Joined Entry)) × (seat.old.view.joined ≡ own_entry judged ∷ others) }
+        ensures lock { seat.new.lock ≡ seat.old.lock }
+        ensures went { Went seat.old.view seat.new.view }
+        ensures own { (seat.new.view.own ≡ seat.old.view.own) × (seat.new.view.joined ≡ seat.old.view.joined) }
+        ensures passed { OnOk result (judged.seqno < reached_at 2 seat.new.view.reached) }
+        ensures stopped { IfErr result (λ refusal. (refusal ≡ Refusal.Stopped) × (seat.new.view.halted ≡ 1) × SeesLegal seat.old.view seat.new.view) }
+    {
+        histories_go_on();
+        let home = self.lock.enter(rt, seat, 2, judged.seqno)?;
+        let mut queue = queue_of(home);
+        if queue.backlog.push(judged).is_err() {
+            unreachable!();
+        }
+        self.lock.leave(seat, 2, Home::Queue(queue), &None);
+        Ok(())
+    }
+
+    /// Goes on where the pace says so, and halts the node where it does not.
+    fn paced<P: Pace>(
+        &self,
+        seat: &mut LockSeat<D>,
+        pace: &P,
+        point: Point,
+        seqno: u64,
+    ) -> Result<(), Refusal>
+        requires lock { seat.old.lock ≡ self.now }
+        ensures lock { seat.new.lock ≡ seat.old.lock }
+        ensures later { Later seat.old.view seat.new.view }
+        ensures same { OnOk result (seat.new ≡ seat.old) }
+        ensures stopped { IfErr result (λ refusal. (refusal ≡ Refusal.Stopped) × (seat.new.view.halted ≡ 1) × SeesLegal seat.old.view seat.new.view) }
+    {
+        if pace.at(point, seqno) {
+            return Ok(());
+        }
+        self.lock.halt(seat);
+        Err(Refusal::Stopped)
+    }
+
+    /// Hands in an item, and waits until it is durable: its entry is then the seat's own, and stands in the history. At most 256 items
+    /// are judged and not yet durable. It gives the item's seqno and its verdict.
+    ///
+    /// Refuses with `Stopped` where the node was halted, which it does itself where the pace says no. The item may then stand in the
+    /// history or not, but not as another.
+    ///
+    /// It takes no memory. It is not promised that it returns: somebody has to make items durable.
+    pub(crate) fn submit<R: Wait, P: Pace>(
+        &self,
+        rt: &R,
+        seat: &mut LockSeat<D>,
+        item: &WriteSet,
+        pace: &P,
+    ) -> Result<(u64, Verdict), Refusal>
+        requires lock { seat.old.lock ≡ self.now }
+        requires seat { IsSeat D.honest D.history D.failures seat.old.view }
+        requires free { seat.old.view.held ≡ [] }
+        requires allowance { 0 < seat.old.view.allowance }
+        ensures lock { seat.new.lock ≡ seat.old.lock }
+        ensures drawn { (number : ℕ) × DrewOne D.honest D.history D.failures number seat.old.view seat.new.view × IfOk result (λ given. given.0 ≡ number) }
+        ensures joined { Joins (OfWriteSet item.now) seat.old.view seat.new.view }
+        ensures sees { SeesLegal seat.old.view seat.new.view }
+        ensures receipt { IfOk result (λ given. IsGiven (OfWriteSet item.now) given.0 given.1 seat.old.view seat.new.view) }
+        ensures passed { PassedOrStopped seat.old.view → PassedOrStopped seat.new.view }
+        ensures stopped { IfErr result (λ refusal. (refusal ≡ Refusal.Stopped) × (seat.new.view.halted ≡ 1)) }
+    {
+        let ticket = self.lock.claim(seat);
+        self.paced(seat, pace, Point::Claimed, ticket)?;
+        self.wait_durable(rt, seat, ticket.saturating_sub(u64::from(MAX_AHEAD)))?;
+        let judged = self.certify(rt, seat, ticket, Item::WriteSet(item.copied()))?;
+        let verdict = judged.verdict;
+        self.paced(seat, pace, Point::Certified, ticket)?;
+        self.queue(rt, seat, judged)?;
+        self.paced(seat, pace, Point::Queued, ticket)?;
+        self.wait_durable(rt, seat, ticket)?;
+        Ok((ticket, verdict))
+    }
+}
