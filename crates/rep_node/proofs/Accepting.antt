@@ -1,5 +1,5 @@
 -- What the engine and the queue are behind what the engine accepts.
-use Rattle.std.proofs.Common.{◌≡◌, ℕ, ◌+◌, ◌≤◌, List, [], ◌∷◌, ◌++◌, length, take, drop, refl, sym, ap, subst, ◌∙◌, append_assoc, length-append, arith}
+use Rattle.std.proofs.Common.{◌≡◌, ℕ, ◌+◌, ◌≤◌, List, ◌++◌, length, take, drop, refl, sym, ap, subst, ◌∙◌, append_assoc, length-append, arith}
 use Rattle.std.specs.Prelude.{Bool, IsFalse, IsTrue, true, false}
 use Rattle.std.proofs.lemmas.List.{length-map, length-take-le, take-append-drop}
 use Rattle.uuid.specs.Parts.{is_nil_bytes}
@@ -16,32 +16,13 @@ use Rattle.rep_snap.specs.Lists.{published}
 use Rattle.rep_stations.specs.Judging.{Legal}
 use Rattle.rep_stations.specs.Taking.{HasTaken, TakesMore, TakenItemsStay, IsAnEngine}
 use Rattle.rep_stations.specs.Waiting.{Waits, HistoriesGoOn}
-use Rattle.rep_ordered.specs.Views.{StartsWith}
 use Rattle.rep_node.specs.declared.home.Desk.{Desk}
 use Rattle.rep_node.specs.declared.home.Queue.{Queue}
 use Rattle.rep_node.specs.Publishing.{shown}
 use Rattle.rep_node.specs.Homes.{Start}
 use Rattle.rep_node.specs.Keeping.{AreAtWork}
+use Rattle.rep_node.proofs.Lists.{front_begins}
 use Rattle.rep_node.proofs.Publishes.{shown_both}
-
--- ---- lists
-
-abbrev head_or : {A : Type 0} → A → List A → A
-head_or d [] = d
-head_or d (x ∷ xs) = x
-
-abbrev tail_of : {A : Type 0} → List A → List A
-tail_of [] = []
-tail_of (x ∷ xs) = xs
-
--- of two beginnings of one list the longer one begins with the shorter
-longer_begins : {A : Type 0} (a b more rest : List A) → a ++ more ≡ b ++ rest → length a ≤ length b → StartsWith b a
-longer_begins [] b more rest e long = (b, refl)
-longer_begins (x ∷ a) [] more rest e long = absurd (omega arith)
-longer_begins (x ∷ a) (y ∷ b) more rest e long = let t = longer_begins a b more rest (ap tail_of e) (omega arith) in let first : y ≡ x = sym (ap (head_or x) e) in (t.0, λ i. first i ∷ t.1 i)
-
-pub front_begins : {A : Type 0} (xs a b : List A) → StartsWith xs a → StartsWith xs b → length a ≤ length b → StartsWith b a
-front_begins xs a b p q long = longer_begins a b p.0 q.0 (sym p.1 ∙ q.1) long
 
 -- ---- how many come next
 

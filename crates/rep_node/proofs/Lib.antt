@@ -14,3 +14,4 @@ pub mod Keeps
 pub mod Accepts
 pub mod Checks
 pub mod Lending
+pub mod Batching

@@ -26,3 +26,12 @@ whole_front xs a p long = one_front xs a xs p ([], sym (append_nil xs)) long
 
 pub shorter : {A : Type 0} (xs front : List A) → StartsWith xs front → length front ≤ length xs
 shorter xs front h = let e : length xs ≡ length (front ++ h.0) = ap length h.1 in omega (arith, length-append front h.0)
+
+-- of two beginnings of one list the longer one begins with the shorter
+longer_begins : {A : Type 0} (a b more rest : List A) → a ++ more ≡ b ++ rest → length a ≤ length b → StartsWith b a
+longer_begins [] b more rest e long = (b, refl)
+longer_begins (x ∷ a) [] more rest e long = absurd (omega arith)
+longer_begins (x ∷ a) (y ∷ b) more rest e long = let t = longer_begins a b more rest (ap tail_of e) (omega arith) in let first : y ≡ x = sym (ap (head_or x) e) in (t.0, λ i. first i ∷ t.1 i)
+
+pub front_begins : {A : Type 0} (xs a b : List A) → StartsWith xs a → StartsWith xs b → length a ≤ length b → StartsWith b a
+front_begins xs a b p q long = longer_begins a b p.0 q.0 (sym p.1 ∙ q.1) long

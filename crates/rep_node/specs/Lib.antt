@@ -5,3 +5,5 @@ pub mod Seats
 pub mod Keeping
 pub mod Ending
 pub mod Checking
+pub mod Batches
+pub mod Jobs

@@ -2,6 +2,7 @@
 //! [`Node`] says how.
 #![tactic(auto)]
 
+mod batch;
 mod checking;
 mod ends;
 mod home;
@@ -15,6 +16,7 @@ mod seat;
 mod submitting;
 mod waiting;
 
+pub use batch::{Batch, Receipt};
 pub use home::{Desk, Home, Queue};
 pub use keeping::Kept;
 pub use node::Node;

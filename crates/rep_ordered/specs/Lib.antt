@@ -6,3 +6,4 @@ pub mod Ends
 pub mod Seats
 pub mod Going
 pub mod GoingLaws
+pub mod Rooms

@@ -7,6 +7,7 @@ ghost use Rattle.rep_ordered.specs.Ends.{AllCover, AllMeet, AllName, Closed};
 ghost use Rattle.rep_ordered.specs.Seats.{seat_of, stations_of};
 
 use crate::lock::OrderedLock;
+use crate::room::Room;
 use crate::rule::{Keeps, Opening};
 use crate::seat::Seat;
 use atomic_table::Table;
@@ -24,7 +25,7 @@ pub struct Refused<V> {
 struct Space<V> {
     words: Vec<u64>,
     slots: Vec<Option<V>>,
-    room: Vec<Option<V>>,
+    room: Room<Option<V>>,
 }
 
 /// The words of a lock that starts at this number.
@@ -40,14 +41,14 @@ fn first_words(alloc: Global, stations: usize, start: u64, durable: u64) -> Opti
 
 fn reserved<V>(alloc: Global, stations: usize, start: u64, durable: u64) -> Option<Space<V>>
     requires { 4 * start ≤ 4 * (MAX_SEQNO + 1) }
-    ensures { IfSome result (λ s. (s.words.items ≡ start ∷ durable ∷ replicate stations (4 * start)) × (s.slots.items ≡ []) × (stations ≤ vec_capacity s.slots) × (s.room.items ≡ []) × (stations ≤ vec_capacity s.room)) }
+    ensures { IfSome result (λ s. (s.words.items ≡ start ∷ durable ∷ replicate stations (4 * start)) × (s.slots.items ≡ []) × (stations ≤ vec_capacity s.slots) × (stations ≤ s.room)) }
 {
     let words = first_words(alloc, stations, start, durable)?;
-    let room = Vec::with_capacity(alloc, stations).ok()?;
+    let room = Room::new(alloc, stations)?;
     match Vec::with_capacity(alloc, stations) {
         Ok(slots) => Some(Space { words, slots, room }),
         Err(_) => {
-            room.destroy_empty();
+            room.into_list().destroy_empty();
             None
         }
     }
@@ -148,7 +149,7 @@ impl<V: Keeps<E>, E> OrderedLock<V, E> {
                 Ok((OrderedLock { table, room }, Seat { seat }))
             }
             Err(atomic_table::Refused { mut slots }) => {
-                room.destroy_empty();
+                room.into_list().destroy_empty();
                 unwrap(&mut slots, &mut values);
                 slots.destroy_empty();
                 Err(Refused { values })
@@ -173,11 +174,9 @@ impl<V: Keeps<E>, E> OrderedLock<V, E> {
         ensures stations { length result.items ≡ stations_of self }
         ensures values { Closed (V.legal seat.view.first) (V.at_home seat.view.first) V.durable_of V.common_of seat.view result.items }
     {
-        let OrderedLock {
-            table,
-            room: mut values,
-        } = self;
+        let OrderedLock { table, room } = self;
         let Seat { seat } = seat;
+        let mut values = room.into_list();
         let mut closed = table.close_with(seat);
         for station in 0..closed.slot_count() {
             values.push_reserved(closed.take(station));

@@ -8,6 +8,7 @@ mod laws;
 mod lock;
 mod numbers;
 mod plays;
+mod room;
 mod rule;
 mod seat;
 mod turns;

@@ -1,5 +1,6 @@
 //! The lock.
 
+use crate::room::Room;
 use crate::rule::{Keeps, Opening, Ordered};
 use crate::view::Mind;
 use atomic_table::Table;
@@ -35,7 +36,7 @@ use std::marker::Model;
 pub struct OrderedLock<V: Keeps<E>, E> {
     pub(crate) table: Table<Option<V>, Mind<V, E>, Opening<V>, Ordered, Global>,
     /// Room for the values as `close` gives them.
-    pub(crate) room: Vec<Option<V>>,
+    pub(crate) room: Room<Option<V>>,
 }
 
 impl<V: Keeps<E>, E> Model for OrderedLock<V, E> {
@@ -48,5 +49,5 @@ impl<V: Keeps<E>, E> Model for OrderedLock<V, E> {
 
     ghost view = { λ l. l.table.shared.table_id };
 
-    ghost invariant = { λ l. (l.table.shared.table_id.words ≡ l.table.shared.table_id.slots + 2) × (l.table.shared.table_id.words < 2 ^ 64) × (l.room.items ≡ []) × (l.table.shared.table_id.slots ≤ vec_capacity l.room) };
+    ghost invariant = { λ l. (l.table.shared.table_id.words ≡ l.table.shared.table_id.slots + 2) × (l.table.shared.table_id.words < 2 ^ 64) × (l.table.shared.table_id.slots ≤ l.room) };
 }
