@@ -4,6 +4,7 @@ use Rattle.rep_disk.specs.declared.disk.DiskFault.{DiskFault}
 use Rattle.rep_disk.specs.declared.fuse.FuseDisk.{FuseDisk}
 use Rattle.rep_disk.specs.declared.file.FileDisk.{FileDisk}
 use Rattle.rep_disk.specs.declared.fault_once.FaultOnce.{FaultOnce}
+use Rattle.rep_disk.specs.declared.held.HeldDisk.{HeldDisk}
 use Rattle.rep_disk.specs.Calls.{IsCall}
 
 -- A call that fails on purpose answers a fault and leaves the disk inside untouched.
@@ -39,6 +40,10 @@ calls_before disk = disk.calls_before
 -- how many calls it refused
 abbrev pub faults : {D : Type 0} → FaultOnce D → ℕ
 faults disk = disk.faults
+
+-- the disk inside
+abbrev pub held : {D H : Type 0} → HeldDisk D H → D
+held disk = disk.inner
 
 -- one call less
 abbrev pub counted_down : Option ℕ → Option ℕ

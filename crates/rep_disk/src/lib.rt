@@ -7,6 +7,7 @@ mod disk;
 mod fault_once;
 mod file;
 mod fuse;
+mod held;
 mod laws;
 mod memory;
 
@@ -14,6 +15,7 @@ pub use disk::{Disk, DiskFault};
 pub use fault_once::FaultOnce;
 pub use file::FileDisk;
 pub use fuse::FuseDisk;
+pub use held::{HeldDisk, Hold};
 pub use laws::{
     images_after_a_call, images_of_a_moment, moments_of_calls, reads_as_an_image,
     reads_what_was_written,
