@@ -111,6 +111,7 @@ module _ {D : Type 0} (honest : D → Type 0) (history : D → History) (failure
               shown_or_waits = ap (λ l. published d.publisher.list ++ l) waits ∙ sym (append_assoc (published d.publisher.list) d.waiting (shown (take n q.backlog))) ∙ ap (λ l. l ++ shown (take n q.backlog)) p.shown_or_waits ∙ sym (shown_both F (take n q.backlog))
                   ∙ ap (λ k. shown (F ++ take k q.backlog)) same;
               durable = p.durable ∙ ap durable_of (sym log);
+              oldest = let before = p.oldest in let base : e.checkpoint.base.position ≡ d.engine.checkpoint.base.position = ap (λ (z : Engine D). z.checkpoint.base.position) rest in omega (arith, before, base);
             };
           };
         };

@@ -1,12 +1,12 @@
 -- What the engine and the publisher are behind a step of the log.
-use Rattle.std.proofs.Common.{◌≡◌, ℕ, ◌+◌, ◌≤◌, List, [], ◌∷◌, ◌++◌, length, None, refl, sym, ap, subst, ◌∙◌, arith}
+use Rattle.std.proofs.Common.{◌≡◌, ℕ, ◌+◌, ◌≤◌, max, List, [], ◌∷◌, ◌++◌, length, None, refl, sym, ap, subst, ◌∙◌, arith}
 use Rattle.std.proofs.lemmas.List.{length-map}
 use Rattle.rep_types.specs.declared.judged.Judged.{Judged}
 use Rattle.rep_disk.specs.History.{History}
 use Rattle.rep_cert.specs.Holdings.{Holding, Holdings}
 use Rattle.rep_engine.specs.Engines.{Engine, durable_of}
 use Rattle.rep_snap.specs.declared.change.Pair.{Pair}
-use Rattle.rep_snap.specs.Lists.{published}
+use Rattle.rep_snap.specs.Lists.{oldest_of, published}
 use Rattle.rep_snap.specs.Views.{Listing}
 use Rattle.rep_stations.specs.Taking.{HasTaken}
 use Rattle.rep_node.specs.declared.home.Desk.{Desk}
@@ -14,7 +14,8 @@ use Rattle.rep_node.specs.declared.origin.Origin.{Origin}
 use Rattle.rep_node.specs.Publishing.{AreShown, shown}
 use Rattle.rep_node.specs.Homes.{Start, DeskAt, position_of}
 use Rattle.rep_node.specs.Keeping.{AtWork, common_of_desk}
-use Rattle.rep_node.proofs.Publishes.{shown_both, shown_front}
+use Rattle.rep_node.specs.Checking.{IsPruned}
+use Rattle.rep_node.proofs.Publishes.{oldest_least, shown_both, shown_front}
 
 module _ {D : Type 0} (honest : D → Type 0) (history : D → History) (failures : D → ℕ) (s : Start D) (items : List Judged) (d : Desk D) (w : AtWork honest history failures s items d) where
   -- what is published and what waits is of the items that the engine has taken
@@ -60,8 +61,13 @@ module _ {D : Type 0} (honest : D → Type 0) (history : D → History) (failure
         shown = λ (z : 1 ≡ 0). absurd (omega arith);
       }
 
-      pub works_on : e.halted ≡ None → published p.list ++ waiting ≡ published d.publisher.list ++ d.waiting → d.publisher.start + length (published p.list) ≡ durable_of e.log → AtWork honest history failures s items (record { engine = e; publisher = p; waiting = waiting })
-      works_on works whole durable = record {
+      -- readers find no snapshot gone above the base still
+      oldest_still : d.engine.checkpoint.base.position ≤ e.checkpoint.base.position → oldest_of d.publisher.start p.list ≡ oldest_of d.publisher.start d.publisher.list → oldest_of p.start p.list ≤ max (position_of s) e.checkpoint.base.position
+      oldest_still rises oldest = let before = (w.desk.shown refl).oldest in let here : oldest_of p.start p.list ≡ oldest_of d.publisher.start d.publisher.list = ap (λ n. oldest_of n p.list) same.2 ∙ oldest in omega (arith, before, here, rises)
+
+      works_as : e.halted ≡ None → published p.list ++ waiting ≡ published d.publisher.list ++ d.waiting → d.publisher.start + length (published p.list) ≡ durable_of e.log → oldest_of p.start p.list ≤ max (position_of s) e.checkpoint.base.position
+          → AtWork honest history failures s items (record { engine = e; publisher = p; waiting = waiting })
+      works_as works whole durable oldest = record {
         begins = w.begins;
         legal = w.legal;
         desk = record {
@@ -70,6 +76,32 @@ module _ {D : Type 0} (honest : D → Type 0) (history : D → History) (failure
           taken = taken_still;
           publisher = (same.0 ∙ w.desk.publisher.0, same.1 ∙ w.desk.publisher.1, same.2 ∙ w.desk.publisher.2);
           works = λ _. works;
-          shown = λ _. record { shown_or_waits = whole ∙ (w.desk.shown refl).shown_or_waits; durable = let start = start_is in omega (arith, start, durable) };
+          shown = λ _. record { shown_or_waits = whole ∙ (w.desk.shown refl).shown_or_waits; durable = let start = start_is in omega (arith, start, durable); oldest = oldest };
         };
       }
+
+      pub works_on : e.halted ≡ None → published p.list ++ waiting ≡ published d.publisher.list ++ d.waiting → d.publisher.start + length (published p.list) ≡ durable_of e.log → d.engine.checkpoint.base.position ≤ e.checkpoint.base.position
+          → oldest_of d.publisher.start p.list ≡ oldest_of d.publisher.start d.publisher.list → AtWork honest history failures s items (record { engine = e; publisher = p; waiting = waiting })
+      works_on works whole durable rises oldest = works_as works whole durable (oldest_still rises oldest)
+
+  -- ---- readers' snapshots below the base are let go
+
+  module _ (p : Listing Origin) (same : (p.book ≡ d.publisher.book) × (p.basis ≡ d.publisher.basis) × (p.start ≡ d.publisher.start)) where
+    pub pruned_works : (base : ℕ) → base ≡ d.engine.checkpoint.base.position → published p.list ≡ published d.publisher.list → oldest_of d.publisher.start p.list ≡ max (oldest_of d.publisher.start d.publisher.list) base
+        → AtWork honest history failures s items (record { engine = d.engine; publisher = p; waiting = d.waiting })
+    pruned_works base is list oldest =
+        let before = w.desk.shown refl in
+        let start = start_is in
+        let count : d.publisher.start + length (published p.list) ≡ durable_of d.engine.log = let durable = before.durable in let long : length (published p.list) ≡ length (published d.publisher.list) = ap length list in omega (arith, durable, long, start) in
+        let low : oldest_of p.start p.list ≤ max (position_of s) d.engine.checkpoint.base.position =
+        let was = before.oldest in let here : oldest_of p.start p.list ≡ max (oldest_of d.publisher.start d.publisher.list) base = ap (λ n. oldest_of n p.list) same.2 ∙ oldest in omega (arith, was, here, is) in
+        works_as d.engine (λ first c taken h. h) p d.waiting same (w.desk.works refl) (ap (λ l. l ++ d.waiting) list) count low
+
+    pub pruned_oldest : (base : ℕ) → base ≡ d.engine.checkpoint.base.position → oldest_of d.publisher.start p.list ≡ max (oldest_of d.publisher.start d.publisher.list) base → IsPruned s (record { engine = d.engine; publisher = p; waiting = d.waiting })
+    pruned_oldest base is oldest =
+        let start = start_is in
+        let before : oldest_of (position_of s) d.publisher.list ≡ oldest_of d.publisher.start d.publisher.list = sym (ap (λ n. oldest_of n d.publisher.list) start) in
+        let after : oldest_of (position_of s) p.list ≡ oldest_of d.publisher.start p.list = sym (ap (λ n. oldest_of n p.list) start) in
+        let low = oldest_least (position_of s) d.publisher.list in
+        let high = (w.desk.shown refl).oldest in
+        omega (arith, before, after, low, high, oldest, is)

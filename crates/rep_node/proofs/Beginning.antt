@@ -1,10 +1,11 @@
 -- A node at its start: what a quiet replica was taken apart into may lie at home in the three stations.
 use Rattle.std.proofs.Common.{◌≡◌, ℕ, zero, suc, ◌+◌, ◌-◌, ◌<◌, ◌≤◌, ◌||◌, Bool, true, false, Option, Some, None, List, [], ◌∷◌, ◌++◌, length, ap, sym, refl, ◌∙◌, subst, arith}
-use Rattle.std.specs.Prelude.{IsFalse, is_some, slice_get}
+use Rattle.std.specs.Prelude.{All, IsFalse, is_some, slice_get}
 use Rattle.std.proofs.lemmas.Option.{same_Some}
 use Rattle.uuid.specs.Parts.{is_nil_bytes}
 use Rattle.rep_types.specs.declared.judged.Judged.{Judged}
 use Rattle.rep_types.specs.declared.limits.TheConstants.{MAX_SEQNO}
+use Rattle.rep_types.specs.Settings.{Setting}
 use Rattle.rep_disk.specs.History.{History}
 use Rattle.rep_cert.specs.Holdings.{Holdings}
 use Rattle.rep_engine.specs.Engines.{Engine, durable_of, facts_of}
@@ -15,13 +16,16 @@ use Rattle.rep_stations.specs.Judging.{HasJudged}
 use Rattle.rep_stations.specs.Taking.{HasTaken}
 use Rattle.rep_stations.specs.Waiting.{HistoriesGoOn, Waits}
 use Rattle.rep_stations.specs.Ending.{Begins as PartsBegin}
-use Rattle.rep_snap.specs.Lists.{published}
+use Rattle.rep_snap.specs.Lists.{oldest_of, published}
+use Rattle.rep_snap.specs.Views.{Watching}
 use Rattle.rep_ordered.specs.Views.{names, opened}
 use Rattle.rep_ordered.specs.Ends.{AllMeet, AllName}
 use Rattle.rep_ordered.specs.Seats.{Place, seat_of}
 use Rattle.atomic_table.specs.Seated.{TableId}
 use Rattle.rep_node.specs.declared.home.Home.{Home}
+use Rattle.rep_node.specs.declared.origin.Origin.{Origin}
 use Rattle.rep_node.specs.Homes.{Start, Begins, CertifierAt, DeskAt, QueueAt, AtHome, IsLegal, position_of, values_of, durable_in, common_in}
+use Rattle.rep_node.specs.Reading.{AreParams}
 use Rattle.rep_node.proofs.Standing.{of_the_start}
 use Rattle.rep_node.proofs.Sharing.{Owns}
 
@@ -93,6 +97,7 @@ module _ {D : Type 0} (honest : D → Type 0) (history : D → History) (failure
     shown = λ _. record {
       shown_or_waits = (λ i. published (b.list i) ++ b.waiting i);
       durable = let none : length (published s.desk.publisher.list) ≡ 0 = ap (λ l. length (published l)) b.list in let at = b.at in omega arith;
+      oldest = let none : oldest_of s.desk.publisher.start s.desk.publisher.list ≡ s.desk.publisher.start = ap (oldest_of s.desk.publisher.start) b.list in let start = b.start in omega (arith, none, start);
     };
   }
 
@@ -137,3 +142,14 @@ module _ {D : Type 0} (honest : D → Type 0) (history : D → History) (failure
     omega arith,
     λ _. refl,
   )
+
+-- ---- the readers
+
+abbrev head_or : Holdings → List Holdings → Holdings
+head_or d [] = d
+head_or d (c ∷ cs) = c
+
+-- The parameters are those of the certifier that each reader's lists go on from.
+pub readers_own : (p : Setting) (certifier : Holdings) (w : Watching Origin) (readers : List (Watching Origin)) → p ≡ certifier.current.setting → w.basis.certifier.log ≡ certifier ∷ [] → All (λ (r : Watching Origin). r ≡ w) readers
+    → All (λ (r : Watching Origin). AreParams p r.basis.certifier.log) readers
+readers_own p certifier w readers setting log all = λ k d within. subst (λ (r : Watching Origin). AreParams p r.basis.certifier.log) (sym (all k d within)) (λ c is. setting ∙ ap (λ (h : Holdings). h.current.setting) (ap (head_or certifier) (sym log ∙ is)))

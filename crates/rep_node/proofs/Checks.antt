@@ -47,9 +47,9 @@ checked_told (Some position) = refl
 
 module _ {D : Type 0} (honest : D → Type 0) (history : D → History) (failures : D → ℕ) where
   -- it works still where the check was not refused
-  pub check_works : (old new : Engine D) (done : Result (Option ℕ) Refusal) (o : Option ℕ) → done ≡ Ok o → Moves (facts_of failures old) Check (checked done) (facts_of failures new) → old.halted ≡ None → new.halted ≡ None
-  check_works old new done o is moves =
-      runs_on honest history failures old new (checked (Ok o)) (subst (λ (d : Result (Option ℕ) Refusal). Rattle.rep_node.proofs.Stepping.Rises (facts_of failures old) (facts_of failures new) (checked d)) is (moves_rise (facts_of failures old) (facts_of failures new) Check (checked done) tt moves)) (checked_told o)
+  pub check_works : (old new : Engine D) (done : Result (Option ℕ) Refusal) (o : Option ℕ) → done ≡ Ok o → IsAnEngine old → Moves (facts_of failures old) Check (checked done) (facts_of failures new) → old.halted ≡ None → new.halted ≡ None
+  check_works old new done o is engine moves =
+      runs_on honest history failures old new (checked (Ok o)) (subst (λ (d : Result (Option ℕ) Refusal). Rattle.rep_node.proofs.Stepping.Rises (facts_of failures old) (facts_of failures new) (checked d)) is (moves_rise (facts_of failures old) (facts_of failures new) Check (checked done) tt engine.goal moves)) (checked_told o)
 
   -- the engine has what it had taken
   pub check_taken : TakenItemsStay honest history failures → (old new : Engine D) (done : Result (Option ℕ) Refusal) (h : Holding) → IsAnEngine old → Moves (facts_of failures old) Check (checked done) (facts_of failures new)

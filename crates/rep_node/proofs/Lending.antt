@@ -118,7 +118,7 @@ module _ {D : Type 0} (honest : D → Type 0) (history : D → History) (failure
       -- ---- what the engine is behind the check
 
       module _ (new : Engine D) (taken : (s : Start D) (front more : List Judged) → MayLend honest history failures s front more c.current d.engine → HasTaken honest history failures s.desk.engine s.certifier.current front new)
-          (log : new.log ≡ d.engine.log) where
+          (log : new.log ≡ d.engine.log) (rises : d.engine.checkpoint.base.position ≤ new.checkpoint.base.position) where
         desk_as : (given : ℕ) (s : Start D) (first : v.first ≡ values_of s) → (given ≡ 0 → new.halted ≡ None) → DeskAt honest history failures s given t.seen (record { engine = new; publisher = d.publisher; waiting = d.waiting })
         desk_as given s first works =
             let here = desk_at s first in
@@ -128,7 +128,7 @@ module _ {D : Type 0} (honest : D → Type 0) (history : D → History) (failure
               taken = taken s here.front here.begins.0 (may_lend s first);
               publisher = here.publisher;
               works = works;
-              shown = λ _. let h = here.shown refl in record { shown_or_waits = h.shown_or_waits; durable = h.durable ∙ sym (ap durable_of log) };
+              shown = λ _. let h = here.shown refl in record { shown_or_waits = h.shown_or_waits; durable = h.durable ∙ sym (ap durable_of log); oldest = let before = h.oldest in omega (arith, before, rises) };
             }
 
         pub desk_given : (s : Start D) → t.first ≡ values_of s → DeskAt honest history failures s 1 t.seen (record { engine = new; publisher = d.publisher; waiting = d.waiting })

@@ -14,4 +14,11 @@ pub mod Keeps
 pub mod Accepts
 pub mod Checks
 pub mod Lending
+pub mod Checkpoints
 pub mod Batching
+pub mod Together
+pub mod Shown
+pub mod Asks
+pub mod Peeks
+pub mod Rowing
+pub mod Serves

@@ -1,5 +1,5 @@
 -- What is published of items that come one after another, and what waits.
-use Rattle.std.proofs.Common.{◌≡◌, ⊎_elim, ℕ, zero, suc, ◌+◌, ◌<◌, ◌≤◌, List, [], ◌∷◌, ◌++◌, length, map, take, drop, get_or, slice_get, None, Some, Result, Ok, Err, refl, sym, ap, subst, ◌∙◌, append_assoc, length-append, arith}
+use Rattle.std.proofs.Common.{◌≡◌, ⊎_elim, ℕ, zero, suc, ◌+◌, ◌<◌, ◌≤◌, List, [], ◌∷◌, ◌++◌, length, map, take, drop, get_or, slice_get, None, Some, max, Result, Ok, Err, OnOk, refl, sym, ap, subst, ◌∙◌, append_assoc, length-append, arith}
 use Rattle.std.specs.Prelude.{is_err, true, false}
 use Rattle.std.proofs.lemmas.List.{take_more}
 use Rattle.std.proofs.lemmas.Option.{same_Some, slice_get_within, get_or_from_slice_get}
@@ -12,8 +12,10 @@ use Rattle.rep_cert.specs.Holdings.{Holding, Holdings}
 use Rattle.rep_steps.specs.Nodes.{advanced}
 use Rattle.rep_steps.specs.Images.{AreJudgedFrom}
 use Rattle.rep_snap.specs.declared.change.Pair.{Pair}
-use Rattle.rep_snap.specs.Lists.{front_of, pair_of, published}
-use Rattle.rep_snap.specs.Views.{Listing, IsPublish}
+use Rattle.rep_snap.specs.declared.change.Change.{Change}
+use Rattle.rep_snap.specs.declared.change.Change.TheVariants.{Publish, Prune}
+use Rattle.rep_snap.specs.Lists.{front_of, oldest_of, pair_of, published}
+use Rattle.rep_snap.specs.Views.{Listing, IsChange, IsPublish}
 use Rattle.rep_snap.specs.Laws.{HistoriesGrow}
 use Rattle.rep_stations.specs.Judging.{start_of}
 use Rattle.rep_node.specs.Publishing.{AreShown, AreAllowed, shown, shown_of}
@@ -132,6 +134,22 @@ all_shown start before waited now items upto same none most within = let size : 
 pub after_publish : HistoriesGrow → {A : Type 0} (p q : Listing A) (r : Result (Unit {0}) Refusal) (seqno : ℕ) (writes : List Write) → false ≡ is_err r → IsPublish seqno writes p q r → published q.list ≡ published p.list ++ pair_of seqno writes ∷ []
 after_publish laws p q (Ok v) seqno writes ok h = ap (λ (t : Listing _). published t.list) h.2 ∙ laws.publish p.list (pair_of seqno writes)
 after_publish laws p q (Err e) seqno writes ok h = absurd (let never : false ≡ true = ok in cc)
+
+-- the oldest snapshot is not below the start
+pub oldest_least : (start : ℕ) (changes : List Change) → start ≤ oldest_of start changes
+oldest_least start [] = omega arith
+oldest_least start (Publish pair ∷ changes) = oldest_least start changes
+oldest_least start (Prune c ∷ changes) = let more = oldest_least (max start c) changes in omega (arith, more)
+
+-- the oldest snapshot stays, published or not
+pub publish_oldest : HistoriesGrow → {A : Type 0} (start : ℕ) (p q : Listing A) (r : Result (Unit {0}) Refusal) (seqno : ℕ) (writes : List Write) → IsPublish seqno writes p q r → oldest_of start q.list ≡ oldest_of start p.list
+publish_oldest laws start p q (Ok v) seqno writes h = ap (λ (t : Listing _). oldest_of start t.list) h.2 ∙ laws.oldest start p.list (Publish (pair_of seqno writes))
+publish_oldest laws start p q (Err e) seqno writes h = ⊎_elim (λ many. ap (λ (t : Listing _). oldest_of start t.list) many.2) (λ memory. ap (λ (t : Listing _). oldest_of start t.list) memory.2) h
+
+-- a prune leaves what was published, and moves the oldest snapshot
+pub prune_leaves : HistoriesGrow → {A : Type 0} (start base : ℕ) (p q : Listing A) (r : Result (Unit {0}) Refusal) → IsChange (Prune base) p q r → OnOk r ((published q.list ≡ published p.list) × (oldest_of start q.list ≡ max (oldest_of start p.list) base))
+prune_leaves laws start base p q (Ok v) h = (ap (λ (t : Listing _). published t.list) h.1 ∙ laws.prune p.list base, ap (λ (t : Listing _). oldest_of start t.list) h.1 ∙ laws.oldest start p.list (Prune base))
+prune_leaves laws start base p q (Err e) h = tt
 
 -- who is refused has published what it had
 pub after_refusal : {A : Type 0} (p q : Listing A) (r : Result (Unit {0}) Refusal) (seqno : ℕ) (writes : List Write) → true ≡ is_err r → IsPublish seqno writes p q r → published q.list ≡ published p.list

@@ -12,8 +12,8 @@ use Rattle.rep_steps.specs.declared.event.Event.{Event}
 use Rattle.rep_steps.specs.declared.event.Event.TheVariants.{Deliver, Log, Sync, Check, Flush, Read}
 use Rattle.rep_steps.specs.declared.answer.Answer.{Answer}
 use Rattle.rep_steps.specs.declared.answer.Answer.TheVariants.{Gave, Wrote, Began, Synced, Row, Refused}
-use Rattle.rep_steps.specs.Standings.{Standing, refusal}
-use Rattle.rep_steps.specs.Moves.{Found, Moves, Fails, after}
+use Rattle.rep_steps.specs.Standings.{Stage, Off, Toward, Retiring, Flushing, Saving, Ready, SuperFilling, SuperFilled, SuperOpening, Standing, HasGoal, refusal}
+use Rattle.rep_steps.specs.Moves.{Found, Moves, Fails, after, base_after}
 use Rattle.rep_steps.specs.Nodes.{Node, Steps}
 use Rattle.rep_engine.specs.Engines.{Engine, facts_of, durable_of}
 use Rattle.rep_engine.specs.Holding.{Holds, wrote, synced}
@@ -37,31 +37,43 @@ is_refusal (Refused r) = true
 answered : (a : Answer) (r : Refusal) → is_refusal a ≡ false → a ≡ Refused r → ⊥
 answered a r told is = let e : true ≡ false = sym (ap is_refusal is) ∙ told in absurd cc
 
--- What is durable rises, and who is answered was not stopped by it.
+-- What is durable rises, the base does not fall, and who is answered was not stopped by it.
 pub record Rises (s t : Standing) (a : Answer) : Type 0 where
   pub durable : s.durable ≤ t.durable
+  pub base : s.base ≤ t.base
   pub stopped : is_refusal a ≡ false → t.stopped ≡ s.stopped
 
 same_rises : (s t : Standing) (a : Answer) → t ≡ s → Rises s t a
-same_rises s t a is = subst (λ (u : Standing). Rises s u a) (sym is) (record { durable = omega arith; stopped = λ _. refl })
+same_rises s t a is = subst (λ (u : Standing). Rises s u a) (sym is) (record { durable = omega arith; base = omega arith; stopped = λ _. refl })
 
-done_rises : (s : Standing) (e : Event) (f : Found) (a : Answer) → IsOfAnEngine e → Rises s (after s e f) a
-done_rises s (Deliver seqno w) f a own = absurd own
-done_rises s Log f a own = record { durable = omega arith; stopped = λ _. refl }
-done_rises s Sync f a own = record { durable = omega arith; stopped = λ _. refl }
-done_rises s Check f a own = record { durable = omega arith; stopped = λ _. refl }
-done_rises s (Flush page) f a own = record { durable = omega arith; stopped = λ _. refl }
-done_rises s (Read key at) f a own = record { durable = omega arith; stopped = λ _. refl }
+-- the goal of a checkpoint is above its base
+goal_rises : (base durable start next : ℕ) (stage : Stage) → HasGoal base durable start next stage → base ≤ base_after base stage
+goal_rises base durable start next Off h = omega arith
+goal_rises base durable start next (Toward goal (Flushing left)) h = omega arith
+goal_rises base durable start next (Toward goal Saving) h = omega arith
+goal_rises base durable start next (Toward goal Ready) h = omega arith
+goal_rises base durable start next (Toward goal SuperFilling) h = omega arith
+goal_rises base durable start next (Toward goal SuperFilled) h = omega arith
+goal_rises base durable start next (Toward goal SuperOpening) h = let above = h.above in omega (arith, above)
+goal_rises base durable start next (Retiring written) h = omega arith
+
+done_rises : (s : Standing) (e : Event) (f : Found) (a : Answer) → IsOfAnEngine e → HasGoal s.base s.durable s.start s.next s.stage → Rises s (after s e f) a
+done_rises s (Deliver seqno w) f a own goal = absurd own
+done_rises s Log f a own goal = record { durable = omega arith; base = omega arith; stopped = λ _. refl }
+done_rises s Sync f a own goal = record { durable = omega arith; base = goal_rises s.base s.durable s.start s.next s.stage goal; stopped = λ _. refl }
+done_rises s Check f a own goal = record { durable = omega arith; base = omega arith; stopped = λ _. refl }
+done_rises s (Flush page) f a own goal = record { durable = omega arith; base = omega arith; stopped = λ _. refl }
+done_rises s (Read key at) f a own goal = record { durable = omega arith; base = omega arith; stopped = λ _. refl }
 
 fails_rises : (s t : Standing) (e : Event) (a : Answer) → Fails s e a t → Rises s t a
 fails_rises s t e a (inl h) = same_rises s t a h.2
-fails_rises s t e a (inr h) = subst (λ (u : Standing). Rises s u a) (sym h.3) (record { durable = omega arith; stopped = λ told. absurd (answered a DiskFault told h.1) })
+fails_rises s t e a (inr h) = subst (λ (u : Standing). Rises s u a) (sym h.3) (record { durable = omega arith; base = omega arith; stopped = λ told. absurd (answered a DiskFault told h.1) })
 
-pub moves_rise : (s t : Standing) (e : Event) (a : Answer) → IsOfAnEngine e → Moves s e a t → Rises s t a
-moves_rise s t e a own moves =
+pub moves_rise : (s t : Standing) (e : Event) (a : Answer) → IsOfAnEngine e → HasGoal s.base s.durable s.start s.next s.stage → Moves s e a t → Rises s t a
+moves_rise s t e a own goal moves =
     by_refusal _ _ (Rises s t a) (refusal s e) moves
     (λ went. elim went [
-      | inl f ↦ subst (λ (u : Standing). Rises s u a) (sym f.2) (done_rises s e f.0 a own)
+      | inl f ↦ subst (λ (u : Standing). Rises s u a) (sym f.2) (done_rises s e f.0 a own goal)
       | inr other ↦ elim other [ inl fails ↦ fails_rises s t e a fails | inr corrupt ↦ same_rises s t a corrupt.2 ]
     ])
     (λ r is. same_rises s t a is.1)
@@ -73,11 +85,16 @@ running None e = refl
 running (Some p) e = absurd (let never : true ≡ false = e in cc)
 
 module _ {D : Type 0} (honest : D → Type 0) (history : D → History) (failures : D → ℕ) where
-  -- What the log's step leaves: the engine has what it had taken, no less of it is durable, and it works still where nothing is refused; and
-  -- it has changed nothing that is refused by anything but the device.
+  -- the base does not fall
+  pub base_rises : (old new : Engine D) (e : Event) (a : Answer) → IsOfAnEngine e → IsAnEngine old → Moves (facts_of failures old) e a (facts_of failures new) → old.checkpoint.base.position ≤ new.checkpoint.base.position
+  base_rises old new e a own is moves = (moves_rise (facts_of failures old) (facts_of failures new) e a own is.goal moves).base
+
+  -- What the log's step leaves: the engine has what it had taken, no less of it is durable, its base is no lower, and it works still where
+  -- nothing is refused; and it has changed nothing that is refused by anything but the device.
   pub record Goes (old new : Engine D) (done : Result (Unit {0}) Refusal) : Type 0 where
     pub taken : (first : Engine D) (c : Holding) (items : List Judged) → HasTaken honest history failures first c items old → HasTaken honest history failures first c items new
     pub rises : durable_of old.log ≤ durable_of new.log
+    pub base : old.checkpoint.base.position ≤ new.checkpoint.base.position
     pub works : OnOk done (old.halted ≡ None → new.halted ≡ None)
     pub same : IfErr done (λ e. (e ≡ DiskFault) ⊎ (new ≡ old))
 
@@ -86,15 +103,17 @@ module _ {D : Type 0} (honest : D → Type 0) (history : D → History) (failure
 
   pub goes_logged : TakenItemsStay honest history failures → (old new : Engine D) (done : Result (Unit {0}) Refusal) → IsAnEngine old → Moves (facts_of failures old) Log (wrote done) (facts_of failures new)
       → ((n : Node) → Holds honest history failures n old → (m : Node) × Steps n Log (wrote done) m × Holds honest history failures m new) → IfErr done (λ e. (e ≡ DiskFault) ⊎ (new ≡ old)) → Goes old new done
-  goes_logged laws old new (Ok u) is moves steps same = let h = moves_rise (facts_of failures old) (facts_of failures new) Log Wrote tt moves in record {
+  goes_logged laws old new (Ok u) is moves steps same = let h = moves_rise (facts_of failures old) (facts_of failures new) Log Wrote tt is.goal moves in record {
     taken = laws.step old new Log Wrote tt is moves steps;
     rises = h.durable;
+    base = h.base;
     works = runs_on old new Wrote h refl;
     same = same;
   }
-  goes_logged laws old new (Err r) is moves steps same = let h = moves_rise (facts_of failures old) (facts_of failures new) Log (Refused r) tt moves in record {
+  goes_logged laws old new (Err r) is moves steps same = let h = moves_rise (facts_of failures old) (facts_of failures new) Log (Refused r) tt is.goal moves in record {
     taken = laws.step old new Log (Refused r) tt is moves steps;
     rises = h.durable;
+    base = h.base;
     works = tt;
     same = same;
   }
@@ -103,17 +122,19 @@ module _ {D : Type 0} (honest : D → Type 0) (history : D → History) (failure
   pub goes_synced : TakenItemsStay honest history failures → (old new : Engine D) (told : Result (List Reply) Refusal) (done : Result (Unit {0}) Refusal) (P : List Reply → Type 0) → is_ok done ≡ is_ok told → MatchResult told P (λ e. done ≡ Err e) → IsAnEngine old
       → Moves (facts_of failures old) Sync (synced told) (facts_of failures new) → ((n : Node) → Holds honest history failures n old → (m : Node) × Steps n Sync (synced told) m × Holds honest history failures m new)
       → IfErr told (λ e. (e ≡ DiskFault) ⊎ (new ≡ old)) → Goes old new done
-  goes_synced laws old new (Ok rs) (Ok u) P ok err is moves steps same = let h = moves_rise (facts_of failures old) (facts_of failures new) Sync (Synced rs) tt moves in record {
+  goes_synced laws old new (Ok rs) (Ok u) P ok err is moves steps same = let h = moves_rise (facts_of failures old) (facts_of failures new) Sync (Synced rs) tt is.goal moves in record {
     taken = laws.step old new Sync (Synced rs) tt is moves steps;
     rises = h.durable;
+    base = h.base;
     works = runs_on old new (Synced rs) h refl;
     same = same;
   }
   goes_synced laws old new (Ok rs) (Err r) P ok err is moves steps same = absurd (let e : false ≡ true = ok in cc)
   goes_synced laws old new (Err r) (Ok u) P ok err is moves steps same = absurd (let e : true ≡ false = ok in cc)
-  goes_synced laws old new (Err r) (Err e) P ok err is moves steps same = let h = moves_rise (facts_of failures old) (facts_of failures new) Sync (Refused r) tt moves in record {
+  goes_synced laws old new (Err r) (Err e) P ok err is moves steps same = let h = moves_rise (facts_of failures old) (facts_of failures new) Sync (Refused r) tt is.goal moves in record {
     taken = laws.step old new Sync (Refused r) tt is moves steps;
     rises = h.durable;
+    base = h.base;
     works = tt;
     same = subst (λ (d : Result (Unit {0}) Refusal). IfErr d (λ e. (e ≡ DiskFault) ⊎ (new ≡ old))) (sym err) same;
   }

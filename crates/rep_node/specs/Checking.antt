@@ -1,5 +1,5 @@
--- What certifier and engine are while a checkpoint is lent the certifier.
-use Rattle.std.specs.Prelude.{ℕ, ◌+◌, ◌≤◌, List, ◌++◌}
+-- What certifier and engine are while a checkpoint is lent the certifier, and what a checkpoint came to.
+use Rattle.std.specs.Prelude.{◌≡◌, ℕ, ◌+◌, ◌≤◌, max, List, ◌++◌, take}
 use Rattle.rep_types.specs.declared.judged.Judged.{Judged}
 use Rattle.rep_types.specs.declared.limits.TheConstants.{MAX_AHEAD}
 use Rattle.rep_disk.specs.History.{History}
@@ -7,7 +7,19 @@ use Rattle.rep_cert.specs.Holdings.{Holding}
 use Rattle.rep_engine.specs.Engines.{Engine, durable_of}
 use Rattle.rep_stations.specs.Judging.{HasJudged}
 use Rattle.rep_stations.specs.Taking.{HasTaken}
-use Rattle.rep_node.specs.Homes.{Start, Begins, IsLegalBehind}
+use Rattle.rep_checkpoint.specs.declared.stage.Step.{Step}
+use Rattle.rep_checkpoint.specs.declared.stage.Step.TheVariants.{Begin, Flush, Next, Sync}
+use Rattle.rep_snap.specs.Lists.{oldest_of, published}
+use Rattle.rep_ordered.specs.declared.view.View.{View}
+use Rattle.rep_node.specs.declared.home.Desk.{Desk}
+use Rattle.rep_node.specs.declared.home.Home.{Home}
+use Rattle.rep_node.specs.declared.checking.Checked.{Checked}
+use Rattle.rep_node.specs.declared.checking.Progress.{Progress}
+use Rattle.rep_node.specs.declared.checking.Progress.TheVariants.{Goes as another_step, ForCertifier as with_the_certifier, Ended as nothing_more}
+use Rattle.rep_node.specs.declared.checking.Outcome.{Outcome}
+use Rattle.rep_node.specs.declared.checking.Outcome.TheVariants.{Goes, ForCertifier, Ended}
+use Rattle.rep_node.specs.Publishing.{shown}
+use Rattle.rep_node.specs.Homes.{Start, Begins, IsLegalBehind, position_of, values_of}
 
 -- The certifier has judged what the engine has taken, and perhaps more, of one legal history, and is not too far ahead: so it holds the
 -- window that a checkpoint asks for.
@@ -17,3 +29,34 @@ pub record MayLend {D : Type 0} (honest : D → Type 0) (history : D → History
   pub judged : HasJudged s.certifier.current (taken ++ more) h
   pub engine : HasTaken honest history failures s.desk.engine s.certifier.current taken e
   pub near : h.delivered ≤ durable_of e.log + MAX_AHEAD
+
+-- What is said of the checkpoint under way, by the step that was due: there is none where one may begin; the certifier is asked for where the
+-- next write behind the pages is due; and else the step was made, and another is waited for.
+abbrev pub progress_of : Step → Progress
+progress_of Begin = nothing_more
+progress_of (Flush page) = another_step
+progress_of Next = with_the_certifier
+progress_of Sync = another_step
+
+-- readers find no snapshot below the base, and each from there on
+abbrev pub IsPruned : {D : Type 0} → Start D → Desk D → Type 0
+IsPruned s d = oldest_of (position_of s) d.publisher.list ≡ max (position_of s) d.engine.checkpoint.base.position
+
+-- What a checkpoint came to: a base that is durable, which the seat has seen so since; and readers may be told a list of items from the start
+-- on, each with what it wrote, of which no snapshot below the base is left, and every one from there on.
+pub record IsChecked {D : Type 0} (v w : View (Home D) Judged) (checked : Checked) : Type 0 where
+  pub base : v.durable ≤ checked.base
+  pub durable : checked.base ≤ w.durable
+  pub told : (s : Start D) → v.first ≡ values_of s → checked.told.book ≡ s.desk.publisher.book
+  pub oldest : (s : Start D) → v.first ≡ values_of s → oldest_of (position_of s) checked.told.list ≡ max (position_of s) checked.base
+  pub list : (s : Start D) → v.first ≡ values_of s → (count : ℕ) × (published checked.told.list ≡ shown (take count w.seen)) × (checked.base ≤ position_of s + count)
+
+-- the same for any seat of the node that had seen no more durable than the base
+abbrev pub EndsAt : {D : Type 0} → List (Home D) → View (Home D) Judged → Checked → Type 0
+EndsAt {D} first w checked = (v : View (Home D) Judged) → v.first ≡ first → v.durable ≤ checked.base → IsChecked v w checked
+
+-- what is told where none is under way
+abbrev pub Tells : {D : Type 0} → List (Home D) → View (Home D) Judged → Outcome → Type 0
+Tells first w Goes = Unit {0}
+Tells first w ForCertifier = Unit {0}
+Tells first w (Ended checked) = EndsAt first w checked

@@ -1,5 +1,5 @@
 -- What lies at home in the three stations of a node. It speaks of the values that the node was started with.
-use Rattle.std.specs.Prelude.{◌≡◌, ℕ, ◌+◌, ◌≤◌, IsFalse, None, List, [], ◌∷◌, ◌++◌, length}
+use Rattle.std.specs.Prelude.{◌≡◌, ℕ, ◌+◌, ◌≤◌, max, IsFalse, None, List, [], ◌∷◌, ◌++◌, length}
 use Rattle.uuid.specs.Parts.{is_nil_bytes}
 use Rattle.rep_types.specs.declared.judged.Judged.{Judged}
 use Rattle.rep_disk.specs.History.{History}
@@ -10,7 +10,7 @@ use Rattle.rep_replica.specs.Replicas.{ArePlaced}
 use Rattle.rep_stations.specs.Judging.{Legal, HasJudged}
 use Rattle.rep_stations.specs.Taking.{HasTaken}
 use Rattle.rep_stations.specs.Waiting.{Waits}
-use Rattle.rep_snap.specs.Lists.{published}
+use Rattle.rep_snap.specs.Lists.{oldest_of, published}
 use Rattle.rep_ordered.specs.Views.{StartsWith}
 use Rattle.rep_node.specs.declared.home.Desk.{Desk}
 use Rattle.rep_node.specs.declared.home.Queue.{Queue}
@@ -58,10 +58,11 @@ pub record QueueAt {D : Type 0} (s : Start D) (number : ℕ) (items : List Judge
   pub below : Below (position_of s) number items front
   pub waits : Waits s.certifier.current front q.accepted q.backlog
 
--- Of what the engine has taken what is durable is published, and the rest waits to be.
+-- Of what the engine has taken what is durable is published, and the rest waits to be; and readers find no snapshot gone above the base.
 pub record IsPublished {D : Type 0} (s : Start D) (taken : List Judged) (d : Desk D) : Type 0 where
   pub shown_or_waits : published d.publisher.list ++ d.waiting ≡ shown taken
   pub durable : position_of s + length (published d.publisher.list) ≡ durable_of d.engine.log
+  pub oldest : oldest_of d.publisher.start d.publisher.list ≤ max (position_of s) d.engine.checkpoint.base.position
 
 module _ {D : Type 0} (honest : D → Type 0) (history : D → History) (failures : D → ℕ) where
   -- The engine has taken a front of the history, and works; what is durable of it is published. One that was given up has taken such a

@@ -7,3 +7,7 @@ pub mod Ending
 pub mod Checking
 pub mod Batches
 pub mod Jobs
+pub mod Serving
+pub mod Reading
+pub mod Rows
+pub mod Served

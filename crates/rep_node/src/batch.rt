@@ -42,7 +42,7 @@ pub struct Batch {
 
 impl Batch {
     /// Nothing came of it.
-    fn refused(alloc: Global, refusal: Refusal) -> Batch
+    pub(crate) fn refused(alloc: Global, refusal: Refusal) -> Batch
         ensures { (result.receipts.items ≡ []) × (result.end ≡ Some refusal) }
     {
         Batch {

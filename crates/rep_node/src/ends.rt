@@ -1,6 +1,6 @@
 //! How a node is started and closed.
 
-ghost use Rattle.std.specs.Prelude.{◌≡◌, ◌+◌, ◌-◌, ◌<◌, ◌≤◌, ◌⊎◌, ◌||◌, [], length, map, true, is_some, Some, ◌++◌, ◌∷◌, IsSome, IfOk, IfErr, IsTrue, IsFalse, vec_capacity};
+ghost use Rattle.std.specs.Prelude.{◌≡◌, ◌+◌, ◌-◌, ◌<◌, ◌≤◌, ◌⊎◌, ◌||◌, [], length, map, true, is_some, Some, ◌++◌, ◌∷◌, All, IsSome, IfOk, IfErr, IsTrue, IsFalse, vec_capacity};
 ghost use Rattle.uuid.specs.Parts.{is_nil_bytes};
 ghost use Rattle.rep_types.specs.declared.refusal.Refusal.TheVariants.{OutOfMemory, Stopped as is_stopped};
 ghost use Rattle.rep_replica.specs.Replicas.{facts_of};
@@ -10,11 +10,13 @@ ghost use Rattle.rep_ordered.specs.Views.{HasAll, opened};
 ghost use Rattle.rep_node.specs.Homes.{Start, IsLegal, durable_in, common_in, values_of};
 ghost use Rattle.rep_node.specs.Seats.{PassedOrStopped};
 ghost use Rattle.rep_node.specs.Ending.{StartsFrom, EndsAs};
+ghost use Rattle.rep_node.specs.Reading.{AreParams};
 
 use crate::home::{Desk, Home, Queue};
 use crate::node::Node;
 use crate::origin::Origin;
 use crate::parts::{certifier_of, desk_of, queue_of};
+use crate::reading::NodeReader;
 use crate::seat::Seat;
 use crate::waiting::Waiting;
 use rep_cert::Certifier;
@@ -23,25 +25,51 @@ use rep_ordered::{OrderedLock, Refused};
 use rep_replica::Replica;
 use rep_snap::Reader;
 use rep_stations::{histories_extend_the_order, histories_go_on, histories_lie_between_replicas};
-use rep_types::{MAX_SEQNO, Refusal};
+use rep_types::{MAX_SEQNO, Params, Refusal};
 use std::alloc::Global;
 use std::sync::Wait;
 
 /// The memory that a node takes beside its lock and its publisher.
 struct Space<D: Disk> {
     waiting: Waiting,
+    readers: Vec<NodeReader>,
     room: Vec<Home<D>>,
 }
 
-fn reserved<D: Disk>(alloc: Global) -> Result<Space<D>, Refusal>
+fn reserved<D: Disk>(alloc: Global, readers: usize) -> Result<Space<D>, Refusal>
     ensures empty { IfOk result (λ s. (s.waiting ≡ []) × (s.room.items ≡ []) × (3 ≤ vec_capacity s.room)) }
+    ensures readers { IfOk result (λ s. (s.readers.items ≡ []) × (readers ≤ vec_capacity s.readers)) }
     ensures refused { IfErr result (λ refusal. refusal ≡ OutOfMemory) }
 {
     let waiting = Waiting::new(alloc)?;
+    let readers = Vec::with_capacity(alloc, readers)?;
     match Vec::with_capacity(alloc, 3) {
-        Ok(room) => Ok(Space { waiting, room }),
+        Ok(room) => Ok(Space {
+            waiting,
+            readers,
+            room,
+        }),
         Err(_) => Err(Refusal::OutOfMemory),
     }
+}
+
+/// The same readers, each of which knows the parameters. There is room for them, so that it takes no memory.
+fn with_params(
+    readers: Vec<Reader<Origin>>,
+    params: &Params,
+    mut room: Vec<NodeReader>,
+) -> Vec<NodeReader>
+    requires room { (room.items ≡ []) × (length readers.items ≤ vec_capacity room) }
+    requires own { All (λ reader. AreParams params.now reader.basis.certifier.log) readers.items }
+    ensures { result.items ≡ readers.items }
+{
+    for reader in readers {
+        room.push_reserved(NodeReader {
+            reader,
+            params: params.copied(),
+        });
+    }
+    room
 }
 
 /// The last of the values.
@@ -101,7 +129,7 @@ impl<D: Disk> Node<D> {
         rt: &R,
         replica: Replica<D>,
         readers: usize,
-    ) -> Result<(Node<D>, Seat<D>, Vec<Reader<Origin>>), (Replica<D>, Refusal)>
+    ) -> Result<(Node<D>, Seat<D>, Vec<NodeReader>), (Replica<D>, Refusal)>
         requires quiet { is_quiet (facts_of D.failures replica) ≡ true }
         requires defined { IsFalse (is_nil_bytes replica.engine.checkpoint.base.uuid) }
         requires readers { (0 < readers) × (readers ≤ 64) }
@@ -117,11 +145,19 @@ impl<D: Disk> Node<D> {
             return Err((replica, Refusal::Stopped));
         }
         let (certifier, backlog, engine) = replica.into_parts();
-        let Ok(Space { waiting, mut room }) = reserved(alloc) else {
+        let Ok(
+            Space {
+                waiting,
+                readers: kept,
+                mut room,
+            },
+        ) = reserved(alloc, readers)
+        else {
             let replica = Replica::from_parts(certifier, backlog, engine, false);
             return Err((replica, Refusal::OutOfMemory));
         };
         let position = engine.durable();
+        let params = engine.params().copied();
         let origin = Origin::of(&certifier);
         let Ok((publisher, readers)) = rep_snap::start(alloc, rt, origin, position, readers) else {
             room.destroy_empty();
@@ -144,6 +180,7 @@ impl<D: Disk> Node<D> {
                     seat,
                     allowance: MAX_SEQNO - position,
                 };
+                let readers = with_params(readers, &params, kept);
                 Ok((Node { lock }, seat, readers))
             }
             Err(Refused { values }) => {

@@ -1,6 +1,6 @@
 //! What makes items durable, and shows them to readers.
 
-ghost use Rattle.std.specs.Prelude.{◌≡◌, ◌⊎◌, ℕ, ◌≤◌, [], List, None, IfOk, IfErr, OnOk, OnErr};
+ghost use Rattle.std.specs.Prelude.{◌≡◌, ◌≢◌, ◌⊎◌, ℕ, ◌≤◌, [], List, None, Err, IfOk, IfErr, OnOk, OnErr};
 ghost use Rattle.rep_types.specs.declared.judged.Judged.{Judged as Entry};
 ghost use Rattle.rep_types.specs.declared.refusal.Refusal.TheVariants.{LogFull, Stopped as is_stopped};
 ghost use Rattle.rep_cert.specs.Holdings.{Holding};
@@ -63,6 +63,7 @@ fn accept<D: Disk>(desk: &mut Desk<D>, queue: &mut Queue) -> Result<(), Refusal>
 fn write_or_sync<D: Disk>(engine: &mut Engine<D>) -> Result<(), Refusal>
     ensures taken { (first : Contents D) → (c : Holding) → (items : List Entry) → HasTaken D.honest D.history D.failures first c items engine.old → HasTaken D.honest D.history D.failures first c items engine.new }
     ensures rises { durable_of engine.old.log ≤ durable_of engine.new.log }
+    ensures base { engine.old.checkpoint.base.position ≤ engine.new.checkpoint.base.position }
     ensures works { engine.old.halted ≡ None → OnOk result (engine.new.halted ≡ None) }
     ensures full { IfErr result (λ refusal. refusal ≡ LogFull → engine.new ≡ engine.old) }
 {
@@ -126,6 +127,7 @@ impl<D: Disk> Node<D> {
         requires free { seat.old.view.held ≡ [] }
         ensures lock { seat.new.lock ≡ seat.old.lock }
         ensures idle { WentIdle seat.old.view seat.new.view }
+        ensures goes { OnOk result (seat.new.view.given_up ≡ seat.old.view.given_up) }
         ensures stopped { IfErr result (λ refusal. (refusal ≡ is_stopped) × (seat.new.view.halted ≡ 1)) }
     {
         let mut desk = desk_of(self.lock.side_enter(rt, seat, 1)?);
@@ -150,8 +152,8 @@ impl<D: Disk> Node<D> {
 
     /// The log's next step: a write, or a sync, after which what is durable is published. It says what is durable then.
     ///
-    /// Refuses with `LogFull` where a checkpoint has to free the log's next cell. Refuses with `Stopped` where the node was halted, which it
-    /// does itself where the device fails, or where there is no memory.
+    /// Refuses with `LogFull` where a checkpoint has to free the log's next cell: nothing was given up. Refuses with `Stopped` where the node
+    /// was halted, which it does itself where the device fails, or where there is no memory.
     fn keep_once<R: Wait>(&self, rt: &R, seat: &mut LockSeat<D>) -> Result<Kept, Refusal>
         requires lock { seat.old.lock ≡ self.now }
         requires seat { IsSeat D.honest D.history D.failures seat.old.view }
@@ -159,6 +161,7 @@ impl<D: Disk> Node<D> {
         ensures lock { seat.new.lock ≡ seat.old.lock }
         ensures idle { WentIdle seat.old.view seat.new.view }
         ensures kept { IfOk result (IsKept seat.old.view seat.new.view) }
+        ensures goes { result ≢ Err is_stopped → seat.new.view.given_up ≡ seat.old.view.given_up }
         ensures refused { IfErr result (λ refusal. (refusal ≡ LogFull) ⊎ ((refusal ≡ is_stopped) × (seat.new.view.halted ≡ 1))) }
     {
         let desk = desk_of(self.lock.side_enter(rt, seat, 1)?);
@@ -192,6 +195,7 @@ impl<D: Disk> Node<D> {
         ensures lock { seat.new.lock ≡ seat.old.lock }
         ensures idle { WentIdle seat.old.view seat.new.view }
         ensures kept { IfOk result (λ kept. (upto ≤ kept.durable) × IsKept seat.old.view seat.new.view kept) }
+        ensures goes { result ≢ Err is_stopped → seat.new.view.given_up ≡ seat.old.view.given_up }
         ensures refused { IfErr result (λ refusal. (refusal ≡ LogFull) ⊎ ((refusal ≡ is_stopped) × (seat.new.view.halted ≡ 1))) }
     {
         let backoff = Backoff::new();
@@ -210,8 +214,8 @@ impl<D: Disk> Node<D> {
     ///
     /// Each durable item is published, with what it wrote, which is nothing unless it committed.
     ///
-    /// Refuses with `LogFull` where a checkpoint has to free the log's next cell: the node goes on, and `check_run` frees it. Refuses with
-    /// `Stopped` where the node was halted, which it does itself where the device fails, or where there is no memory.
+    /// Refuses with `LogFull` where a checkpoint has to free the log's next cell: nothing was given up, the node goes on, and `check_run` frees
+    /// the cell. Refuses with `Stopped` where the node was halted, which it does itself where the device fails, or where there is no memory.
     ///
     /// It is not promised that it returns: somebody has to hand items in up to there.
     pub fn keep<R: Wait>(&self, rt: &R, seat: &mut Seat<D>, upto: u64) -> Result<Kept, Refusal>
@@ -219,6 +223,7 @@ impl<D: Disk> Node<D> {
         ensures lock { seat.new.lock ≡ seat.old.lock }
         ensures idle { WentIdle seat.old.view seat.new.view }
         ensures kept { IfOk result (λ kept. (upto ≤ kept.durable) × IsKept seat.old.view seat.new.view kept) }
+        ensures goes { result ≢ Err is_stopped → seat.new.view.given_up ≡ seat.old.view.given_up }
         ensures refused { IfErr result (λ refusal. (refusal ≡ LogFull) ⊎ ((refusal ≡ is_stopped) × (seat.new.view.halted ≡ 1))) }
     {
         self.keep_upto(rt, &mut seat.seat, upto)

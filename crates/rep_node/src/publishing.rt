@@ -4,7 +4,7 @@ ghost use Rattle.std.specs.Prelude.{◌≡◌, ◌+◌, ◌≤◌, ◌++◌, ◌
 ghost use Rattle.rep_types.specs.declared.refusal.Refusal.TheVariants.{OutOfMemory};
 ghost use Rattle.rep_record.specs.Records.{IsWithin};
 ghost use Rattle.rep_cert.specs.Holdings.{Holdings};
-ghost use Rattle.rep_snap.specs.Lists.{published};
+ghost use Rattle.rep_snap.specs.Lists.{oldest_of, published};
 ghost use Rattle.rep_node.specs.Publishing.{AreShown, shown, shown_of};
 
 use crate::origin::Origin;
@@ -68,6 +68,7 @@ pub(crate) fn publish_upto<R: Wait>(
     requires within { upto ≤ publisher.start + length (published publisher.list ++ waiting.old) }
     ensures same { (result.0.book ≡ publisher.book) × (result.0.basis ≡ publisher.basis) × (result.0.start ≡ publisher.start) }
     ensures whole { published result.0.list ++ waiting.new ≡ published publisher.list ++ waiting.old }
+    ensures oldest { oldest_of publisher.start result.0.list ≡ oldest_of publisher.start publisher.list }
     ensures shown { OnOk result.1 (publisher.start + length (published result.0.list) ≡ upto) }
     ensures refused { IfErr result.1 (λ refusal. refusal ≡ OutOfMemory) }
 {

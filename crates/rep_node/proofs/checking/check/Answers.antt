@@ -1,3 +1,6 @@
+use Rattle.rep_steps.specs.declared.event.Event.TheVariants.{Check}
+use Rattle.rep_engine.specs.Checking.{checked}
+use Rattle.rep_node.proofs.Stepping.{base_rises}
 use Rattle.rep_node.proofs.Checks.{check_taken, check_window, check_works}
 use Rattle.rep_node.proofs.checking.check.Goals as goal
 
@@ -11,4 +14,10 @@ pub returns-clause-taken : goal.returns-clause-taken
 returns-clause-taken g c = check_taken g.D.Disk.honest g.D.Disk.history g.D.Disk.failures c.taken_items_stay.ensures c.args.engine.now c.check.new.self c.check.result c.args.certifier.now.current c.durable-position.ensures.engine c.check.ensures.moves c.check.ensures.steps
 
 pub returns-clause-works : goal.returns-clause-works
-returns-clause-works g c = check_works g.D.Disk.honest g.D.Disk.history g.D.Disk.failures c.args.engine.now c.check.new.self c.check.result c.in_ok-check.field-0 c.in_ok-check.was c.check.ensures.moves
+returns-clause-works g c = check_works g.D.Disk.honest g.D.Disk.history g.D.Disk.failures c.args.engine.now c.check.new.self c.check.result c.in_ok-check.field-0 c.in_ok-check.was c.durable-position.ensures.engine c.check.ensures.moves
+
+pub returns-in_err-check-clause-base : goal.returns-in_err-check-clause-base
+returns-in_err-check-clause-base g c = base_rises g.D.Disk.honest g.D.Disk.history g.D.Disk.failures c.args.engine.now c.check.new.self Check (checked c.check.result) tt c.durable-position.ensures.engine c.check.ensures.moves
+
+pub returns-clause-base : goal.returns-clause-base
+returns-clause-base g c = base_rises g.D.Disk.honest g.D.Disk.history g.D.Disk.failures c.args.engine.now c.check.new.self Check (checked c.check.result) tt c.durable-position.ensures.engine c.check.ensures.moves

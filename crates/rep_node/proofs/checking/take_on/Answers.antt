@@ -24,7 +24,7 @@ pub returns-in-Ok-published-clause-works : goal.returns-in-Ok-published-clause-w
 returns-in-Ok-published-clause-works g c = λ s items w.
     let p = c.publish_upto-publisher in
     let shown = subst (λ (r : Result (Unit {0}) Refusal). OnOk r (c.args.desk.publisher.start + length (published p.result.0.list) ≡ c.durable-durable.result)) c.in-Ok-published.is p.ensures.shown in
-    works_on g.D.Disk.honest g.D.Disk.history g.D.Disk.failures s items c.args.desk w c.flush_or_sync.new.engine c.in-Ok.ensures.taken p.result.0 p.new.waiting p.ensures.same (c.in-Ok.ensures.works (w.desk.works refl)) p.ensures.whole (shown ∙ c.durable-durable.ensures.durable)
+    works_on g.D.Disk.honest g.D.Disk.history g.D.Disk.failures s items c.args.desk w c.flush_or_sync.new.engine c.in-Ok.ensures.taken p.result.0 p.new.waiting p.ensures.same (c.in-Ok.ensures.works (w.desk.works refl)) p.ensures.whole (shown ∙ c.durable-durable.ensures.durable) c.in-Ok.ensures.base p.ensures.oldest
 
 pub returns-in-Ok-published-clause-given : goal.returns-in-Ok-published-clause-given
 returns-in-Ok-published-clause-given g c = λ s items w.

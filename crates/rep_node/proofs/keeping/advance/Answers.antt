@@ -22,7 +22,7 @@ publish_upto-publisher-requires-clause-within g c =
 pub returns-clause-works : goal.returns-clause-works
 returns-clause-works g c = λ s items w.
     let p = c.publish_upto-publisher in
-    on_ok_weaker p.result.1 (λ shown. works_on g.D.Disk.honest g.D.Disk.history g.D.Disk.failures s items c.args.desk w c.write_or_sync-done.new.engine c.in_default.ensures.taken p.result.0 p.new.waiting p.ensures.same (c.in_default.ensures.works (w.desk.works refl)) p.ensures.whole (shown ∙ c.durable-durable.ensures.durable)) p.ensures.shown
+    on_ok_weaker p.result.1 (λ shown. works_on g.D.Disk.honest g.D.Disk.history g.D.Disk.failures s items c.args.desk w c.write_or_sync-done.new.engine c.in_default.ensures.taken p.result.0 p.new.waiting p.ensures.same (c.in_default.ensures.works (w.desk.works refl)) p.ensures.whole (shown ∙ c.durable-durable.ensures.durable) c.in_default.ensures.base p.ensures.oldest) p.ensures.shown
 
 pub returns-clause-given : goal.returns-clause-given
 returns-clause-given g c = λ s items w.

@@ -22,9 +22,16 @@ pub returns-in_default : goal.returns-in_default
 returns-in_default g c = let h = goes g (goal.at.returns-in_default g c).Joined-log_step in record {
   taken = h.taken;
   rises = h.rises;
+  base = h.base;
   works = goes_working g.D.Disk.honest g.D.Disk.history g.D.Disk.failures c.args.engine.now c.match-log_step.engine c.match-log_step.done h;
   full = goes_full g.D.Disk.honest g.D.Disk.history g.D.Disk.failures c.args.engine.now c.match-log_step.engine c.match-log_step.done h;
 }
 
 pub returns-in_default-2-clause-taken : goal.returns-in_default-2-clause-taken
 returns-in_default-2-clause-taken g c = (goes g (goal.at.returns-in_default-2-clause-taken g c).Joined-log_step).taken
+
+pub returns-in-Err-NotDue-clause-base : goal.returns-in-Err-NotDue-clause-base
+returns-in-Err-NotDue-clause-base g c = (goes g (goal.at.returns-in-Err-NotDue-clause-base g c).Joined-log_step).base
+
+pub returns-in_default-2-clause-base : goal.returns-in_default-2-clause-base
+returns-in_default-2-clause-base g c = (goes g (goal.at.returns-in_default-2-clause-base g c).Joined-log_step).base

@@ -3,7 +3,7 @@ use Rattle.std.specs.Prelude.{is_err}
 use Rattle.rep_snap.specs.declared.change.Pair.{Pair}
 use Rattle.rep_snap.specs.Lists.{front_of, pair_of, published}
 use Rattle.rep_node.specs.Publishing.{AreAllowed}
-use Rattle.rep_node.proofs.Publishes.{round_above, round_allowed, round_whole, round_most, all_shown, next_is_above, after_publish, same_pair}
+use Rattle.rep_node.proofs.Publishes.{round_above, round_allowed, round_whole, round_most, all_shown, next_is_above, after_publish, publish_oldest, same_pair}
 use Rattle.rep_node.proofs.publishing.publish_upto.Goals as goal
 use Rattle.rep_node.proofs.publishing.publish_upto.Goals.{in-Some+then-pair-upto, in_default}
 
@@ -37,6 +37,7 @@ loop-pair-preserved g c =
       same.2 ∙ l.invariant.2,
       round_whole c.args.publisher.basis.certifier.log a.0 a.1 c.args.publisher.start a.2 before c.args.waiting.now now l.waiting a.3 l.invariant.3 x c.in-Some.ensures (published c.publish-longer.result.0.list) c.drop_first.new.self more c.drop_first.ensures,
       round_most c.args.publisher.basis.certifier.log a.0 a.1 c.args.publisher.start a.2 before c.args.waiting.now now l.waiting a.3 l.invariant.3 x c.in-Some.ensures (published c.publish-longer.result.0.list) c.args.upto more c.if-pair-upto.false,
+      publish_oldest c.histories_grow.ensures c.args.publisher.start l.publisher c.publish-longer.result.0 c.publish-longer.result.1 x.seqno c.as_slice.result.now c.publish-longer.ensures.change ∙ l.invariant.5,
     )
 
 pub returns-clause-shown : goal.returns-clause-shown

@@ -33,11 +33,11 @@ put_back-requires-clause-sees g c = let t : View (Home g.row.D.Denot) Judged = c
 
 pub put_back-requires-clause-works : goal.put_back-requires-clause-works
 put_back-requires-clause-works g c = λ wanted. let t : View (Home g.row.D.Denot) Judged = c.side_leave-2.new.seat.view in let u : View (Home g.row.D.Denot) Judged = c.side_enter-2.new.seat.view in let left : t ≡ without None 0 (turn_of 0 u) 0 0 u = ap (λ (z : Place (Home g.row.D.Denot) Judged). z.view) c.side_leave-2.ensures.seat in
-    (refl, desk_back g.D.Disk.honest g.D.Disk.history g.D.Disk.failures c.args.seat.now.view c.side_enter.new.seat.view c.in_ok-side_enter.ensures.entered.0 c.in_ok-side_enter.field-0 c.certifier_of-certifier.result c.requires.seat c.requires.free c.in_ok-side_enter.ensures.entered.1 c.certifier_of-certifier.ensures c.side_enter-2.new.seat.view c.in-Ok.ensures.entered.0 c.in-Ok.home c.desk_of-desk.result c.in-Ok.ensures.entered.1 c.desk_of-desk.ensures t (turn_of 0 u) 0 0 left c.check-done.new.engine c.check-done.ensures.taken c.check-done.ensures.still.0 c.check-done.result c.check-done.ensures.works c.check-done.ensures.unchanged wanted)
+    (refl, desk_back g.D.Disk.honest g.D.Disk.history g.D.Disk.failures c.args.seat.now.view c.side_enter.new.seat.view c.in_ok-side_enter.ensures.entered.0 c.in_ok-side_enter.field-0 c.certifier_of-certifier.result c.requires.seat c.requires.free c.in_ok-side_enter.ensures.entered.1 c.certifier_of-certifier.ensures c.side_enter-2.new.seat.view c.in-Ok.ensures.entered.0 c.in-Ok.home c.desk_of-desk.result c.in-Ok.ensures.entered.1 c.desk_of-desk.ensures t (turn_of 0 u) 0 0 left c.check-done.new.engine c.check-done.ensures.taken c.check-done.ensures.still.0 c.check-done.ensures.base c.check-done.result c.check-done.ensures.works c.check-done.ensures.unchanged wanted)
 
 pub put_back-requires-clause-given : goal.put_back-requires-clause-given
 put_back-requires-clause-given g c = let t : View (Home g.row.D.Denot) Judged = c.side_leave-2.new.seat.view in let u : View (Home g.row.D.Denot) Judged = c.side_enter-2.new.seat.view in let left : t ≡ without None 0 (turn_of 0 u) 0 0 u = ap (λ (z : Place (Home g.row.D.Denot) Judged). z.view) c.side_leave-2.ensures.seat in
-    (refl, desk_given g.D.Disk.honest g.D.Disk.history g.D.Disk.failures c.args.seat.now.view c.side_enter.new.seat.view c.in_ok-side_enter.ensures.entered.0 c.in_ok-side_enter.field-0 c.certifier_of-certifier.result c.requires.seat c.requires.free c.in_ok-side_enter.ensures.entered.1 c.certifier_of-certifier.ensures c.side_enter-2.new.seat.view c.in-Ok.ensures.entered.0 c.in-Ok.home c.desk_of-desk.result c.in-Ok.ensures.entered.1 c.desk_of-desk.ensures t (turn_of 0 u) 0 0 left c.check-done.new.engine c.check-done.ensures.taken c.check-done.ensures.still.0)
+    (refl, desk_given g.D.Disk.honest g.D.Disk.history g.D.Disk.failures c.args.seat.now.view c.side_enter.new.seat.view c.in_ok-side_enter.ensures.entered.0 c.in_ok-side_enter.field-0 c.certifier_of-certifier.result c.requires.seat c.requires.free c.in_ok-side_enter.ensures.entered.1 c.certifier_of-certifier.ensures c.side_enter-2.new.seat.view c.in-Ok.ensures.entered.0 c.in-Ok.home c.desk_of-desk.result c.in-Ok.ensures.entered.1 c.desk_of-desk.ensures t (turn_of 0 u) 0 0 left c.check-done.new.engine c.check-done.ensures.taken c.check-done.ensures.still.0 c.check-done.ensures.base)
 
 pub returns-clause-idle : goal.returns-clause-idle
 returns-clause-idle g c = let t : View (Home g.row.D.Denot) Judged = c.side_leave-2.new.seat.view in let u : View (Home g.row.D.Denot) Judged = c.side_enter-2.new.seat.view in let left : t ≡ without None 0 (turn_of 0 u) 0 0 u = ap (λ (z : Place (Home g.row.D.Denot) Judged). z.view) c.side_leave-2.ensures.seat in

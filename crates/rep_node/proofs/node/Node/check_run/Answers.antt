@@ -1,8 +1,11 @@
-use Rattle.std.proofs.Common.{subst}
+use Rattle.std.proofs.Common.{◌≤◌, sym, subst, arith}
+use Rattle.std.specs.Prelude.{IfOk}
+use Rattle.std.proofs.lemmas.Result.{IfOk-weaker}
 use Rattle.rep_types.specs.declared.judged.Judged.{Judged}
 use Rattle.rep_ordered.specs.Seats.{Place}
 use Rattle.rep_node.specs.declared.home.Home.{Home}
 use Rattle.rep_node.specs.Seats.{WentIdle}
+use Rattle.rep_node.specs.Checking.{EndsAt, IsChecked}
 use Rattle.rep_node.proofs.Moves.{seat_still}
 use Rattle.rep_node.proofs.AtEngine.{idle_on}
 use Rattle.rep_node.proofs.Keeps.{invariant_idle}
@@ -14,14 +17,16 @@ invariant_of-seat g c = invariant_idle g.D.Disk.honest g.D.Disk.history g.D.Disk
 pub finish-requires-clause-seat : goal.finish-requires-clause-seat
 finish-requires-clause-seat g c = seat_still g.D.Disk.honest g.D.Disk.history g.D.Disk.failures c.seat.inside.seat.view c.check_once.new.seat.view c.check_once.ensures.idle.0.goes c.check_once.ensures.idle.1 c.seat.invariant.0
 
-pub invariant_of-seat-in_err-finish : goal.invariant_of-seat-in_err-finish
-invariant_of-seat-in_err-finish g c = invariant_idle g.D.Disk.honest g.D.Disk.history g.D.Disk.failures c.seat.inside.seat.view c.finish.new.seat.view c.seat.inside.allowance c.seat.invariant (idle_on c.seat.inside.seat.view c.check_once.new.seat.view c.finish.new.seat.view c.check_once.ensures.idle.0 c.check_once.ensures.idle.1 c.check_once.ensures.idle.2 c.finish.ensures.idle)
-
 pub invariant_of-seat-2 : goal.invariant_of-seat-2
 invariant_of-seat-2 g c = invariant_idle g.D.Disk.honest g.D.Disk.history g.D.Disk.failures c.seat.inside.seat.view c.finish.new.seat.view c.seat.inside.allowance c.seat.invariant (idle_on c.seat.inside.seat.view c.check_once.new.seat.view c.finish.new.seat.view c.check_once.ensures.idle.0 c.check_once.ensures.idle.1 c.check_once.ensures.idle.2 c.finish.ensures.idle)
 
-pub returns-in_err-finish-clause-idle : goal.returns-in_err-finish-clause-idle
-returns-in_err-finish-clause-idle g c = subst (λ (z : Place (Home g.row.D.Denot) Judged). WentIdle z.view c.finish.new.seat.view) c.seat.view_is (idle_on c.seat.inside.seat.view c.check_once.new.seat.view c.finish.new.seat.view c.check_once.ensures.idle.0 c.check_once.ensures.idle.1 c.check_once.ensures.idle.2 c.finish.ensures.idle)
-
 pub returns-clause-idle : goal.returns-clause-idle
 returns-clause-idle g c = subst (λ (z : Place (Home g.row.D.Denot) Judged). WentIdle z.view c.finish.new.seat.view) c.seat.view_is (idle_on c.seat.inside.seat.view c.check_once.new.seat.view c.finish.new.seat.view c.check_once.ensures.idle.0 c.check_once.ensures.idle.1 c.check_once.ensures.idle.2 c.finish.ensures.idle)
+
+pub returns-clause-checked : goal.returns-clause-checked
+returns-clause-checked g c =
+    let first = c.check_once.ensures.idle.0.goes.first in
+    let low = c.in_ok-position.ensures.position in
+    subst (λ (z : Place (Home g.row.D.Denot) Judged). IfOk c.finish.result (λ checked. IsChecked z.view c.finish.new.seat.view checked)) c.seat.view_is
+    (IfOk-weaker c.finish.result (λ checked. (c.in_ok-position.position ≤ checked.base) × EndsAt c.check_once.new.seat.view.first c.finish.new.seat.view checked) (λ checked. IsChecked c.seat.inside.seat.view c.finish.new.seat.view checked)
+    (λ checked h. let base = h.0 in h.1 c.seat.inside.seat.view (sym first) (omega (arith, base, low))) c.finish.ensures.ended)

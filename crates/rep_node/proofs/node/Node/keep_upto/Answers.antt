@@ -1,4 +1,4 @@
-use Rattle.std.proofs.Common.{◌∙◌}
+use Rattle.std.proofs.Common.{rules, ◌∙◌}
 use Rattle.rep_node.specs.Seats.{WentIdle}
 use Rattle.rep_node.proofs.Moves.{seat_still}
 use Rattle.rep_node.proofs.AtEngine.{idle_on}
@@ -29,4 +29,4 @@ pub returns-then-kept-upto-clause-idle : goal.returns-then-kept-upto-clause-idle
 returns-then-kept-upto-clause-idle g c = let at = goal.at.returns-then-kept-upto-clause-idle g c in kept g at.After-keep_once (accepted g at.After-accept_next)
 
 pub loop-preserved : goal.loop-preserved
-loop-preserved g c = let at = goal.at.loop-preserved g c in let idle = kept g at.After-keep_once (accepted g at.After-accept_next) in (c.keep_once.ensures.lock ∙ (c.accept_next.ensures.lock ∙ c.loop.invariant.0), idle.0, idle.1, idle.2)
+loop-preserved g c = let at = goal.at.loop-preserved g c in let idle = kept g at.After-keep_once (accepted g at.After-accept_next) in (c.keep_once.ensures.lock ∙ (c.accept_next.ensures.lock ∙ c.loop.invariant.0), idle.0, idle.1, idle.2, search rules)

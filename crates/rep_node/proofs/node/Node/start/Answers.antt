@@ -1,14 +1,14 @@
-use Rattle.std.proofs.Common.{rules, ◌≡◌, ◌≤◌, [], ◌∙◌, ap, sym, refl, inl, arith}
+use Rattle.std.proofs.Common.{rules, ◌≡◌, ◌≤◌, [], ◌∙◌, ap, sym, subst, refl, inl, arith, All}
 use Rattle.rep_types.specs.declared.judged.Judged.{Judged}
 use Rattle.rep_types.specs.declared.limits.TheConstants.{MAX_SEQNO}
 use Rattle.rep_stations.specs.Ending.{Begins as PartsBegin}
 use Rattle.rep_ordered.specs.Seats.{Place}
-use Rattle.rep_snap.specs.Views.{Listing}
+use Rattle.rep_snap.specs.Views.{Listing, Watching, watching}
 use Rattle.rep_node.specs.declared.home.Home.{Home}
 use Rattle.rep_node.specs.declared.origin.Origin.{Origin}
 use Rattle.rep_node.specs.Homes.{Start, Begins, position_of, values_of}
 use Rattle.rep_node.proofs.Standing.{one_start}
-use Rattle.rep_node.proofs.Beginning.{is_running, again, same_replica, begins, all_name, all_meet, first_seat}
+use Rattle.rep_node.proofs.Beginning.{is_running, again, same_replica, begins, all_name, all_meet, first_seat, readers_own}
 use Rattle.rep_node.proofs.node.Node.start.Goals as goal
 use Rattle.rep_node.proofs.node.Node.start.Goals.{After-push_reserved-3, After-values_of-certifier}
 
@@ -85,6 +85,11 @@ from_parts-replica-requires-in-Err g c = let at = goal.at.from_parts-replica-req
     again g.D.Disk.honest g.D.Disk.history g.D.Disk.failures c.args.replica c.values_of-certifier.result.0 c.values_of-certifier.result.2.backlog c.values_of-certifier.result.1.engine (same.0 ∙ parts.0) (same.1 ∙ parts.1) (same.2 ∙ parts.2)
     (is_running g.D.Disk.honest g.D.Disk.history g.D.Disk.failures c.args.replica c.is_stopped.result c.is_stopped.ensures c.if-is_stopped.false).inside c.into_parts-certifier.ensures.replica
 
+pub with_params-readers-requires-clause-own : goal.with_params-readers-requires-clause-own
+with_params-readers-requires-clause-own g c =
+    let b = node_begins g (goal.at.with_params-readers-requires-clause-own g c).After-push_reserved-3 in
+    readers_own c.copied-params.result c.into_parts-certifier.result.0 (watching c.in-Ok-start.publisher) c.in-Ok-start.readers.items (c.copied-params.ensures ∙ (c.params.ensures ∙ b.taken.setting)) b.origin c.in-Ok-start.ensures.readers.1
+
 pub returns-in-Ok-new-clause-starts : goal.returns-in-Ok-new-clause-starts
 returns-in-Ok-new-clause-starts g c = let at = (goal.at.returns-in-Ok-new-clause-starts g c).After-push_reserved-3 in let parts = c.into_parts-certifier.ensures.parts in record {
   start = start_of g at;
@@ -93,7 +98,7 @@ returns-in-Ok-new-clause-starts g c = let at = (goal.at.returns-in-Ok-new-clause
   certifier = parts.0;
   engine = parts.2;
   stands = (parts_begin g at).stands;
-  readers = c.in-Ok-start.ensures.readers.1;
+  readers = subst (All (λ (reader : Watching Origin). reader ≡ watching c.in-Ok-start.publisher)) (sym c.with_params-readers.ensures) c.in-Ok-start.ensures.readers.1;
 }
 
 pub returns-in-Err-clause-refused : goal.returns-in-Err-clause-refused

@@ -1,0 +1,207 @@
+-- A batch for which a node was started from a replica and closed into one: what it came to.
+use Rattle.std.proofs.Common.{◌≡◌, ◌⊎◌, inl, inr, ⊎_elim, Bool, ℕ, ◌+◌, ◌-◌, ◌<◌, ◌≤◌, ◌||◌, true, false, Option, Some, None, List, [], ◌∷◌, ◌++◌, length, sym, refl, ap, ◌∙◌, subst, arith, length-append, append_assoc}
+use Rattle.std.specs.Prelude.{slice_get, is_some, IfSome}
+use Rattle.std.specs.List.{AllZip}
+use Rattle.std.proofs.lemmas.List.{length-map}
+use Rattle.std.proofs.lemmas.Option.{none-some, same_Some}
+use Rattle.rep_types.specs.declared.item.Item.{Item}
+use Rattle.rep_types.specs.declared.item.Item.TheVariants.{WriteSet as OfWriteSet}
+use Rattle.rep_types.specs.declared.judged.Judged.{Judged}
+use Rattle.rep_types.specs.declared.refusal.Refusal.{Refusal}
+use Rattle.rep_types.specs.declared.refusal.Refusal.TheVariants.{Exhausted, OutOfMemory, Stopped}
+use Rattle.rep_types.specs.Order.{Order, items_of as items_in}
+use Rattle.rep_types.specs.Transactions.{Transaction}
+use Rattle.rep_disk.specs.History.{History}
+use Rattle.rep_cert.specs.Holdings.{Holdings}
+use Rattle.rep_engine.specs.Engines.{Engine, durable_of, facts_of}
+use Rattle.rep_steps.specs.Nodes.{Node}
+use Rattle.rep_steps.specs.Orders.{IsOf}
+use Rattle.rep_steps.specs.Images.{IsFrontOf}
+use Rattle.rep_image.specs.Meanings.{Means}
+use Rattle.rep_replica.specs.Replicas.{Replica, IsReplica, facts_of as replica_facts}
+use Rattle.rep_replica.specs.Holding.{Holds}
+use Rattle.rep_replica.specs.Settling.{IsRunning, is_quiet}
+use Rattle.rep_stations.specs.Judging.{Legal}
+use Rattle.rep_stations.specs.Taking.{StartsAs}
+use Rattle.rep_stations.specs.Orders.{HistoriesExtendTheOrder}
+use Rattle.rep_stations.specs.Ending.{HistoriesLieBetweenReplicas}
+use Rattle.rep_snap.specs.Views.{Watching}
+use Rattle.rep_ordered.specs.declared.view.View.{View}
+use Rattle.rep_ordered.specs.Counts.{times}
+use Rattle.rep_ordered.specs.Going.{Went}
+use Rattle.rep_ordered.specs.GoingLaws.{append_nil}
+use Rattle.rep_ordered.specs.Views.{Every, HasAll}
+use Rattle.rep_node.specs.declared.home.Home.{Home}
+use Rattle.rep_node.specs.declared.origin.Origin.{Origin}
+use Rattle.rep_node.specs.declared.batch.Receipt.{Receipt}
+use Rattle.rep_node.specs.Homes.{Start}
+use Rattle.rep_node.specs.Seats.{PassedOrStopped}
+use Rattle.rep_node.specs.Ending.{StartsFrom, EndsAs}
+use Rattle.rep_node.specs.Batches.{Ascends, IsBatch, IsReceipt, IsWhole, entry_of, items_of}
+use Rattle.rep_node.specs.Served.{IsReceiptOf, IsServed, IsTold}
+use Rattle.rep_node.proofs.Batching.{every_to}
+
+-- ---- why it ended
+
+abbrev IsEnd : List Receipt → Refusal → Type 0
+IsEnd receipts refusal = (refusal ≡ Stopped) ⊎ (((refusal ≡ Exhausted) ⊎ (refusal ≡ OutOfMemory)) × (receipts ≡ []))
+
+pub stopped_as : (receipts : List Receipt) (end : Option Refusal) → end ≡ Some Stopped → IfSome end (IsEnd receipts)
+stopped_as receipts end is = subst (λ (e : Option Refusal). IfSome e (IsEnd receipts)) (sym is) (inl refl)
+
+pub refused_as : (A B : Type 0) (receipts : List Receipt) (end : Option Refusal) (refusal : Refusal) → receipts ≡ [] → end ≡ Some refusal → ((refusal ≡ OutOfMemory) × A) ⊎ ((refusal ≡ Stopped) × B) → IfSome end (IsEnd receipts)
+refused_as A B receipts end refusal none is why = subst (λ (e : Option Refusal). IfSome e (IsEnd receipts)) (sym is)
+    (⊎_elim (λ (memory : (refusal ≡ OutOfMemory) × A). let z : IsEnd receipts refusal = inr (inr memory.0, none) in z) (λ (stopped : (refusal ≡ Stopped) × B). let z : IsEnd receipts refusal = inl stopped.0 in z) why)
+
+pub ended_as : (A B C : Type 0) (receipts : List Receipt) (end : Option Refusal) → IfSome end (λ (refusal : Refusal). ((refusal ≡ Stopped) × A) ⊎ ((((refusal ≡ Exhausted) × B) ⊎ (refusal ≡ OutOfMemory)) × C × (receipts ≡ []))) → IfSome end (IsEnd receipts)
+ended_as A B C receipts None why = tt
+ended_as A B C receipts (Some refusal) (inl stopped) = inl stopped.0
+ended_as A B C receipts (Some refusal) (inr (inl exhausted, c, none)) = inr (inl exhausted.0, none)
+ended_as A B C receipts (Some refusal) (inr (inr memory, c, none)) = inr (inr memory, none)
+
+-- ---- whether it was stopped
+
+pub not_both : (said stopped : Bool) → said ≡ stopped → said ≡ false → stopped ≡ true → ⊥
+not_both said stopped is running halted = absurd (let never : true ≡ false = sym halted ∙ (sym is ∙ running) in cc)
+
+pub not_running : {D : Type 0} (r : Replica D) (said : Bool) → said ≡ (r.stopped || is_some r.engine.halted) → said ≡ true → IsRunning r → ⊥
+not_running r said is halted running = let runs : (r.stopped || is_some r.engine.halted) ≡ false = λ i. running.inside i || is_some (running.device i) in absurd (let never : true ≡ false = sym halted ∙ (is ∙ runs) in cc)
+
+-- ---- receipts and the history
+
+at_behind : {A : Type 0} (front rest : List A) (x : A) → slice_get (front ++ x ∷ rest) (length front) ≡ Some x
+at_behind [] rest x = refl
+at_behind (y ∷ front) rest x = at_behind front rest x
+
+-- the receipt is of the entry at its seqno, of a history that begins at this one
+record IsAt (items : List Item) (start : ℕ) (history : List Judged) (r : Receipt) : Type 0 where
+  item : Item
+  at : slice_get items r.index ≡ Some item
+  from : start ≤ r.seqno
+  inside : r.seqno < start + length history
+  entry : slice_get history (r.seqno - start) ≡ Some (entry_of item r)
+
+-- seqnos that ascend below a number: the first is as far below it as there are some
+below : (top : ℕ) (r : Receipt) (rs : List Receipt) → Ascends (r ∷ rs) → Every (λ (q : Receipt). q.seqno < top) (r ∷ rs) → r.seqno + length (r ∷ rs) ≤ top
+below top r [] up low = let b : r.seqno < top = low.0 in omega arith
+below top r (q ∷ rs) up low = let h : q.seqno + length (q ∷ rs) ≤ top = below top q rs up.1 low.1 in let less : r.seqno < q.seqno = up.0 in omega arith
+
+-- the first seqno is this one or above
+abbrev FirstFrom : ℕ → List Receipt → Type 0
+FirstFrom n [] = Unit {0}
+FirstFrom n (r ∷ rs) = n ≤ r.seqno
+
+next_from : (n : ℕ) (r : Receipt) (rs : List Receipt) → n ≡ r.seqno + 1 → Ascends (r ∷ rs) → FirstFrom n rs
+next_from n r [] is up = tt
+next_from n r (q ∷ rs) is up = let less : r.seqno < q.seqno = up.0 in omega arith
+
+next_ascends : (r : Receipt) (rs : List Receipt) → Ascends (r ∷ rs) → Ascends rs
+next_ascends r [] up = tt
+next_ascends r (q ∷ rs) up = up.1
+
+all_from : (items : List Item) (start n : ℕ) (history : List Judged) (rs : List Receipt) → n ≡ start → Every (IsAt items start history) rs → FirstFrom n rs
+all_from items start n history [] is each = tt
+all_from items start n history (r ∷ rs) is each = let from = each.0.from in omega arith
+
+-- Receipts that ascend, and are no fewer than the entries, are those of the entries, one after the other.
+zipped : (items : List Item) (start : ℕ) (history front rest : List Judged) (rs : List Receipt) → history ≡ front ++ rest → length rest ≤ length rs → FirstFrom (start + length front) rs → Ascends rs → Every (IsAt items start history) rs → AllZip (IsReceiptOf items) rs rest
+zipped items start history front [] [] is few from up each = tt
+zipped items start history front (j ∷ rest) [] is few from up each = absurd (omega arith)
+zipped items start history front [] (r ∷ rs) is few from up each = let inside = each.0.inside in let low : start + length front ≤ r.seqno = from in let long : length history ≡ length front = ap (λ (l : List Judged). length l) (is ∙ append_nil front) in absurd (omega arith)
+zipped items start history front (j ∷ rest) (r ∷ rs) is few from up each = let a = each.0 in let low : start + length front ≤ r.seqno = from in
+    let long : length history ≡ length (front ++ j ∷ rest) = ap (λ (l : List Judged). length l) is in
+    let high = below (start + length history) r rs up (every_to (IsAt items start history) (λ (q : Receipt). q.seqno < start + length history) (r ∷ rs) (λ q h. h.inside) each) in
+    let here : r.seqno ≡ start + length front = omega (arith, length-append front (j ∷ rest)) in let place : r.seqno - start ≡ length front = omega arith in
+    let same : entry_of a.item r ≡ j = same_Some _ _ (sym a.entry ∙ (ap (slice_get history) place ∙ (ap (λ (l : List Judged). slice_get l (length front)) is ∙ at_behind front rest j))) in (
+      record { item = a.item; at = a.at; entry = sym same },
+      zipped items start history (front ++ j ∷ []) rest rs (is ∙ sym (append_assoc front (j ∷ []) rest)) (omega arith) (next_from (start + length (front ++ j ∷ [])) r rs (omega (arith, length-append front (j ∷ []))) up) (next_ascends r rs up) each.1,
+    )
+
+module _ {D : Type 0} where
+  at_seqno : (items : List Item) (v w : View (Home D) Judged) (r : Receipt) → IsReceipt items v w r → IsAt items w.start w.seen r
+  at_seqno items v w r h = let s = h.stands in let e : Judged = entry_of h.item r in let place : w.start + length s.before ≡ r.seqno = s.place in
+      let is : w.seen ≡ s.before ++ e ∷ s.begins.0 = s.begins.1 ∙ append_assoc s.before (e ∷ []) s.begins.0 in let long : length w.seen ≡ length (s.before ++ e ∷ s.begins.0) = ap (λ (l : List Judged). length l) is in
+      let here : r.seqno - w.start ≡ length s.before = omega arith in record {
+        item = h.item;
+        at = h.at;
+        from = omega arith;
+        inside = omega (arith, length-append s.before (e ∷ s.begins.0));
+        entry = ap (slice_get w.seen) here ∙ (ap (λ (l : List Judged). slice_get l (length s.before)) is ∙ at_behind s.before s.begins.0 e);
+      }
+
+  told : (items : List Item) (v w : View (Home D) Judged) (position upto : ℕ) (r : Receipt) → w.start ≡ position + 1 → w.durable ≤ upto → IsReceipt items v w r → IsTold items position upto w.seen r
+  told items v w position upto r starts known h = let a = at_seqno items v w r h in let from = a.from in let durable = h.durable in let same : r.seqno - position - 1 ≡ r.seqno - w.start = omega arith in record {
+    judged = entry_of a.item r;
+    receipt = record { item = a.item; at = a.at; entry = refl };
+    behind = omega arith;
+    at = ap (slice_get w.seen) same ∙ a.entry;
+    durable = omega arith;
+  }
+
+  -- ---- the first seat
+
+  pub passed_none : (v : View (Home D) Judged) → v.own ≡ [] → PassedOrStopped v
+  passed_none v own running x drawn = let none : times x v.own ≡ 0 = ap (times x) own in absurd (omega arith)
+
+  pub has_all : (v w : View (Home D) Judged) → v.own ≡ [] → v.allowance ≡ v.whole → Went v w → HasAll w
+  has_all v w own all went = let none : length v.own ≡ 0 = ap (λ (l : List ℕ). length l) own in let kept = went.goes.kept in let whole = went.goes.whole in omega arith
+
+module _ {D : Type 0} (honest : D → Type 0) (history : D → History) (failures : D → ℕ) where
+  -- ---- what it came to
+
+  pub served : HistoriesExtendTheOrder honest history failures → (old new : Replica D) (ws : List Transaction) (v w : View (Home D) Judged) (watch : List (Watching Origin)) (receipts : List Receipt) (end : Option Refusal)
+      → v.start ≡ durable_of old.engine.log + 1 → v.own ≡ [] → StartsFrom honest history failures old v watch → Went v w → IsBatch (items_of ws) 0 (length ws) v w receipts → Ascends receipts → (end ≡ None → IsWhole 0 (length ws) v w receipts)
+      → EndsAs honest history failures w new → IsServed honest history failures old (items_of ws) new receipts end
+  served extend old new ws v w watch receipts end starts own s went batch up whole e = record {
+    judged = w.seen;
+    legal = legal;
+    told = every_to (IsReceipt (items_of ws) v w) (IsTold (items_of ws) (durable_of old.engine.log) (durable_of new.engine.log) w.seen) receipts (λ r h. told (items_of ws) v w (durable_of old.engine.log) (durable_of new.engine.log) r (went.goes.start ∙ starts) e.durable h) batch.told;
+    places = batch.places;
+    count = λ ended. let count = (whole ended).count in let long : length (items_of ws) ≡ length ws = length-map ws OfWriteSet in omega arith;
+    whole = λ ended. let drawn = (whole ended).drawn in let none : length v.own ≡ 0 = ap (λ (l : List ℕ). length l) own in let few = e.drawn in
+        let each = every_to (IsReceipt (items_of ws) v w) (IsAt (items_of ws) w.start w.seen) receipts (at_seqno (items_of ws) v w) batch.told in
+        zipped (items_of ws) w.start w.seen [] w.seen receipts refl (omega arith) (all_from (items_of ws) w.start (w.start + 0) w.seen receipts (omega arith) each) up each;
+    entries = λ L n of holds. extend.entries L n old.engine old.certifier.current w.seen of (s.stands n holds) legal;
+    stands = λ L n of holds running. e.stands L n of (starts_as n holds) running;
+    taken = e.taken;
+    begins = (e.waits, e.ends.whole);
+    images = λ L n of holds image is. subst (λ (z : Engine D × Holdings). IsFrontOf Means z.0.checkpoint.base.uuid z.1.current.setting (L ++ items_in e.taken) (durable_of new.engine.log) image) (λ i. (engine i, certifier i)) (e.images L n of (starts_as n holds) image is);
+  }
+    where
+      -- the seat that was closed with is one of the node that was started
+      one : s.start ≡ e.start
+      one = e.one s.start (went.goes.first ∙ s.first)
+
+      certifier : e.start.certifier ≡ old.certifier
+      certifier = ap (λ (z : Start D). z.certifier) (sym one) ∙ s.certifier
+
+      engine : e.start.desk.engine ≡ old.engine
+      engine = ap (λ (z : Start D). z.desk.engine) (sym one) ∙ s.engine
+
+      legal : Legal old.certifier.current w.seen
+      legal = subst (λ (c : Holdings). Legal c.current w.seen) certifier e.ends.legal
+
+      starts_as : (n : Node) → Holds honest history failures n old → StartsAs honest history failures e.start.desk.engine e.start.certifier.current n
+      starts_as n holds = subst (λ (z : Engine D × Holdings). StartsAs honest history failures z.0 z.1.current n) (λ i. (sym engine i, sym certifier i)) (s.stands n holds)
+
+  -- a replica that is handed back as it was
+  same_served : HistoriesLieBetweenReplicas honest history failures → HistoriesExtendTheOrder honest history failures → (old : Replica D) (items : List Item) (refusal : Refusal) → IsReplica (facts_of failures old.engine) old.backlog old.certifier.current old.stopped → IsRunning old → is_quiet (replica_facts failures old) ≡ true
+      → IsServed honest history failures old items old [] (Some refusal)
+  same_served between extend old items refusal is running quiet = let b = between.begins old is running.inside quiet in record {
+    judged = [];
+    legal = tt;
+    told = tt;
+    places = λ i. omega arith;
+    count = λ ended. absurd (none-some refusal (sym ended));
+    whole = λ ended. absurd (none-some refusal (sym ended));
+    entries = λ L n of holds. extend.entries L n old.engine old.certifier.current [] of (b.stands n holds) tt;
+    stands = λ L n of holds runs. (n, subst (λ (l : Order). IsOf l n) (sym (append_nil L)) of, holds);
+    taken = [];
+    begins = ([], refl);
+    images = λ L n of holds image left. extend.images L n old.engine old.engine old.certifier.current [] of (b.stands n holds) tt b.taken image left;
+  }
+
+  pub refused_served : HistoriesLieBetweenReplicas honest history failures → HistoriesExtendTheOrder honest history failures → (old new : Replica D) (items : List Item) (receipts : List Receipt) (end : Option Refusal) (refusal : Refusal)
+      → IsReplica (facts_of failures old.engine) old.backlog old.certifier.current old.stopped → IsRunning old → is_quiet (replica_facts failures old) ≡ true → new ≡ old → receipts ≡ [] → end ≡ Some refusal → IsServed honest history failures old items new receipts end
+  refused_served between extend old new items receipts end refusal is running quiet same none ended =
+      subst (λ (z : Replica D × List Receipt × Option Refusal). IsServed honest history failures old items z.0 z.1 z.2) (λ i. (sym same i, sym none i, sym ended i)) (same_served between extend old items refusal is running quiet)

@@ -1,0 +1,23 @@
+-- What a seat that hands a batch in comes to, while another one keeps.
+use Rattle.std.specs.Prelude.{◌≡◌, ◌⊎◌, ℕ, None, IfSome, List, []}
+use Rattle.rep_types.specs.declared.item.Item.{Item}
+use Rattle.rep_types.specs.declared.judged.Judged.{Judged}
+use Rattle.rep_types.specs.declared.refusal.Refusal.{Refusal}
+use Rattle.rep_types.specs.declared.refusal.Refusal.TheVariants.{OutOfMemory, Stopped}
+use Rattle.rep_ordered.specs.declared.view.View.{View}
+use Rattle.rep_ordered.specs.Going.{Went}
+use Rattle.rep_node.specs.declared.home.Home.{Home}
+use Rattle.rep_node.specs.declared.batch.Batch.{Batch}
+use Rattle.rep_node.specs.Seats.{PassedOrStopped, SeesLegal}
+use Rattle.rep_node.specs.Batches.{Ascends, IsBatch, IsWhole}
+
+module _ {D : Type 0} where
+  -- A seat with seqnos enough handed in a batch of so many items: what it came to, and what is said of it.
+  pub record HandedIn (items : List Item) (count : ℕ) (v w : View (Home D) Judged) (b : Batch) : Type 0 where
+    pub went : Went v w
+    pub sees : SeesLegal v w
+    pub passed : PassedOrStopped w
+    pub batch : IsBatch items 0 count v w b.receipts.items
+    pub order : Ascends b.receipts.items
+    pub whole : b.end ≡ None → IsWhole 0 count v w b.receipts.items
+    pub ended : IfSome b.end (λ (refusal : Refusal). ((refusal ≡ Stopped) × (w.halted ≡ 1)) ⊎ ((refusal ≡ OutOfMemory) × (w.own ≡ v.own) × (b.receipts.items ≡ [])))

@@ -1,0 +1,205 @@
+//! Items that are handed in together, with a keeper beside.
+
+ghost use Rattle.std.specs.Prelude.{◌≡◌, ◌⊎◌, ◌+◌, ◌≤◌, ◌<◌, ◌↔◌, None, [], length, IfSome, IfErr, IsTrue};
+ghost use Rattle.std.specs.Thread.{IsSync};
+ghost use Rattle.rep_types.specs.declared.refusal.Refusal.TheVariants.{Exhausted, OutOfMemory, Stopped as is_stopped};
+ghost use Rattle.rep_ordered.specs.Going.{Went};
+ghost use Rattle.rep_ordered.specs.Views.{Later};
+ghost use Rattle.rep_node.specs.Seats.{PassedOrStopped, SeesLegal, WentIdle};
+ghost use Rattle.rep_node.specs.Batches.{Ascends, IsBatch, IsWhole, items_of};
+ghost use Rattle.rep_node.specs.Serving.{HandedIn};
+
+use crate::batch::Batch;
+use crate::node::Node;
+use crate::pace::Pace;
+use crate::seat::Seat;
+use crossbeam_utils::Backoff;
+use crossbeam_utils::atomic::AtomicCell;
+use rep_disk::Disk;
+use rep_types::{Refusal, WriteSet};
+use std::alloc::Global;
+use std::sync::Wait;
+use std::thread::{Threads, join_mut};
+
+impl<D: Disk> Seat<D> {
+    /// How many seqnos it may still draw, or fewer where it knows of a halt.
+    fn left(&self) -> u64
+        ensures left { (result ≤ self.now.view.allowance) × (self.now.view.halted ≡ 0 → result ≡ self.now.view.allowance) }
+    {
+        self.allowance
+    }
+}
+
+impl<D: Disk> Node<D> {
+    /// Whether the node was halted.
+    fn is_halted(&self, seat: &mut Seat<D>) -> bool
+        requires { seat.old.lock ≡ self.now }
+        ensures lock { seat.new.lock ≡ seat.old.lock }
+        ensures later { Later seat.old.view seat.new.view }
+        ensures idle { WentIdle seat.old.view seat.new.view }
+        ensures halted { IsTrue result ↔ (seat.new.view.halted ≡ 1) }
+        ensures one_bit { seat.new.view.halted ≤ 1 }
+    {
+        self.lock.front(&mut seat.seat).halted
+    }
+
+    /// A keeper's round: the engine accepts what comes next and the log makes its next step, or a checkpoint runs where the log is full. It
+    /// says what is durable, or nothing where the log was full.
+    ///
+    /// Refuses with `Stopped` where the node was halted, which it does itself where the device fails, where a page of the base is not of its
+    /// form, or where there is no memory.
+    fn keep_round<R: Wait>(&self, rt: &R, seat: &mut Seat<D>) -> Result<Option<u64>, Refusal>
+        requires { seat.old.lock ≡ self.now }
+        ensures lock { seat.new.lock ≡ seat.old.lock }
+        ensures idle { WentIdle seat.old.view seat.new.view }
+        ensures stopped { IfErr result (λ refusal. (refusal ≡ is_stopped) × (seat.new.view.halted ≡ 1)) }
+    {
+        match self.keep(rt, seat, 0) {
+            Ok(kept) => return Ok(Some(kept.durable)),
+            Err(Refusal::LogFull) => (),
+            Err(refusal) => return Err(refusal),
+        }
+        match self.check_run(rt, seat) {
+            Ok(_) | Err(Refusal::NotDue) => Ok(None),
+            Err(refusal) => Err(refusal),
+        }
+    }
+
+    /// Makes items durable and shows them to readers, and runs a checkpoint where the log is full, as long as it is told to go on, and once
+    /// more then.
+    ///
+    /// Refuses with `Stopped` where the node was halted, which it does itself where the device fails, where a page of the base is not of its
+    /// form, or where there is no memory.
+    fn keep_while<R: Wait>(
+        &self,
+        rt: &R,
+        goes: &AtomicCell<bool>,
+        seat: &mut Seat<D>,
+    ) -> Result<(), Refusal>
+        requires { seat.old.lock ≡ self.now }
+        ensures lock { seat.new.lock ≡ seat.old.lock }
+        ensures idle { WentIdle seat.old.view seat.new.view }
+        ensures stopped { IfErr result (λ refusal. (refusal ≡ is_stopped) × (seat.new.view.halted ≡ 1)) }
+    {
+        if self.is_halted(seat) {
+            return Err(Refusal::Stopped);
+        }
+        let backoff = Backoff::new();
+        let mut last = None;
+        for _ in rt.forever() {
+            let goes_on = goes.load();
+            let durable = self.keep_round(rt, seat)?;
+            if !goes_on {
+                return Ok(());
+            }
+            if durable == last {
+                backoff.snooze();
+            } else {
+                backoff.reset();
+            }
+            last = durable;
+        }
+        unreachable!()
+    }
+}
+
+impl<D: Disk + Send> Node<D> {
+    /// Hands in a batch by a seat that may draw more seqnos than there are items, and tells the keeper that it need not go on.
+    fn hand_in<R: Threads + Wait + Sync, P: Pace + Sync>(
+        &self,
+        rt: &R,
+        alloc: Global,
+        items: &[WriteSet],
+        workers: usize,
+        pace: &P,
+        goes: &AtomicCell<bool>,
+        seat: &mut Seat<D>,
+    ) -> Batch
+        requires lock { seat.old.lock ≡ self.now }
+        requires allowance { length items.now < seat.old.view.allowance }
+        requires passed { PassedOrStopped seat.old.view }
+        requires workers { (0 < workers) × (workers ≤ 64) }
+        ensures lock { seat.new.lock ≡ seat.old.lock }
+        ensures handed_in { HandedIn (items_of items.now) (length items.now) seat.old.view seat.new.view result }
+    {
+        let batch = self.submit_batch(rt, alloc, seat, items, workers, pace);
+        goes.store(false);
+        batch
+    }
+
+    /// Hands in a batch by the one seat, which may draw more seqnos than there are items, while the other one keeps.
+    fn serve_by_two<R: Threads + Wait + Sync, P: Pace + Sync>(
+        &self,
+        rt: &R,
+        alloc: Global,
+        items: &[WriteSet],
+        workers: usize,
+        pace: &P,
+        keeper: &mut Seat<D>,
+        seat: &mut Seat<D>,
+    ) -> Batch
+        requires lock { (keeper.old.lock ≡ self.now) × (seat.old.lock ≡ self.now) }
+        requires allowance { length items.now < seat.old.view.allowance }
+        requires passed { PassedOrStopped seat.old.view }
+        requires workers { (0 < workers) × (workers ≤ 64) }
+        ensures lock { (keeper.new.lock ≡ keeper.old.lock) × (seat.new.lock ≡ seat.old.lock) }
+        ensures idle { WentIdle keeper.old.view keeper.new.view }
+        ensures handed_in { HandedIn (items_of items.now) (length items.now) seat.old.view seat.new.view result }
+    {
+        let cell = AtomicCell::new(true);
+        let goes = &cell;
+        let mut keep = || -> Result<(), Refusal>
+            requires { IsSync R.row × (keeper.now.lock ≡ self.now) }
+            ensures { (keeper.exit.now.lock ≡ keeper.entry.now.lock) × WentIdle keeper.entry.now.view keeper.exit.now.view }
+        { self.keep_while(rt, goes, keeper) };
+        let mut hand_in = || -> Batch
+            requires { IsSync R.row × (seat.now.lock ≡ self.now) × (length items.now < seat.now.view.allowance) × PassedOrStopped seat.now.view × (0 < workers) × (workers ≤ 64) }
+            ensures { (seat.exit.now.lock ≡ seat.entry.now.lock) × HandedIn (items_of items.entry.now) (length items.entry.now) seat.entry.now.view seat.exit.now.view result }
+        { self.hand_in(rt, alloc, items, workers, pace, goes, seat) };
+        let (_kept, batch) = join_mut(rt, &mut keep, &mut hand_in);
+        batch
+    }
+
+    /// Hands in a batch as `submit_batch` does, while a keeper beside makes items durable, shows them to readers, and runs a checkpoint where
+    /// the log is full. It returns once both are done.
+    ///
+    /// The end is `Exhausted` where the seat has no more than one seqno left beside those of the items, and `OutOfMemory` where a growth of
+    /// the batch's own was refused: then no seqno was drawn. It is `Stopped` where the node was halted, which the keeper does where the
+    /// device fails, where a page of the base is not of its form, or where there is no memory, and a worker where the pace says no: of an item
+    /// without a receipt it is then not known whether it stands in the history; it stands there at most once, and unchanged.
+    ///
+    /// It is not promised that it returns: where no second thread can be made, nobody keeps while the batch is handed in.
+    pub fn serve<R: Threads + Wait + Sync, P: Pace + Sync>(
+        &self,
+        rt: &R,
+        alloc: Global,
+        seat: &mut Seat<D>,
+        items: &[WriteSet],
+        workers: usize,
+        pace: &P,
+    ) -> Batch
+        requires lock { seat.old.lock ≡ self.now }
+        requires workers { (0 < workers) × (workers ≤ 64) }
+        requires passed { PassedOrStopped seat.old.view }
+        ensures lock { seat.new.lock ≡ seat.old.lock }
+        ensures went { Went seat.old.view seat.new.view }
+        ensures sees { SeesLegal seat.old.view seat.new.view }
+        ensures passed { PassedOrStopped seat.new.view }
+        ensures batch { IsBatch (items_of items.now) 0 (length items.now) seat.old.view seat.new.view result.receipts.items }
+        ensures order { Ascends result.receipts.items }
+        ensures whole { result.end ≡ None → IsWhole 0 (length items.now) seat.old.view seat.new.view result.receipts.items }
+        ensures ended { IfSome result.end (λ refusal. ((refusal ≡ is_stopped) × (seat.new.view.halted ≡ 1)) ⊎ ((((refusal ≡ Exhausted) × (seat.old.view.allowance ≤ length items.now + 1)) ⊎ (refusal ≡ OutOfMemory)) × (seat.new.view.own ≡ seat.old.view.own) × (result.receipts.items ≡ []))) }
+    {
+        if self.is_halted(seat) {
+            return Batch::refused(alloc, Refusal::Stopped);
+        }
+        if seat.left().saturating_sub(1) <= items.len() as u64 {
+            return Batch::refused(alloc, Refusal::Exhausted);
+        }
+        let mut keeper = self.split(seat, 1);
+        let batch = self.serve_by_two(rt, alloc, items, workers, pace, &mut keeper, seat);
+        self.join(seat, keeper);
+        let _halted = self.is_halted(seat);
+        batch
+    }
+}
