@@ -1,16 +1,17 @@
 # `make run` is the first thing to try, `make build` makes the proved program, and `make test` is all that CI runs.
 
 CRATES := rep_types rep_plain rep_forms rep_record rep_disk rep_layout rep_versions rep_pages rep_cells rep_pool rep_log rep_steps rep_image \
-	rep_checkpoint rep_cert rep_backlog rep_engine rep_recover rep_replica rep_saved rep_transfer rep_catchup rep_script replicad
+	rep_checkpoint rep_cert rep_backlog rep_engine rep_recover rep_replica rep_saved rep_transfer rep_catchup rep_script \
+	rep_ordered rep_snap rep_stations rep_node rep_serve replicad
 PROGRAM := crates/replicad/out/replicad
 # What `make bench` needs beside these: what times the certifier against the plain node, what times the versions of rows, and
-# the readers with what times them against a lock.
-TIMED := rep_compare rep_timed rep_snap rep_snap_uses rep_snap_timed
+# what times readers against a lock.
+TIMED := rep_compare rep_timed rep_snap_uses rep_snap_timed
 COMPARE := crates/rep_compare/out/rep_compare
 VERSIONS := crates/rep_timed/out/rep_timed
 PEEKS := crates/rep_snap_timed/out/rep_snap_timed
 
-.PHONY: run build test check edits gate-time bench toolchain
+.PHONY: run build test check edits gate-time bench soak toolchain
 
 # Judges the sample order within a minute: what judges is compiled, with checks at run time, and not proved yet.
 run: toolchain
@@ -43,6 +44,13 @@ gate-time: toolchain
 bench: toolchain
 	@scripts/build $(CRATES) $(TIMED)
 	@scripts/bench $(PROGRAM) $(COMPARE) $(VERSIONS) $(PEEKS)
+
+# Drawn lives of the proved program on a file, killed, stopped within writes and syncs, and opened again, for so many seconds, as
+# `SECONDS=600 make soak`; with SEED=N from the life of this seed on.
+SECONDS ?= 60
+soak: toolchain
+	@scripts/build $(CRATES)
+	@scripts/soak --seconds $(SECONDS) $(if $(SEED),--seed $(SEED))
 
 toolchain:
 	@command -v rt >/dev/null || { echo "The Rattle toolchain is missing: no command 'rt' on the path." >&2; exit 1; }

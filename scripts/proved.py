@@ -6,6 +6,10 @@ TOP = os.path.dirname(os.path.dirname(os.path.abspath(__file__)))
 SCRIPTS = os.path.join(TOP, "scripts")
 
 
+class Wrong(Exception):
+    """What is wrong with a run."""
+
+
 def crates():
     """The crates of crates.txt, in its order, each with the libraries of the repository that it stands on."""
     named = {}
@@ -47,15 +51,20 @@ def programs_of(crate):
     return [made] + [other] * is_current
 
 
+def library(folder, name):
+    """The library of scripts/, to be loaded before the C library, which is compiled into this folder."""
+    made, source = os.path.join(folder, name + ".so"), os.path.join(SCRIPTS, name + ".c")
+    subprocess.run(["cc", "-O2", "-Wall", "-shared", "-fPIC", "-o", made, source], check=True)
+    return made
+
+
 class Refusing:
     """Runs programs with growths of memory refused. What it needs it makes in this folder."""
 
     def __init__(self, folder):
         self.folder = folder
-        self.library = os.path.join(folder, "refuse_growth.so")
+        self.library = library(folder, "refuse_growth")
         self.counted = os.path.join(folder, "growths")
-        source = os.path.join(SCRIPTS, "refuse_growth.c")
-        subprocess.run(["cc", "-O2", "-Wall", "-shared", "-fPIC", "-o", self.library, source], check=True)
 
     def path(self, name):
         """A path in the folder."""

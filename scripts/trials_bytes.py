@@ -265,6 +265,16 @@ def each_block(program):
     yield from refused(program, "log", with_item, [("the last byte of a body", (FIRST_CELL_GATE - 1, "01"))])
 
 
+def last_seqno(program):
+    """A block of the last seqno, and none of the one behind it."""
+    make = lambda title, position, seqno: with_puts(
+        with_base(new(title), FIRST, 0, position), [(CELLS, block(0, position + 1, record(seqno, [put_of(1)]))), (FIRST_CELL_GATE, OPEN)]
+    )
+    yield opens(make("the last seqno", LAST - 1, LAST), LAST, LAST - 1)
+    yield comes_back(program, make("a seqno above the last", LAST, LAST + 1), "13 corrupt log")
+    yield comes_back(program, make("a seqno above the last, behind the one before", LAST - 1, LAST + 1), "13 corrupt log")
+
+
 def each_cell(program):
     """Cells are taken from the start on, and none stands open behind them but those of an earlier lap."""
     first = block(0, 1, ONE)
@@ -328,6 +338,7 @@ TRIALS = [
     ("two superblocks are both held to the form", two_superblocks),
     ("a window of no form", each_window),
     ("a block of no form", each_block),
+    ("a block above the last seqno", last_seqno),
     ("cells behind the block", each_cell),
     ("the log is answered before a page", log_before_pages),
     ("a page of no form at an opening", each_page),

@@ -10,6 +10,7 @@ WAYS = [
     ("another form", 0, "00"), ("another page", 8, number(1, 2)), ("another table", 10, "01"), ("a byte that is to be zero", 11, "01"),
     ("another row", 12, number(63, 4)), ("a later position", 16, number(BASE + 1)), ("a byte of the head", 63, "01"),
     ("a row that is neither there nor absent", 64, "02"), ("an absent row with a byte", 127, "01"), ("a row of 63 bytes", 64, "013f"),
+    ("a byte behind a row", 64, "01016101"),
 ]
 
 

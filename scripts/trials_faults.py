@@ -1,6 +1,8 @@
 """A device that fails at each call in turn, once or from then on: what is refused, and what opens behind it with each loss."""
 from node_model import CLUSTER, LOSSES
-from trials import BEFORE, SMALL, SMALL_SIZE, Life, Trial, answers, beside_an_item, full_log, of_one_page, one_item, params_line
+from trials import (
+    BEFORE, SMALL, SMALL_SIZE, Life, Trial, answers, before_items, beside_an_item, full_log, of_one_page, one_item, params_line, two_laps,
+)
 from trials_opening import new_bytes, sum_of
 
 FAULT = "refused 2 disk-fault"
@@ -221,7 +223,13 @@ TRIALS = [
     ("a fault at each call stops the replica and its disk goes on", one_item_goes_on("once")),
     ("a device that fails from each call on goes on once it serves", one_item_goes_on("from")),
     ("a fault at each call of a checkpoint leaves the old base or the new", goes_on(beside_an_item, "once")),
+    ("a device that fails from each call of a checkpoint on goes on once it serves", goes_on(beside_an_item, "from")),
+    ("a fault at each call of a checkpoint loses the items that wait", goes_on(before_items, "once")),
+    ("a device that fails from each call of a checkpoint on loses the items that wait", goes_on(before_items, "from")),
     ("a fault at each call of a second checkpoint leaves its base or the first", goes_on(of_one_page, "once")),
+    ("a fault at each call of a lap leaves what is durable", goes_on(full_log, "once")),
     ("a device that fails from each call of a lap on goes on once it serves", goes_on(full_log, "from")),
+    ("a fault at each call of two laps leaves what is durable", goes_on(two_laps, "once")),
+    ("a device that fails from each call of two laps on goes on once it serves", goes_on(two_laps, "from")),
     ("a fault at each call ends the settling and its disk goes on", settling),
 ]

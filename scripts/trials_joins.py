@@ -528,6 +528,57 @@ def changed(make):
     return trials
 
 
+# Bytes at places of the header, of a piece of the snapshot (its head, the entries 5 to 8, the number of pages, the pages 0 to 2), and of the
+# record of an item, that are none of the form, or no part that may come there.
+HEADERS = [
+    ("another mark", 7, "32"), ("no UUID", 8, "00" * 16), ("a window of no seqno", 24, "0000"), ("a window of 257 seqnos", 24, "0101"),
+    ("no table", 26, "00"), ("nine tables", 26, "09"), ("a table without rows", 27, "00000000"), ("rows of a table that is not there", 39, "00000001"),
+    ("more pages than there may be", 27, "0003f000"),
+]
+SNAPSHOTS = [
+    ("a position above the last", 0, 1, "1000000000000001"), ("a seqno of 0", 1, 7, "00"), ("a seqno below the window", 1, 7, "04"),
+    ("a seqno twice", 2, 7, "05"), ("seqnos that descend", 3, 7, "05"), ("a seqno above the position", 4, 7, "09"), ("an entry without keys", 4, 8, "00"),
+    ("an entry with 17 keys", 4, 8, "11"), ("a key twice", 2, 14, "0000000001"), ("keys that descend", 2, 14, "0000000000"),
+    ("a row that is not there", 3, 9, "0000000046"), ("a page twice", 7, 0, "0000"), ("a page that is not there", 8, 0, "0004"),
+    ("a row that is neither there nor absent", 6, 2, "02"), ("a row of 63 bytes", 6, 3, "3f"), ("a byte behind a row", 6, 2 + 63, "01"),
+    ("an absent row with a byte", 6, 2 + 2 * 64 + 1, "01"), ("a row behind the table's end", 7, 2 + 7 * 64, "010161"),
+]
+RECORDS = [
+    ("a record that says a byte more", 9, 1, "0036"), ("one that says a byte less", 9, 1, "0034"), ("the seqno 0", 9, 3, "00" * 8),
+    ("the seqno before", 9, 3, bytes_of(8).hex()), ("a seqno above the last", 9, 3, "1000000000000001"), ("a verdict of no number", 9, 35, "05"),
+    ("a conflict with no seqno", 9, 36, "00" * 8), ("a conflict with itself", 9, 36, bytes_of(9).hex()), ("a conflict with another", 9, 36, bytes_of(6).hex()),
+    ("a commit that names a seqno", 10, 43, "01"), ("17 reads", 9, 44, "11"), ("no write", 9, 45, "00"), ("17 writes", 9, 45, "11"),
+    ("a write of another kind", 9, 51, "02"), ("a delete with a value", 9, 51, "00"), ("a value of 63 bytes", 9, 52, "3f"),
+    ("what had seen more", 9, 11, bytes_of(7).hex()), ("what had seen itself", 10, 11, bytes_of(10).hex()), ("a row that is not there", 9, 46, "0000000046"),
+    ("a write twice", 13, 54, "0000000001"), ("writes that descend", 13, 54, "0000000000"), ("a read that conflicts", 12, 46, "0000000001"),
+]
+
+
+def places_of(transfer):
+    """Each of these, with its place in the transfer, how many parts behind the header stand before it, and where its part begins."""
+    starts = [HEADER + sum(map(len, transfer.pieces[:at])) for at in range(len(transfer.pieces))]
+    for title, within, text in HEADERS:
+        yield "the header: " + title, within, text, 0, 0
+    for title, piece, within, text in SNAPSHOTS:
+        yield "the snapshot: " + title, starts[piece] + within, text, 0, HEADER
+    for title, seqno, within, text in RECORDS:
+        before = 1 + seqno - transfer.seqnos[0]
+        start = transfer.starts[1 + before]
+        yield "a record: " + title, start + within, text, before, start
+
+
+def of_no_form(_):
+    """Each reason for which a part of a transfer is of no form: what came before it is taken, and nothing of it."""
+    for number, (title, place, text, count, at) in enumerate(places_of(transfer_for(wrapped))):
+        ending = ENDINGS[number % 5]
+        scene = met_by("%s, %s" % (title, ending), wrapped)
+        transfer = scene.donates()
+        assert transfer.bytes()[place : place + len(text) // 2] != bytes.fromhex(text), title
+        for within, byte in enumerate(bytes.fromhex(text)):
+            scene.say("spoil %d %d" % (place + within, byte), "spoilt %d" % len(transfer.bytes()))
+        yield is_cut(scene, transfer, count, malformed(at), ending)
+
+
 # ---- who is refused
 
 
@@ -643,6 +694,7 @@ TRIALS = (
     + each("a transfer that is cut is taken up to there", cut, CUT)
     + each("a transfer that is changed is taken up to there", changed, CUT)
     + [
+        ("a part of a transfer is of no form", of_no_form),
         ("a node of other parameters or another cluster joins nothing", other_nodes),
         ("a transfer for another node is taken where it fits", other_transfers),
         ("a donor gives nothing where it has nothing to give", donors_refuse),

@@ -1,7 +1,7 @@
 """Disks whose bytes are written by hand, at their offsets (docs/formats.md): what an opening refuses, what it does not look at, which
 superblock counts, what rows stand in pages, what an opening makes stable, and the last seqno."""
 from node_model import CLUSTER
-from trials import SMALL_SIZE, Trial, answers, one_item, put
+from trials import BEFORE, SMALL_SIZE, Trial, answers, beside_an_item, full_log, of_one_page, one_item, put, two_laps
 
 # Where each superblock, its gate and its window begin.
 FIRST, SECOND = (0, 3_584, 8_192), (4_096, 7_680, 31_232)
@@ -182,6 +182,18 @@ CORRUPT = [
     ("13 corrupt window", (8_207, "01")),
     ("12 not-formatted", (3_584, "00")),
     ("13 corrupt superblock", (7_680, OPEN)),
+    # The number of the other side, a window of no seqno, a page in both slots, and a byte that is to be zero.
+    ("13 corrupt superblock", (15, "01")),
+    ("13 corrupt superblock", (33, "00")),
+    ("13 corrupt superblock", (128, "03")),
+    ("13 corrupt superblock", (1_152, "01")),
+    # A window of another position.
+    ("13 corrupt window", (8_215, "01")),
+    # A block of the second cell, one of the next lap, a first seqno that does not follow, and a byte behind the record.
+    ("13 corrupt log", (54_279, "01")),
+    ("13 corrupt log", (54_279, "04")),
+    ("13 corrupt log", (54_287, "02")),
+    ("13 corrupt log", (54_343, "01")),
     # The first page stands in its first slot, into which none was written.
     ("13 corrupt pages", (128, "01")),
     # The undefined node's log holds no block.
@@ -195,9 +207,14 @@ CORRUPT = [
 def each_part(program):
     for refusal, *puts in CORRUPT:
         yield comes_back(program, with_item("%s at %d" % (refusal, puts[0][0]), *puts), refusal)
-    trial = with_item("without room for its places")
-    trial.say("cut 103423", "cut")
-    yield comes_back(program, trial, "13 corrupt superblock")
+    for size, refusal in ((103_423, "13 corrupt superblock"), (54_272, "13 corrupt superblock"), (54_271, "12 not-formatted")):
+        trial = with_item("cut to %d bytes" % size)
+        trial.say("cut %d" % size, "cut")
+        yield comes_back(program, trial, refusal)
+    trial = Trial("a page of the base behind a checkpoint")
+    beside_an_item().play(trial)
+    trial.say("crash keep", "crashed")
+    yield comes_back(program, with_puts(trial, [(PAGES, "00")]), "13 corrupt pages")
 
 
 def not_looked_at(_):
@@ -376,6 +393,50 @@ def refused_openings(program):
             yield behind_the_item(trial)
 
 
+def both_open(trial):
+    """A checkpoint whose superblock stands open beside the one before it."""
+    script = of_one_page()
+    life = script.play(trial, len(script.events) - 2)
+    assert life.node.phase() == "retiring"
+    return life
+
+
+# Disks of lives, and how many calls their openings make: a sync; a gate, and a body where it stands open, of each superblock; the window; of
+# each of the four cells a gate, and a body where it stands open; and the pages in a slot.
+OPENINGS = [
+    ("a page in a slot", lambda trial: of_one_page().play(trial), 1 + 3 + 1 + 6 + 2),
+    ("both superblocks open", both_open, 1 + 4 + 1 + 6 + 2),
+    ("cells of an earlier lap", lambda trial: two_laps().play(trial), 1 + 3 + 1 + 7 + 2),
+    ("a full log", lambda trial: full_log().play(trial, BEFORE), 1 + 3 + 1 + 8),
+]
+
+
+def refused_openings_of_lives(program):
+    """The same of disks that were lived on: what opens behind the fault is what opens without one, and goes on."""
+    for title, play, calls in OPENINGS:
+        for kind in ("once", "from"):
+            for call in range(calls + 1):
+                trial = Trial("%s, %s %d" % (title, kind, call))
+                life = play(trial)
+                trial.say("crash drop", "crashed")
+                before, opened = last_line(program, trial.text() + "sum\n"), life.node.stop("drop")
+                trial.say("fail %s %d" % (kind, call), "armed")
+                if call < calls:
+                    trial.say("open", "refused 2 disk-fault")
+                    trial.say("sum", before)
+                    trial.say("failures", "failures 1")
+                    if kind == "from":
+                        trial.say("crash drop", "crashed")
+                # Where no call of the opening failed, the next one would.
+                trial.say("open", *opened)
+                life.shows()
+                trial.say("crash drop", "crashed")
+                trial.say("open", *opened)
+                life.agrees()
+                life.goes_on(life.node.order)
+                yield trial
+
+
 def refused_formats(_):
     """A device that fails while it is formatted tells of it, and is formatted once it serves. It makes twelve calls: the six gates, a
     sync, the body, the window, a sync, the gate, a sync."""
@@ -409,5 +470,6 @@ TRIALS = [
     ("a page is asked of the device once", a_page_that_is_read_again),
     ("a read that meets a fault stops the replica", a_read_that_meets_a_fault),
     ("a fault at each call of an opening changes nothing", refused_openings),
+    ("a fault at each call of the opening of a used disk changes nothing", refused_openings_of_lives),
     ("a fault at each call of a formatting is told", refused_formats),
 ]

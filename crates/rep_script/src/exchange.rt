@@ -12,7 +12,7 @@ use std::io;
 use std::io::{Read, Write};
 
 /// The answers that are not written yet.
-pub(crate) type Waiting = ArrayVec<u8, 65536>;
+pub type Waiting = ArrayVec<u8, 65536>;
 
 /// More bytes than the answer to one line has: that to a sync with 64 replies has at most 6,218.
 const LONGEST: usize = 8192;
@@ -57,7 +57,7 @@ impl<R: Read> Read for Counted<'_, R> {
 /// Writes the answers that wait. None waits then: where the writer fails, those that it has not taken are let go.
 ///
 /// Refuses with `StreamFault` where the writer fails; it has then taken a front of them.
-pub(crate) fn send<W: Write>(writer: &mut W, waiting: &mut Waiting) -> Result<(), Refusal>
+pub fn send<W: Write>(writer: &mut W, waiting: &mut Waiting) -> Result<(), Refusal>
     ensures ok { OnOk result (Appends (W.contents writer.old) (W.contents writer.new) waiting.old.items) }
     ensures cut { OnErr result ((k : ℕ) × Appends (W.contents writer.old) (W.contents writer.new) (take k waiting.old.items)) }
     ensures none { waiting.new.items ≡ [] }

@@ -6,6 +6,8 @@
 #[cfg(test)]
 mod formatting;
 #[cfg(test)]
+mod joining;
+#[cfg(test)]
 mod reading;
 #[cfg(test)]
 mod streams;

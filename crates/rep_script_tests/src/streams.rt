@@ -16,6 +16,21 @@ impl Read for BrokenReader {
     }
 }
 
+/// Has this text, and fails behind it.
+#[derive(Drop)]
+pub(crate) struct Breaking<'a> {
+    pub(crate) text: &'a [u8],
+}
+
+impl Read for Breaking<'_> {
+    fn read(&mut self, buf: &mut [u8]) -> io::Result<usize> {
+        if self.text.is_empty() {
+            return Err(io::Error::from(ErrorKind::ConnectionReset));
+        }
+        self.text.read(buf)
+    }
+}
+
 /// Is interrupted at its first read, and has this text then.
 #[derive(Drop)]
 pub(crate) struct Interrupted<'a> {

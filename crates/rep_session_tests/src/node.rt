@@ -4,7 +4,7 @@
 use rep_disk::MemDisk;
 use rep_recover::format_disk;
 use rep_replica::Replica;
-use rep_session::Finished;
+use rep_session::{Finished, Session};
 use rep_session_uses::{move_row, swap_rows};
 use rep_steps::{Answer, Event};
 use rep_types::{Key, Params, Refusal, Value, Verdict, Write, WriteSet};
@@ -48,6 +48,35 @@ pub(crate) fn moved(rows: &mut Rows, from: Key, to: Key) -> Result<Finished, Ref
 /// Swaps two rows, under the labels 7 and 9.
 pub(crate) fn swapped(rows: &mut Rows, one: Key, other: Key) -> Result<Finished, Refusal> {
     swap_rows(rows, 7, 9, one, other)
+}
+
+/// Begins a transaction, under the labels 7 and 9.
+pub(crate) fn begun(rows: &mut Rows) -> Session {
+    Session::begin(rows, 7, 9)
+}
+
+/// What a transaction finds under the key.
+pub(crate) fn got(
+    session: &mut Session,
+    rows: &mut Rows,
+    key: Key,
+) -> Result<Option<Value>, Refusal> {
+    session.get(rows, key)
+}
+
+/// Puts these bytes under the key, in the transaction.
+pub(crate) fn put_in(session: &mut Session, key: Key, bytes: &[u8]) -> Result<(), Refusal> {
+    session.put(key, bytes)
+}
+
+/// Deletes what is under the key, in the transaction.
+pub(crate) fn deleted_in(session: &mut Session, key: Key) -> Result<(), Refusal> {
+    session.delete(key)
+}
+
+/// Ends the transaction.
+pub(crate) fn ended(session: &mut Session) -> Result<Finished, Refusal> {
+    session.finish()
 }
 
 /// The item with this seqno, which had seen those before it, and puts one byte under the row.

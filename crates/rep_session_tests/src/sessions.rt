@@ -7,7 +7,7 @@ use std::process::Abort;
 use std::test::Fail;
 
 /// The write set that a transaction ended with.
-fn written(ends: Result<Finished, Refusal>) -> Result<WriteSet, Fail> {
+pub(crate) fn written(ends: Result<Finished, Refusal>) -> Result<WriteSet, Fail> {
     match ends? {
         Finished::WriteSet(item) => Ok(item),
         Finished::ReadOnly => Err(Fail::new("nothing is written")),
@@ -26,7 +26,7 @@ fn put(
 }
 
 /// A replica with one durable item, which put `a` under the row 1.
-fn with_a_row(rt: &(impl Abort + AllocGlobal)) -> Result<Rows, Fail> {
+pub(crate) fn with_a_row(rt: &(impl Abort + AllocGlobal)) -> Result<Rows, Fail> {
     let mut rows = new_node(rt.alloc())?;
     put(rt, &mut rows, 1, (ROW, b'a'))?;
     Ok(rows)

@@ -1,6 +1,7 @@
 //! The command line.
 
-use crate::format_options::{FormatOptions, Named, options_of};
+use crate::format_options::{FormatOptions, options_of};
+use crate::serve_options::Workers;
 use clap::error::ErrorKind;
 use clap::{Arg, ArgAction, ArgMatches, Command, Error};
 use rep_types::Refusal;
@@ -99,6 +100,23 @@ fn join_command<'a>(alloc: Global) -> Result<Command<'a>, AllocError> {
         .arg(from.required(true))
 }
 
+/// The subcommand that serves a batch of items.
+fn serve_command<'a>(alloc: Global) -> Result<Command<'a>, AllocError> {
+    let disk = disk_argument(alloc, "The disk of the node");
+    let workers = option(
+        alloc,
+        "workers",
+        Workers::VALUE_NAME,
+        "Threads that hand items in, 1 to 64; 2 without it",
+    );
+    Command::new(alloc, "serve")
+        .about(
+            "Hand in the items of a text from standard input, together, to a node of several threads",
+        )
+        .arg(disk)?
+        .arg(workers)
+}
+
 /// The command line that the program understands: one level of subcommands.
 fn command<'a>(alloc: Global) -> Result<Command<'a>, AllocError> {
     Command::new(alloc, "replicad")
@@ -110,7 +128,8 @@ fn command<'a>(alloc: Global) -> Result<Command<'a>, AllocError> {
         .subcommand(run_command(alloc)?)?
         .subcommand(state_command(alloc)?)?
         .subcommand(donate_command(alloc)?)?
-        .subcommand(join_command(alloc)?)
+        .subcommand(join_command(alloc)?)?
+        .subcommand(serve_command(alloc)?)
 }
 
 /// What the words of a command line ask for.
@@ -128,6 +147,8 @@ pub(crate) enum Task<'a> {
     Donate(&'a str, &'a str, &'a str),
     /// Bring the node on the disk at this path up to date by the transfer in the file.
     Join(&'a str, &'a str),
+    /// Serve the items of a text, by so many workers, on the disk at this path.
+    Serve(&'a str, Workers),
     /// Nothing more: the text was printed, and the program ends with this status.
     Printed(u8),
 }
@@ -149,20 +170,17 @@ fn value_of<'a>(matches: &ArgMatches<'a>, name: &str) -> &'a str {
     }
 }
 
-/// Prints that the value of this option of `format` is not of its form.
+/// Prints that the value of this option of a subcommand is not of its form.
 fn printed_wrong<'a, R: Print + Eprint>(
     rt: &R,
     alloc: Global,
-    option: Named,
+    mut command: Command<'_>,
+    (name, value_name, form): (&str, &str, &str),
     value: &str,
 ) -> Result<Task<'a>, Refusal> {
-    let name = option.name();
-    let value_name = option.value_name();
-    let form = option.form();
     let message = format!(in alloc;
         "invalid value '{value}' for '--{name} <{value_name}>': it is not {form}"
     )?;
-    let mut command = format_command(alloc)?.bin_name("replicad format")?;
     let error = command.error(ErrorKind::ValueValidation, &message)?;
     printed(rt, &error)
 }
@@ -178,7 +196,11 @@ fn format_task<'a, R: Print + Eprint>(
     let rows = value_of(matches, "rows");
     match options_of(window, cells, rows, matches.get_str("uuid")) {
         Ok(options) => Ok(Task::Format(value_of(matches, "disk"), options)),
-        Err(option) => printed_wrong(rt, alloc, option, value_of(matches, option.name())),
+        Err(option) => {
+            let command = format_command(alloc)?.bin_name("replicad format")?;
+            let said = (option.name(), option.value_name(), option.form());
+            printed_wrong(rt, alloc, command, said, value_of(matches, option.name()))
+        }
     }
 }
 
@@ -199,6 +221,24 @@ fn join_task<'a>(matches: &ArgMatches<'a>) -> Task<'a> {
     Task::Join(value_of(matches, "disk"), value_of(matches, "from"))
 }
 
+/// The task of `serve` with these words behind it.
+fn serve_task<'a, R: Print + Eprint>(
+    rt: &R,
+    alloc: Global,
+    matches: &ArgMatches<'a>,
+) -> Result<Task<'a>, Refusal> {
+    let disk = value_of(matches, "disk");
+    let Some(value) = matches.get_str("workers") else {
+        return Ok(Task::Serve(disk, Workers::two()));
+    };
+    let Some(workers) = Workers::of(value) else {
+        let command = serve_command(alloc)?.bin_name("replicad serve")?;
+        let said = ("workers", Workers::VALUE_NAME, Workers::FORM);
+        return printed_wrong(rt, alloc, command, said, value);
+    };
+    Ok(Task::Serve(disk, workers))
+}
+
 /// Reads the words of the command line. Help, the version and usage faults are printed here.
 pub(crate) fn task_of<'a, R: Print + Eprint>(
     rt: &R,
@@ -212,6 +252,7 @@ pub(crate) fn task_of<'a, R: Print + Eprint>(
             Some(("state", matches)) => Ok(state_task(matches)),
             Some(("donate", matches)) => Ok(donate_task(matches)),
             Some(("join", matches)) => Ok(join_task(matches)),
+            Some(("serve", matches)) => serve_task(rt, alloc, matches),
             _ => Ok(Task::Judge),
         },
         Err(error) => printed(rt, &error),

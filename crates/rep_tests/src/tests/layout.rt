@@ -220,11 +220,16 @@ const FAULTS: &[(usize, u8, Option<Refusal>)] = &[
     // the number is above the position by two, and by one
     (15, 11, Some(SUPERBLOCK)),
     (15, 10, None),
-    // a window of no seqno, three cells, no table, a table without rows
+    // a window of no seqno and one of 257 and more, three cells and 1,025 and more
     (33, 0, Some(SUPERBLOCK)),
+    (32, 1, Some(SUPERBLOCK)),
     (35, 3, Some(SUPERBLOCK)),
+    (34, 4, Some(SUPERBLOCK)),
+    // no table, nine tables, a table without rows, and more pages than there may be
     (36, 0, Some(SUPERBLOCK)),
+    (36, 9, Some(SUPERBLOCK)),
     (43, 0, Some(SUPERBLOCK)),
+    (41, 4, Some(SUPERBLOCK)),
     // a position past the last
     (72, 0x11, Some(SUPERBLOCK)),
     // the start is above the position

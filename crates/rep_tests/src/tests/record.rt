@@ -230,8 +230,10 @@ const FAULTS: &[(usize, u8, u64)] = &[
     (18 + 34, 5, 18),
     // the seqno of the second record
     (18 + 53 + 9, 7, 18 + 53),
-    // the number of records
+    // the number of records: above the most, none, and one too few
     (17, 65, 0),
+    (17, 0, 0),
+    (17, 2, 0),
     // a closing byte
     (7679, 1, 0),
 ];
@@ -243,6 +245,95 @@ fn blocks_name_the_first_faulty_record(rt: HostRuntime) -> Result<(), Fail> {
         let (place, byte, at) = *row;
         refuses(&rt, &mut body, (place, place.saturating_add(1)), byte, at);
     }
+    Ok(())
+}
+
+/// What so many of the first bytes are refused by as a block's body.
+fn refusal_of_front(bytes: &[u8], length: usize) -> Option<Refusal> {
+    read_block(bytes.get(..length)?).err()
+}
+
+#[test]
+fn a_block_has_one_size(rt: HostRuntime) -> Result<(), Fail> {
+    let mut body = body_of(rt.alloc(), 5, &three_records()?)?;
+    body.push(0)?;
+    for length in [0, 17, 18, 7_679, 7_681] {
+        let refusal = Refusal::Malformed { at: 0 };
+        assert_eq!(rt;
+            (length, refusal_of_front(&body, length)),
+            (length, Some(refusal))
+        );
+    }
+    assert_eq!(rt; refusal_of_front(&body, 7_680), None);
+    Ok(())
+}
+
+/// Places and bytes of a record of the item 4, which conflicts with the item 1 and has two puts, of one byte and of none under the rows
+/// 1 and 2; and whether it then is one.
+const RECORDS: &[(usize, u8, bool)] = &[
+    // a byte more and a byte less than it has
+    (1, 61, false),
+    (1, 59, false),
+    // the seqno 0, that of the conflict, the one behind it, and one above the last
+    (9, 0, false),
+    (9, 1, false),
+    (9, 2, true),
+    (2, 0x10, false),
+    // a verdict of no number, and a commit that names a seqno
+    (34, 5, false),
+    (34, 0, false),
+    // a conflict with the item 0, with the one before, with itself, and with a later one
+    (42, 0, false),
+    (42, 3, true),
+    (42, 4, false),
+    (42, 5, false),
+    // 17 reads, no write, and 17 writes
+    (43, 17, false),
+    (44, 0, false),
+    (44, 17, false),
+    // a write of another kind, a delete with a value, and a value of 63 bytes
+    (50, 2, false),
+    (50, 0, false),
+    (51, 63, false),
+    // a key twice, and keys that descend
+    (57, 1, false),
+    (57, 0, false),
+    // a delete in the place of the second put
+    (58, 0, true),
+];
+
+/// The bytes of that record, and some behind it.
+fn conflicting(alloc: Global) -> Result<Vec<u8>, Fail> {
+    let mut record = two_puts(4, 1)?;
+    record.verdict = Verdict::Conflict(1);
+    let written = put_record(&record).ok_or("it has no spelling")?;
+    let mut bytes = Vec::from_slice(alloc, &written)?;
+    bytes.extend_from_slice(b"anything")?;
+    Ok(bytes)
+}
+
+/// What the record is refused by that has this byte at the place.
+fn refusal_with(bytes: &mut [u8], place: usize, byte: u8) -> Option<Refusal> {
+    let kept = exchanged(bytes, place, byte)?;
+    let refusal = read_record(bytes).err();
+    exchanged(bytes, place, kept)?;
+    refusal
+}
+
+#[test]
+fn records_keep_their_bounds(rt: HostRuntime) -> Result<(), Fail> {
+    let mut bytes = conflicting(rt.alloc())?;
+    for row in RECORDS {
+        let (place, byte, is_one) = *row;
+        let refusal = if is_one {
+            None
+        } else {
+            Some(Refusal::Malformed { at: 0 })
+        };
+        let found = refusal_with(&mut bytes, place, byte);
+        assert_eq!(rt; (place, byte, found), (place, byte, refusal));
+    }
+    assert!(rt; read_record(&bytes).is_ok());
     Ok(())
 }
 

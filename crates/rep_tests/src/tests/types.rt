@@ -1,6 +1,6 @@
-//! Refusals and GTIDs as texts, against texts that were written by hand; and sizes of windows.
+//! Refusals and GTIDs as texts, against texts that were written by hand; sizes of windows; and the first fault of a write set.
 
-use rep_types::{Gtid, Part, Refusal, Window, WindowSize};
+use rep_types::{Gtid, Key, Part, Refusal, Window, WindowSize, Write, WriteSet};
 use std::alloc::{AllocError, Global};
 use std::test::Fail;
 use uuid::Uuid;
@@ -201,4 +201,68 @@ fn fixed_windows_reach_back_by_their_size(rt: HostRuntime) {
         let found = floor_of(rt.alloc(), seqnos, position);
         assert_eq!(rt; (seqnos, position, found), (seqnos, position, Ok(floor)));
     }
+}
+
+/// The keys of these rows of table 0.
+fn keys_of(alloc: Global, rows: &[u32]) -> Result<Vec<Key>, AllocError> {
+    let mut keys = Vec::new(alloc);
+    for row in rows {
+        keys.push(Key {
+            table: 0,
+            row: *row,
+        })?;
+    }
+    Ok(keys)
+}
+
+/// Deletes of these rows of table 0.
+fn deletes_of(alloc: Global, rows: &[u32]) -> Result<Vec<Write>, AllocError> {
+    let mut deletes = Vec::new(alloc);
+    for key in keys_of(alloc, rows)?.iter() {
+        deletes.push(Write {
+            key: *key,
+            value: None,
+        })?;
+    }
+    Ok(deletes)
+}
+
+/// What a write set is refused by that reads these rows, and deletes those.
+fn fault_of(alloc: Global, reads: &[u32], writes: &[u32]) -> Result<Option<Refusal>, AllocError> {
+    let reads = keys_of(alloc, reads)?;
+    let writes = deletes_of(alloc, writes)?;
+    Ok(WriteSet::new(7, 8, 0, &reads, &writes).err())
+}
+
+const SIXTEEN: &[u32] = &[0, 1, 2, 3, 4, 5, 6, 7, 8, 9, 10, 11, 12, 13, 14, 15];
+
+const SEVENTEEN: &[u32] = &[0, 1, 2, 3, 4, 5, 6, 7, 8, 9, 10, 11, 12, 13, 14, 15, 16];
+
+/// Rows that are read and rows that are written, and the first fault, if there is one.
+const WRITE_SETS: &[(&[u32], &[u32], Option<Refusal>)] = &[
+    (&[], &[1], None),
+    (&[5, 6], &[1, 2], None),
+    (SIXTEEN, SIXTEEN, None),
+    (SEVENTEEN, SEVENTEEN, Some(Refusal::TooManyReads)),
+    (SIXTEEN, SEVENTEEN, Some(Refusal::TooManyWrites)),
+    // the first that is not above the one before it, by its index in the reads followed by the writes
+    (&[1, 1], &[1], Some(Refusal::Malformed { at: 1 })),
+    (&[1, 3, 2], &[2, 1], Some(Refusal::Malformed { at: 2 })),
+    (&[1, 2], &[3, 3], Some(Refusal::Malformed { at: 3 })),
+    (&[1, 2], &[1, 2, 3, 2], Some(Refusal::Malformed { at: 5 })),
+    (&[], &[2, 1], Some(Refusal::Malformed { at: 1 })),
+    // no write: the number of the reads, where these ascend
+    (&[], &[], Some(Refusal::Malformed { at: 0 })),
+    (&[1, 2, 3], &[], Some(Refusal::Malformed { at: 3 })),
+    (&[2, 1, 3], &[], Some(Refusal::Malformed { at: 1 })),
+];
+
+#[test]
+fn write_sets_name_their_first_fault(rt: HostRuntime) -> Result<(), Fail> {
+    for row in WRITE_SETS {
+        let (reads, writes, refusal) = *row;
+        let found = fault_of(rt.alloc(), reads, writes)?;
+        assert_eq!(rt; (reads, writes, found), (reads, writes, refusal));
+    }
+    Ok(())
 }

@@ -135,8 +135,9 @@ const FAULTS: &[(usize, u8, Option<Refusal>)] = &[
     (263, 0, Some(WINDOW)),
     (263, 5, Some(WINDOW)),
     (263, 9, Some(WINDOW)),
-    // no key
+    // no key, and 17
     (264, 0, Some(WINDOW)),
+    (264, 17, Some(WINDOW)),
     // a key of another table
     (265, 1, Some(WINDOW)),
     // keys out of order

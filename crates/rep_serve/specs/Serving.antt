@@ -1,0 +1,73 @@
+-- What comes of a text of items that a node serves which threads run.
+use Rattle.std.specs.Prelude.{◌≡◌, ◌⊎◌, ℕ, true, List, [], ◌∷◌, ◌++◌, map, take, slice_get, Option, None, Some, IfSome, Result, Ok, Err}
+use Rattle.std.specs.Fmt.{decimal}
+use Rattle.std.specs.List.{flat_map}
+use Rattle.std.specs.Io.KnownBytes.{Appends, Keeps}
+use Rattle.rep_types.specs.declared.item.Item.TheVariants.{WriteSet as OfWriteSet}
+use Rattle.rep_types.specs.declared.refusal.Refusal.{Refusal}
+use Rattle.rep_types.specs.declared.refusal.Refusal.TheVariants.{OutOfMemory, StreamFault}
+use Rattle.rep_types.specs.Texts.{verdict_text}
+use Rattle.rep_types.specs.Transactions.{Transaction}
+use Rattle.rep_record.specs.Lines.{raw_lines}
+use Rattle.rep_record.specs.Reading.{item_line}
+use Rattle.rep_disk.specs.History.{History}
+use Rattle.rep_replica.specs.Replicas.{Replica, facts_of}
+use Rattle.rep_replica.specs.Settling.{Works, is_quiet}
+use Rattle.rep_node.specs.declared.batch.Receipt.{Receipt}
+use Rattle.rep_node.specs.Served.{IsServed}
+use Rattle.rep_script.specs.Judging.{said_by}
+
+-- the line of a receipt: the seqno, the verdict, and the labels of its item
+abbrev pub receipt_line : Receipt → Transaction → List ℕ
+receipt_line r w = decimal r.seqno ++ (32 ∷ verdict_text r.verdict ++ (32 ∷ decimal w.source ++ (58 ∷ decimal w.trx ++ 10 ∷ [])))
+
+-- that of a receipt of one of these items, and nothing where there is no item at its place
+abbrev pub line_of : Receipt → Option Transaction → List ℕ
+line_of r None = []
+line_of r (Some w) = receipt_line r w
+
+abbrev pub receipt_lines : List Transaction → List Receipt → List ℕ
+receipt_lines items receipts = flat_map (λ (r : Receipt). line_of r (slice_get items r.index)) receipts
+
+-- The refusal of a text of which the lines say this: its first fault, or one of the reader or of memory.
+abbrev pub IsFaultOf : List Transaction × Option Refusal → Refusal → Type 0
+IsFaultOf said OutOfMemory = Unit {0}
+IsFaultOf said StreamFault = Unit {0}
+IsFaultOf said refusal = said.1 ≡ Some refusal
+
+-- One more line is written; or nothing for want of memory, or a front of it where the writer fails.
+abbrev pub AddsLine : Option (List ℕ) → Option (List ℕ) → Result (Unit {0}) Refusal → Type 0
+AddsLine before after (Ok x) = (line : List ℕ) × Appends before after line
+AddsLine before after (Err e) = ((e ≡ OutOfMemory) × Appends before after []) ⊎ ((e ≡ StreamFault) × ((front : List ℕ) × Appends before after front))
+
+-- What is written of a batch: these lines, and behind them, where it has no end, a line; or a front of that where the writer failed.
+abbrev pub TellsBatch : List ℕ → Option Refusal → Option (List ℕ) → Option (List ℕ) → Result (Unit {0}) Refusal → Type 0
+TellsBatch lines None before after (Ok x) = (state : List ℕ) × Appends before after (lines ++ state)
+TellsBatch lines (Some end) before after (Ok x) = ⊥
+TellsBatch lines None before after (Err e) = (state : List ℕ) × (((e ≡ OutOfMemory) × Appends before after lines) ⊎ ((e ≡ StreamFault) × ((k : ℕ) × Appends before after (take k (lines ++ state)))))
+TellsBatch lines (Some end) before after (Err e) = ((e ≡ end) × Appends before after lines) ⊎ ((e ≡ StreamFault) × ((k : ℕ) × Appends before after (take k lines)))
+
+-- what the lines of a text say, each an item
+abbrev pub items_in : List ℕ → List Transaction × Option Refusal
+items_in text = said_by item_line 1 0 (raw_lines text)
+
+module _ {D : Type 0} (honest : D → Type 0) (history : D → History) (failures : D → ℕ) where
+  -- All items of the text were handed in, and what came of them was written.
+  pub record ServedText (text : Option (List ℕ)) (old new : Replica D) (before after : Option (List ℕ)) (result : Result (Unit {0}) Refusal) : Type 0 where
+    pub items : List Transaction
+    pub read : IfSome text (λ bytes. items_in bytes ≡ (items, None))
+    pub receipts : List Receipt
+    pub end : Option Refusal
+    pub served : IsServed honest history failures old (map OfWriteSet items) new receipts end
+    pub told : TellsBatch (receipt_lines items receipts) end before after result
+
+  -- What comes of a text: it was refused, and nothing changed and nothing was written; or its items were served.
+  abbrev pub ServesItems : Option (List ℕ) → Replica D → Replica D → Option (List ℕ) → Option (List ℕ) → Result (Unit {0}) Refusal → Type 0
+  ServesItems text old new before after result =
+      ((e : Refusal) × (result ≡ Err e) × IfSome text (λ bytes. IsFaultOf (items_in bytes) e) × (new ≡ old) × Keeps before after) ⊎ ServedText text old new before after result
+
+  -- The replica settled first: it ended early, and nothing was written; or it was quiet, and the items were served.
+  abbrev pub Serves : Option (List ℕ) → Replica D → Replica D → Option (List ℕ) → Option (List ℕ) → Result (Unit {0}) Refusal → Type 0
+  Serves text old new before after result =
+      ((e : Refusal) × (result ≡ Err e) × Works honest history failures old new (Err e) × Keeps before after)
+      ⊎ ((quiet : Replica D) × Works honest history failures old quiet (Ok tt) × (is_quiet (facts_of failures quiet) ≡ true) × ServesItems text quiet new before after result)
