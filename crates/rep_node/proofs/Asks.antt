@@ -1,5 +1,5 @@
 -- What an engine that is read answers, and what a seat that asked it may say.
-use Rattle.std.proofs.Common.{◌≡◌, ◌⊎◌, inl, inr, ℕ, ◌+◌, ◌<◌, ◌≤◌, Bool, true, false, not, nat_lt, if◌then◌else◌, Option, None, Some, Result, Ok, Err, IsSome, IfOk, IfErr, List, ◌++◌, length, refl, sym, ap, subst, ◌∙◌, arith, ltb-true, ltb-false}
+use Rattle.std.proofs.Common.{◌≡◌, inl, inr, ℕ, ◌≤◌, Bool, true, false, not, nat_lt, if◌then◌else◌, Option, None, Some, Result, Ok, Err, IfOk, IfErr, List, refl, sym, ap, subst, ◌∙◌, arith, ltb-true, ltb-false}
 use Rattle.std.specs.Prelude.{is_some, MatchOption}
 use Rattle.std.proofs.lemmas.Option.{same_Some}
 use Rattle.rep_types.specs.declared.key.Key.{Key}
@@ -11,10 +11,9 @@ use Rattle.rep_types.specs.Settings.{Setting, has_row}
 use Rattle.rep_disk.specs.History.{History}
 use Rattle.rep_log.specs.declared.phase.Phase.{Phase}
 use Rattle.rep_steps.specs.declared.event.Event.TheVariants.{Read}
-use Rattle.rep_steps.specs.declared.answer.Answer.{Answer}
 use Rattle.rep_steps.specs.declared.answer.Answer.TheVariants.{Row, Refused}
 use Rattle.rep_steps.specs.Standings.{Standing, read_refusal, refusal}
-use Rattle.rep_steps.specs.Moves.{Fails, Moves}
+use Rattle.rep_steps.specs.Moves.{Moves}
 use Rattle.rep_steps.specs.Nodes.{Node, Steps}
 use Rattle.rep_engine.specs.Engines.{Engine, durable_of, facts_of}
 use Rattle.rep_engine.specs.Holding.{Holds, row}

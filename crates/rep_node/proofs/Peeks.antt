@@ -1,5 +1,5 @@
 -- What a reader's peek says of a row, and a read that follows it.
-use Rattle.std.proofs.Common.{◌≡◌, ◌⊎◌, inl, inr, ℕ, ◌+◌, ◌<◌, ◌≤◌, Bool, true, false, nat_lt, if◌then◌else◌, Option, None, Some, Result, Ok, Err, IfOk, IfErr, List, [], ◌∷◌, ◌++◌, length, refl, sym, ap, subst, ◌∙◌, append-nil, arith, ltb-true, ltb-false}
+use Rattle.std.proofs.Common.{◌≡◌, ◌⊎◌, inl, inr, ℕ, ◌+◌, ◌≤◌, Bool, true, false, nat_lt, if◌then◌else◌, Option, None, Some, Result, Ok, Err, IfErr, List, [], ◌∷◌, length, refl, sym, ap, subst, ◌∙◌, append-nil, arith, ltb-true, ltb-false}
 use Rattle.std.proofs.lemmas.Option.{same_Some}
 use mathlib.Core.List.{IsPrefix}
 use Rattle.rep_types.specs.declared.key.Key.{Key}
@@ -10,11 +10,9 @@ use Rattle.rep_types.specs.Order.{rows}
 use Rattle.rep_types.specs.ByItems.{HistoryByItems}
 use Rattle.rep_versions.specs.Following.{VersionsFollowTheItems}
 use Rattle.rep_disk.specs.History.{History}
-use Rattle.rep_cert.specs.Holdings.{Holdings}
 use Rattle.rep_stations.specs.Judging.{start_of}
 use Rattle.rep_stations.specs.Orders.{HistoriesExtendTheOrder}
 use Rattle.rep_snap.specs.declared.peek.Peek.{Peek}
-use Rattle.rep_snap.specs.declared.peek.Peek.TheVariants.{Value, Absent, Cold}
 use Rattle.rep_snap.specs.Lists.{IsFound, published, front_of, oldest_of, left, refused}
 use Rattle.rep_snap.specs.Laws.{PeeksFollowTheFold, row_over, rows_at}
 use Rattle.rep_snap.specs.Looks.{Looked, IsPeek}
@@ -24,7 +22,7 @@ use Rattle.rep_ordered.specs.Views.{Later}
 use Rattle.rep_ordered.specs.GoingLaws.{goes_later}
 use Rattle.rep_node.specs.declared.home.Home.{Home}
 use Rattle.rep_node.specs.declared.origin.Origin.{Origin}
-use Rattle.rep_node.specs.Publishing.{AreShown, shown}
+use Rattle.rep_node.specs.Publishing.{AreShown}
 use Rattle.rep_node.specs.Homes.{Start, Begins, position_of, values_of}
 use Rattle.rep_node.specs.Seats.{IsSeat, SeesLegal, WentIdle}
 use Rattle.rep_node.specs.Reading.{allowed, Answers, IsReaderOf, IsRowOf, Reads, Refuses, RefusesAsked}

@@ -1,5 +1,5 @@
 -- The rows of a node that runs, read one after another.
-use Rattle.std.proofs.Common.{◌≡◌, inl, inr, ◌⊎◌, ℕ, ◌+◌, ◌≤◌, Option, None, Some, Result, Ok, Err, IfOk, IfSome, List, [], ◌∷◌, ◌++◌, length, refl, sym, ap, subst, ◌∙◌, append_assoc, arith}
+use Rattle.std.proofs.Common.{◌≡◌, inl, inr, ℕ, Option, Some, Result, Ok, IfOk, IfSome, List, ◌++◌, sym, ap, subst, ◌∙◌, append_assoc}
 use mathlib.Core.List.{IsPrefix}
 use Rattle.rep_types.specs.declared.key.Key.{Key}
 use Rattle.rep_types.specs.declared.judged.Judged.{Judged}
@@ -14,7 +14,6 @@ use Rattle.rep_snap.specs.Lists.{published}
 use Rattle.rep_snap.specs.Laws.{HistoriesGrow, PeeksFollowTheFold}
 use Rattle.rep_snap.specs.Views.{Watching}
 use Rattle.rep_ordered.specs.declared.view.View.{View}
-use Rattle.rep_ordered.specs.Views.{StartsWith}
 use Rattle.rep_ordered.specs.GoingLaws.{begins_on}
 use Rattle.rep_node.specs.declared.home.Home.{Home}
 use Rattle.rep_node.specs.declared.origin.Origin.{Origin}

@@ -1,6 +1,6 @@
 -- A batch for which a node was started from a replica and closed into one: what it came to.
 use Rattle.std.proofs.Common.{◌≡◌, ◌⊎◌, inl, inr, ⊎_elim, Bool, ℕ, ◌+◌, ◌-◌, ◌<◌, ◌≤◌, ◌||◌, true, false, Option, Some, None, List, [], ◌∷◌, ◌++◌, length, sym, refl, ap, ◌∙◌, subst, arith, length-append, append_assoc}
-use Rattle.std.specs.Prelude.{slice_get, is_some, IfSome}
+use Rattle.std.specs.Prelude.{slice_get, is_some, IfSome, IsFalse}
 use Rattle.std.specs.List.{AllZip}
 use Rattle.std.proofs.lemmas.List.{length-map}
 use Rattle.std.proofs.lemmas.Option.{none-some, same_Some}
@@ -9,6 +9,7 @@ use Rattle.rep_types.specs.declared.item.Item.TheVariants.{WriteSet as OfWriteSe
 use Rattle.rep_types.specs.declared.judged.Judged.{Judged}
 use Rattle.rep_types.specs.declared.refusal.Refusal.{Refusal}
 use Rattle.rep_types.specs.declared.refusal.Refusal.TheVariants.{Exhausted, OutOfMemory, Stopped}
+use Rattle.rep_types.specs.declared.limits.TheConstants.{MAX_SEQNO}
 use Rattle.rep_types.specs.Order.{Order, items_of as items_in}
 use Rattle.rep_types.specs.Transactions.{Transaction}
 use Rattle.rep_disk.specs.History.{History}
@@ -38,26 +39,45 @@ use Rattle.rep_node.specs.Homes.{Start}
 use Rattle.rep_node.specs.Seats.{PassedOrStopped}
 use Rattle.rep_node.specs.Ending.{StartsFrom, EndsAs}
 use Rattle.rep_node.specs.Batches.{Ascends, IsBatch, IsReceipt, IsWhole, entry_of, items_of}
-use Rattle.rep_node.specs.Served.{IsReceiptOf, IsServed, IsTold}
+use Rattle.rep_node.specs.Served.{EndedFor, IsReceiptOf, IsServed, IsTold}
 use Rattle.rep_node.proofs.Batching.{every_to}
 
 -- ---- why it ended
 
-abbrev IsEnd : List Receipt → Refusal → Type 0
-IsEnd receipts refusal = (refusal ≡ Stopped) ⊎ (((refusal ≡ Exhausted) ⊎ (refusal ≡ OutOfMemory)) × (receipts ≡ []))
+abbrev IsHalted : {D : Type 0} → Replica D → Type 0
+IsHalted r = (r.stopped || is_some r.engine.halted) ≡ true
 
-pub stopped_as : (receipts : List Receipt) (end : Option Refusal) → end ≡ Some Stopped → IfSome end (IsEnd receipts)
-stopped_as receipts end is = subst (λ (e : Option Refusal). IfSome e (IsEnd receipts)) (sym is) (inl refl)
+abbrev IsEnd : {D : Type 0} → Replica D → ℕ → Replica D → List Receipt → Option Refusal → Type 0
+IsEnd old count new receipts end = IfSome end (EndedFor old count new receipts)
 
-pub refused_as : (A B : Type 0) (receipts : List Receipt) (end : Option Refusal) (refusal : Refusal) → receipts ≡ [] → end ≡ Some refusal → ((refusal ≡ OutOfMemory) × A) ⊎ ((refusal ≡ Stopped) × B) → IfSome end (IsEnd receipts)
-refused_as A B receipts end refusal none is why = subst (λ (e : Option Refusal). IfSome e (IsEnd receipts)) (sym is)
-    (⊎_elim (λ (memory : (refusal ≡ OutOfMemory) × A). let z : IsEnd receipts refusal = inr (inr memory.0, none) in z) (λ (stopped : (refusal ≡ Stopped) × B). let z : IsEnd receipts refusal = inl stopped.0 in z) why)
+pub stopped_as : {D : Type 0} (old : Replica D) (count : ℕ) (new : Replica D) (receipts : List Receipt) (end : Option Refusal) → IsHalted new → end ≡ Some Stopped → IsEnd old count new receipts end
+stopped_as old count new receipts end halted is = subst (λ (e : Option Refusal). IsEnd old count new receipts e) (sym is) (inl (refl, halted))
 
-pub ended_as : (A B C : Type 0) (receipts : List Receipt) (end : Option Refusal) → IfSome end (λ (refusal : Refusal). ((refusal ≡ Stopped) × A) ⊎ ((((refusal ≡ Exhausted) × B) ⊎ (refusal ≡ OutOfMemory)) × C × (receipts ≡ []))) → IfSome end (IsEnd receipts)
-ended_as A B C receipts None why = tt
-ended_as A B C receipts (Some refusal) (inl stopped) = inl stopped.0
-ended_as A B C receipts (Some refusal) (inr (inl exhausted, c, none)) = inr (inl exhausted.0, none)
-ended_as A B C receipts (Some refusal) (inr (inr memory, c, none)) = inr (inr memory, none)
+pub refused_as : {D : Type 0} (A : Type 0) (count : ℕ) (old new : Replica D) (receipts : List Receipt) (end : Option Refusal) (refusal : Refusal) → new ≡ old → receipts ≡ [] → end ≡ Some refusal → ((refusal ≡ OutOfMemory) × A) ⊎ ((refusal ≡ Stopped) × IsHalted old)
+    → IsEnd old count new receipts end
+refused_as A count old new receipts end refusal same none is why = subst (λ (e : Option Refusal). IsEnd old count new receipts e) (sym is)
+    (⊎_elim (λ (memory : (refusal ≡ OutOfMemory) × A). let z : EndedFor old count new receipts refusal = inr (inr memory.0, none) in z) (λ (stopped : (refusal ≡ Stopped) × IsHalted old). let z : EndedFor old count new receipts refusal = inl (stopped.0, subst IsHalted (sym same) stopped.1) in z) why)
+
+-- what the seat of a node says of why it ended
+abbrev SeatEnded : ℕ → ℕ → ℕ → List ℕ → List ℕ → List Receipt → Option Refusal → Type 0
+SeatEnded halted allowance count own drawn receipts end = IfSome end (λ (refusal : Refusal). ((refusal ≡ Stopped) × (halted ≡ 1)) ⊎ ((((refusal ≡ Exhausted) × (allowance ≤ count + 1)) ⊎ (refusal ≡ OutOfMemory)) × (drawn ≡ own) × (receipts ≡ [])))
+
+halted_as : {D : Type 0} (new : Replica D) (said : Bool) (halted : ℕ) → new.stopped ≡ said → halted ≡ 1 → (IsFalse said → halted ≡ 0) → IsHalted new
+halted_as new true halted is on off = ap (λ (b : Bool). b || is_some new.engine.halted) is
+halted_as new false halted is on off = let none : halted ≡ 0 = off refl in absurd (omega arith)
+
+pub ended_as : {D : Type 0} (count halted allowance : ℕ) (old new : Replica D) (own drawn : List ℕ) (receipts : List Receipt) (end : Option Refusal) → allowance ≡ MAX_SEQNO - durable_of old.engine.log → (IsFalse new.stopped → halted ≡ 0) → SeatEnded halted allowance count own drawn receipts end → IsEnd old count new receipts end
+ended_as count halted allowance old new own drawn receipts None left off why = tt
+ended_as count halted allowance old new own drawn receipts (Some refusal) left off (inl stopped) = inl (stopped.0, halted_as new new.stopped halted refl stopped.1 off)
+ended_as count halted allowance old new own drawn receipts (Some refusal) left off (inr (inl exhausted, drawn_none, none)) = inr (inl (exhausted.0, let few = exhausted.1 in omega arith), none)
+ended_as count halted allowance old new own drawn receipts (Some refusal) left off (inr (inr memory, drawn_none, none)) = inr (inr memory, none)
+
+-- where nothing was drawn the history is empty
+idle_as : (halted allowance count : ℕ) (own drawn : List ℕ) (receipts : List Receipt) (end : Option Refusal) (judged : List Judged) → own ≡ [] → length judged ≤ length drawn → SeatEnded halted allowance count own drawn receipts end → IfSome end (λ (refusal : Refusal). (refusal ≡ Stopped) ⊎ (judged ≡ []))
+idle_as halted allowance count own drawn receipts None judged none few why = tt
+idle_as halted allowance count own drawn receipts (Some refusal) judged none few (inl stopped) = inl stopped.0
+idle_as halted allowance count own drawn receipts (Some refusal) [] none few (inr why) = inr refl
+idle_as halted allowance count own drawn receipts (Some refusal) (j ∷ judged) none few (inr why) = let empty : length drawn ≡ 0 = ap (λ (l : List ℕ). length l) (why.1 ∙ none) in absurd (omega arith)
 
 -- ---- whether it was stopped
 
@@ -151,8 +171,8 @@ module _ {D : Type 0} (honest : D → Type 0) (history : D → History) (failure
 
   pub served : HistoriesExtendTheOrder honest history failures → (old new : Replica D) (ws : List Transaction) (v w : View (Home D) Judged) (watch : List (Watching Origin)) (receipts : List Receipt) (end : Option Refusal)
       → v.start ≡ durable_of old.engine.log + 1 → v.own ≡ [] → StartsFrom honest history failures old v watch → Went v w → IsBatch (items_of ws) 0 (length ws) v w receipts → Ascends receipts → (end ≡ None → IsWhole 0 (length ws) v w receipts)
-      → EndsAs honest history failures w new → IsServed honest history failures old (items_of ws) new receipts end
-  served extend old new ws v w watch receipts end starts own s went batch up whole e = record {
+      → SeatEnded w.halted v.allowance (length ws) v.own w.own receipts end → EndsAs honest history failures w new → IsServed honest history failures old (items_of ws) new receipts end
+  served extend old new ws v w watch receipts end starts own s went batch up whole ended e = record {
     judged = w.seen;
     legal = legal;
     told = every_to (IsReceipt (items_of ws) v w) (IsTold (items_of ws) (durable_of old.engine.log) (durable_of new.engine.log) w.seen) receipts (λ r h. told (items_of ws) v w (durable_of old.engine.log) (durable_of new.engine.log) r (went.goes.start ∙ starts) e.durable h) batch.told;
@@ -161,6 +181,7 @@ module _ {D : Type 0} (honest : D → Type 0) (history : D → History) (failure
     whole = λ ended. let drawn = (whole ended).drawn in let none : length v.own ≡ 0 = ap (λ (l : List ℕ). length l) own in let few = e.drawn in
         let each = every_to (IsReceipt (items_of ws) v w) (IsAt (items_of ws) w.start w.seen) receipts (at_seqno (items_of ws) v w) batch.told in
         zipped (items_of ws) w.start w.seen [] w.seen receipts refl (omega arith) (all_from (items_of ws) w.start (w.start + 0) w.seen receipts (omega arith) each) up each;
+    idle = idle_as w.halted v.allowance (length ws) v.own w.own receipts end w.seen own e.drawn ended;
     entries = λ L n of holds. extend.entries L n old.engine old.certifier.current w.seen of (s.stands n holds) legal;
     stands = λ L n of holds running. e.stands L n of (starts_as n holds) running;
     taken = e.taken;
@@ -194,6 +215,7 @@ module _ {D : Type 0} (honest : D → Type 0) (history : D → History) (failure
     places = λ i. omega arith;
     count = λ ended. absurd (none-some refusal (sym ended));
     whole = λ ended. absurd (none-some refusal (sym ended));
+    idle = inr refl;
     entries = λ L n of holds. extend.entries L n old.engine old.certifier.current [] of (b.stands n holds) tt;
     stands = λ L n of holds runs. (n, subst (λ (l : Order). IsOf l n) (sym (append_nil L)) of, holds);
     taken = [];

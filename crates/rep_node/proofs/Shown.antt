@@ -1,11 +1,10 @@
 -- The row that a published list says is the row of the order that the list's items make.
-use Rattle.std.proofs.Common.{◌≡◌, ◌⊎◌, inl, inr, ℕ, zero, suc, ◌+◌, ◌-◌, ◌<◌, ◌≤◌, Bool, true, false, nat_le, ◌&&◌, if◌then◌else◌, Option, Some, None, List, [], ◌∷◌, ◌++◌, length, map, take, drop, fold, max, refl, sym, ap, subst, ◌∙◌, append_assoc, length-append, length-drop, arith}
+use Rattle.std.proofs.Common.{◌≡◌, inl, inr, ℕ, zero, suc, ◌+◌, ◌-◌, ◌<◌, ◌≤◌, Bool, true, false, ◌&&◌, if◌then◌else◌, Option, List, [], ◌∷◌, ◌++◌, length, map, take, drop, max, refl, sym, ap, subst, ◌∙◌, append_assoc, length-append, length-drop, arith}
 use Rattle.std.proofs.lemmas.List.{length-map, map-append}
 use Rattle.std.proofs.lemmas.Bool.{lt-leb}
 use Rattle.std.proofs.Math.Seq.{take-nil}
 use Rattle.std.proofs.lemmas.Bool.Decides.{leb_tells}
 use Rattle.rep_types.specs.declared.key.Key.{Key}
-use Rattle.rep_types.specs.declared.value.Write.{Write}
 use Rattle.rep_types.specs.declared.item.Item.{Item}
 use Rattle.rep_types.specs.declared.item.Item.TheVariants.{WriteSet, SetWindow}
 use Rattle.rep_types.specs.declared.judged.Judged.{Judged}
@@ -13,7 +12,7 @@ use Rattle.rep_types.specs.Items.{is_write_set, writes_of}
 use Rattle.rep_types.specs.Settings.{Setting}
 use Rattle.rep_types.specs.Order.{Order, State, content_after, counts, items_of, history, read, rows}
 use Rattle.rep_types.specs.ByItems.{HistoryByItems, ReadsByItems}
-use Rattle.rep_versions.specs.Following.{VersionsFollowTheItems, changes_of, rows_after, effect_of as written_of}
+use Rattle.rep_versions.specs.Following.{VersionsFollowTheItems, rows_after, effect_of as written_of}
 use Rattle.rep_disk.specs.History.{History}
 use Rattle.rep_cert.specs.Holdings.{Holding}
 use Rattle.rep_steps.specs.Nodes.{Node, advanced}
@@ -26,10 +25,10 @@ use Rattle.rep_stations.specs.Orders.{HistoriesExtendTheOrder}
 use Rattle.rep_snap.specs.declared.change.Pair.{Pair}
 use Rattle.rep_snap.specs.declared.change.Change.{Change}
 use Rattle.rep_snap.specs.declared.change.Change.TheVariants.{Publish, Prune}
-use Rattle.rep_snap.specs.Lists.{Ascends, front_of, oldest_after, oldest_of}
+use Rattle.rep_snap.specs.Lists.{Ascends, front_of, oldest_of}
 use Rattle.rep_snap.specs.Laws.{PeeksFollowTheFold, rows_at}
 use Rattle.rep_ordered.specs.Views.{StartsWith}
-use Rattle.rep_node.specs.Publishing.{effect_of, shown, shown_of}
+use Rattle.rep_node.specs.Publishing.{effect_of, shown}
 use Rattle.rep_node.proofs.Publishes.{take_front}
 
 -- ---- what an item is shown to have written is what it wrote

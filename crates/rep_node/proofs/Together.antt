@@ -1,7 +1,11 @@
 -- A batch that a seat handed in while another one kept, which had been split off it: what the seat has come to when it took that one in again.
-use Rattle.std.proofs.Common.{◌≡◌, ℕ, ◌<◌, List, [], ◌∷◌, ◌++◌, refl, ap, ◌∙◌, arith}
+use Rattle.std.proofs.Common.{◌≡◌, inr, ℕ, ◌<◌, Option, Some, List, [], ◌∷◌, ◌++◌, refl, sym, ap, ◌∙◌, subst, arith}
+use Rattle.std.specs.Prelude.{IfSome}
+use Rattle.std.proofs.lemmas.Option.{none-some}
 use Rattle.rep_types.specs.declared.item.Item.{Item}
 use Rattle.rep_types.specs.declared.judged.Judged.{Judged}
+use Rattle.rep_types.specs.declared.refusal.Refusal.{Refusal}
+use Rattle.rep_types.specs.declared.refusal.Refusal.TheVariants.{OutOfMemory}
 use Rattle.rep_ordered.specs.declared.view.Joined.{Joined}
 use Rattle.rep_ordered.specs.declared.view.View.{View}
 use Rattle.rep_ordered.specs.Counts.{times}
@@ -13,9 +17,10 @@ use Rattle.rep_node.specs.declared.home.Home.{Home}
 use Rattle.rep_node.specs.declared.batch.Batch.{Batch}
 use Rattle.rep_node.specs.declared.batch.Receipt.{Receipt}
 use Rattle.rep_node.specs.Seats.{PassedOrStopped, WentIdle}
-use Rattle.rep_node.specs.Batches.{IsBatch, IsReceipt}
-use Rattle.rep_node.specs.Serving.{HandedIn}
-use Rattle.rep_node.proofs.Batching.{every_to}
+use Rattle.rep_node.specs.Batches.{Ascends, IsBatch, IsReceipt}
+use Rattle.rep_node.specs.Serving.{HandedIn, IsRefusal}
+use Rattle.rep_node.proofs.Batching.{batch_none, every_to}
+use Rattle.rep_node.proofs.Moves.{passed_went}
 
 module _ {D : Type 0} (items : List Item) (n : ℕ) (law : List Judged → Type 0) (v k s p w : View (Home D) Judged) (b : Batch) (some : 0 < v.allowance) (kept : WentIdle (given 1 v) k) (handed : HandedIn items n (giving 1 v) s b)
     (learns : Learns law k.seen (both s k) p) (later : Later p w) where
@@ -68,3 +73,15 @@ module _ {D : Type 0} (items : List Item) (n : ℕ) (law : List Judged → Type 
     joined = came_joined ∙ h.joined;
     come = h.come;
   }
+
+-- nothing was handed in, for there was no keeper
+pub not_handed : {D : Type 0} (items : List Item) (n : ℕ) (v w : View (Home D) Judged) (b : Batch) → Later v w → WentIdle v w → PassedOrStopped v → b.receipts.items ≡ [] → b.end ≡ Some OutOfMemory → HandedIn items n v w b
+not_handed items n v w b later idle passed none refused = record {
+  went = idle.0;
+  sees = idle.3;
+  passed = passed_went v w idle.0 idle.1 passed;
+  batch = batch_none items n v w b.receipts.items later none;
+  order = subst Ascends (sym none) tt;
+  whole = λ ended. absurd (none-some _ (sym ended ∙ refused));
+  ended = subst (λ (e : Option Refusal). IfSome e (IsRefusal v w b.receipts.items)) (sym refused) (inr (refl, idle.1, none));
+}

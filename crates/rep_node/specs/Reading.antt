@@ -1,6 +1,5 @@
 -- Reads beside a node that runs: what a reader is, and what is said of a row.
 use Rattle.std.specs.Prelude.{◌≡◌, ◌⊎◌, ℕ, ◌+◌, ◌<◌, ◌≤◌, ◌∷◌, [], ◌++◌, false, List, length, Option, None, Some, Result, Ok, Err}
-use mathlib.Core.List.{IsPrefix}
 use Rattle.rep_types.specs.declared.key.Key.{Key}
 use Rattle.rep_types.specs.declared.judged.Judged.{Judged}
 use Rattle.rep_types.specs.declared.refusal.Part.TheVariants.{Pages}
@@ -21,7 +20,7 @@ use Rattle.rep_stations.specs.Taking.{HasTaken, StartsAs}
 use Rattle.rep_snap.specs.declared.change.Pair.{Pair}
 use Rattle.rep_snap.specs.declared.peek.Peek.{Peek}
 use Rattle.rep_snap.specs.declared.peek.Peek.TheVariants.{Value, Absent, Cold}
-use Rattle.rep_snap.specs.Lists.{published, front_of, oldest_of}
+use Rattle.rep_snap.specs.Lists.{published, front_of}
 use Rattle.rep_snap.specs.Looks.{IsPeek}
 use Rattle.rep_snap.specs.Views.{Watching}
 use Rattle.rep_ordered.specs.declared.view.View.{View}

@@ -8,10 +8,15 @@ use Rattle.rep_ordered.specs.declared.view.View.{View}
 use Rattle.rep_ordered.specs.Going.{Went}
 use Rattle.rep_node.specs.declared.home.Home.{Home}
 use Rattle.rep_node.specs.declared.batch.Batch.{Batch}
+use Rattle.rep_node.specs.declared.batch.Receipt.{Receipt}
 use Rattle.rep_node.specs.Seats.{PassedOrStopped, SeesLegal}
 use Rattle.rep_node.specs.Batches.{Ascends, IsBatch, IsWhole}
 
 module _ {D : Type 0} where
+  -- the node was halted, or there was no memory and nothing was handed in
+  abbrev pub IsRefusal : View (Home D) Judged → View (Home D) Judged → List Receipt → Refusal → Type 0
+  IsRefusal v w receipts refusal = ((refusal ≡ Stopped) × (w.halted ≡ 1)) ⊎ ((refusal ≡ OutOfMemory) × (w.own ≡ v.own) × (receipts ≡ []))
+
   -- A seat with seqnos enough handed in a batch of so many items: what it came to, and what is said of it.
   pub record HandedIn (items : List Item) (count : ℕ) (v w : View (Home D) Judged) (b : Batch) : Type 0 where
     pub went : Went v w
@@ -20,4 +25,4 @@ module _ {D : Type 0} where
     pub batch : IsBatch items 0 count v w b.receipts.items
     pub order : Ascends b.receipts.items
     pub whole : b.end ≡ None → IsWhole 0 count v w b.receipts.items
-    pub ended : IfSome b.end (λ (refusal : Refusal). ((refusal ≡ Stopped) × (w.halted ≡ 1)) ⊎ ((refusal ≡ OutOfMemory) × (w.own ≡ v.own) × (b.receipts.items ≡ [])))
+    pub ended : IfSome b.end (IsRefusal v w b.receipts.items)

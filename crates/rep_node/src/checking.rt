@@ -125,7 +125,7 @@ fn take_on<D: Disk, R: Wait>(rt: &R, desk: Desk<D>) -> (Desk<D>, Result<Progress
         publisher,
         mut waiting,
     } = desk;
-    let progress = match flush_or_sync(&mut engine) {
+    let progress = match flush_or_sync(engine.get_mut()) {
         Ok(progress) => progress,
         Err(refusal) => {
             let desk = Desk {
@@ -136,7 +136,7 @@ fn take_on<D: Disk, R: Wait>(rt: &R, desk: Desk<D>) -> (Desk<D>, Result<Progress
             return (desk, Err(refusal));
         }
     };
-    let durable = engine.durable();
+    let durable = engine.get().durable();
     let (publisher, published) = publish_upto(rt, publisher, &mut waiting, durable);
     let desk = Desk {
         engine,
@@ -167,7 +167,7 @@ fn prune<D: Disk, R: Wait>(rt: &R, desk: Desk<D>) -> (Desk<D>, Result<Progress, 
         publisher,
         waiting,
     } = desk;
-    let (publisher, done) = publisher.prune(rt, engine.base());
+    let (publisher, done) = publisher.prune(rt, engine.get().base());
     let desk = Desk {
         engine,
         publisher,
@@ -247,6 +247,7 @@ impl<D: Disk> Node<D> {
             }
             Err(_) => {
                 self.lock.halt(seat);
+                self.changes.halted();
                 self.lock.give_up(seat, 1, Home::Desk(desk));
                 Err(Refusal::Stopped)
             }
@@ -282,7 +283,7 @@ impl<D: Disk> Node<D> {
             }
         };
         let mut desk = desk_of(home);
-        let done = check(&mut desk.engine, &certifier, begins);
+        let done = check(desk.engine.get_mut(), &certifier, begins);
         self.lock.side_leave(seat, 0, Home::Certifier(certifier));
         self.put_back(seat, desk, done)
     }
@@ -304,9 +305,9 @@ impl<D: Disk> Node<D> {
     {
         let desk = desk_of(self.lock.side_enter(rt, seat, 1)?);
         let (desk, done) = step_on(rt, desk);
-        let durable = desk.engine.durable();
+        let durable = desk.engine.get().durable();
         let checked = Checked {
-            base: desk.engine.base(),
+            base: desk.engine.get().base(),
             told: desk.publisher.tell(),
         };
         match self.put_back(seat, desk, done)? {
@@ -314,6 +315,7 @@ impl<D: Disk> Node<D> {
             Progress::ForCertifier => Ok(Outcome::ForCertifier),
             Progress::Ended => {
                 self.lock.raise(seat, durable);
+                self.changes.rose(durable);
                 self.wait_durable(rt, seat, durable)?;
                 Ok(Outcome::Ended(checked))
             }

@@ -12,6 +12,8 @@ ghost use Rattle.rep_node.specs.Seats.{PassedOrStopped};
 ghost use Rattle.rep_node.specs.Ending.{StartsFrom, EndsAs};
 ghost use Rattle.rep_node.specs.Reading.{AreParams};
 
+use crate::boxed::Boxed;
+use crate::changes::Changes;
 use crate::home::{Desk, Home, Queue};
 use crate::node::Node;
 use crate::origin::Origin;
@@ -137,6 +139,7 @@ impl<D: Disk> Node<D> {
         ensures view { IfOk result (λ made. made.1.view ≡ opened durable_in common_in (durable_of replica.engine.log + 1) (MAX_SEQNO - durable_of replica.engine.log) made.1.view.first (durable_of replica.engine.log)) }
         ensures starts { IfOk result (λ made. StartsFrom D.honest D.history D.failures replica made.1.view made.2.items) }
         ensures readers { IfOk result (λ made. length made.2.items ≡ readers) }
+        ensures running { IfOk result (λ made. IsRunning replica) }
         ensures refused { IfErr result (λ back. (back.0 ≡ replica) × (((back.1 ≡ OutOfMemory) × IsRunning replica) ⊎ ((back.1 ≡ is_stopped) × ((replica.stopped || is_some replica.engine.halted) ≡ true)))) }
     {
         histories_lie_between_replicas::<D>();
@@ -145,6 +148,13 @@ impl<D: Disk> Node<D> {
             return Err((replica, Refusal::Stopped));
         }
         let (certifier, backlog, engine) = replica.into_parts();
+        let engine = match Boxed::new(alloc, engine) {
+            Ok(engine) => engine,
+            Err(engine) => {
+                let replica = Replica::from_parts(certifier, backlog, engine, false);
+                return Err((replica, Refusal::OutOfMemory));
+            }
+        };
         let Ok(
             Space {
                 waiting,
@@ -153,15 +163,15 @@ impl<D: Disk> Node<D> {
             },
         ) = reserved(alloc, readers)
         else {
-            let replica = Replica::from_parts(certifier, backlog, engine, false);
+            let replica = Replica::from_parts(certifier, backlog, engine.into_inner(), false);
             return Err((replica, Refusal::OutOfMemory));
         };
-        let position = engine.durable();
-        let params = engine.params().copied();
+        let position = engine.get().durable();
+        let params = engine.get().params().copied();
         let origin = Origin::of(&certifier);
         let Ok((publisher, readers)) = rep_snap::start(alloc, rt, origin, position, readers) else {
             room.destroy_empty();
-            let replica = Replica::from_parts(certifier, backlog, engine, false);
+            let replica = Replica::from_parts(certifier, backlog, engine.into_inner(), false);
             return Err((replica, Refusal::OutOfMemory));
         };
         room.push_reserved(Home::Certifier(certifier));
@@ -181,7 +191,8 @@ impl<D: Disk> Node<D> {
                     allowance: MAX_SEQNO - position,
                 };
                 let readers = with_params(readers, &params, kept);
-                Ok((Node { lock }, seat, readers))
+                let changes = Changes::new(position);
+                Ok((Node { lock, changes }, seat, readers))
             }
             Err(Refused { values }) => {
                 let (certifier, desk, queue) = values_of(values);
@@ -191,7 +202,12 @@ impl<D: Disk> Node<D> {
                     waiting: _,
                 } = desk;
                 publisher.close(rt);
-                let replica = Replica::from_parts(certifier, queue.backlog, engine, false);
+                let replica = Replica::from_parts(
+                    certifier,
+                    queue.backlog,
+                    engine.into_inner(),
+                    false,
+                );
                 Err((replica, Refusal::OutOfMemory))
             }
         }
@@ -214,7 +230,7 @@ impl<D: Disk> Node<D> {
         histories_lie_between_replicas::<D>();
         histories_extend_the_order::<D>();
         histories_go_on();
-        let Node { lock } = self;
+        let Node { lock, changes: _ } = self;
         let Seat { mut seat, .. } = seat;
         let stopped = lock.front(&mut seat).halted;
         let homes = lock.close(seat);
@@ -225,6 +241,6 @@ impl<D: Disk> Node<D> {
             waiting: _,
         } = desk;
         publisher.close(rt);
-        Replica::from_parts(certifier, queue.backlog, engine, stopped)
+        Replica::from_parts(certifier, queue.backlog, engine.into_inner(), stopped)
     }
 }

@@ -1,5 +1,6 @@
 //! What lies at home in the three stations.
 
+use crate::boxed::Boxed;
 use crate::origin::Origin;
 use crate::waiting::Waiting;
 use rep_backlog::Backlog;
@@ -10,9 +11,10 @@ use rep_ordered::Keeps;
 use rep_snap::Publisher;
 use rep_types::Judged;
 
-/// The engine, and beside it what shows readers its durable items.
+/// The engine, and beside it what shows readers its durable items. The engine is large, and a station's value is moved whenever somebody
+/// enters or leaves: so it lies on the heap.
 pub struct Desk<D: Disk> {
-    pub engine: Engine<D>,
+    pub engine: Boxed<Engine<D>>,
     pub publisher: Publisher<Origin>,
     pub waiting: Waiting,
 }

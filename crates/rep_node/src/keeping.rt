@@ -47,12 +47,13 @@ fn accept<D: Disk>(desk: &mut Desk<D>, queue: &mut Queue) -> Result<(), Refusal>
     histories_go_on();
     taken_items_stay::<D>();
     fronts_are_determined();
+    let engine = desk.engine.get_mut();
     // Tells the proof what holds of the engine.
-    let _durable = desk.engine.durable();
-    let count = desk.engine.next_items(&queue.backlog);
+    let _durable = engine.durable();
+    let count = engine.next_items(&queue.backlog);
     wait_for(&mut desk.waiting, &queue.backlog, count);
-    take_next(&mut desk.engine, &mut queue.backlog)?;
-    queue.accepted = desk.engine.delivered();
+    take_next(engine, &mut queue.backlog)?;
+    queue.accepted = engine.delivered();
     Ok(())
 }
 
@@ -98,7 +99,7 @@ fn advance<D: Disk, R: Wait>(rt: &R, desk: Desk<D>) -> (Desk<D>, Result<(), Refu
         publisher,
         mut waiting,
     } = desk;
-    let done = write_or_sync(&mut engine);
+    let done = write_or_sync(engine.get_mut());
     if let Err(refusal) = done {
         let desk = Desk {
             engine,
@@ -107,7 +108,7 @@ fn advance<D: Disk, R: Wait>(rt: &R, desk: Desk<D>) -> (Desk<D>, Result<(), Refu
         };
         return (desk, Err(refusal));
     }
-    let durable = engine.durable();
+    let durable = engine.get().durable();
     let (publisher, done) = publish_upto(rt, publisher, &mut waiting, durable);
     let desk = Desk {
         engine,
@@ -143,6 +144,7 @@ impl<D: Disk> Node<D> {
         self.lock.side_leave(seat, 2, Home::Queue(queue));
         if done.is_err() {
             self.lock.halt(seat);
+            self.changes.halted();
             self.lock.give_up(seat, 1, Home::Desk(desk));
             return Err(Refusal::Stopped);
         }
@@ -166,12 +168,13 @@ impl<D: Disk> Node<D> {
     {
         let desk = desk_of(self.lock.side_enter(rt, seat, 1)?);
         let (desk, done) = advance(rt, desk);
-        let durable = desk.engine.durable();
+        let durable = desk.engine.get().durable();
         let told = desk.publisher.tell();
         match done {
             Ok(()) => {
                 self.lock.side_leave(seat, 1, Home::Desk(desk));
                 self.lock.raise(seat, durable);
+                self.changes.rose(durable);
                 self.wait_durable(rt, seat, durable)?;
                 Ok(Kept { durable, told })
             }
@@ -181,6 +184,7 @@ impl<D: Disk> Node<D> {
             }
             Err(_) => {
                 self.lock.halt(seat);
+                self.changes.halted();
                 self.lock.give_up(seat, 1, Home::Desk(desk));
                 Err(Refusal::Stopped)
             }

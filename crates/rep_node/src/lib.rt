@@ -3,6 +3,9 @@
 #![tactic(auto)]
 
 mod batch;
+mod beside;
+mod boxed;
+mod changes;
 mod checking;
 mod ends;
 mod home;
@@ -21,6 +24,7 @@ mod submitting;
 mod waiting;
 
 pub use batch::{Batch, Receipt};
+pub use boxed::Boxed;
 pub use checking::Checked;
 pub use home::{Desk, Home, Queue};
 pub use keeping::Kept;

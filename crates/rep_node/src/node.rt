@@ -4,6 +4,7 @@ ghost use Rattle.std.specs.Prelude.{◌≡◌, ◌≤◌, IfOk, IfErr, IsTrue, �
 ghost use Rattle.rep_ordered.specs.Views.{Later};
 ghost use Rattle.rep_node.specs.Seats.{SeesLegal};
 
+use crate::changes::Changes;
 use crate::home::Home;
 use crossbeam_utils::Backoff;
 use rep_disk::Disk;
@@ -26,6 +27,8 @@ use std::sync::Wait;
 /// Nothing is promised of when a call returns, or that the threads get on.
 pub struct Node<D: Disk> {
     pub(crate) lock: OrderedLock<Home<D>, Judged>,
+    /// Where those sleep who wait until more is durable, or the node is halted.
+    pub(crate) changes: Changes,
 }
 
 /// A seat of a node's lock.
@@ -64,6 +67,7 @@ impl<D: Disk> Node<D> {
     {
         let backoff = Backoff::new();
         for _ in rt.forever() {
+            let sleep = self.changes.announce();
             let front = self.lock.front(seat);
             if front.halted {
                 return Err(Refusal::Stopped);
@@ -71,7 +75,11 @@ impl<D: Disk> Node<D> {
             if front.durable >= least {
                 return Ok(front.durable);
             }
-            backoff.snooze();
+            if backoff.is_completed() {
+                sleep.wait(rt);
+            } else {
+                backoff.snooze();
+            }
         }
         unreachable!()
     }

@@ -163,9 +163,10 @@ impl<D: Disk> Node<D> {
     {
         histories_go_on();
         let mut desk = desk_of(self.lock.side_enter(rt, seat, 1)?);
-        let row = look_up(&mut desk.engine, key, at);
-        if desk.engine.is_stopped() {
+        let row = look_up(desk.engine.get_mut(), key, at);
+        if desk.engine.get().is_stopped() {
             self.lock.halt(seat);
+            self.changes.halted();
             self.lock.give_up(seat, 1, Home::Desk(desk));
             return row;
         }

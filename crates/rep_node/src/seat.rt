@@ -88,5 +88,6 @@ impl<D: Disk> Node<D> {
         ensures halted { seat.new.view.halted ≡ 1 }
     {
         self.lock.halt(&mut seat.seat);
+        self.changes.halted();
     }
 }

@@ -1,12 +1,12 @@
 //! A batch for which a node is started and closed.
 
-ghost use Rattle.std.specs.Prelude.{◌≡◌, ◌||◌, ◌⊎◌, true, is_some, Some, [], ◌<◌, ◌≤◌, IsFalse, IfSome};
+ghost use Rattle.std.specs.Prelude.{◌≡◌, ◌||◌, true, is_some, Some, [], length, ◌<◌, ◌≤◌, IsFalse, IfSome};
 ghost use Rattle.uuid.specs.Parts.{is_nil_bytes};
-ghost use Rattle.rep_types.specs.declared.refusal.Refusal.TheVariants.{Exhausted, OutOfMemory, Stopped as is_stopped};
+ghost use Rattle.rep_types.specs.declared.refusal.Refusal.TheVariants.{Stopped as is_stopped};
 ghost use Rattle.rep_replica.specs.Replicas.{facts_of};
 ghost use Rattle.rep_replica.specs.Settling.{is_quiet, IsRunning};
 ghost use Rattle.rep_node.specs.Batches.{items_of};
-ghost use Rattle.rep_node.specs.Served.{IsServed};
+ghost use Rattle.rep_node.specs.Served.{EndedFor, IsServed};
 
 use crate::batch::Batch;
 use crate::node::Node;
@@ -26,9 +26,10 @@ use std::thread::Threads;
 /// history is the batch's items in the order of the receipts. Unless it was stopped, the replica stands for its order with the history
 /// at its end; and stopped or not, each image that a crash may leave of its device stands for a front of that order with all receipts.
 ///
-/// The end is `Stopped` where the replica was stopped, or the node was halted, as it is where the device fails or the pace says no; it is
-/// `Exhausted` where there are not two seqnos more than items left; and `OutOfMemory` where a growth was refused before anything was
-/// handed in. It is not promised that it returns.
+/// The end is `Stopped` where the replica was stopped, or the node was halted, as it is where the device fails or the pace says no: then
+/// the replica is stopped. It is `Exhausted` where there are not two seqnos more than items left, and `OutOfMemory` where a growth was
+/// refused, or no thread could be made for the keeper, before anything was handed in: then the history is empty. It is not promised that
+/// it returns.
 pub fn serve_batch<D: Disk + Send, R: Threads + Wait + Sync, P: Pace + Sync>(
     rt: &R,
     alloc: Global,
@@ -42,7 +43,7 @@ pub fn serve_batch<D: Disk + Send, R: Threads + Wait + Sync, P: Pace + Sync>(
     requires workers { (0 < workers) × (workers ≤ 64) }
     ensures stopped { (replica.stopped || is_some replica.engine.halted) ≡ true → (result.0 ≡ replica) × (result.1.receipts.items ≡ []) × (result.1.end ≡ Some is_stopped) }
     ensures served { IsRunning replica → IsServed D.honest D.history D.failures replica (items_of items.now) result.0 result.1.receipts.items result.1.end }
-    ensures ended { IfSome result.1.end (λ refusal. (refusal ≡ is_stopped) ⊎ (((refusal ≡ Exhausted) ⊎ (refusal ≡ OutOfMemory)) × (result.1.receipts.items ≡ []))) }
+    ensures ended { IfSome result.1.end (EndedFor replica (length items.now) result.0 result.1.receipts.items) }
 {
     histories_lie_between_replicas::<D>();
     histories_extend_the_order::<D>();

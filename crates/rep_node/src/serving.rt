@@ -1,7 +1,8 @@
 //! Items that are handed in together, with a keeper beside.
 
-ghost use Rattle.std.specs.Prelude.{◌≡◌, ◌⊎◌, ◌+◌, ◌≤◌, ◌<◌, ◌↔◌, None, [], length, IfSome, IfErr, IsTrue};
+ghost use Rattle.std.specs.Prelude.{◌≡◌, ◌⊎◌, ◌+◌, ◌≤◌, ◌<◌, ◌↔◌, ℕ, List, None, [], length, IfSome, IfErr, IsTrue};
 ghost use Rattle.std.specs.Thread.{IsSync};
+ghost use Rattle.rep_types.specs.declared.item.Item.{Item};
 ghost use Rattle.rep_types.specs.declared.refusal.Refusal.TheVariants.{Exhausted, OutOfMemory, Stopped as is_stopped};
 ghost use Rattle.rep_ordered.specs.Going.{Went};
 ghost use Rattle.rep_ordered.specs.Views.{Later};
@@ -10,6 +11,7 @@ ghost use Rattle.rep_node.specs.Batches.{Ascends, IsBatch, IsWhole, items_of};
 ghost use Rattle.rep_node.specs.Serving.{HandedIn};
 
 use crate::batch::Batch;
+use crate::beside::join_beside;
 use crate::node::Node;
 use crate::pace::Pace;
 use crate::seat::Seat;
@@ -19,7 +21,7 @@ use rep_disk::Disk;
 use rep_types::{Refusal, WriteSet};
 use std::alloc::Global;
 use std::sync::Wait;
-use std::thread::{Threads, join_mut};
+use std::thread::Threads;
 
 impl<D: Disk> Seat<D> {
     /// How many seqnos it may still draw, or fewer where it knows of a halt.
@@ -103,8 +105,22 @@ impl<D: Disk> Node<D> {
     }
 }
 
+impl<D: Disk> Node<D> {
+    /// Hands in nothing of a batch, as there is no thread for its keeper: no seqno is drawn.
+    fn refuse_batch(&self, alloc: Global, seat: &mut Seat<D>) -> Batch
+        requires lock { seat.old.lock ≡ self.now }
+        requires passed { PassedOrStopped seat.old.view }
+        ensures lock { seat.new.lock ≡ seat.old.lock }
+        ensures handed_in { (items : List Item) (count : ℕ) → HandedIn items count seat.old.view seat.new.view result }
+    {
+        let _halted = self.is_halted(seat);
+        Batch::refused(alloc, Refusal::OutOfMemory)
+    }
+}
+
 impl<D: Disk + Send> Node<D> {
-    /// Hands in a batch by a seat that may draw more seqnos than there are items, and tells the keeper that it need not go on.
+    /// Hands in a batch by a seat that may draw more seqnos than there are items, where a keeper is beside, else nothing of it; and tells
+    /// the keeper that it need not go on.
     fn hand_in<R: Threads + Wait + Sync, P: Pace + Sync>(
         &self,
         rt: &R,
@@ -113,6 +129,7 @@ impl<D: Disk + Send> Node<D> {
         workers: usize,
         pace: &P,
         goes: &AtomicCell<bool>,
+        beside: bool,
         seat: &mut Seat<D>,
     ) -> Batch
         requires lock { seat.old.lock ≡ self.now }
@@ -122,12 +139,18 @@ impl<D: Disk + Send> Node<D> {
         ensures lock { seat.new.lock ≡ seat.old.lock }
         ensures handed_in { HandedIn (items_of items.now) (length items.now) seat.old.view seat.new.view result }
     {
+        if !beside {
+            goes.store(false);
+            return self.refuse_batch(alloc, seat);
+        }
         let batch = self.submit_batch(rt, alloc, seat, items, workers, pace);
         goes.store(false);
         batch
     }
 
-    /// Hands in a batch by the one seat, which may draw more seqnos than there are items, while the other one keeps.
+    /// Hands in a batch by the one seat, which may draw more seqnos than there are items, while the other one keeps in a thread of its own.
+    ///
+    /// Where that thread can't be made, the end is `OutOfMemory`, and no seqno was drawn.
     fn serve_by_two<R: Threads + Wait + Sync, P: Pace + Sync>(
         &self,
         rt: &R,
@@ -148,15 +171,15 @@ impl<D: Disk + Send> Node<D> {
     {
         let cell = AtomicCell::new(true);
         let goes = &cell;
-        let mut keep = || -> Result<(), Refusal>
+        let mut keep = |_beside: bool| -> Result<(), Refusal>
             requires { IsSync R.row × (keeper.now.lock ≡ self.now) }
             ensures { (keeper.exit.now.lock ≡ keeper.entry.now.lock) × WentIdle keeper.entry.now.view keeper.exit.now.view }
         { self.keep_while(rt, goes, keeper) };
-        let mut hand_in = || -> Batch
+        let mut hand_in = |beside: bool| -> Batch
             requires { IsSync R.row × (seat.now.lock ≡ self.now) × (length items.now < seat.now.view.allowance) × PassedOrStopped seat.now.view × (0 < workers) × (workers ≤ 64) }
             ensures { (seat.exit.now.lock ≡ seat.entry.now.lock) × HandedIn (items_of items.entry.now) (length items.entry.now) seat.entry.now.view seat.exit.now.view result }
-        { self.hand_in(rt, alloc, items, workers, pace, goes, seat) };
-        let (_kept, batch) = join_mut(rt, &mut keep, &mut hand_in);
+        { self.hand_in(rt, alloc, items, workers, pace, goes, beside, seat) };
+        let (_kept, batch) = join_beside(rt, &mut keep, &mut hand_in);
         batch
     }
 
@@ -164,11 +187,11 @@ impl<D: Disk + Send> Node<D> {
     /// the log is full. It returns once both are done.
     ///
     /// The end is `Exhausted` where the seat has no more than one seqno left beside those of the items, and `OutOfMemory` where a growth of
-    /// the batch's own was refused: then no seqno was drawn. It is `Stopped` where the node was halted, which the keeper does where the
+    /// the batch's own was refused, or no thread can be made for the keeper: then no seqno was drawn. It is `Stopped` where the node was halted, which the keeper does where the
     /// device fails, where a page of the base is not of its form, or where there is no memory, and a worker where the pace says no: of an item
     /// without a receipt it is then not known whether it stands in the history; it stands there at most once, and unchanged.
     ///
-    /// It is not promised that it returns: where no second thread can be made, nobody keeps while the batch is handed in.
+    /// It is not promised that it returns.
     pub fn serve<R: Threads + Wait + Sync, P: Pace + Sync>(
         &self,
         rt: &R,

@@ -93,6 +93,7 @@ impl<D: Disk> Node<D> {
             return Ok(());
         }
         self.lock.halt(seat);
+        self.changes.halted();
         Err(Refusal::Stopped)
     }
 

@@ -1,5 +1,5 @@
 -- What comes of a text of items that a node serves which threads run.
-use Rattle.std.specs.Prelude.{◌≡◌, ◌⊎◌, ℕ, true, List, [], ◌∷◌, ◌++◌, map, take, slice_get, Option, None, Some, IfSome, Result, Ok, Err}
+use Rattle.std.specs.Prelude.{◌≡◌, ◌⊎◌, ℕ, true, List, [], ◌∷◌, ◌++◌, length, map, take, slice_get, Option, None, Some, IfSome, Result, Ok, Err}
 use Rattle.std.specs.Fmt.{decimal}
 use Rattle.std.specs.List.{flat_map}
 use Rattle.std.specs.Io.KnownBytes.{Appends, Keeps}
@@ -14,7 +14,7 @@ use Rattle.rep_disk.specs.History.{History}
 use Rattle.rep_replica.specs.Replicas.{Replica, facts_of}
 use Rattle.rep_replica.specs.Settling.{Works, is_quiet}
 use Rattle.rep_node.specs.declared.batch.Receipt.{Receipt}
-use Rattle.rep_node.specs.Served.{IsServed}
+use Rattle.rep_node.specs.Served.{EndedFor, IsServed}
 use Rattle.rep_script.specs.Judging.{said_by}
 
 -- the line of a receipt: the seqno, the verdict, and the labels of its item
@@ -59,6 +59,7 @@ module _ {D : Type 0} (honest : D → Type 0) (history : D → History) (failure
     pub receipts : List Receipt
     pub end : Option Refusal
     pub served : IsServed honest history failures old (map OfWriteSet items) new receipts end
+    pub ended : IfSome end (EndedFor old (length items) new receipts)
     pub told : TellsBatch (receipt_lines items receipts) end before after result
 
   -- What comes of a text: it was refused, and nothing changed and nothing was written; or its items were served.

@@ -144,8 +144,8 @@ fn serve_settled<T: Threads + Wait + Sync, D: Disk + Send, R: Read, W: Write>(
 /// of memory with `OutOfMemory`, and with `StreamFault` a reader that fails and a text of more than 67,108,864 bytes: nothing was handed in
 /// then, and no line is written. Behind the lines of the durable items it refuses with `Stopped` where the node was halted, since its device
 /// failed, a page of its base is not of its form, or there was no memory: which other items stand in the order the disk tells; with
-/// `Exhausted` where there are not two seqnos more than items left, and with `OutOfMemory` where there was no memory for the workers, and then
-/// no item stands in the order; and with `OutOfMemory` too where there is none for the line of the state. Refuses with `StreamFault` where
+/// `Exhausted` where there are not two seqnos more than items left, and with `OutOfMemory` where there was no memory for the workers or no thread
+/// for the keeper, and then no item stands in the order; and with `OutOfMemory` too where there is none for the line of the state. Refuses with `StreamFault` where
 /// the writer fails.
 ///
 /// It is not promised that it returns.

@@ -6,10 +6,10 @@ use Rattle.rep_node.proofs.Advancing.{are_allowed, is_within, same_common, given
 use Rattle.rep_node.proofs.checking.take_on.Goals as goal
 
 pub returns-in-Err-clause-given : goal.returns-in-Err-clause-given
-returns-in-Err-clause-given g c = λ s items w. given_up g.D.Disk.honest g.D.Disk.history g.D.Disk.failures s items c.args.desk w c.flush_or_sync.new.engine c.in-Err.ensures.taken c.args.desk.publisher c.args.desk.waiting (refl, refl, refl)
+returns-in-Err-clause-given g c = λ s items w. given_up g.D.Disk.honest g.D.Disk.history g.D.Disk.failures s items c.args.desk w c.flush_or_sync.new.engine (rw c.get_mut.ensures.value at c.in-Err.ensures.taken) c.args.desk.publisher c.args.desk.waiting (refl, refl, refl)
 
 pub returns-in-Err-clause-common : goal.returns-in-Err-clause-common
-returns-in-Err-clause-common g c = let w = c.requires.work in same_common g.D.Disk.honest g.D.Disk.history g.D.Disk.failures w.0 w.1 c.args.desk w.2 c.flush_or_sync.new.engine c.in-Err.ensures.taken
+returns-in-Err-clause-common g c = let w = c.requires.work in same_common g.D.Disk.honest g.D.Disk.history g.D.Disk.failures w.0 w.1 c.args.desk w.2 c.flush_or_sync.new.engine (rw c.get_mut.ensures.value at c.in-Err.ensures.taken)
 
 pub publish_upto-publisher-requires-clause-allowed : goal.publish_upto-publisher-requires-clause-allowed
 publish_upto-publisher-requires-clause-allowed g c = let w = c.requires.work in are_allowed g.D.Disk.honest g.D.Disk.history g.D.Disk.failures w.0 w.1 c.args.desk w.2
@@ -17,27 +17,27 @@ publish_upto-publisher-requires-clause-allowed g c = let w = c.requires.work in 
 pub publish_upto-publisher-requires-clause-within : goal.publish_upto-publisher-requires-clause-within
 publish_upto-publisher-requires-clause-within g c =
     let w = c.requires.work in
-    subst (λ n. n ≤ c.args.desk.publisher.start + length (published c.args.desk.publisher.list ++ c.args.desk.waiting)) (sym c.durable-durable.ensures.durable)
-    (is_within g.D.Disk.honest g.D.Disk.history g.D.Disk.failures w.0 w.1 c.args.desk w.2 c.flush_or_sync.new.engine c.in-Ok.ensures.taken)
+    subst (λ n. n ≤ c.args.desk.publisher.start + length (published c.args.desk.publisher.list ++ c.args.desk.waiting)) (sym (rw c.get.ensures at c.durable-durable.ensures.durable))
+    (is_within g.D.Disk.honest g.D.Disk.history g.D.Disk.failures w.0 w.1 c.args.desk w.2 c.flush_or_sync.new.engine (rw c.get_mut.ensures.value at c.in-Ok.ensures.taken))
 
 pub returns-in-Ok-published-clause-works : goal.returns-in-Ok-published-clause-works
 returns-in-Ok-published-clause-works g c = λ s items w.
     let p = c.publish_upto-publisher in
     let shown = subst (λ (r : Result (Unit {0}) Refusal). OnOk r (c.args.desk.publisher.start + length (published p.result.0.list) ≡ c.durable-durable.result)) c.in-Ok-published.is p.ensures.shown in
-    works_on g.D.Disk.honest g.D.Disk.history g.D.Disk.failures s items c.args.desk w c.flush_or_sync.new.engine c.in-Ok.ensures.taken p.result.0 p.new.waiting p.ensures.same (c.in-Ok.ensures.works (w.desk.works refl)) p.ensures.whole (shown ∙ c.durable-durable.ensures.durable) c.in-Ok.ensures.base p.ensures.oldest
+    works_on g.D.Disk.honest g.D.Disk.history g.D.Disk.failures s items c.args.desk w c.flush_or_sync.new.engine (rw c.get_mut.ensures.value at c.in-Ok.ensures.taken) p.result.0 p.new.waiting p.ensures.same ((rw c.get_mut.ensures.value at c.in-Ok.ensures.works) (w.desk.works refl)) p.ensures.whole (shown ∙ (rw c.get.ensures at c.durable-durable.ensures.durable)) (rw c.get_mut.ensures.value at c.in-Ok.ensures.base) p.ensures.oldest
 
 pub returns-in-Ok-published-clause-given : goal.returns-in-Ok-published-clause-given
 returns-in-Ok-published-clause-given g c = λ s items w.
     let p = c.publish_upto-publisher in
-    given_up g.D.Disk.honest g.D.Disk.history g.D.Disk.failures s items c.args.desk w c.flush_or_sync.new.engine c.in-Ok.ensures.taken p.result.0 p.new.waiting p.ensures.same
+    given_up g.D.Disk.honest g.D.Disk.history g.D.Disk.failures s items c.args.desk w c.flush_or_sync.new.engine (rw c.get_mut.ensures.value at c.in-Ok.ensures.taken) p.result.0 p.new.waiting p.ensures.same
 
 pub returns-in-Ok-published-clause-common : goal.returns-in-Ok-published-clause-common
-returns-in-Ok-published-clause-common g c = let w = c.requires.work in same_common g.D.Disk.honest g.D.Disk.history g.D.Disk.failures w.0 w.1 c.args.desk w.2 c.flush_or_sync.new.engine c.in-Ok.ensures.taken
+returns-in-Ok-published-clause-common g c = let w = c.requires.work in same_common g.D.Disk.honest g.D.Disk.history g.D.Disk.failures w.0 w.1 c.args.desk w.2 c.flush_or_sync.new.engine (rw c.get_mut.ensures.value at c.in-Ok.ensures.taken)
 
 pub returns-in-Err-published-clause-given : goal.returns-in-Err-published-clause-given
 returns-in-Err-published-clause-given g c = λ s items w.
     let p = c.publish_upto-publisher in
-    given_up g.D.Disk.honest g.D.Disk.history g.D.Disk.failures s items c.args.desk w c.flush_or_sync.new.engine c.in-Ok.ensures.taken p.result.0 p.new.waiting p.ensures.same
+    given_up g.D.Disk.honest g.D.Disk.history g.D.Disk.failures s items c.args.desk w c.flush_or_sync.new.engine (rw c.get_mut.ensures.value at c.in-Ok.ensures.taken) p.result.0 p.new.waiting p.ensures.same
 
 pub returns-in-Err-published-clause-common : goal.returns-in-Err-published-clause-common
-returns-in-Err-published-clause-common g c = let w = c.requires.work in same_common g.D.Disk.honest g.D.Disk.history g.D.Disk.failures w.0 w.1 c.args.desk w.2 c.flush_or_sync.new.engine c.in-Ok.ensures.taken
+returns-in-Err-published-clause-common g c = let w = c.requires.work in same_common g.D.Disk.honest g.D.Disk.history g.D.Disk.failures w.0 w.1 c.args.desk w.2 c.flush_or_sync.new.engine (rw c.get_mut.ensures.value at c.in-Ok.ensures.taken)

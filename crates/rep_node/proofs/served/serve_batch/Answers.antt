@@ -1,7 +1,6 @@
-use Rattle.std.proofs.Common.{◌≡◌, ap, sym, ◌∙◌}
+use Rattle.std.proofs.Common.{length, ap, sym, ◌∙◌}
 use Rattle.rep_types.specs.declared.judged.Judged.{Judged}
 use Rattle.rep_ordered.specs.declared.view.View.{View}
-use Rattle.rep_replica.specs.Settling.{IsRunning}
 use Rattle.rep_node.specs.declared.home.Home.{Home}
 use Rattle.rep_node.specs.Batches.{items_of}
 use Rattle.rep_node.proofs.Serves.{ended_as, has_all, not_both, not_running, passed_none, refused_as, refused_served, served, stopped_as}
@@ -13,7 +12,7 @@ pub returns-then-is_stopped-clause-served : goal.returns-then-is_stopped-clause-
 returns-then-is_stopped-clause-served g c running = absurd (not_running c.args.replica c.is_stopped.result c.is_stopped.ensures c.if-is_stopped.true running)
 
 pub returns-then-is_stopped-clause-ended : goal.returns-then-is_stopped-clause-ended
-returns-then-is_stopped-clause-ended g c = stopped_as c.refused.result.receipts.items c.refused.result.end c.refused.ensures.1
+returns-then-is_stopped-clause-ended g c = stopped_as c.args.replica (length c.args.items.now) c.args.replica c.refused.result.receipts.items c.refused.result.end (sym c.is_stopped.ensures ∙ c.if-is_stopped.true) c.refused.ensures.1
 
 -- ---- no node was started
 
@@ -25,7 +24,7 @@ returns-in-Err-clause-served g c running = refused_served g.D.Disk.honest g.D.Di
     c.durable-position.ensures.replica running c.requires.quiet c.in-Err.ensures.refused.0 c.refused-in-Err.ensures.0 c.refused-in-Err.ensures.1
 
 pub returns-in-Err-clause-ended : goal.returns-in-Err-clause-ended
-returns-in-Err-clause-ended g c = refused_as _ _ c.refused-in-Err.result.receipts.items c.refused-in-Err.result.end c.in-Err.refusal c.refused-in-Err.ensures.0 c.refused-in-Err.ensures.1 c.in-Err.ensures.refused.1
+returns-in-Err-clause-ended g c = refused_as _ (length c.args.items.now) c.args.replica c.in-Err.replica c.refused-in-Err.result.receipts.items c.refused-in-Err.result.end c.in-Err.refusal c.in-Err.ensures.refused.0 c.refused-in-Err.ensures.0 c.refused-in-Err.ensures.1 c.in-Err.ensures.refused.1
 
 -- ---- a node was started, and closed
 
@@ -41,7 +40,8 @@ returns-clause-stopped g c stopped = absurd (not_both c.is_stopped.result _ c.is
 
 pub returns-clause-served : goal.returns-clause-served
 returns-clause-served g c running = served g.D.Disk.honest g.D.Disk.history g.D.Disk.failures c.histories_extend_the_order.ensures c.args.replica c.close.result c.args.items.now c.in-Ok.made.1.view c.serve-batch.new.seat.view c.in-Ok.made.2.items c.serve-batch.result.receipts.items c.serve-batch.result.end
-    (ap (λ (z : View (Home g.row.D.Denot) Judged). z.start) c.in-Ok.ensures.view) (ap (λ (z : View (Home g.row.D.Denot) Judged). z.own) c.in-Ok.ensures.view) c.in-Ok.ensures.starts c.serve-batch.ensures.went c.serve-batch.ensures.batch c.serve-batch.ensures.order c.serve-batch.ensures.whole c.close.ensures.ends
+    (ap (λ (z : View (Home g.row.D.Denot) Judged). z.start) c.in-Ok.ensures.view) (ap (λ (z : View (Home g.row.D.Denot) Judged). z.own) c.in-Ok.ensures.view) c.in-Ok.ensures.starts c.serve-batch.ensures.went c.serve-batch.ensures.batch c.serve-batch.ensures.order c.serve-batch.ensures.whole c.serve-batch.ensures.ended c.close.ensures.ends
 
 pub returns-clause-ended : goal.returns-clause-ended
-returns-clause-ended g c = ended_as _ _ _ c.serve-batch.result.receipts.items c.serve-batch.result.end c.serve-batch.ensures.ended
+returns-clause-ended g c = ended_as (length c.args.items.now) c.serve-batch.new.seat.view.halted c.in-Ok.made.1.view.allowance c.args.replica c.close.result c.in-Ok.made.1.view.own c.serve-batch.new.seat.view.own c.serve-batch.result.receipts.items c.serve-batch.result.end
+    (ap (λ (z : View (Home g.row.D.Denot) Judged). z.allowance) c.in-Ok.ensures.view) c.close.ensures.stopped.1 c.serve-batch.ensures.ended

@@ -20,5 +20,6 @@ returns g c =
       receipts = c.serve_batch-replica.result.1.receipts.items;
       end = c.serve_batch-replica.result.1.end;
       served = c.serve_batch-replica.ensures.served c.requires.running;
+      ended = rw (← second) c.serve_batch-replica.ensures.ended;
       told = rw (← second) c.tell-outcome.ensures;
     })

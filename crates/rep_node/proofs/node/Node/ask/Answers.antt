@@ -1,4 +1,4 @@
-use Rattle.std.proofs.Common.{◌≡◌, ℕ, ◌≤◌, true, false, Option, None, Result, Err, inl, inr, refl, sym, ap, subst, ◌∙◌, arith}
+use Rattle.std.proofs.Common.{◌≡◌, ℕ, ◌≤◌, true, false, None, Err, inl, inr, refl, sym, ap, subst, ◌∙◌, arith}
 use Rattle.std.specs.Prelude.{is_some}
 use Rattle.rep_types.specs.declared.judged.Judged.{Judged}
 use Rattle.rep_types.specs.declared.refusal.Refusal.TheVariants.{DiskFault}
@@ -6,7 +6,7 @@ use Rattle.rep_engine.specs.Engines.{durable_of}
 use Rattle.rep_stations.specs.Judging.{Legal}
 use Rattle.rep_ordered.specs.declared.view.View.{View}
 use Rattle.rep_ordered.specs.Seats.{Place}
-use Rattle.rep_ordered.specs.Views.{StartsWith, abandoned, turn_of, without}
+use Rattle.rep_ordered.specs.Views.{abandoned, turn_of, without}
 use Rattle.rep_node.specs.declared.home.Home.{Home}
 use Rattle.rep_node.specs.declared.home.Desk.{Desk}
 use Rattle.rep_node.specs.declared.home.Home.TheVariants.{Desk as AtSecond}
@@ -14,7 +14,7 @@ use Rattle.rep_node.specs.Homes.{Start, DeskAt, common_in, durable_in, values_of
 use Rattle.rep_node.specs.Keeping.{AtWork, common_of_desk}
 use Rattle.rep_node.specs.Reading.{RefusesAsked}
 use Rattle.rep_node.proofs.Standing.{desk_found}
-use Rattle.rep_node.proofs.AtEngine.{AtEngine, came, stayed, holds_it, floor_is, names_it, left_idle, gone_idle, view_is}
+use Rattle.rep_node.proofs.AtEngine.{AtEngine, came, stayed, left_idle, gone_idle, view_is}
 use Rattle.rep_node.proofs.Keeps.{desk_grown, work_found}
 use Rattle.rep_node.proofs.Asks.{desk_read, none_of, only_err, refusals_asked, rows_asked, this_err}
 use Rattle.rep_node.proofs.node.Node.ask.Given.{Over}
@@ -35,7 +35,7 @@ at_engine g c =
     subst (λ (x : Home g.row.D.Denot). AtEngine c.args.seat.now.view c.side_enter.new.seat.view e.0 (durable_in x) (common_in x)) c.desk_of-desk.ensures (came g.D.Disk.honest g.D.Disk.history g.D.Disk.failures c.args.seat.now.view c.side_enter.new.seat.view e.0 c.in_ok-side_enter.field-0 c.requires.free e.1)
 
 pub look_up-row-requires : goal.look_up-row-requires
-look_up-row-requires g c = let seat = c.requires.seat in (found g (goal.at.look_up-row-requires g c).After-desk_of-desk seat.start seat.first).desk.works refl
+look_up-row-requires g c = let seat = c.requires.seat in rw c.get_mut.ensures.value ((found g (goal.at.look_up-row-requires g c).After-desk_of-desk seat.start seat.first).desk.works refl)
 
 -- ---- once the engine was read
 
@@ -43,7 +43,7 @@ look_up-row-requires g c = let seat = c.requires.seat in (found g (goal.at.look_
 desk_then : (g : Over) (c : After-look_up-row g) → ((s : Start g.row.D.Denot) → c.args.seat.now.view.first ≡ values_of s → AtWork g.D.Disk.honest g.D.Disk.history g.D.Disk.failures s c.side_enter.new.seat.view.seen c.desk_of-desk.result)
     → (given : ℕ) → (given ≡ 0 → c.look_up-row.new.engine.halted ≡ None) → (s : Start g.row.D.Denot) → c.args.seat.now.view.first ≡ values_of s
     → DeskAt g.D.Disk.honest g.D.Disk.history g.D.Disk.failures s given c.side_enter.new.seat.view.seen (record { engine = c.look_up-row.new.engine; publisher = c.desk_of-desk.result.publisher; waiting = c.desk_of-desk.result.waiting })
-desk_then g c found given works s first = desk_read g.D.Disk.honest g.D.Disk.history g.D.Disk.failures s c.side_enter.new.seat.view.seen c.desk_of-desk.result (found s first).desk c.look_up-row.new.engine c.look_up-row.ensures.still c.look_up-row.ensures.taken given works
+desk_then g c found given works s first = desk_read g.D.Disk.honest g.D.Disk.history g.D.Disk.failures s c.side_enter.new.seat.view.seen c.desk_of-desk.result (found s first).desk c.look_up-row.new.engine (rw c.get_mut.ensures.value at c.look_up-row.ensures.still) (rw c.get_mut.ensures.value at c.look_up-row.ensures.taken) given works
 
 -- where it is once it has halted the node
 halted : (g : Over) (c : After-halt g) → AtEngine c.args.seat.now.view c.side_enter.new.seat.view c.in_ok-side_enter.ensures.entered.0 (durable_of c.desk_of-desk.result.engine.log) (common_of_desk c.desk_of-desk.result)
@@ -73,7 +73,7 @@ returns-then-is_stopped-clause-idle g c =
 faulted : (g : Over) (c : After-halt g) → c.is_stopped.result ≡ true → c.look_up-row.result ≡ Err DiskFault
 faulted g c stopped = elim c.look_up-row.ensures.stops.1 [
   | inl fault ↦ fault
-  | inr works ↦ absurd (let never : true ≡ false = sym stopped ∙ (c.is_stopped.ensures ∙ ap is_some works) in cc)
+  | inr works ↦ absurd (let never : true ≡ false = sym stopped ∙ ((rw c.get.ensures at c.is_stopped.ensures) ∙ ap is_some works) in cc)
 ]
 
 pub returns-then-is_stopped-clause-asked : goal.returns-then-is_stopped-clause-asked
@@ -90,7 +90,7 @@ returns-then-is_stopped-clause-asked g c =
       desk = d;
       here = subst (λ items. DeskAt g.D.Disk.honest g.D.Disk.history g.D.Disk.failures s 0 items d) (sym seen) (desk_grown g.D.Disk.honest g.D.Disk.history g.D.Disk.failures s 0 w.seen l.seen d (found g at.After-desk_of-desk s is).desk c.halt.ensures.later.seen);
       behind = c.look_up-row.new.engine;
-      moves = c.look_up-row.ensures.moves;
+      moves = (rw c.get_mut.ensures.value at c.look_up-row.ensures.moves);
     })
 
 pub returns-then-is_stopped-clause-row : goal.returns-then-is_stopped-clause-row
@@ -104,7 +104,7 @@ returns-then-is_stopped-clause-refused g c =
 -- ---- the engine works
 
 works : (g : Over) (c : After-is_stopped g) → c.is_stopped.result ≡ false → c.look_up-row.new.engine.halted ≡ None
-works g c running = none_of c.look_up-row.new.engine.halted (sym c.is_stopped.ensures ∙ running)
+works g c running = none_of c.look_up-row.new.engine.halted (sym (rw c.get.ensures at c.is_stopped.ensures) ∙ running)
 
 pub side_leave-requires-clause-value : goal.side_leave-requires-clause-value
 side_leave-requires-clause-value g c =
@@ -140,13 +140,13 @@ legal_left g c found s is = subst (λ items. Legal s.certifier.current items) (s
 pub returns-clause-asked : goal.returns-clause-asked
 returns-clause-asked g c =
     let at = goal.at.returns-clause-asked g c in
-    inr (λ s is. record { desk = c.desk_of-desk.result; here = desk_left g at.After-side_leave (found g at.After-desk_of-desk) s is; behind = c.look_up-row.new.engine; moves = c.look_up-row.ensures.moves })
+    inr (λ s is. record { desk = c.desk_of-desk.result; here = desk_left g at.After-side_leave (found g at.After-desk_of-desk) s is; behind = c.look_up-row.new.engine; moves = (rw c.get_mut.ensures.value at c.look_up-row.ensures.moves) })
 
 pub returns-clause-row : goal.returns-clause-row
 returns-clause-row g c =
     let at = goal.at.returns-clause-row g c in
     let found = found g at.After-desk_of-desk in
-    rows_asked g.D.Disk.honest g.D.Disk.history g.D.Disk.failures c.args.seat.now.view c.side_leave.new.seat.view c.desk_of-desk.result (desk_left g at.After-side_leave found) (legal_left g at.After-side_leave found) c.args.key c.args.at c.histories_go_on.ensures c.look_up-row.result c.look_up-row.ensures.row
+    rows_asked g.D.Disk.honest g.D.Disk.history g.D.Disk.failures c.args.seat.now.view c.side_leave.new.seat.view c.desk_of-desk.result (desk_left g at.After-side_leave found) (legal_left g at.After-side_leave found) c.args.key c.args.at c.histories_go_on.ensures c.look_up-row.result (rw c.get_mut.ensures.value at c.look_up-row.ensures.row)
 
 pub returns-clause-refused : goal.returns-clause-refused
 returns-clause-refused g c =
@@ -159,4 +159,4 @@ returns-clause-refused g c =
     let left = (left_knows g at.After-side_leave).1 in
     omega (arith, durable, named, left) in
     refusals_asked g.D.Disk.honest g.D.Disk.history g.D.Disk.failures c.args.seat.now.view c.side_leave.new.seat.view c.desk_of-desk.result (desk_left g at.After-side_leave found) (legal_left g at.After-side_leave found) c.args.key c.args.at seat.start seat.first (c.requires.inside seat.start seat.first) known c.look_up-row.result
-    (λ fault. absurd (let never : false ≡ true = sym (ap is_some (works g at.After-is_stopped c.if-is_stopped.false)) ∙ c.look_up-row.ensures.stops.0 fault in cc)) c.look_up-row.ensures.refused
+    (λ fault. absurd (let never : false ≡ true = sym (ap is_some (works g at.After-is_stopped c.if-is_stopped.false)) ∙ c.look_up-row.ensures.stops.0 fault in cc)) (rw c.get_mut.ensures.value at c.look_up-row.ensures.refused)

@@ -80,7 +80,7 @@ returns-in-ForCertifier-clause-idle g c = let at = goal.at.returns-in-ForCertifi
 -- ---- none is under way
 
 pub raise-requires-clause-saw : goal.raise-requires-clause-saw
-raise-requires-clause-saw g c = let durable = c.durable-durable.ensures.durable in let backed = c.in_ok-put_back.ensures.backed in omega (arith, durable, backed)
+raise-requires-clause-saw g c = let durable = (rw c.get.ensures at c.durable-durable.ensures.durable) in let backed = c.in_ok-put_back.ensures.backed in omega (arith, durable, backed)
 
 pub returns-in_err-wait_durable-in-Ended-clause-idle : goal.returns-in_err-wait_durable-in-Ended-clause-idle
 returns-in_err-wait_durable-in-Ended-clause-idle g c = let at = goal.at.returns-in_err-wait_durable-in-Ended-clause-idle g c in waited g at.After-wait_durable (back g at.After-put_back (at_engine g at.After-desk_of-desk))
@@ -101,5 +101,5 @@ returns-in_ok-wait_durable-in-Ended-clause-ended g c =
     let work : (s : Start g.row.D.Denot) → v.first ≡ values_of s → AtWork g.D.Disk.honest g.D.Disk.history g.D.Disk.failures s w.seen d = (λ s is. told_ok (AtWork g.D.Disk.honest g.D.Disk.history g.D.Disk.failures s w.seen d) c.step_on-desk.result.1 Ended done (c.step_on-desk.ensures.works s w.seen (found g at.After-desk_of-desk s is))) in
     let pruned : (s : Start g.row.D.Denot) → v.first ≡ values_of s → IsPruned s d = (λ s is. IfOk-at_ok (λ (z : Progress). z ≡ Ended → IsPruned s d) done (c.step_on-desk.ensures.pruned s w.seen (found g at.After-desk_of-desk s is)) refl) in
     let more : StartsWith t.seen w.seen = begins_on w.seen r.seen t.seen (begins_on w.seen p.seen r.seen c.put_back.ensures.idle.0.goes.seen c.raise.ensures.later.seen) c.wait_durable.ensures.later.seen in
-    let known : durable_of d.engine.log ≤ t.durable = let durable = c.durable-durable.ensures.durable in let a = c.in_ok-wait_durable-in-Ended.ensures.durable.0 in let b = c.in_ok-wait_durable-in-Ended.ensures.durable.1 in omega (arith, durable, a, b) in
-    ends_at g.D.Disk.honest g.D.Disk.history g.D.Disk.failures v.first w t d (record { base = c.base.result; told = c.tell.result }) work pruned more c.durable-durable.ensures.engine known c.base.ensures c.tell.ensures
+    let known : durable_of d.engine.log ≤ t.durable = let durable = (rw c.get.ensures at c.durable-durable.ensures.durable) in let a = c.in_ok-wait_durable-in-Ended.ensures.durable.0 in let b = c.in_ok-wait_durable-in-Ended.ensures.durable.1 in omega (arith, durable, a, b) in
+    ends_at g.D.Disk.honest g.D.Disk.history g.D.Disk.failures v.first w t d (record { base = c.base.result; told = c.tell.result }) work pruned more (rw c.get.ensures at c.durable-durable.ensures.engine) known (rw c.get-2.ensures at c.base.ensures) c.tell.ensures

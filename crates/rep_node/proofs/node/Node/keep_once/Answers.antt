@@ -85,7 +85,7 @@ returns-in-Ok-clause-kept g c =
     let more : StartsWith t.seen w.seen = begins_on w.seen r.seen t.seen (subst (λ l. StartsWith r.seen l) seen c.raise.ensures.later.seen) c.wait_durable.ensures.later.seen in
     let work : (s : Start g.row.D.Denot) → v.first ≡ values_of s → AtWork g.D.Disk.honest g.D.Disk.history g.D.Disk.failures s w.seen d =
     (λ s is. told_ok (AtWork g.D.Disk.honest g.D.Disk.history g.D.Disk.failures s w.seen d) c.advance-desk.result.1 c.in-Ok.field-0 c.in-Ok.is (c.advance-desk.ensures.works s w.seen (found g at s is))) in
-    let durable = c.durable-durable.ensures.durable in
+    let durable = (rw c.get.ensures at c.durable-durable.ensures.durable) in
     let waited_for = c.in_ok-wait_durable-in-Ok.ensures.durable in
     record {
       durable = let a = waited_for.0 in let b = waited_for.1 in omega (arith, a, b);

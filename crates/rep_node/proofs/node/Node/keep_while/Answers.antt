@@ -9,6 +9,9 @@ use Rattle.rep_node.proofs.node.Node.keep_while.Goals.{After-keep_round}
 kept : (g : Over) (c : After-keep_round g) → WentIdle c.args.seat.now.view c.keep_round.new.seat.view
 kept g c = let went = c.loop.invariant.1 in idle_on c.args.seat.now.view c.loop.seat.view c.keep_round.new.seat.view went.0 went.1 went.2 c.keep_round.ensures.idle
 
+pub returns-in_err-durable-clause-idle : goal.returns-in_err-durable-clause-idle
+returns-in_err-durable-clause-idle g c = kept g (goal.at.returns-in_err-durable-clause-idle g c).After-keep_round
+
 pub returns-then-not-goes_on-clause-idle : goal.returns-then-not-goes_on-clause-idle
 returns-then-not-goes_on-clause-idle g c = kept g (goal.at.returns-then-not-goes_on-clause-idle g c).After-keep_round
 

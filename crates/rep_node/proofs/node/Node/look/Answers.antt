@@ -1,4 +1,4 @@
-use Rattle.std.proofs.Common.{ap, ◌∙◌, subst}
+use Rattle.std.proofs.Common.{subst}
 use Rattle.rep_types.specs.declared.judged.Judged.{Judged}
 use Rattle.rep_ordered.specs.Seats.{Place}
 use Rattle.rep_node.specs.declared.home.Home.{Home}

@@ -1,7 +1,5 @@
-use Rattle.std.proofs.Common.{◌≡◌, Option, Some, refl, sym, ◌∙◌, subst}
+use Rattle.std.proofs.Common.{◌≡◌, Some, refl, sym, ◌∙◌, subst}
 use Rattle.rep_snap.specs.Doors.{FoundShut}
-use Rattle.rep_snap.specs.Views.{Watching}
-use Rattle.rep_node.specs.declared.origin.Origin.{Origin}
 use Rattle.rep_node.specs.Rows.{Beside, ReadsBeside}
 use Rattle.rep_node.proofs.Rowing.{forgets_none, rows_are}
 use Rattle.rep_node.proofs.rows.NodeRowsRows.read_at.Goals as goal

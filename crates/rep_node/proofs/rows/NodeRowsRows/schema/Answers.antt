@@ -1,4 +1,4 @@
-use Rattle.std.proofs.Common.{◌≡◌, Option, IfSome, sym, ap, ◌∙◌, subst}
+use Rattle.std.proofs.Common.{Option, IfSome, sym, ap, ◌∙◌, subst}
 use Rattle.rep_snap.specs.Views.{Watching}
 use Rattle.rep_node.specs.declared.origin.Origin.{Origin}
 use Rattle.rep_node.specs.Reading.{IsReaderOf}
