@@ -9,7 +9,7 @@ use Rattle.rep_steps.specs.declared.event.Event.TheVariants.{Deliver, Log, Sync,
 use Rattle.rep_steps.specs.declared.answer.Answer.{Answer}
 use Rattle.rep_steps.specs.declared.answer.Answer.TheVariants.{Refused}
 use Rattle.rep_steps.specs.Standings.{Standing, refusal}
-use Rattle.rep_steps.specs.Moves.{Fails, Found, MeetsCorruption, Moves, after, answer}
+use Rattle.rep_steps.specs.Moves.{Fails, Found, MeetsCorruption, after, answer}
 use Rattle.rep_steps.specs.Runs.{Runs}
 use Rattle.rep_replica.specs.Settling.{AreDone, IsDue, outcome_of}
 

@@ -1,9 +1,9 @@
-use Rattle.std.proofs.Common.{rules, ◌≡◌, Some, None, Ok, Err, true, false, List, [], ◌∷◌, ◌++◌, refl, ap}
+use Rattle.std.proofs.Common.{rules, ◌≡◌, Some, None, Ok, Err, true, false, [], ◌∷◌, ◌++◌, refl}
 use Rattle.std.proofs.lemmas.Result.{err_from_is_err_and}
 use Rattle.rep_record.specs.Lines.{ahead}
 use Rattle.rep_record.specs.Reading.{item_line}
 use Rattle.rep_script.specs.Judging.{content}
-use Rattle.rep_serve.proofs.Reading.{behind, line_read, read_refused, read_all, read_more, read_faulty}
+use Rattle.rep_serve.proofs.Reading.{line_read, read_refused, read_all, read_more, read_faulty}
 use Rattle.rep_serve.proofs.serve.read_into.Goals as goal
 
 pub returns-in_err-next_line-clause-refused : goal.returns-in_err-next_line-clause-refused

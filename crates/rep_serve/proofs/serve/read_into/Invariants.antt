@@ -1,4 +1,4 @@
-use Rattle.std.proofs.Common.{◌≡◌, ◌-◌, IfSome}
+use Rattle.std.proofs.Common.{◌-◌, IfSome}
 use Rattle.rep_record.specs.Lines.{ahead}
 use Rattle.rep_serve.proofs.Reading.{HasRead}
 use Rattle.rep_serve.proofs.serve.read_into.Given as goal

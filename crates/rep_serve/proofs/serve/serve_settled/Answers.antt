@@ -1,6 +1,4 @@
-use Rattle.std.proofs.Common.{rules, ◌≡◌, inr, refl, subst, length}
-use Rattle.rep_ordered.specs.Views.{Every}
-use Rattle.rep_node.specs.declared.batch.Receipt.{Receipt}
+use Rattle.std.proofs.Common.{rules, ◌≡◌, inr}
 use Rattle.rep_serve.proofs.Telling.{places_within}
 use Rattle.rep_serve.proofs.serve.serve_settled.Goals as goal
 
@@ -20,6 +18,6 @@ returns g c =
       receipts = c.serve_batch-replica.result.1.receipts.items;
       end = c.serve_batch-replica.result.1.end;
       served = c.serve_batch-replica.ensures.served c.requires.running;
-      ended = rw (← second) c.serve_batch-replica.ensures.ended;
+      ended = c.serve_batch-replica.ensures.ended;
       told = rw (← second) c.tell-outcome.ensures;
     })

@@ -1,8 +1,7 @@
-use Rattle.std.proofs.Common.{rules, ◌≡◌, ◌||◌, ◌∙◌, Ok, Err, true, false, is_some, inl, inr, refl, sym, ap, subst}
+use Rattle.std.proofs.Common.{rules, ◌||◌, ◌∙◌, is_some, inl, inr, refl, sym, subst}
 use Rattle.std.specs.Prelude.{IsFalse}
 use Rattle.std.proofs.KnownBytes.{Keeps-refl}
 use Rattle.uuid.specs.Parts.{is_nil_bytes}
-use Rattle.rep_replica.specs.Settling.{IsRunning}
 use Rattle.rep_replica.specs.Replicas.{facts_of}
 use Rattle.rep_serve.proofs.Settling.{neither, not_refused, steps_stay}
 use Rattle.rep_serve.proofs.serve.serve_text.Goals as goal
