@@ -1,7 +1,7 @@
 /* Writes and syncs a file as the log of a disk does, and does nothing else: `bare_writes FILE CELLS BLOCKS`.
  *
  * For each block, in its cell of a log of so many cells, in turn: the body, a sync, the open gate behind it, and a sync. Offsets and
- * sizes are those of docs/formats.md, and a sync is `fsync`, as FileDisk of rep_disk does it. The file has to be there, as long as
+ * sizes are those of docs/formats.md, and a sync is `fdatasync`, as FileDisk of rep_disk does it. The file has to be there, as long as
  * the disk. Status 1: something failed.
  */
 #define _GNU_SOURCE
@@ -27,7 +27,7 @@ static void put(int file, off_t at, const unsigned char *bytes, size_t size) {
         bytes += written;
         size -= (size_t)written;
     }
-    if (fsync(file) != 0) fail("sync");
+    if (fdatasync(file) != 0) fail("sync");
 }
 
 int main(int count, char **words) {

@@ -78,7 +78,10 @@ class Refusing:
         """The program's output lines, its standard error, its status, and how many growths it asked for."""
         if os.path.exists(self.counted):
             os.remove(self.counted)
-        done = subprocess.run(words, input=given, capture_output=True, env=self.environment(growth), timeout=60)
+        try:
+            done = subprocess.run(words, input=given, capture_output=True, env=self.environment(growth), timeout=60)
+        except subprocess.TimeoutExpired:
+            raise Wrong("with growth %d refused it does not end" % growth) from None
         with open(self.counted, encoding="ascii") as file:
             asked = int(file.read())
         return done.stdout.decode().splitlines(), done.stderr.decode(), done.returncode, asked

@@ -1,16 +1,19 @@
-/* Counts the growths of memory that a program asks the C library for, and refuses some of them.
+/* Counts the growths of memory that a program asks the C library for, and refuses some of them. A thread is one too.
  *
- * Loaded before the C library (LD_PRELOAD). Only calls of `malloc` and `realloc` from the program itself are counted: those of
- * the C library and of the dynamic loader go through.
+ * Loaded before the C library (LD_PRELOAD). Only calls of `malloc`, `realloc` and `pthread_create` from the program itself are counted:
+ * those of the C library and of the dynamic loader go through.
  *
- *   REFUSED_GROWTH=N     the N-th growth is refused, counted from 1: NULL, and errno is ENOMEM; 0 or nothing refuses none
+ *   REFUSED_GROWTH=N     the N-th growth is refused, counted from 1: NULL, and errno is ENOMEM, or EAGAIN for a thread; 0 or nothing
+ *                        refuses none
  *   REFUSED_FROM=N       the N-th growth and all behind it are refused
  *   GROWTHS_FILE=PATH    where the program ends, the number of growths that it asked for is written there
  */
 #define _GNU_SOURCE
+#include <dlfcn.h>
 #include <errno.h>
 #include <fcntl.h>
 #include <link.h>
+#include <pthread.h>
 #include <stdint.h>
 #include <stdlib.h>
 #include <sys/syscall.h>
@@ -20,6 +23,7 @@
 extern void *__libc_malloc(size_t);
 extern void *__libc_realloc(void *, size_t);
 
+static int (*next_create)(pthread_t *, const pthread_attr_t *, void *(*)(void *), void *);
 static uintptr_t first_byte, end_byte; /* where the program lies */
 static unsigned long asked, refused, refused_from;
 
@@ -42,6 +46,7 @@ static unsigned long number_of(const char *name) {
 
 __attribute__((constructor)) static void begin(void) {
     dl_iterate_phdr(first_object, NULL);
+    next_create = (int (*)(pthread_t *, const pthread_attr_t *, void *(*)(void *), void *))dlsym(RTLD_NEXT, "pthread_create");
     refused = number_of("REFUSED_GROWTH");
     refused_from = number_of("REFUSED_FROM");
 }
@@ -88,4 +93,9 @@ void *realloc(void *old, size_t size) {
         return NULL;
     }
     return __libc_realloc(old, size);
+}
+
+int pthread_create(pthread_t *made, const pthread_attr_t *how, void *(*runs)(void *), void *given) {
+    if (is_refused((uintptr_t)__builtin_return_address(0))) return EAGAIN;
+    return next_create(made, how, runs, given);
 }
