@@ -33,6 +33,20 @@ const TO_SIDE: u64 = FROM_SIDE;
 /// From held from the side down to free at the same number.
 const TO_FREE: u64 = FROM_SIDE;
 
+/// How often who waits for a station looks again before it lets other threads run. A station is held for less than that; and those
+/// who let others run find their turns late, one behind the other.
+const LOOKS: u32 = 64;
+
+/// Passes the time till the next look.
+fn pause(backoff: &Backoff, looks: &mut u32) {
+    if *looks < LOOKS {
+        *looks += 1;
+        backoff.spin();
+    } else {
+        backoff.snooze();
+    }
+}
+
 impl<V: Keeps<E>, E> OrderedLock<V, E> {
     /// Enters the station by a ticket, as soon as the station's turn is at its number and it is free,
     /// and gives its value, which may lie at home there: at this number, at the history that the seat
@@ -72,6 +86,7 @@ impl<V: Keeps<E>, E> OrderedLock<V, E> {
         ensures last { seat.old.view.allowance + length seat.old.view.own ≡ seat.old.view.whole → IfErr result (λ _. seat.old.view.halted ≡ 1) }
     {
         let backoff = Backoff::new();
+        let mut looks = 0;
         for _ in rt.forever() {
             if self.front(seat).halted {
                 return Err(Refusal::Stopped);
@@ -79,7 +94,7 @@ impl<V: Keeps<E>, E> OrderedLock<V, E> {
             if let Some(value) = self.try_enter(seat, station, ticket) {
                 return Ok(value);
             }
-            backoff.snooze();
+            pause(&backoff, &mut looks);
         }
         unreachable!()
     }
@@ -130,6 +145,7 @@ impl<V: Keeps<E>, E> OrderedLock<V, E> {
         ensures last { seat.old.view.allowance + length seat.old.view.own ≡ seat.old.view.whole → IfErr result (λ _. seat.old.view.halted ≡ 1) }
     {
         let backoff = Backoff::new();
+        let mut looks = 0;
         for _ in rt.forever() {
             if self.front(seat).halted {
                 return Err(Refusal::Stopped);
@@ -137,7 +153,7 @@ impl<V: Keeps<E>, E> OrderedLock<V, E> {
             if let Some(value) = self.try_side_enter(seat, station) {
                 return Ok(value);
             }
-            backoff.snooze();
+            pause(&backoff, &mut looks);
         }
         unreachable!()
     }
