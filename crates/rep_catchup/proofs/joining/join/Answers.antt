@@ -1,4 +1,4 @@
-use Rattle.std.proofs.Common.{List, ℕ, refl, inl, inr, sym, ap, ◌∙◌, arith}
+use Rattle.std.proofs.Common.{List, [], ℕ, refl, inl, inr, sym, ap, ◌∙◌, arith}
 use Rattle.rep_types.specs.declared.refusal.Refusal.TheVariants.{Stopped}
 use Rattle.rep_transfer.specs.Taking.{counted}
 use Rattle.rep_replica.specs.Replicas.{facts_of}
@@ -7,6 +7,7 @@ use Rattle.rep_catchup.proofs.JoinGrowing.{early_work, is_running}
 use Rattle.rep_catchup.proofs.JoinWent.{lived_none, lived_settling, lived_parts}
 use Rattle.rep_catchup.proofs.JoinFollowing.{not_joined, joined_on}
 use Rattle.rep_catchup.proofs.JoinCutting.{early_header, early_parts, ended_parts, or_stopped}
+use Rattle.rep_catchup.proofs.JoinTelling.{tells_then, tells_stopped, tells_header, grown_goes, told_then}
 use Rattle.rep_catchup.proofs.joining.join.Goals as goal
 
 pub settle-requires : goal.settle-requires
@@ -87,3 +88,19 @@ pub returns-in-Ok-clause-lived : goal.returns-in-Ok-clause-lived
 returns-in-Ok-clause-lived g c =
     lived_parts g.D.Disk.honest g.D.Disk.history g.D.Disk.failures c.args.replica c.settle.new.replica c.take_parts.result.0 c.in-Ok.uuid (g.R.Read.remaining c.take_header.new.reader) (g.R.Read.remaining c.take_parts.new.reader) c.take_header.new.transfer
     c.take_parts.result.1 c.settle.ensures.grown c.take_parts.ensures.taken c.take_parts.ensures.cut
+
+-- ---- what is told of the device
+
+pub returns-then-is_stopped-clause-tells : goal.returns-then-is_stopped-clause-tells
+returns-then-is_stopped-clause-tells g c = tells_stopped g.D.Disk.honest g.D.Disk.history g.D.Disk.failures c.args.replica
+
+pub returns-in-Err-take_header-clause-tells : goal.returns-in-Err-take_header-clause-tells
+returns-in-Err-take_header-clause-tells g c =
+    told_then g.D.Disk.honest g.D.Disk.history g.D.Disk.failures c.args.replica c.settle.new.replica c.settle.new.replica c.in-Err-take_header.refusal c.in_default.ensures.tells
+    (grown_goes g.D.Disk.honest g.D.Disk.history g.D.Disk.failures c.args.replica c.settle.new.replica [] c.settle.ensures.grown)
+    (tells_header g.D.Disk.honest g.D.Disk.history g.D.Disk.failures c.settle.new.replica (g.R.Read.remaining c.args.reader.now) c.in-Err-take_header.refusal c.in-Err-take_header.ensures.refused)
+
+pub returns-in-Ok-clause-tells : goal.returns-in-Ok-clause-tells
+returns-in-Ok-clause-tells g c =
+    tells_then g.D.Disk.honest g.D.Disk.history g.D.Disk.failures c.args.replica c.settle.new.replica c.take_parts.result.0 c.take_parts.result.1 c.in_default.ensures.tells (grown_goes g.D.Disk.honest g.D.Disk.history g.D.Disk.failures c.args.replica c.settle.new.replica [] c.settle.ensures.grown)
+    c.take_parts.ensures.tells
