@@ -17,7 +17,7 @@ ghost use Rattle.rep_transfer.specs.Taking.{counted};
 ghost use Rattle.rep_transfer.specs.Pieces.{FrontFits};
 ghost use Rattle.rep_transfer.specs.Transfers.{PartFits, part_bytes};
 ghost use Rattle.rep_catchup.specs.Growing.{Grown, where_ok, EndsRunning, Tells};
-ghost use Rattle.rep_catchup.specs.Joining.{JoinsEarly, Lived, Joined, TakesHeader, RefusesHeader, Follows, Followed, FollowedFrom, IsOut, Cut, TakesAll, CutShort, Ended};
+ghost use Rattle.rep_catchup.specs.Joining.{JoinsEarly, Lived, Joined, TookTransfer, TakesHeader, RefusesHeader, Follows, Followed, FollowedFrom, IsOut, Cut, TakesAll, CutShort, Ended};
 
 use crate::snapshot::bring;
 use rep_disk::Disk;
@@ -311,6 +311,8 @@ pub fn join<D: Disk, R: Read>(
     ensures tells { Tells D.honest D.history D.failures replica result.0 result.1 }
     ensures quiet { OnOk result.1 (is_quiet (facts_of D.failures result.0) ≡ true) }
     ensures lived { Lived D.honest D.history D.failures replica result.0 }
+    // On any device: where it succeeds, the bytes began with a transfer of the replica's cluster and shape, of its form to its end.
+    ensures took { IfSome (R.remaining reader.old) (λ bytes. IfOk result.1 (TookTransfer D.failures bytes (R.remaining reader.new) replica result.0)) }
     ensures joined { (n : Node) → Holds D.honest D.history D.failures n replica → IfSome (R.remaining reader.old) (λ bytes. IfOk result.1 (Joined D.honest D.history D.failures n bytes (R.remaining reader.new) replica result.0)) }
     ensures ended { (replica.stopped || is_some replica.engine.halted) ≡ false → IfErr result.1 (Ended D.honest D.history D.failures replica result.0 (R.remaining reader.old)) }
 {
