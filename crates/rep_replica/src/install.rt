@@ -100,6 +100,8 @@ impl<D: Disk> Replica<D> {
         ensures stopped { (self.stopped || is_some self.engine.halted) ≡ true → result ≡ Err (self, Stopped) }
         ensures refused { IfErr result (λ e. (e.0 ≡ self) × (((e.1 ≡ Stopped) × ((self.stopped || is_some self.engine.halted) ≡ true)) ⊎ (e.1 ≡ OutOfMemory))) }
         ensures begun { IfOk result (λ i. (i.engine ≡ self.engine) × (i.coming ≡ coming self.engine.checkpoint.base uuid position self.engine.log.next window.entries)) }
+        // What `give_up` gives back has the certifier that the replica has.
+        ensures before { IfOk result (λ i. i.before ≡ self.certifier) }
         ensures holds { (n : Node) → Holds D.honest D.history D.failures n self → IfOk result (λ i. HoldsBoth D.honest D.history D.failures n (blank position window) i) }
     {
         // Tells the proof what holds of the engine.
