@@ -30,7 +30,7 @@ use Rattle.rep_transfer.specs.Taking.{counted, TakesOne}
 use Rattle.rep_transfer.specs.Transfers.{Snapshot, Transfer, front_of, rest_of, snapshot_bytes, record_part, end_bytes, PartFits, part_bytes}
 use Rattle.rep_catchup.specs.Snapshots.{Brought, IsSnapshot, Took, state_of}
 use Rattle.rep_catchup.specs.Growing.{Grown}
-use Rattle.rep_catchup.specs.Joining.{Follows, Followed, FollowedFrom, MayCome, TakesAll, TakesHeader, EndsAt, Joined, Went, end_part}
+use Rattle.rep_catchup.specs.Joining.{Follows, Followed, FollowedFrom, MayCome, TakesAll, TakesHeader, EndsAt, Joined, Went, end_part, TookTransfer}
 use Rattle.rep_catchup.proofs.JoinGrowing.{grown_none, grown_then}
 use Rattle.rep_catchup.proofs.JoinTaking.{took_none, took_then, took_piece}
 use Rattle.rep_catchup.proofs.JoinWent.{stands_is, starts_there, went_records, went_snapshot, went_behind}
@@ -305,3 +305,48 @@ module _ {D : Type 0} (honest : D → Type 0) (history : D → History) (failure
   joined_on n None before left result settled holds header all = tt
   joined_on n (Some bytes) before left (Err e) settled holds header all = tt
   joined_on n (Some bytes) before left (Ok last) settled holds header all = joined honest history failures old mid new uuid last settled n (Some bytes) before left holds header all
+
+-- ---- the same on any device
+
+module _ {D : Type 0} (honest : D → Type 0) (history : D → History) (failures : D → ℕ) (old mid new : Replica D) (uuid : List ℕ) (settled : Grown honest history failures old mid []) where
+  came_at : (snapshot : Option Snapshot) → MayCome (facts_of failures mid) snapshot → MayCome (facts_of failures old) snapshot
+  came_at None comes = λ nil. comes (subst IsNil (sym settled.uuid) nil)
+  came_at (Some s) comes = (subst (λ (p : Setting). IsSnapshot p s) settled.setting comes.0, later comes.1)
+    where
+      later : (delivered (facts_of failures mid) < s.position) ⊎ IsNil (facts_of failures mid).uuid → (delivered (facts_of failures old) < s.position) ⊎ IsNil (facts_of failures old).uuid
+      later (inl below) = inl (omega (arith, settled.count, below))
+      later (inr nil) = inr (subst IsNil settled.uuid nil)
+
+  took : (last : ℕ) (start before left : Option (List ℕ)) → TakesHeader (facts_of failures mid) uuid start before → TakesAll honest history failures mid new uuid last [] before left → IfSome start (λ bytes. TookTransfer failures bytes left old new last)
+  took last None before left header all = tt
+  took last (Some bytes) before left header all =
+      by_left left (Consumes-trans (Some bytes) before left (header_bytes header.header) all.bytes header.taken all.taken)
+    where
+      transfer : Transfer
+      transfer = record { header = header.header; snapshot = all.snapshot; records = all.records; last = last }
+
+      cluster : (header.header.uuid ≡ (facts_of failures mid).uuid) ⊎ IsNil (facts_of failures mid).uuid → (header.header.uuid ≡ (facts_of failures old).uuid) ⊎ IsNil (facts_of failures old).uuid
+      cluster (inl same) = inl (same ∙ settled.uuid)
+      cluster (inr nil) = inr (subst IsNil settled.uuid nil)
+
+      by_left : (end : Option (List ℕ)) → Consumes (Some bytes) end (header_bytes header.header ++ all.bytes) → TookTransfer failures bytes end old new last
+      by_left None taken = absurd taken
+      by_left (Some rest) taken = record {
+        transfer = transfer;
+        is_transfer = record { header = header.is_header; snapshot = all.fits; records = all.are_records; last = all.limit };
+        cluster = cluster header.cluster;
+        shape = header.shape ∙ ap shape_of settled.setting;
+        snapshot = came_at all.snapshot all.comes;
+        rest = rest;
+        front = taken ∙ ap (λ (bs : List ℕ). (header_bytes header.header ++ bs) ++ rest) all.spelled;
+        left_is = refl;
+        last_is = refl;
+        uuid = all.uuid_is ∙ sym header.uuid_is;
+        setting = all.setting ∙ settled.setting;
+      }
+
+  pub took_on : (start before left : Option (List ℕ)) (result : Result ℕ Refusal) → TakesHeader (facts_of failures mid) uuid start before → IfOk result (λ last. TakesAll honest history failures mid new uuid last [] before left)
+      → IfSome start (λ bytes. IfOk result (TookTransfer failures bytes left old new))
+  took_on None before left result header all = tt
+  took_on (Some bytes) before left (Err e) header all = tt
+  took_on (Some bytes) before left (Ok last) header all = took last (Some bytes) before left header all

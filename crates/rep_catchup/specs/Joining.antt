@@ -239,3 +239,19 @@ pub record TakesAll {D : Type 0} (honest : D → Type 0) (history : D → Histor
   pub limit : last < 2 ^ 64
   pub node : (n : Node) → Holds honest history failures n old → (m : Node) × Continues n snapshot records last m × Holds honest history failures m new
   pub went : Went honest history failures old new uuid snapshot records
+
+-- On any device, by the facts of the replica: the bytes began with a transfer that it can take, of its cluster, or at a replica of none, and
+-- of its shape, with a snapshot that may come, or, at a replica of a cluster, with none; that is what was taken of them, to its end. The
+-- replica is then of the transfer's cluster, and has the parameters that it had.
+pub record TookTransfer {D : Type 0} (failures : D → ℕ) (bytes : List ℕ) (left : Option (List ℕ)) (old new : Replica D) (last : ℕ) : Type 0 where
+  pub transfer : Transfer
+  pub is_transfer : IsTransfer transfer
+  pub cluster : (transfer.header.uuid ≡ (facts_of failures old).uuid) ⊎ IsNil (facts_of failures old).uuid
+  pub shape : transfer.header.shape ≡ shape_of (facts_of failures old).setting
+  pub snapshot : MayCome (facts_of failures old) transfer.snapshot
+  pub rest : List ℕ
+  pub front : bytes ≡ transfer_bytes transfer ++ rest
+  pub left_is : left ≡ Some rest
+  pub last_is : transfer.last ≡ last
+  pub uuid : (facts_of failures new).uuid ≡ transfer.header.uuid
+  pub setting : (facts_of failures new).setting ≡ (facts_of failures old).setting
