@@ -1,6 +1,9 @@
-//! A batch is handed in by several workers, with a keeper beside.
+//! A batch is handed in by several workers, with a keeper beside; and what is read beside a node.
 
 mod batches;
 mod faults;
 mod paces;
+mod reads;
 mod replicas;
+mod running;
+mod sessions;

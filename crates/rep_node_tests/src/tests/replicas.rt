@@ -13,6 +13,13 @@ use std::test::Fail;
 use std::thread::Threads;
 use uuid::Uuid;
 
+/// Two rows, and one that the small schema does not have.
+pub(crate) const ROW: Key = Key { table: 0, row: 1 };
+
+pub(crate) const OTHER: Key = Key { table: 0, row: 2 };
+
+pub(crate) const OUTSIDE: Key = Key { table: 0, row: 126 };
+
 /// A formatted disk in memory with these parameters.
 pub(crate) fn formatted(alloc: Global, params: &Params) -> Result<MemDisk, Refusal> {
     let disk = MemDisk::new(alloc, need(params) as usize)?;
@@ -39,6 +46,27 @@ pub(crate) fn putting(trx: u64, row: u32, byte: u8) -> Result<WriteSet, Refusal>
     let key = Key { table: 0, row };
     let value = Some(Value::new(&[byte])?);
     WriteSet::new(7, trx, 0, &[], &[Write { key, value }])
+}
+
+/// An item that had seen so many before it, and puts one byte under the row or deletes it.
+pub(crate) fn writing(last_seen: u64, key: Key, byte: Option<u8>) -> Result<WriteSet, Refusal> {
+    let value = match byte {
+        Some(byte) => Some(Value::new(&[byte])?),
+        None => None,
+    };
+    WriteSet::new(7, 1, last_seen, &[], &[Write { key, value }])
+}
+
+/// The one byte of a row. A row of more or fewer has no such byte, and is malformed.
+pub(crate) fn byte_of(row: Result<Option<Value>, Refusal>) -> Result<Option<u8>, Refusal> {
+    match row {
+        Ok(Some(value)) => match value.as_bytes() {
+            [byte] => Ok(Some(*byte)),
+            _ => Err(Refusal::Malformed { at: 0 }),
+        },
+        Ok(None) => Ok(None),
+        Err(refusal) => Err(refusal),
+    }
 }
 
 /// So many such items, each of which puts `a` under a row of its own.
