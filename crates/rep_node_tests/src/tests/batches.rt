@@ -2,89 +2,120 @@
 
 use super::paces::{AtOnce, Crossing, HoldsFirst, StopsAt, Writes};
 use super::replicas::{
-    byte_at, formatted, has_verdicts, opened, putting, putting_each, served, small,
+    OTHER, ROW, byte_at, durable_after_crash, formatted, is_whole, new_disk, putting_each, served,
+    two_items,
 };
-use rep_disk::{HeldDisk, Loss};
-use rep_node::Point;
-use rep_types::{Params, Refusal};
+use rep_disk::{HeldDisk, MemDisk};
+use rep_node::{Batch, Point};
+use rep_replica::Replica;
+use rep_types::{Key, Params, Refusal};
+use std::alloc::Global;
+use std::process::Abort;
+use std::sync::Wait;
 use std::test::Fail;
+use std::thread::Threads;
+
+/// A replica on a disk in memory, and what came of the batch that it was left by.
+type Came = (Replica<MemDisk>, Batch);
+
+/// Compares the rows of the two items, each behind itself and the other.
+fn has_both_rows<R: Abort>(rt: &R, replica: &mut Replica<MemDisk>) {
+    assert!(rt; byte_at(replica, ROW, 2) == Ok(Some(b'a')));
+    assert!(rt; byte_at(replica, OTHER, 2) == Ok(Some(b'b')));
+}
+
+/// Two workers hand in an item each. The one with the first seqno is held behind its verdict until the other has its own.
+fn while_one_is_held<R: Threads + Wait + Sync>(rt: &R, alloc: Global) -> Result<Came, Refusal> {
+    let items = two_items()?;
+    let pace = HoldsFirst::until(2);
+    served(rt, alloc, new_disk(alloc)?, &items, 2, &pace)
+}
 
 #[test]
 fn two_certifies_while_one_is_held(rt: HostRuntime) -> Result<(), Fail> {
-    let replica = opened(rt.alloc(), formatted(rt.alloc(), &small()?)?)?;
-    let items = [putting(1, 1, b'a')?, putting(2, 2, b'b')?];
-    let pace = HoldsFirst::until(2);
-    let Some((mut replica, batch)) = served(&rt, rt.alloc(), replica, &items, 2, &pace) else {
-        return Err(Fail::from(Refusal::Undefined));
-    };
-    assert!(rt; has_verdicts(&batch, 2, 0));
-    assert_eq!(rt; batch.end, None);
-    assert_eq!(rt; byte_at(&mut replica, 1, 2)?, Some(b'a'));
-    assert_eq!(rt; byte_at(&mut replica, 2, 2)?, Some(b'b'));
-    let mut disk = replica.into_disk();
-    disk.crash(Loss::Drop);
-    assert_eq!(rt; opened(rt.alloc(), disk)?.durable(), 2);
+    let (mut replica, batch) = while_one_is_held(&rt, rt.alloc())?;
+    assert!(rt; is_whole(&replica, &batch, 2, 0));
+    has_both_rows(&rt, &mut replica);
+    assert!(rt; durable_after_crash(rt.alloc(), replica.into_disk()) == Ok(2));
     Ok(())
+}
+
+/// Two workers hand in an item each. The second is held until the disk's first write has begun, and that write until the second was queued.
+/// It says whether all of it is durable.
+fn while_the_engine_writes<R: Threads + Wait + Sync>(
+    rt: &R,
+    alloc: Global,
+) -> Result<bool, Refusal> {
+    let items = two_items()?;
+    let crossing = Crossing::new();
+    let disk = HeldDisk::new(new_disk(alloc)?, Writes(&crossing));
+    let (replica, batch) = served(rt, alloc, disk, &items, 2, &crossing)?;
+    Ok(is_whole(&replica, &batch, 2, 0))
 }
 
 #[test]
 fn commits_queue_while_the_engine_writes(rt: HostRuntime) -> Result<(), Fail> {
-    let crossing = Crossing::new();
-    let disk = HeldDisk::new(formatted(rt.alloc(), &small()?)?, Writes(&crossing));
-    let replica = opened(rt.alloc(), disk)?;
-    let items = [putting(1, 1, b'a')?, putting(2, 2, b'b')?];
-    let Some((replica, batch)) = served(&rt, rt.alloc(), replica, &items, 2, &crossing) else {
-        return Err(Fail::from(Refusal::Undefined));
-    };
-    assert!(rt; has_verdicts(&batch, 2, 0));
-    assert_eq!(rt; batch.end, None);
-    assert_eq!(rt; replica.durable(), 2);
+    assert!(rt; while_the_engine_writes(&rt, rt.alloc())?);
     Ok(())
+}
+
+/// Four workers hand in 300 items that had seen nothing, over a window of 256. The one with the first seqno is held behind its verdict
+/// until the fourth seqno has its own.
+fn longer_than_the_window<R: Threads + Wait + Sync>(rt: &R, alloc: Global) -> Result<Came, Refusal> {
+    let items = putting_each(alloc, 300)?;
+    let pace = HoldsFirst::until(4);
+    let disk = formatted(alloc, &Params::new(256, 512, &[300])?)?;
+    served(rt, alloc, disk, items.as_slice(), 4, &pace)
 }
 
 #[test]
 fn a_batch_is_longer_than_the_window(rt: HostRuntime) -> Result<(), Fail> {
-    let params = Params::new(256, 512, &[300])?;
-    let replica = opened(rt.alloc(), formatted(rt.alloc(), &params)?)?;
-    let items = putting_each(rt.alloc(), 300)?;
-    let pace = HoldsFirst::until(4);
-    let Some((replica, batch)) = served(&rt, rt.alloc(), replica, &items, 4, &pace) else {
-        return Err(Fail::from(Refusal::Undefined));
-    };
-    assert!(rt; has_verdicts(&batch, 257, 43));
-    assert_eq!(rt; batch.end, None);
-    assert_eq!(rt; replica.durable(), 300);
+    let (replica, batch) = longer_than_the_window(&rt, rt.alloc())?;
+    assert!(rt; is_whole(&replica, &batch, 257, 43));
     Ok(())
+}
+
+/// Two items are handed in, the first of which may not go on from this point.
+fn stopped_at<R: Threads + Wait + Sync>(
+    rt: &R,
+    alloc: Global,
+    point: Point,
+) -> Result<Came, Refusal> {
+    let items = two_items()?;
+    let pace = StopsAt { point, seqno: 1 };
+    served(rt, alloc, new_disk(alloc)?, &items, 1, &pace)
 }
 
 #[test]
 fn a_pace_says_no(rt: HostRuntime) -> Result<(), Fail> {
-    let items = [putting(1, 1, b'a')?];
     for point in [Point::Claimed, Point::Certified, Point::Queued] {
-        let replica = opened(rt.alloc(), formatted(rt.alloc(), &small()?)?)?;
-        let pace = StopsAt { point, seqno: 1 };
-        let Some((mut replica, batch)) = served(&rt, rt.alloc(), replica, &items, 1, &pace) else {
-            return Err(Fail::from(Refusal::Undefined));
-        };
+        let (mut replica, batch) = stopped_at(&rt, rt.alloc(), point)?;
         assert!(rt; batch.receipts.is_empty());
-        assert_eq!(rt; batch.end, Some(Refusal::Stopped));
-        assert_eq!(rt; replica.settle(), Err(Refusal::Stopped));
+        assert!(rt; batch.end == Some(Refusal::Stopped));
+        assert!(rt; replica.settle() == Err(Refusal::Stopped));
     }
     Ok(())
 }
 
+/// More items are handed in than the four cells of the log have room for.
+fn over_a_full_log<R: Threads + Wait + Sync>(rt: &R, alloc: Global) -> Result<Came, Refusal> {
+    let items = putting_each(alloc, 40)?;
+    served(rt, alloc, new_disk(alloc)?, items.as_slice(), 1, &AtOnce)
+}
+
+/// Compares what is left of 40 items over a window of 4: the first five commit, and the others had seen too little.
+fn has_first_rows<R: Abort>(rt: &R, replica: &mut Replica<MemDisk>) {
+    let of_the_fifth = Key { table: 0, row: 4 };
+    let of_the_sixth = Key { table: 0, row: 5 };
+    assert!(rt; byte_at(replica, of_the_fifth, 40) == Ok(Some(b'a')));
+    assert!(rt; byte_at(replica, of_the_sixth, 40) == Ok(None));
+}
+
 #[test]
 fn a_full_log_is_freed_beside(rt: HostRuntime) -> Result<(), Fail> {
-    let replica = opened(rt.alloc(), formatted(rt.alloc(), &small()?)?)?;
-    let items = putting_each(rt.alloc(), 40)?;
-    let Some((mut replica, batch)) = served(&rt, rt.alloc(), replica, &items, 1, &AtOnce) else {
-        return Err(Fail::from(Refusal::Undefined));
-    };
-    assert_eq!(rt; batch.receipts.len(), 40);
-    assert_eq!(rt; batch.end, None);
+    let (mut replica, batch) = over_a_full_log(&rt, rt.alloc())?;
+    assert!(rt; is_whole(&replica, &batch, 5, 35));
     assert!(rt; replica.base() > 0);
-    assert_eq!(rt; replica.durable(), 40);
-    assert_eq!(rt; byte_at(&mut replica, 0, 40)?, Some(b'a'));
-    assert_eq!(rt; byte_at(&mut replica, 39, 40)?, None);
+    has_first_rows(&rt, &mut replica);
     Ok(())
 }

@@ -1,6 +1,6 @@
 //! What is read beside a node: of what is published, and of its engine.
 
-use super::replicas::{OTHER, OUTSIDE, ROW, formatted, opened, small, writing};
+use super::replicas::{OTHER, OUTSIDE, ROW, new_disk, opened, writing};
 use super::running::{Found, Running, found_by};
 use rep_disk::MemDisk;
 use rep_node::NodeReader;
@@ -16,7 +16,7 @@ pub(crate) type Node = Running<MemDisk>;
 
 /// A node on a new disk.
 pub(crate) fn new_node<R: Wait>(rt: &R, alloc: Global) -> Result<Node, Refusal> {
-    let replica = opened(alloc, formatted(alloc, &small()?)?)?;
+    let replica = opened(alloc, new_disk(alloc)?)?;
     Running::start(rt, alloc, replica)
 }
 

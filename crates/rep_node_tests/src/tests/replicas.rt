@@ -1,7 +1,7 @@
 //! Replicas, batches, and what comes of a batch that is served: each call stands here once, in a function that promises nothing, so that
 //! no test has to be proved beside its contract.
 
-use rep_disk::{Disk, MemDisk};
+use rep_disk::{Disk, Loss, MemDisk};
 use rep_layout::need;
 use rep_node::{Batch, Pace, serve_batch};
 use rep_recover::format_disk;
@@ -9,7 +9,6 @@ use rep_replica::Replica;
 use rep_types::{Key, Params, Refusal, Value, Verdict, Write, WriteSet};
 use std::alloc::Global;
 use std::sync::Wait;
-use std::test::Fail;
 use std::thread::Threads;
 use uuid::Uuid;
 
@@ -28,9 +27,9 @@ pub(crate) fn formatted(alloc: Global, params: &Params) -> Result<MemDisk, Refus
     Ok(disk)
 }
 
-/// A window of 4, four cells and one table of 126 rows.
-pub(crate) fn small() -> Result<Params, Refusal> {
-    Params::new(4, 4, &[126])
+/// A formatted disk in memory for a window of 4, four cells and one table of 126 rows.
+pub(crate) fn new_disk(alloc: Global) -> Result<MemDisk, Refusal> {
+    formatted(alloc, &Params::new(4, 4, &[126])?)
 }
 
 /// The replica on a disk.
@@ -41,20 +40,59 @@ pub(crate) fn opened<D: Disk + Drop>(alloc: Global, disk: D) -> Result<Replica<D
     }
 }
 
-/// An item that had seen nothing, and puts one byte under a row of the first table.
-pub(crate) fn putting(trx: u64, row: u32, byte: u8) -> Result<WriteSet, Refusal> {
-    let key = Key { table: 0, row };
-    let value = Some(Value::new(&[byte])?);
-    WriteSet::new(7, trx, 0, &[], &[Write { key, value }])
+/// How many items are durable in what opens of the disk after a crash that loses all that was not stable.
+pub(crate) fn durable_after_crash(alloc: Global, disk: MemDisk) -> Result<u64, Refusal> {
+    let mut disk = disk;
+    disk.crash(Loss::Drop);
+    let replica = opened(alloc, disk)?;
+    Ok(replica.durable())
 }
 
-/// An item that had seen so many before it, and puts one byte under the row or deletes it.
-pub(crate) fn writing(last_seen: u64, key: Key, byte: Option<u8>) -> Result<WriteSet, Refusal> {
+/// A write that puts one byte under the row, or deletes it.
+fn write_of(key: Key, byte: Option<u8>) -> Result<Write, Refusal> {
     let value = match byte {
         Some(byte) => Some(Value::new(&[byte])?),
         None => None,
     };
-    WriteSet::new(7, 1, last_seen, &[], &[Write { key, value }])
+    Ok(Write { key, value })
+}
+
+/// An item that had seen so many before it, and puts one byte under the row or deletes it.
+pub(crate) fn writing(last_seen: u64, key: Key, byte: Option<u8>) -> Result<WriteSet, Refusal> {
+    WriteSet::new(7, 1, last_seen, &[], &[write_of(key, byte)?])
+}
+
+/// Two items that had seen nothing: one puts `a` under the row, the other one `b` under the other row.
+pub(crate) fn two_items() -> Result<[WriteSet; 2], Refusal> {
+    Ok([writing(0, ROW, Some(b'a'))?, writing(0, OTHER, Some(b'b'))?])
+}
+
+/// So many items that had seen nothing, each of which puts `a` under a row of its own.
+pub(crate) fn putting_each(alloc: Global, count: u32) -> Result<Vec<WriteSet>, Refusal> {
+    let mut items = Vec::new(alloc);
+    for row in 0..count {
+        items.push(writing(0, Key { table: 0, row }, Some(b'a'))?)?;
+    }
+    Ok(items)
+}
+
+/// Serves the batch at the replica on a disk.
+///
+/// Refuses as opening the disk does; and with `Undefined` a replica that is not quiet or of no cluster, or a number of workers that may
+/// not be.
+pub(crate) fn served<R: Threads + Wait + Sync, D: Disk + Drop + Send, P: Pace + Sync>(
+    rt: &R,
+    alloc: Global,
+    disk: D,
+    items: &[WriteSet],
+    workers: usize,
+    pace: &P,
+) -> Result<(Replica<D>, Batch), Refusal> {
+    let replica = opened(alloc, disk)?;
+    if !replica.is_quiet() || replica.uuid().is_nil() || workers == 0 || workers > 64 {
+        return Err(Refusal::Undefined);
+    }
+    Ok(serve_batch(rt, alloc, replica, items, workers, pace))
 }
 
 /// The one byte of a row. A row of more or fewer has no such byte, and is malformed.
@@ -69,43 +107,18 @@ pub(crate) fn byte_of(row: Result<Option<Value>, Refusal>) -> Result<Option<u8>,
     }
 }
 
-/// So many such items, each of which puts `a` under a row of its own.
-pub(crate) fn putting_each(alloc: Global, count: u32) -> Result<Vec<WriteSet>, Refusal> {
-    let mut items = Vec::new(alloc);
-    for row in 0..count {
-        items.push(putting(u64::from(row), row, b'a')?)?;
-    }
-    Ok(items)
-}
-
-/// Serves the batch at a replica that is quiet and of a cluster.
-pub(crate) fn served<R: Threads + Wait + Sync, D: Disk + Drop + Send, P: Pace + Sync>(
-    rt: &R,
-    alloc: Global,
-    replica: Replica<D>,
-    items: &[WriteSet],
-    workers: usize,
-    pace: &P,
-) -> Option<(Replica<D>, Batch)> {
-    if !replica.is_quiet() || replica.uuid().is_nil() || workers == 0 || workers > 64 {
-        return None;
-    }
-    Some(serve_batch(rt, alloc, replica, items, workers, pace))
-}
-
-/// The byte that stands under a row of the first table in the state after so many items.
+/// The byte that stands under a key in the state after so many items.
 pub(crate) fn byte_at<D: Disk>(
     replica: &mut Replica<D>,
-    row: u32,
+    key: Key,
     at: u64,
 ) -> Result<Option<u8>, Refusal> {
-    let value = replica.read(Key { table: 0, row }, at)?;
-    Ok(value.and_then(|value| -> Option<u8> { value.as_bytes().first().copied() }))
+    byte_of(replica.read(key, at))
 }
 
 /// Whether the receipts are of so many items that committed and, behind them, of so many that were stale, one after another from the first
 /// seqno on.
-pub(crate) fn has_verdicts(batch: &Batch, commits: u64, stale: u64) -> bool {
+fn has_verdicts(batch: &Batch, commits: u64, stale: u64) -> bool {
     let mut seqno: u64 = 0;
     for receipt in &batch.receipts {
         seqno = seqno.saturating_add(1);
@@ -119,4 +132,17 @@ pub(crate) fn has_verdicts(batch: &Batch, commits: u64, stale: u64) -> bool {
         }
     }
     seqno == commits.saturating_add(stale)
+}
+
+/// Whether a batch of so many items that commit and, behind them, so many that are stale came to its end, and all is durable in the
+/// replica that it left.
+pub(crate) fn is_whole<D: Disk>(
+    replica: &Replica<D>,
+    batch: &Batch,
+    commits: u64,
+    stale: u64,
+) -> bool {
+    has_verdicts(batch, commits, stale)
+        && batch.end.is_none()
+        && replica.durable() == commits.saturating_add(stale)
 }
