@@ -1,6 +1,7 @@
 //! A batch is handed in by several workers, with a keeper beside; and what is read beside a node.
 
 mod batches;
+mod devices;
 mod faults;
 mod paces;
 mod reads;

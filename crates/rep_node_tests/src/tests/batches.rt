@@ -61,7 +61,10 @@ fn commits_queue_while_the_engine_writes(rt: HostRuntime) -> Result<(), Fail> {
 
 /// Four workers hand in 300 items that had seen nothing, over a window of 256. The one with the first seqno is held behind its verdict
 /// until the fourth seqno has its own.
-fn longer_than_the_window<R: Threads + Wait + Sync>(rt: &R, alloc: Global) -> Result<Came, Refusal> {
+fn longer_than_the_window<R: Threads + Wait + Sync>(
+    rt: &R,
+    alloc: Global,
+) -> Result<Came, Refusal> {
     let items = putting_each(alloc, 300)?;
     let pace = HoldsFirst::until(4);
     let disk = formatted(alloc, &Params::new(256, 512, &[300])?)?;

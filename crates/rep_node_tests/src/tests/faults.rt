@@ -45,7 +45,11 @@ fn ended(alloc: Global, batch: &Batch, disk: MemDisk) -> Result<Ending, Refusal>
 }
 
 /// Serves a batch of two on a disk whose call of this number fails, from 0.
-fn fails_once<R: Threads + Wait + Sync>(rt: &R, alloc: Global, call: u64) -> Result<Ending, Refusal> {
+fn fails_once<R: Threads + Wait + Sync>(
+    rt: &R,
+    alloc: Global,
+    call: u64,
+) -> Result<Ending, Refusal> {
     let items = two_items()?;
     let disk = FaultOnce::new(new_disk(alloc)?, call);
     match served(rt, alloc, disk, &items, 2, &AtOnce) {
@@ -55,7 +59,11 @@ fn fails_once<R: Threads + Wait + Sync>(rt: &R, alloc: Global, call: u64) -> Res
 }
 
 /// Serves a batch of two on a disk that fails behind so many calls.
-fn fails_from<R: Threads + Wait + Sync>(rt: &R, alloc: Global, calls: u64) -> Result<Ending, Refusal> {
+fn fails_from<R: Threads + Wait + Sync>(
+    rt: &R,
+    alloc: Global,
+    calls: u64,
+) -> Result<Ending, Refusal> {
     let items = two_items()?;
     let disk = FuseDisk::new(new_disk(alloc)?, calls);
     match served(rt, alloc, disk, &items, 2, &AtOnce) {

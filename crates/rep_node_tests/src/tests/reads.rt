@@ -11,12 +11,15 @@ use std::sync::Wait;
 use std::test::Fail;
 use std::thread::Threads;
 
-/// A node on a new disk in memory.
+/// A node on a disk in memory.
 pub(crate) type Node = Running<MemDisk>;
 
-/// A node on a new disk.
-pub(crate) fn new_node<R: Wait>(rt: &R, alloc: Global) -> Result<Node, Refusal> {
-    let replica = opened(alloc, new_disk(alloc)?)?;
+/// What a read is answered: the one byte that stands there, if any.
+pub(crate) type Row = Result<Option<u8>, Refusal>;
+
+/// A node on a disk.
+pub(crate) fn new_node<R: Wait>(rt: &R, alloc: Global, disk: MemDisk) -> Result<Node, Refusal> {
+    let replica = opened(alloc, disk)?;
     Running::start(rt, alloc, replica)
 }
 
@@ -27,10 +30,10 @@ pub(crate) fn write<R: Threads + Wait + Sync + Abort>(
     node: Node,
     (last_seen, key, byte): (u64, Key, Option<u8>),
 ) -> Node {
-    let Ok(item) = writing(last_seen, key, byte) else {
-        unreachable!()
+    let (node, verdict) = match writing(last_seen, key, byte) {
+        Ok(item) => node.hand_in(rt, alloc, item),
+        Err(refusal) => (node, Err(refusal)),
     };
-    let (node, verdict) = node.hand_in(rt, alloc, item);
     assert!(rt; verdict == Ok(Verdict::Commit));
     node
 }
@@ -69,11 +72,7 @@ fn peeks<R: Abort>(rt: &R, node: Node, wanted: &[(Key, u64, Found)]) -> Node {
 }
 
 /// Compares what is read under keys at positions.
-fn reads<R: Wait + Abort>(
-    rt: &R,
-    node: Node,
-    wanted: &[(Key, u64, Result<Option<u8>, Refusal>)],
-) -> Node {
+fn reads<R: Wait + Abort>(rt: &R, node: Node, wanted: &[(Key, u64, Row)]) -> Node {
     let mut node = node;
     for (key, at, row) in wanted {
         let (next, read) = node.read(rt, *key, *at);
@@ -123,7 +122,7 @@ fn is_closed<R: Abort>(rt: &R, reader: NodeReader) {
 
 #[test]
 fn a_reader_finds_what_is_published(rt: HostRuntime) -> Result<(), Fail> {
-    let node = new_node(&rt, rt.alloc())?;
+    let node = new_node(&rt, rt.alloc(), new_disk(rt.alloc())?)?;
     let node = peeks(&rt, node, AT_FIRST);
     let node = write_three(&rt, rt.alloc(), node);
     let node = peeks(&rt, node, BEHIND_THREE);
@@ -135,7 +134,7 @@ fn a_reader_finds_what_is_published(rt: HostRuntime) -> Result<(), Fail> {
 }
 
 /// What is read before a checkpoint: only the first row's state at the start is asked of the engine.
-const BEFORE_A_CHECKPOINT: &[(Key, u64, Result<Option<u8>, Refusal>)] = &[
+const BEFORE_A_CHECKPOINT: &[(Key, u64, Row)] = &[
     (ROW, 0, Ok(None)),
     (ROW, 1, Ok(Some(b'a'))),
     (ROW, 3, Ok(None)),
@@ -144,7 +143,7 @@ const BEFORE_A_CHECKPOINT: &[(Key, u64, Result<Option<u8>, Refusal>)] = &[
 ];
 
 /// What is read of the base at the third item, and of the fourth, which is newer.
-const ON_A_BASE: &[(Key, u64, Result<Option<u8>, Refusal>)] = &[
+const ON_A_BASE: &[(Key, u64, Row)] = &[
     (ROW, 2, Err(Refusal::TooOld { oldest: 3 })),
     (ROW, 3, Ok(None)),
     (ROW, 4, Ok(Some(b'c'))),
@@ -155,7 +154,7 @@ const ON_A_BASE: &[(Key, u64, Result<Option<u8>, Refusal>)] = &[
 ];
 
 /// What is read once the node was halted: the engine is not asked any more, and what is published is.
-const HALTED: &[(Key, u64, Result<Option<u8>, Refusal>)] = &[
+const HALTED: &[(Key, u64, Row)] = &[
     (ROW, 4, Ok(Some(b'c'))),
     (OTHER, 4, Err(Refusal::Stopped)),
     (ROW, 3, Err(Refusal::Stopped)),
@@ -164,7 +163,7 @@ const HALTED: &[(Key, u64, Result<Option<u8>, Refusal>)] = &[
 
 #[test]
 fn a_row_is_read_of_the_base_and_of_what_is_newer(rt: HostRuntime) -> Result<(), Fail> {
-    let node = new_node(&rt, rt.alloc())?;
+    let node = new_node(&rt, rt.alloc(), new_disk(rt.alloc())?)?;
     let node = write_three(&rt, rt.alloc(), node);
     let node = reads(&rt, node, BEFORE_A_CHECKPOINT);
     let node = check(&rt, node, 3);

@@ -10,6 +10,7 @@ use rep_session::Session;
 use rep_snap::Peek;
 use rep_types::{Key, Refusal, Verdict, WriteSet};
 use std::alloc::Global;
+use std::marker::Model;
 use std::sync::Wait;
 use std::thread::Threads;
 
@@ -18,6 +19,19 @@ pub(crate) struct Running<D: Disk> {
     node: Node<D>,
     seat: Seat<D>,
     reader: NodeReader,
+}
+
+impl<D: Disk> Model for Running<D> {
+    ghost use Rattle.atomic_table.specs.Seated.{TableId, table_id_coded};
+    ghost use Rattle.rep_node_tests.specs.Running.{Runs};
+
+    ghost Value = { TableId };
+
+    ghost coded = { table_id_coded };
+
+    ghost view = { λ r. r.node };
+
+    ghost invariant = { λ r. Runs r.node r.seat r.reader };
 }
 
 /// What a reader finds of a row.

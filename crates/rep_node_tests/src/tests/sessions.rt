@@ -1,7 +1,7 @@
 //! Transactions that go through a session beside a node that runs.
 
-use super::reads::{Node, check, new_node, write};
-use super::replicas::{OTHER, OUTSIDE, ROW};
+use super::reads::{Node, Row, check, new_node, write};
+use super::replicas::{OTHER, OUTSIDE, ROW, new_disk};
 use rep_session::{Finished, Session};
 use rep_types::{Key, Refusal, Verdict, WriteSet};
 use std::alloc::Global;
@@ -12,7 +12,7 @@ use std::thread::Threads;
 
 /// A node with one durable item, which put `a` under the row.
 fn with_a_row<R: Threads + Wait + Sync + Abort>(rt: &R, alloc: Global) -> Result<Node, Refusal> {
-    let node = new_node(rt, alloc)?;
+    let node = new_node(rt, alloc, new_disk(alloc)?)?;
     Ok(write(rt, alloc, node, (0, ROW, Some(b'a'))))
 }
 
@@ -21,7 +21,7 @@ fn finds<R: Wait + Abort>(
     rt: &R,
     node: Node,
     session: &mut Session,
-    wanted: &[(Key, Result<Option<u8>, Refusal>)],
+    wanted: &[(Key, Row)],
 ) -> Node {
     let mut node = node;
     for (key, row) in wanted {
@@ -33,11 +33,7 @@ fn finds<R: Wait + Abort>(
 }
 
 /// A transaction that begins now finds this under keys, and only reads.
-fn reader_finds<R: Wait + Abort>(
-    rt: &R,
-    node: Node,
-    wanted: &[(Key, Result<Option<u8>, Refusal>)],
-) -> Node {
+fn reader_finds<R: Wait + Abort>(rt: &R, node: Node, wanted: &[(Key, Row)]) -> Node {
     let (node, mut session) = node.begin(rt);
     let node = finds(rt, node, &mut session, wanted);
     assert!(rt; session.finish() == Ok(Finished::ReadOnly));
@@ -69,10 +65,10 @@ fn commit<R: Threads + Wait + Sync + Abort>(
     session: &mut Session,
     verdict: Verdict,
 ) -> Node {
-    let Ok(item) = written(session) else {
-        rt.abort()
+    let (node, given) = match written(session) {
+        Ok(item) => node.hand_in(rt, alloc, item),
+        Err(refusal) => (node, Err(refusal)),
     };
-    let (node, given) = node.hand_in(rt, alloc, item);
     assert!(rt; given == Ok(verdict));
     node
 }
@@ -105,11 +101,7 @@ fn a_transaction_commits_and_the_next_finds_what_it_wrote(rt: HostRuntime) -> Re
     let (node, mut session) = node.begin(&rt);
     let node = moves(&rt, node, &mut session);
     let node = commit(&rt, rt.alloc(), node, &mut session, Verdict::Commit);
-    let node = reader_finds(
-        &rt,
-        node,
-        &[(ROW, Ok(None)), (OTHER, Ok(Some(b'a')))],
-    );
+    let node = reader_finds(&rt, node, &[(ROW, Ok(None)), (OTHER, Ok(Some(b'a')))]);
     let (replica, _reader) = node.close(&rt);
     assert!(rt; !replica.is_stopped() && replica.durable() == 2);
     Ok(())
@@ -122,11 +114,7 @@ fn what_commits_behind_a_snapshot_is_not_seen_and_conflicts(rt: HostRuntime) -> 
     let node = write(&rt, rt.alloc(), node, (1, ROW, Some(b'b')));
     let node = moves(&rt, node, &mut session);
     let node = commit(&rt, rt.alloc(), node, &mut session, Verdict::Conflict(2));
-    let node = reader_finds(
-        &rt,
-        node,
-        &[(ROW, Ok(Some(b'b'))), (OTHER, Ok(None))],
-    );
+    let node = reader_finds(&rt, node, &[(ROW, Ok(Some(b'b'))), (OTHER, Ok(None))]);
     let (replica, _reader) = node.close(&rt);
     assert!(rt; !replica.is_stopped() && replica.durable() == 3);
     Ok(())
@@ -143,16 +131,16 @@ fn a_snapshot_below_the_base_is_not_read(rt: HostRuntime) -> Result<(), Fail> {
         &rt,
         node,
         &mut session,
-        &[(ROW, too_old), (OTHER, too_old), (OUTSIDE, Err(Refusal::BadKey))],
+        &[
+            (ROW, too_old),
+            (OTHER, too_old),
+            (OUTSIDE, Err(Refusal::BadKey)),
+        ],
     );
     // What it wrote it still finds.
     writes(&rt, &mut session, ROW, Some(b'c'));
     let node = finds(&rt, node, &mut session, &[(ROW, Ok(Some(b'c')))]);
-    let node = reader_finds(
-        &rt,
-        node,
-        &[(ROW, Ok(Some(b'a'))), (OTHER, Ok(Some(b'b')))],
-    );
+    let node = reader_finds(&rt, node, &[(ROW, Ok(Some(b'a'))), (OTHER, Ok(Some(b'b')))]);
     let (replica, _reader) = node.close(&rt);
     assert!(rt; replica.base() == 2 && replica.durable() == 2);
     Ok(())
