@@ -1,12 +1,13 @@
 -- What calls leave of a node, its one seat and its one reader.
 use Rattle.std.proofs.Common.{◌≡◌, ℕ, ◌+◌, ◌<◌, ◌≤◌, Option, Some, None, List, [], ◌∷◌, ◌++◌, length, ap, sym, refl, ◌∙◌, subst, arith}
-use Rattle.std.specs.Prelude.{All, MatchOption, Result}
+use Rattle.std.specs.Prelude.{MatchOption, Result}
 use Rattle.atomic_table.specs.Seated.{TableId}
 use Rattle.rep_types.specs.declared.judged.Judged.{Judged}
 use Rattle.rep_types.specs.declared.key.Key.{Key}
 use Rattle.rep_types.specs.declared.refusal.Refusal.{Refusal}
 use Rattle.rep_disk.specs.History.{History}
 use Rattle.rep_cert.specs.Holdings.{Holdings}
+use Rattle.rep_session.specs.Sessions.{Progress, after_read}
 use Rattle.rep_snap.specs.Views.{Watching, watching}
 use Rattle.rep_ordered.specs.declared.view.View.{View}
 use Rattle.rep_ordered.specs.Counts.{times}
@@ -86,9 +87,9 @@ module _ {D : Type 0} where
 
   -- ---- what a session's get leaves
 
-  pub gets : (honest : D → Type 0) (history : D → History) (failures : D → ℕ) (shut : Watching Origin → Type 0) (node : TableId) (a b : Beside D) (r q : Watching Origin) (key : Key) (s : ℕ) (answer : Result (Option (List ℕ)) Refusal)
-      (A U : Type 0) (V W : A → Type 0) (known : Option A) → MatchOption known (ReadsBeside honest history failures shut a key s answer b × U) (λ (x : A). V x × W x × (b ≡ a)) → Runs node a.seat r → IsReaderOf b.seat.view q → Runs node b.seat q
-  gets honest history failures shut node a b r q key s answer A U V W None given runs own = goes_on node a.seat b.seat r q runs given.0.lock given.0.idle.0.goes (passed_idle a.seat.view b.seat.view given.0.idle runs.passed) own
-  gets honest history failures shut node a b r q key s answer A U V W (Some x) given runs own =
+  pub gets : (honest : D → Type 0) (history : D → History) (failures : D → ℕ) (shut : Watching Origin → Type 0) (node : TableId) (a b : Beside D) (r q : Watching Origin) (t u : Progress) (key : Key) (answer : Result (Option (List ℕ)) Refusal)
+      (o : Option (Result (Option (List ℕ)) Refusal)) → MatchOption o (ReadsBeside honest history failures shut a key t.snapshot answer b × (u ≡ after_read t key answer)) (λ x. (answer ≡ x) × (u ≡ t) × (b ≡ a)) → Runs node a.seat r → IsReaderOf b.seat.view q → Runs node b.seat q
+  gets honest history failures shut node a b r q t u key answer None given runs own = goes_on node a.seat b.seat r q runs given.0.lock given.0.idle.0.goes (passed_idle a.seat.view b.seat.view given.0.idle runs.passed) own
+  gets honest history failures shut node a b r q t u key answer (Some x) given runs own =
       let same : b.seat ≡ a.seat = ap (λ (z : Beside D). z.seat) given.2 in
       record { lock = ap (λ (z : Place (Home D) Judged). z.lock) same ∙ runs.lock; all = subst (λ (z : Place (Home D) Judged). HasAll z.view) (sym same) runs.all; passed = subst (λ (z : Place (Home D) Judged). PassedOrStopped z.view) (sym same) runs.passed; own = own; start = runs.start; first = ap (λ (z : Place (Home D) Judged). z.view.first) same ∙ runs.first }
