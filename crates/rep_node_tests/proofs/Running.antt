@@ -1,12 +1,13 @@
 -- What calls leave of a node, its one seat and its one reader.
-use Rattle.std.proofs.Common.{◌≡◌, ℕ, ◌+◌, ◌<◌, ◌≤◌, Option, Some, None, List, [], ◌∷◌, ◌++◌, length, ap, sym, refl, ◌∙◌, subst, arith}
-use Rattle.std.specs.Prelude.{MatchOption, Result}
+use Rattle.std.proofs.Common.{◌≡◌, ℕ, ◌+◌, ◌<◌, ◌≤◌, Option, Some, None, List, [], ◌∷◌, ◌++◌, length, ap, sym, refl, ◌∙◌, subst, arith, length-append}
+use Rattle.std.specs.Prelude.{All, MatchOption, Result, slice_index_or}
 use Rattle.atomic_table.specs.Seated.{TableId}
 use Rattle.rep_types.specs.declared.judged.Judged.{Judged}
 use Rattle.rep_types.specs.declared.key.Key.{Key}
 use Rattle.rep_types.specs.declared.refusal.Refusal.{Refusal}
 use Rattle.rep_disk.specs.History.{History}
 use Rattle.rep_cert.specs.Holdings.{Holdings}
+use Rattle.rep_replica.specs.Replicas.{Replica}
 use Rattle.rep_session.specs.Sessions.{Progress, after_read}
 use Rattle.rep_snap.specs.Views.{Watching, watching}
 use Rattle.rep_ordered.specs.declared.view.View.{View}
@@ -14,12 +15,13 @@ use Rattle.rep_ordered.specs.Counts.{times}
 use Rattle.rep_ordered.specs.Going.{Goes}
 use Rattle.rep_ordered.specs.GoingLaws.{goes_later}
 use Rattle.rep_ordered.specs.Seats.{Place}
-use Rattle.rep_ordered.specs.Views.{HasAll, Later, reached_at}
+use Rattle.rep_ordered.specs.Views.{HasAll, Later, opened, reached_at}
 use Rattle.rep_node.specs.declared.home.Desk.{Desk}
 use Rattle.rep_node.specs.declared.home.Home.{Home}
 use Rattle.rep_node.specs.declared.home.Home.TheVariants.{Certifier as AtFirst, Desk as AtSecond, Queue as AtThird}
 use Rattle.rep_node.specs.declared.origin.Origin.{Origin}
-use Rattle.rep_node.specs.Homes.{Start, position_of, values_of}
+use Rattle.rep_node.specs.Ending.{StartsFrom}
+use Rattle.rep_node.specs.Homes.{Start, common_in, durable_in, position_of, values_of}
 use Rattle.rep_node.specs.Reading.{IsReaderOf}
 use Rattle.rep_node.specs.Rows.{Beside, ReadsBeside}
 use Rattle.rep_node.specs.Seats.{PassedOrStopped, WentIdle}
@@ -27,11 +29,11 @@ use Rattle.rep_node_tests.specs.Running.{Runs}
 
 -- ---- a node was started with one thing
 
-certifier_in : {D : Type 0} → Start D → List (Home D) → Holdings
+abbrev certifier_in : {D : Type 0} → Start D → List (Home D) → Holdings
 certifier_in s (AtFirst c ∷ more) = c
 certifier_in s homes = s.certifier
 
-desk_in : {D : Type 0} → Start D → List (Home D) → Desk D
+abbrev desk_in : {D : Type 0} → Start D → List (Home D) → Desk D
 desk_in s (a ∷ AtSecond d ∷ more) = d
 desk_in s homes = s.desk
 
@@ -41,6 +43,15 @@ module _ {D : Type 0} (first : List (Home D)) (s t : Start D) (p : first ≡ val
 
   same_position : position_of s ≡ position_of t
   same_position = ap (λ (homes : List (Home D)). (certifier_in s homes).current.delivered) (sym p ∙ q)
+
+-- ---- what holds of all holds of the last
+
+at_end : {A : Type 0} (ys : List A) (x d : A) → slice_index_or (ys ++ x ∷ []) (length ys) d ≡ x
+at_end [] x d = refl
+at_end (y ∷ ys) x d = at_end ys x d
+
+last_too : {A : Type 0} (P : A → Type 0) (xs ys : List A) (x : A) → xs ≡ ys ++ x ∷ [] → All P xs → P x
+last_too P xs ys x is all = let within : length ys < length (ys ++ x ∷ []) = omega (arith, length-append ys (x ∷ [])) in subst P (at_end ys x x) (subst (All P) is all (length ys) x within)
 
 module _ {D : Type 0} where
   -- ---- the reader
@@ -85,11 +96,29 @@ module _ {D : Type 0} where
   halts node a b r runs lock later halted = let goes = goes_later a.view b.view later in
       goes_on node a b r r runs lock goes (passed_halted b.view halted) (own_on a.view b.view r r runs.own goes.first refl refl refl)
 
+  -- the seat stays as it is
+  pub looks : (node : TableId) (a : Place (Home D) Judged) (r q : Watching Origin) → Runs node a r → q.book ≡ r.book → q.basis ≡ r.basis → q.start ≡ r.start → Runs node a q
+  looks node a r q runs book basis start = record { lock = runs.lock; all = runs.all; passed = runs.passed; own = own_on a.view a.view r q runs.own refl book basis start; start = runs.start; first = runs.first }
+
+  pub same_seat : (node : TableId) (a b : Place (Home D) Judged) (r q : Watching Origin) → Runs node a r → b ≡ a → IsReaderOf b.view q → Runs node b q
+  same_seat node a b r q runs same own = record { lock = ap (λ (z : Place (Home D) Judged). z.lock) same ∙ runs.lock; all = subst (λ (z : Place (Home D) Judged). HasAll z.view) (sym same) runs.all; passed = subst (λ (z : Place (Home D) Judged). PassedOrStopped z.view) (sym same) runs.passed; own = own; start = runs.start; first = ap (λ (z : Place (Home D) Judged). z.view.first) same ∙ runs.first }
+
+  -- ---- the start
+
+  pub starts : (honest : D → Type 0) (history : D → History) (failures : D → ℕ) (node : TableId) (seat : Place (Home D) Judged) (replica : Replica D) (watch more : List (Watching Origin)) (r : Watching Origin) (from whole durable : ℕ)
+      → seat.lock ≡ node → seat.view ≡ opened durable_in common_in from whole seat.view.first durable → StartsFrom honest history failures replica seat.view watch → watch ≡ more ++ r ∷ [] → Runs node seat r
+  starts honest history failures node seat replica watch more r from whole durable lock view begun is = record {
+    lock = lock;
+    all = let allowance : seat.view.allowance ≡ whole = ap (λ (v : View (Home D) Judged). v.allowance) view in let all : seat.view.whole ≡ whole = ap (λ (v : View (Home D) Judged). v.whole) view in let none : length seat.view.own ≡ 0 = ap (λ (v : View (Home D) Judged). length v.own) view in omega arith;
+    passed = λ works x drawn. let none : times x seat.view.own ≡ 0 = ap (λ (v : View (Home D) Judged). times x v.own) view in absurd (omega arith);
+    own = own_at_first seat.view begun.start r begun.first begun.begins.start (last_too (λ (w : Watching Origin). w ≡ watching begun.start.desk.publisher) watch more r is begun.readers);
+    start = begun.start;
+    first = begun.first;
+  }
+
   -- ---- what a session's get leaves
 
   pub gets : (honest : D → Type 0) (history : D → History) (failures : D → ℕ) (shut : Watching Origin → Type 0) (node : TableId) (a b : Beside D) (r q : Watching Origin) (t u : Progress) (key : Key) (answer : Result (Option (List ℕ)) Refusal)
       (o : Option (Result (Option (List ℕ)) Refusal)) → MatchOption o (ReadsBeside honest history failures shut a key t.snapshot answer b × (u ≡ after_read t key answer)) (λ x. (answer ≡ x) × (u ≡ t) × (b ≡ a)) → Runs node a.seat r → IsReaderOf b.seat.view q → Runs node b.seat q
   gets honest history failures shut node a b r q t u key answer None given runs own = goes_on node a.seat b.seat r q runs given.0.lock given.0.idle.0.goes (passed_idle a.seat.view b.seat.view given.0.idle runs.passed) own
-  gets honest history failures shut node a b r q t u key answer (Some x) given runs own =
-      let same : b.seat ≡ a.seat = ap (λ (z : Beside D). z.seat) given.2 in
-      record { lock = ap (λ (z : Place (Home D) Judged). z.lock) same ∙ runs.lock; all = subst (λ (z : Place (Home D) Judged). HasAll z.view) (sym same) runs.all; passed = subst (λ (z : Place (Home D) Judged). PassedOrStopped z.view) (sym same) runs.passed; own = own; start = runs.start; first = ap (λ (z : Place (Home D) Judged). z.view.first) same ∙ runs.first }
+  gets honest history failures shut node a b r q t u key answer (Some x) given runs own = same_seat node a.seat b.seat r q runs (ap (λ (z : Beside D). z.seat) given.2) own

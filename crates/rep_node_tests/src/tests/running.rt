@@ -63,10 +63,12 @@ pub(crate) fn found_by(peek: Result<Peek, Refusal>) -> Found {
 
 /// What became of the one item of a batch.
 fn verdict_of(batch: &Batch) -> Result<Verdict, Refusal> {
-    match (batch.receipts.as_slice(), batch.end) {
-        ([receipt], None) => Ok(receipt.verdict),
-        (_, Some(refusal)) => Err(refusal),
-        (_, None) => Err(Refusal::NotDue),
+    if let Some(refusal) = batch.end {
+        return Err(refusal);
+    }
+    match batch.receipts.as_slice() {
+        [receipt] => Ok(receipt.verdict),
+        _ => Err(Refusal::NotDue),
     }
 }
 
