@@ -1,5 +1,5 @@
 -- What calls leave of a node, its one seat and its one reader.
-use Rattle.std.proofs.Common.{◌≡◌, ℕ, ◌+◌, ◌<◌, ◌≤◌, Option, Some, None, List, [], ◌∷◌, ◌++◌, length, ap, sym, refl, ◌∙◌, subst, arith, length-append}
+use Rattle.std.proofs.Common.{◌≡◌, ℕ, ◌<◌, Option, Some, None, List, [], ◌∷◌, ◌++◌, length, ap, sym, refl, ◌∙◌, subst, arith, length-append}
 use Rattle.std.specs.Prelude.{All, MatchOption, Result, slice_index_or}
 use Rattle.atomic_table.specs.Seated.{TableId}
 use Rattle.rep_types.specs.declared.judged.Judged.{Judged}
@@ -9,16 +9,17 @@ use Rattle.rep_disk.specs.History.{History}
 use Rattle.rep_cert.specs.Holdings.{Holdings}
 use Rattle.rep_replica.specs.Replicas.{Replica}
 use Rattle.rep_session.specs.Sessions.{Progress, after_read}
+use Rattle.rep_snap.specs.declared.change.Change.{Change}
 use Rattle.rep_snap.specs.Views.{Watching, watching}
 use Rattle.rep_ordered.specs.declared.view.View.{View}
 use Rattle.rep_ordered.specs.Counts.{times}
-use Rattle.rep_ordered.specs.Going.{Goes}
+use Rattle.rep_ordered.specs.Going.{Goes, Went}
 use Rattle.rep_ordered.specs.GoingLaws.{goes_later}
 use Rattle.rep_ordered.specs.Seats.{Place}
 use Rattle.rep_ordered.specs.Views.{HasAll, Later, opened, reached_at}
 use Rattle.rep_node.specs.declared.home.Desk.{Desk}
 use Rattle.rep_node.specs.declared.home.Home.{Home}
-use Rattle.rep_node.specs.declared.home.Home.TheVariants.{Certifier as AtFirst, Desk as AtSecond, Queue as AtThird}
+use Rattle.rep_node.specs.declared.home.Home.TheVariants.{Certifier as AtFirst, Desk as AtSecond}
 use Rattle.rep_node.specs.declared.origin.Origin.{Origin}
 use Rattle.rep_node.specs.Ending.{StartsFrom}
 use Rattle.rep_node.specs.Homes.{Start, common_in, durable_in, position_of, values_of}
@@ -89,12 +90,26 @@ module _ {D : Type 0} where
   pub goes_on : (node : TableId) (a b : Place (Home D) Judged) (r q : Watching Origin) → Runs node a r → b.lock ≡ a.lock → Goes a.view b.view → PassedOrStopped b.view → IsReaderOf b.view q → Runs node b q
   goes_on node a b r q runs lock goes passed own = record { lock = lock ∙ runs.lock; all = all_on a.view b.view goes runs.all; passed = passed; own = own; start = runs.start; first = goes.first ∙ runs.first }
 
-  pub idles : (node : TableId) (a b : Place (Home D) Judged) (r q : Watching Origin) → Runs node a r → b.lock ≡ a.lock → WentIdle a.view b.view → q.book ≡ r.book → q.basis ≡ r.basis → q.start ≡ r.start → Runs node b q
+  idles : (node : TableId) (a b : Place (Home D) Judged) (r q : Watching Origin) → Runs node a r → b.lock ≡ a.lock → WentIdle a.view b.view → q.book ≡ r.book → q.basis ≡ r.basis → q.start ≡ r.start → Runs node b q
   idles node a b r q runs lock idle book basis start = goes_on node a b r q runs lock idle.0.goes (passed_idle a.view b.view idle runs.passed) (own_on a.view b.view r q runs.own idle.0.goes.first book basis start)
 
   pub halts : (node : TableId) (a b : Place (Home D) Judged) (r : Watching Origin) → Runs node a r → b.lock ≡ a.lock → Later a.view b.view → b.view.halted ≡ 1 → Runs node b r
   halts node a b r runs lock later halted = let goes = goes_later a.view b.view later in
       goes_on node a b r r runs lock goes (passed_halted b.view halted) (own_on a.view b.view r r runs.own goes.first refl refl refl)
+
+  pub serves : (node : TableId) (a b : Place (Home D) Judged) (r : Watching Origin) → Runs node a r → b.lock ≡ a.lock → Went a.view b.view → PassedOrStopped b.view → Runs node b r
+  serves node a b r runs lock went passed = goes_on node a b r r runs lock went.goes passed (own_on a.view b.view r r runs.own went.goes.first refl refl refl)
+
+  -- the reader learnt of something, or of nothing
+  pub learns : (node : TableId) (a b : Place (Home D) Judged) (r w q : Watching Origin) (told : List Change) → Runs node a r → b.lock ≡ a.lock → WentIdle a.view b.view → w ≡ record r { told = told } → q ≡ w → Runs node b q
+  learns node a b r w q told runs lock idle learnt is = let same : q ≡ record r { told = told } = is ∙ learnt in
+      idles node a b r q runs lock idle (ap (λ (x : Watching Origin). x.book) same) (ap (λ (x : Watching Origin). x.basis) same) (ap (λ (x : Watching Origin). x.start) same)
+
+  pub learns_nothing : (node : TableId) (a b : Place (Home D) Judged) (r q : Watching Origin) → Runs node a r → b.lock ≡ a.lock → WentIdle a.view b.view → q ≡ r → Runs node b q
+  learns_nothing node a b r q runs lock idle is = learns node a b r r q r.told runs lock idle refl is
+
+  pub reads : (node : TableId) (a b : Place (Home D) Judged) (r q : Watching Origin) → Runs node a r → b.lock ≡ a.lock → WentIdle a.view b.view → q ≡ record r { seen = q.seen } → Runs node b q
+  reads node a b r q runs lock idle same = idles node a b r q runs lock idle (ap (λ (x : Watching Origin). x.book) same) (ap (λ (x : Watching Origin). x.basis) same) (ap (λ (x : Watching Origin). x.start) same)
 
   -- the seat stays as it is
   pub looks : (node : TableId) (a : Place (Home D) Judged) (r q : Watching Origin) → Runs node a r → q.book ≡ r.book → q.basis ≡ r.basis → q.start ≡ r.start → Runs node a q
