@@ -2,13 +2,13 @@
 
 use super::paces::{AtOnce, Crossing, HoldsFirst, StopsAt, Writes};
 use super::replicas::{
-    OTHER, ROW, byte_at, durable_after_crash, formatted, is_whole, new_disk, putting_each, served,
-    two_items,
+    Found, byte_for, durable_after_crash, formatted, found_at, is_whole, new_disk, putting_each,
+    served,
 };
 use rep_disk::{HeldDisk, MemDisk};
 use rep_node::{Batch, Point};
 use rep_replica::Replica;
-use rep_types::{Key, Params, Refusal};
+use rep_types::{Params, Refusal};
 use std::alloc::Global;
 use std::process::Abort;
 use std::sync::Wait;
@@ -18,24 +18,24 @@ use std::thread::Threads;
 /// A replica on a disk in memory, and what came of the batch that it was left by.
 type Came = (Replica<MemDisk>, Batch);
 
-/// Compares the rows of the two items, each behind itself and the other.
-fn has_both_rows<R: Abort>(rt: &R, replica: &mut Replica<MemDisk>) {
-    assert!(rt; byte_at(replica, ROW, 2) == Ok(Some(b'a')));
-    assert!(rt; byte_at(replica, OTHER, 2) == Ok(Some(b'b')));
+/// Compares what stands under the row in the state after so many items, of which one put its byte there.
+fn has_row<R: Abort>(rt: &R, replica: &mut Replica<MemDisk>, row: u32, at: u64) {
+    assert!(rt; found_at(replica, row, at) == Found::Put(byte_for(row)));
 }
 
 /// Two workers hand in an item each. The one with the first seqno is held behind its verdict until the other has its own.
 fn while_one_is_held<R: Threads + Wait + Sync>(rt: &R, alloc: Global) -> Result<Came, Refusal> {
-    let items = two_items()?;
+    let items = putting_each(alloc, 2)?;
     let pace = HoldsFirst::until(2);
-    served(rt, alloc, new_disk(alloc)?, &items, 2, &pace)
+    served(rt, alloc, new_disk(alloc)?, items.as_slice(), 2, &pace)
 }
 
 #[test]
 fn two_certifies_while_one_is_held(rt: HostRuntime) -> Result<(), Fail> {
     let (mut replica, batch) = while_one_is_held(&rt, rt.alloc())?;
     assert!(rt; is_whole(&replica, &batch, 2, 0));
-    has_both_rows(&rt, &mut replica);
+    has_row(&rt, &mut replica, 0, 2);
+    has_row(&rt, &mut replica, 1, 2);
     assert!(rt; durable_after_crash(rt.alloc(), replica.into_disk()) == Ok(2));
     Ok(())
 }
@@ -46,10 +46,10 @@ fn while_the_engine_writes<R: Threads + Wait + Sync>(
     rt: &R,
     alloc: Global,
 ) -> Result<bool, Refusal> {
-    let items = two_items()?;
+    let items = putting_each(alloc, 2)?;
     let crossing = Crossing::new();
     let disk = HeldDisk::new(new_disk(alloc)?, Writes(&crossing));
-    let (replica, batch) = served(rt, alloc, disk, &items, 2, &crossing)?;
+    let (replica, batch) = served(rt, alloc, disk, items.as_slice(), 2, &crossing)?;
     Ok(is_whole(&replica, &batch, 2, 0))
 }
 
@@ -84,9 +84,9 @@ fn stopped_at<R: Threads + Wait + Sync>(
     alloc: Global,
     point: Point,
 ) -> Result<Came, Refusal> {
-    let items = two_items()?;
+    let items = putting_each(alloc, 2)?;
     let pace = StopsAt { point, seqno: 1 };
-    served(rt, alloc, new_disk(alloc)?, &items, 1, &pace)
+    served(rt, alloc, new_disk(alloc)?, items.as_slice(), 1, &pace)
 }
 
 #[test]
@@ -106,19 +106,13 @@ fn over_a_full_log<R: Threads + Wait + Sync>(rt: &R, alloc: Global) -> Result<Ca
     served(rt, alloc, new_disk(alloc)?, items.as_slice(), 1, &AtOnce)
 }
 
-/// Compares what is left of 40 items over a window of 4: the first five commit, and the others had seen too little.
-fn has_first_rows<R: Abort>(rt: &R, replica: &mut Replica<MemDisk>) {
-    let of_the_fifth = Key { table: 0, row: 4 };
-    let of_the_sixth = Key { table: 0, row: 5 };
-    assert!(rt; byte_at(replica, of_the_fifth, 40) == Ok(Some(b'a')));
-    assert!(rt; byte_at(replica, of_the_sixth, 40) == Ok(None));
-}
-
 #[test]
 fn a_full_log_is_freed_beside(rt: HostRuntime) -> Result<(), Fail> {
     let (mut replica, batch) = over_a_full_log(&rt, rt.alloc())?;
     assert!(rt; is_whole(&replica, &batch, 5, 35));
     assert!(rt; replica.base() > 0);
-    has_first_rows(&rt, &mut replica);
+    // Over a window of 4 the first five commit, and the others had seen too little.
+    has_row(&rt, &mut replica, 4, 40);
+    assert!(rt; found_at(&mut replica, 5, 40) == Found::Nothing);
     Ok(())
 }

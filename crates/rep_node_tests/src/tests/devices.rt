@@ -1,7 +1,7 @@
 //! What is read beside a node whose device fails.
 
-use super::reads::{Row, check, new_node, write};
-use super::replicas::{ROW, new_disk, opened};
+use super::reads::{check, new_node, write};
+use super::replicas::{Found, ROW, new_disk, opened};
 use super::running::Running;
 use rep_disk::{Disk, FuseDisk, MemDisk};
 use rep_types::Refusal;
@@ -21,7 +21,7 @@ fn based<R: Threads + Wait + Sync + Abort>(rt: &R, alloc: Global) -> Result<MemD
 }
 
 /// What two reads of a row of the base were answered, one after the other, and whether the node was halted then.
-type Twice = (Row, Row, bool);
+type Twice = (Found, Found, bool);
 
 /// Reads the row twice beside a node on a disk; or nothing where the disk can't be opened.
 fn reads_twice<R: Wait, D: Disk + Drop>(
@@ -40,13 +40,15 @@ fn reads_twice<R: Wait, D: Disk + Drop>(
 }
 
 /// Whether the first read met a device that failed, and the second a node that was halted by that.
-fn is_halting(twice: Twice) -> bool {
-    twice == (Err(Refusal::DiskFault), Err(Refusal::Stopped), true)
+fn is_halting((first, second, is_stopped): Twice) -> bool {
+    first == Found::Refused(Refusal::DiskFault)
+        && second == Found::Refused(Refusal::Stopped)
+        && is_stopped
 }
 
-/// Whether the device was not asked behind its last call.
-fn is_answered(twice: Twice) -> bool {
-    twice == (Ok(Some(b'a')), Ok(Some(b'a')), false)
+/// Whether both reads found the row.
+fn is_answered((first, second, is_stopped): Twice) -> bool {
+    first == Found::Put(b'a') && second == Found::Put(b'a') && !is_stopped
 }
 
 /// More calls than the opening and the reads make.

@@ -1,7 +1,7 @@
 //! What comes of a batch on a device that fails.
 
 use super::paces::AtOnce;
-use super::replicas::{durable_after_crash, new_disk, served, two_items};
+use super::replicas::{durable_after_crash, new_disk, putting_each, served};
 use rep_disk::{FaultOnce, FuseDisk, MemDisk};
 use rep_node::Batch;
 use rep_types::Refusal;
@@ -11,7 +11,7 @@ use std::test::Fail;
 use std::thread::Threads;
 
 /// What came of a batch of two on a device that failed, and of what opens of it after a crash that loses all that was not stable.
-#[derive(Clone, Copy, Debug, PartialEq, Eq)]
+#[derive(Clone, Copy, PartialEq, Eq)]
 enum Ending {
     /// The device failed while it was opened.
     AtOpening,
@@ -50,9 +50,9 @@ fn fails_once<R: Threads + Wait + Sync>(
     alloc: Global,
     call: u64,
 ) -> Result<Ending, Refusal> {
-    let items = two_items()?;
+    let items = putting_each(alloc, 2)?;
     let disk = FaultOnce::new(new_disk(alloc)?, call);
-    match served(rt, alloc, disk, &items, 2, &AtOnce) {
+    match served(rt, alloc, disk, items.as_slice(), 2, &AtOnce) {
         Ok((replica, batch)) => ended(alloc, &batch, replica.into_disk().into_inner()),
         Err(_) => Ok(Ending::AtOpening),
     }
@@ -64,9 +64,9 @@ fn fails_from<R: Threads + Wait + Sync>(
     alloc: Global,
     calls: u64,
 ) -> Result<Ending, Refusal> {
-    let items = two_items()?;
+    let items = putting_each(alloc, 2)?;
     let disk = FuseDisk::new(new_disk(alloc)?, calls);
-    match served(rt, alloc, disk, &items, 2, &AtOnce) {
+    match served(rt, alloc, disk, items.as_slice(), 2, &AtOnce) {
         Ok((replica, batch)) => ended(alloc, &batch, replica.into_disk().into_inner()),
         Err(_) => Ok(Ending::AtOpening),
     }

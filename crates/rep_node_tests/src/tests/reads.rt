@@ -1,7 +1,7 @@
 //! What is read beside a node: of what is published, and of its engine.
 
-use super::replicas::{OTHER, OUTSIDE, ROW, new_disk, opened, writing};
-use super::running::{Found, Running, found_by};
+use super::replicas::{Found, OTHER, OUTSIDE, ROW, new_disk, opened, writing};
+use super::running::{Running, found_by_peek};
 use rep_disk::MemDisk;
 use rep_node::NodeReader;
 use rep_types::{Key, Refusal, Verdict};
@@ -13,9 +13,6 @@ use std::thread::Threads;
 
 /// A node on a disk in memory.
 pub(crate) type Node = Running<MemDisk>;
-
-/// What a read is answered: the one byte that stands there, if any.
-pub(crate) type Row = Result<Option<u8>, Refusal>;
 
 /// A node on a disk.
 pub(crate) fn new_node<R: Wait>(rt: &R, alloc: Global, disk: MemDisk) -> Result<Node, Refusal> {
@@ -72,12 +69,12 @@ fn peeks<R: Abort>(rt: &R, node: Node, wanted: &[(Key, u64, Found)]) -> Node {
 }
 
 /// Compares what is read under keys at positions.
-fn reads<R: Wait + Abort>(rt: &R, node: Node, wanted: &[(Key, u64, Row)]) -> Node {
+fn reads<R: Wait + Abort>(rt: &R, node: Node, wanted: &[(Key, u64, Found)]) -> Node {
     let mut node = node;
-    for (key, at, row) in wanted {
+    for (key, at, found) in wanted {
         let (next, read) = node.read(rt, *key, *at);
         node = next;
-        assert!(rt; read == *row, "row {} at {at}", key.row);
+        assert!(rt; read == *found, "row {} at {at}", key.row);
     }
     node
 }
@@ -94,7 +91,7 @@ const BEHIND_THREE: &[(Key, u64, Found)] = &[
     (ROW, 0, Found::Cold),
     (ROW, 1, Found::Put(b'a')),
     (ROW, 2, Found::Put(b'a')),
-    (ROW, 3, Found::Deleted),
+    (ROW, 3, Found::Nothing),
     (OTHER, 1, Found::Cold),
     (OTHER, 3, Found::Put(b'b')),
     (OTHER, 4, Found::Refused(Refusal::NotYet { durable: 3 })),
@@ -113,9 +110,9 @@ const BEHIND_A_CHECKPOINT: &[(Key, u64, Found)] = &[
 /// Compares what a reader finds whose node was closed behind the third item.
 fn is_closed<R: Abort>(rt: &R, reader: NodeReader) {
     let (reader, closed) = reader.peek(ROW, 3);
-    assert!(rt; found_by(closed) == Found::Refused(Refusal::Closed));
+    assert!(rt; found_by_peek(closed) == Found::Refused(Refusal::Closed));
     let (reader, outside) = reader.peek(OUTSIDE, 3);
-    assert!(rt; found_by(outside) == Found::Refused(Refusal::BadKey));
+    assert!(rt; found_by_peek(outside) == Found::Refused(Refusal::BadKey));
     let (_reader, front) = reader.front();
     assert!(rt; front == 3);
 }
@@ -134,31 +131,31 @@ fn a_reader_finds_what_is_published(rt: HostRuntime) -> Result<(), Fail> {
 }
 
 /// What is read before a checkpoint: only the first row's state at the start is asked of the engine.
-const BEFORE_A_CHECKPOINT: &[(Key, u64, Row)] = &[
-    (ROW, 0, Ok(None)),
-    (ROW, 1, Ok(Some(b'a'))),
-    (ROW, 3, Ok(None)),
-    (OTHER, 1, Ok(None)),
-    (OTHER, 2, Ok(Some(b'b'))),
+const BEFORE_A_CHECKPOINT: &[(Key, u64, Found)] = &[
+    (ROW, 0, Found::Nothing),
+    (ROW, 1, Found::Put(b'a')),
+    (ROW, 3, Found::Nothing),
+    (OTHER, 1, Found::Nothing),
+    (OTHER, 2, Found::Put(b'b')),
 ];
 
 /// What is read of the base at the third item, and of the fourth, which is newer.
-const ON_A_BASE: &[(Key, u64, Row)] = &[
-    (ROW, 2, Err(Refusal::TooOld { oldest: 3 })),
-    (ROW, 3, Ok(None)),
-    (ROW, 4, Ok(Some(b'c'))),
-    (ROW, 5, Err(Refusal::NotYet { durable: 4 })),
-    (OTHER, 3, Ok(Some(b'b'))),
-    (OTHER, 4, Ok(Some(b'b'))),
-    (OUTSIDE, 5, Err(Refusal::BadKey)),
+const ON_A_BASE: &[(Key, u64, Found)] = &[
+    (ROW, 2, Found::Refused(Refusal::TooOld { oldest: 3 })),
+    (ROW, 3, Found::Nothing),
+    (ROW, 4, Found::Put(b'c')),
+    (ROW, 5, Found::Refused(Refusal::NotYet { durable: 4 })),
+    (OTHER, 3, Found::Put(b'b')),
+    (OTHER, 4, Found::Put(b'b')),
+    (OUTSIDE, 5, Found::Refused(Refusal::BadKey)),
 ];
 
 /// What is read once the node was halted: the engine is not asked any more, and what is published is.
-const HALTED: &[(Key, u64, Row)] = &[
-    (ROW, 4, Ok(Some(b'c'))),
-    (OTHER, 4, Err(Refusal::Stopped)),
-    (ROW, 3, Err(Refusal::Stopped)),
-    (OUTSIDE, 3, Err(Refusal::BadKey)),
+const HALTED: &[(Key, u64, Found)] = &[
+    (ROW, 4, Found::Put(b'c')),
+    (OTHER, 4, Found::Refused(Refusal::Stopped)),
+    (ROW, 3, Found::Refused(Refusal::Stopped)),
+    (OUTSIDE, 3, Found::Refused(Refusal::BadKey)),
 ];
 
 #[test]

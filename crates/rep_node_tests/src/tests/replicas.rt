@@ -49,29 +49,29 @@ pub(crate) fn durable_after_crash(alloc: Global, disk: MemDisk) -> Result<u64, R
 }
 
 /// A write that puts one byte under the row, or deletes it.
-fn write_of(key: Key, byte: Option<u8>) -> Result<Write, Refusal> {
+fn write_of(key: Key, byte: Option<u8>) -> Write {
     let value = match byte {
-        Some(byte) => Some(Value::new(&[byte])?),
+        Some(byte) => Value::new(&[byte]).ok(),
         None => None,
     };
-    Ok(Write { key, value })
+    Write { key, value }
 }
 
 /// An item that had seen so many before it, and puts one byte under the row or deletes it.
 pub(crate) fn writing(last_seen: u64, key: Key, byte: Option<u8>) -> Result<WriteSet, Refusal> {
-    WriteSet::new(7, 1, last_seen, &[], &[write_of(key, byte)?])
+    WriteSet::new(7, 1, last_seen, &[], &[write_of(key, byte)])
 }
 
-/// Two items that had seen nothing: one puts `a` under the row, the other one `b` under the other row.
-pub(crate) fn two_items() -> Result<[WriteSet; 2], Refusal> {
-    Ok([writing(0, ROW, Some(b'a'))?, writing(0, OTHER, Some(b'b'))?])
+/// The byte that an item puts under a row of its own: `a` under the first row, `b` under the second, and so on.
+pub(crate) fn byte_for(row: u32) -> u8 {
+    b'a'.saturating_add((row % 26) as u8)
 }
 
-/// So many items that had seen nothing, each of which puts `a` under a row of its own.
+/// So many items that had seen nothing, each of which puts a byte under a row of its own.
 pub(crate) fn putting_each(alloc: Global, count: u32) -> Result<Vec<WriteSet>, Refusal> {
     let mut items = Vec::new(alloc);
     for row in 0..count {
-        items.push(writing(0, Key { table: 0, row }, Some(b'a'))?)?;
+        items.push(writing(0, Key { table: 0, row }, Some(byte_for(row)))?)?;
     }
     Ok(items)
 }
@@ -95,25 +95,41 @@ pub(crate) fn served<R: Threads + Wait + Sync, D: Disk + Drop + Send, P: Pace + 
     Ok(serve_batch(rt, alloc, replica, items, workers, pace))
 }
 
-/// The one byte of a row. A row of more or fewer has no such byte, and is malformed.
-pub(crate) fn byte_of(row: Result<Option<Value>, Refusal>) -> Result<Option<u8>, Refusal> {
-    match row {
-        Ok(Some(value)) => match value.as_bytes() {
-            [byte] => Ok(Some(*byte)),
-            _ => Err(Refusal::Malformed { at: 0 }),
-        },
-        Ok(None) => Ok(None),
-        Err(refusal) => Err(refusal),
+/// What is found of a row.
+#[derive(Clone, Copy, PartialEq, Eq)]
+pub(crate) enum Found {
+    /// This byte alone stands there.
+    Put(u8),
+    /// Nothing stands there.
+    Nothing,
+    /// No write of the row is left in the published list.
+    Cold,
+    /// Bytes stand there that are not one.
+    Others,
+    /// It is not said, for this reason.
+    Refused(Refusal),
+}
+
+/// That this value was found.
+pub(crate) fn put(value: &Value) -> Found {
+    match value.as_bytes() {
+        [byte] => Found::Put(*byte),
+        _ => Found::Others,
     }
 }
 
-/// The byte that stands under a key in the state after so many items.
-pub(crate) fn byte_at<D: Disk>(
-    replica: &mut Replica<D>,
-    key: Key,
-    at: u64,
-) -> Result<Option<u8>, Refusal> {
-    byte_of(replica.read(key, at))
+/// What a read found.
+pub(crate) fn found_by_read(row: Result<Option<Value>, Refusal>) -> Found {
+    match row {
+        Ok(Some(value)) => put(&value),
+        Ok(None) => Found::Nothing,
+        Err(refusal) => Found::Refused(refusal),
+    }
+}
+
+/// What stands under a row of the first table in the state after so many items.
+pub(crate) fn found_at<D: Disk>(replica: &mut Replica<D>, row: u32, at: u64) -> Found {
+    found_by_read(replica.read(Key { table: 0, row }, at))
 }
 
 /// Whether the receipts are of so many items that committed and, behind them, of so many that were stale, one after another from the first

@@ -2,7 +2,7 @@
 //! nothing, so that no test has to be proved beside its contract.
 
 use super::paces::AtOnce;
-use super::replicas::byte_of;
+use super::replicas::{Found, found_by_read, put};
 use rep_disk::Disk;
 use rep_node::{Batch, Node, NodeReader, NodeRows, Seat};
 use rep_replica::Replica;
@@ -34,28 +34,11 @@ impl<D: Disk> Model for Running<D> {
     ghost invariant = { λ r. Runs r.node r.seat r.reader };
 }
 
-/// What a reader finds of a row.
-#[derive(Clone, Copy, Debug, PartialEq, Eq)]
-pub(crate) enum Found {
-    /// This byte was put there.
-    Put(u8),
-    /// The row was deleted.
-    Deleted,
-    /// Nothing is left of it in the list.
-    Cold,
-    /// It does not say, for this reason.
-    Refused(Refusal),
-}
-
 /// What a peek found.
-pub(crate) fn found_by(peek: Result<Peek, Refusal>) -> Found {
+pub(crate) fn found_by_peek(peek: Result<Peek, Refusal>) -> Found {
     match peek {
-        Ok(Peek::Value(value)) => match byte_of(Ok(Some(value))) {
-            Ok(Some(byte)) => Found::Put(byte),
-            Ok(None) => Found::Deleted,
-            Err(refusal) => Found::Refused(refusal),
-        },
-        Ok(Peek::Absent) => Found::Deleted,
+        Ok(Peek::Value(value)) => put(&value),
+        Ok(Peek::Absent) => Found::Nothing,
         Ok(Peek::Cold) => Found::Cold,
         Err(refusal) => Found::Refused(refusal),
     }
@@ -138,23 +121,18 @@ impl<D: Disk> Running<D> {
     pub(crate) fn peek(self, key: Key, snapshot: u64) -> (Running<D>, Found) {
         let Running { node, seat, reader } = self;
         let (reader, peek) = reader.peek(key, snapshot);
-        (Running { node, seat, reader }, found_by(peek))
+        (Running { node, seat, reader }, found_by_peek(peek))
     }
 
-    /// The byte that stands under the key.
-    pub(crate) fn read<R: Wait>(
-        self,
-        rt: &R,
-        key: Key,
-        at: u64,
-    ) -> (Running<D>, Result<Option<u8>, Refusal>) {
+    /// What is read under the key.
+    pub(crate) fn read<R: Wait>(self, rt: &R, key: Key, at: u64) -> (Running<D>, Found) {
         let Running {
             node,
             mut seat,
             reader,
         } = self;
         let (reader, row) = node.read(rt, &mut seat, reader, key, at);
-        (Running { node, seat, reader }, byte_of(row))
+        (Running { node, seat, reader }, found_by_read(row))
     }
 
     /// Begins a transaction beside the node, under the labels 7 and 9.
@@ -166,18 +144,18 @@ impl<D: Disk> Running<D> {
         (Running { node, seat, reader }, session)
     }
 
-    /// The byte that the transaction finds under the key.
+    /// What the transaction finds under the key.
     pub(crate) fn get<R: Wait>(
         self,
         rt: &R,
         session: &mut Session,
         key: Key,
-    ) -> (Running<D>, Result<Option<u8>, Refusal>) {
+    ) -> (Running<D>, Found) {
         let Running { node, seat, reader } = self;
         let mut rows = NodeRows::new(rt, &node, seat, reader);
         let row = session.get(&mut rows, key);
         let (seat, reader) = rows.into_parts();
-        (Running { node, seat, reader }, byte_of(row))
+        (Running { node, seat, reader }, found_by_read(row))
     }
 
     /// Halts the node.

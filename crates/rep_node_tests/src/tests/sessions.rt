@@ -1,7 +1,7 @@
 //! Transactions that go through a session beside a node that runs.
 
-use super::reads::{Node, Row, check, new_node, write};
-use super::replicas::{OTHER, OUTSIDE, ROW, new_disk};
+use super::reads::{Node, check, new_node, write};
+use super::replicas::{Found, OTHER, OUTSIDE, ROW, new_disk};
 use rep_session::{Finished, Session};
 use rep_types::{Key, Refusal, Verdict, WriteSet};
 use std::alloc::Global;
@@ -21,19 +21,19 @@ fn finds<R: Wait + Abort>(
     rt: &R,
     node: Node,
     session: &mut Session,
-    wanted: &[(Key, Row)],
+    wanted: &[(Key, Found)],
 ) -> Node {
     let mut node = node;
-    for (key, row) in wanted {
+    for (key, found) in wanted {
         let (next, got) = node.get(rt, session, *key);
         node = next;
-        assert!(rt; got == *row, "row {}", key.row);
+        assert!(rt; got == *found, "row {}", key.row);
     }
     node
 }
 
 /// A transaction that begins now finds this under keys, and only reads.
-fn reader_finds<R: Wait + Abort>(rt: &R, node: Node, wanted: &[(Key, Row)]) -> Node {
+fn reader_finds<R: Wait + Abort>(rt: &R, node: Node, wanted: &[(Key, Found)]) -> Node {
     let (node, mut session) = node.begin(rt);
     let node = finds(rt, node, &mut session, wanted);
     assert!(rt; session.finish() == Ok(Finished::ReadOnly));
@@ -80,9 +80,9 @@ fn moves<R: Wait + Abort>(rt: &R, node: Node, session: &mut Session) -> Node {
         node,
         session,
         &[
-            (ROW, Ok(Some(b'a'))),
-            (OTHER, Ok(None)),
-            (OUTSIDE, Err(Refusal::BadKey)),
+            (ROW, Found::Put(b'a')),
+            (OTHER, Found::Nothing),
+            (OUTSIDE, Found::Refused(Refusal::BadKey)),
         ],
     );
     writes(rt, session, OTHER, Some(b'a'));
@@ -91,7 +91,7 @@ fn moves<R: Wait + Abort>(rt: &R, node: Node, session: &mut Session) -> Node {
         rt,
         node,
         session,
-        &[(ROW, Ok(None)), (OTHER, Ok(Some(b'a')))],
+        &[(ROW, Found::Nothing), (OTHER, Found::Put(b'a'))],
     )
 }
 
@@ -101,7 +101,11 @@ fn a_transaction_commits_and_the_next_finds_what_it_wrote(rt: HostRuntime) -> Re
     let (node, mut session) = node.begin(&rt);
     let node = moves(&rt, node, &mut session);
     let node = commit(&rt, rt.alloc(), node, &mut session, Verdict::Commit);
-    let node = reader_finds(&rt, node, &[(ROW, Ok(None)), (OTHER, Ok(Some(b'a')))]);
+    let node = reader_finds(
+        &rt,
+        node,
+        &[(ROW, Found::Nothing), (OTHER, Found::Put(b'a'))],
+    );
     let (replica, _reader) = node.close(&rt);
     assert!(rt; !replica.is_stopped() && replica.durable() == 2);
     Ok(())
@@ -114,7 +118,11 @@ fn what_commits_behind_a_snapshot_is_not_seen_and_conflicts(rt: HostRuntime) -> 
     let node = write(&rt, rt.alloc(), node, (1, ROW, Some(b'b')));
     let node = moves(&rt, node, &mut session);
     let node = commit(&rt, rt.alloc(), node, &mut session, Verdict::Conflict(2));
-    let node = reader_finds(&rt, node, &[(ROW, Ok(Some(b'b'))), (OTHER, Ok(None))]);
+    let node = reader_finds(
+        &rt,
+        node,
+        &[(ROW, Found::Put(b'b')), (OTHER, Found::Nothing)],
+    );
     let (replica, _reader) = node.close(&rt);
     assert!(rt; !replica.is_stopped() && replica.durable() == 3);
     Ok(())
@@ -126,7 +134,7 @@ fn a_snapshot_below_the_base_is_not_read(rt: HostRuntime) -> Result<(), Fail> {
     let (node, mut session) = node.begin(&rt);
     let node = write(&rt, rt.alloc(), node, (1, OTHER, Some(b'b')));
     let node = check(&rt, node, 2);
-    let too_old = Err(Refusal::TooOld { oldest: 2 });
+    let too_old = Found::Refused(Refusal::TooOld { oldest: 2 });
     let node = finds(
         &rt,
         node,
@@ -134,13 +142,17 @@ fn a_snapshot_below_the_base_is_not_read(rt: HostRuntime) -> Result<(), Fail> {
         &[
             (ROW, too_old),
             (OTHER, too_old),
-            (OUTSIDE, Err(Refusal::BadKey)),
+            (OUTSIDE, Found::Refused(Refusal::BadKey)),
         ],
     );
     // What it wrote it still finds.
     writes(&rt, &mut session, ROW, Some(b'c'));
-    let node = finds(&rt, node, &mut session, &[(ROW, Ok(Some(b'c')))]);
-    let node = reader_finds(&rt, node, &[(ROW, Ok(Some(b'a'))), (OTHER, Ok(Some(b'b')))]);
+    let node = finds(&rt, node, &mut session, &[(ROW, Found::Put(b'c'))]);
+    let node = reader_finds(
+        &rt,
+        node,
+        &[(ROW, Found::Put(b'a')), (OTHER, Found::Put(b'b'))],
+    );
     let (replica, _reader) = node.close(&rt);
     assert!(rt; replica.base() == 2 && replica.durable() == 2);
     Ok(())
