@@ -5,6 +5,7 @@ from node_model import CLUSTER, Node, does, key_text
 from proved import Wrong
 from soak_checks import differs, has_ended, holds, is_front, is_met, part_of
 from soak_draws import Cast, Draws
+from soak_served import serves
 from stopping import KILLED, STOPPED, WHOLE, DiskFile, Stop
 from trials import answers
 from trials_drawn import kind_of
@@ -374,8 +375,8 @@ def joins(life):
 
 
 # Each with how often it comes. It finds the node of `life.replica` closed and synced, and leaves it so: it runs a program on its disk, has
-# `hears` what that told durable, and hands `opens` the nodes that the program may have ended as. A further one stands here.
-KINDS = ((runs_a_script, 85), (joins, 15))
+# `hears` what that told durable, and hands `opens` the nodes that the program may have ended as. A further one is named here.
+KINDS = ((runs_a_script, 70), (joins, 15), (serves, 15))
 
 
 # ---- lives

@@ -125,15 +125,25 @@ class DiskFile:
             rest, told = started.communicate()
         return Ended(output + rest, told, started.returncode, None)
 
-    def run_for(self, words, text, seconds):
-        """Runs the program on the whole of a text, and kills it so much later, if it has not ended."""
-        started = self.begin(words, Stop())
+    def run_upto(self, words, text, size):
+        """Runs the program on the whole of a text, and kills it once its calls are seen to take so many bytes, if it has not ended."""
+        started, until = self.begin(words, Stop()), time.monotonic() + LIMIT
         try:
-            output, told = started.communicate(text.encode(), timeout=seconds)
-        except subprocess.TimeoutExpired:
+            write_to(started, text)
+            started.stdin.close()
+            started.stdin = None
+            while started.poll() is None and self.noted_size() < size:
+                if time.monotonic() > until:
+                    raise Wrong("it does not end")
+                time.sleep(0.0001)
+        finally:
             started.kill()
             output, told = started.communicate()
         return Ended(output, told, started.returncode, None)
+
+    def noted_size(self):
+        """How many bytes the calls take that stop_within.c has put down."""
+        return os.stat(self.noted).st_size if os.path.exists(self.noted) else 0
 
     def pending(self):
         """The writes that are not synced, in their order: each place, and the bytes that stood there. The last may be cut: its write
