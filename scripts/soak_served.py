@@ -108,7 +108,7 @@ def fails_while_served(batch, ended):
 
 def meets_fault(replica, batch):
     """A call fails. Where it is one of the opening or of settling, that is all; else the node is stopped. A write that failed is as one
-    that is not synced."""
+    that is not synced; a sync may be made and fail still."""
     stop = drawn_stop(replica, batch, True)
     ended = replica.disk.run(batch.words, batch.text, stop)
     if not ended.met:
@@ -119,7 +119,9 @@ def meets_fault(replica, batch):
         holds(differs(ended.lines, ["fault 2 disk-fault"]))
     else:
         fails_while_served(batch, ended)
-    return "fails at a " + call.kind, [batch.keeper.before] + [batch.keeper.node] * (call.kind == "write")
+    if call.kind == "write":
+        return "fails at a write", [batch.keeper.before, batch.keeper.node]
+    return "fails at a sync", [batch.keeper.node if stop.is_done("sync") else batch.keeper.before]
 
 
 ENDS = ((ends_whole, 25), (is_killed, 25), (is_stopped, 30), (meets_fault, 20))
