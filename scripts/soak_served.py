@@ -1,5 +1,7 @@
-"""Batches that `replicad serve` serves by several threads, in the lives of scripts/soak. How the workers' items mix is not drawn, and a program
-that is killed writes no line: so the order is learned from the calls that the program made of its device (soak_keeper.py)."""
+"""Batches that `replicad serve` serves by several threads, in the lives of scripts/soak. How the workers' items mix is not drawn, and a
+program that is killed writes no line: so the order is learned from the calls that the program made of its device (soak_keeper.py)."""
+import re
+
 from proved import Wrong
 from soak_checks import differs, has_ended, holds, is_front
 from soak_keeper import BODY, GATE, Keeper
@@ -12,8 +14,16 @@ def parts_of(items, workers):
     return [items[max(end - size, 0) : end] for end in range(len(items), 0, -size)] if items else []
 
 
+def seqnos_of(lines):
+    """The seqnos of which these lines tell, each of an item."""
+    found = [re.match(r"(\d+) [a-z]+ ", line) for line in lines]
+    if not all(found):
+        raise Wrong("it writes %r, which are not all lines of items" % lines)
+    return [int(line[1]) for line in found]
+
+
 class Batch:
-    """Items that are handed in together, the program's words that serves them, and the node before that."""
+    """Items that are handed in together, the words of the program that serves them, and the keeper beside."""
 
     def __init__(self, replica, items, workers):
         self.replica, self.items, self.workers = replica, items, workers
@@ -26,7 +36,7 @@ class Batch:
         return -(-len(self.items) // self.workers)
 
     def follows(self):
-        """The model makes the calls of the program that ran. Gives how many there were."""
+        """The model makes the calls of the program that ran. Gives these calls."""
         calls = self.replica.disk.calls()
         for call in calls:
             self.keeper.makes(call)
@@ -43,8 +53,8 @@ class Batch:
         return "whole", [self.keeper.node]
 
     def tells(self, lines):
-        """What is told by these lines of items is durable."""
-        self.replica.told = max([self.replica.told] + [int(line.split()[0]) for line in lines])
+        """The items of which these lines tell are durable."""
+        self.replica.told = max([self.replica.told] + seqnos_of(lines))
 
 
 # ---- how a batch ends: each of these says how, and gives the nodes that may have been left
@@ -68,9 +78,11 @@ def is_killed(replica, batch):
 
 
 def drawn_stop(replica, batch, is_failing):
-    """A call that there is at least, the opening's sync or one of the four for a block, seldom one of the first; and how much of it is done."""
+    """A call of those that there are at least, the opening's sync and four for each block, now and then one of the first; and how much of it
+    is done."""
     draws, least = replica.draws, 1 + 4 * batch.rounds()
-    return Stop(draws.randint(1, min(least, 6) if draws.chance(15) else least), draws.choice((0, WHOLE, draws.randint(1, WHOLE - 1))), is_failing)
+    call = draws.randint(1, min(least, 4) if draws.chance(25) else least)
+    return Stop(call, draws.choice((0, WHOLE, draws.randint(1, WHOLE - 1))), is_failing)
 
 
 def meets(batch, ended, stop):
@@ -99,8 +111,8 @@ def fails_while_served(batch, ended):
     """Behind lines of durable items it says that the node was stopped. Whoever handed in a further item had an answer before."""
     keeper, lines = batch.keeper, ended.lines[:-1]
     holds(differs(ended.lines[-1:], ["fault 3 stopped"]))
-    seqnos = [int(line.split()[0]) for line in lines]
-    if seqnos != sorted(set(seqnos)) or not keeper.answered() <= set(seqnos) <= set(range(keeper.start.durable + 1, keeper.before.durable + 1)):
+    seqnos, durable = seqnos_of(lines), range(keeper.start.durable + 1, keeper.before.durable + 1)
+    if seqnos != sorted(set(seqnos)) or not keeper.answered() <= set(seqnos) <= set(durable):
         raise Wrong("it tells of %r; of %r it had to, durable was %d" % (seqnos, sorted(keeper.answered()), keeper.before.durable))
     holds(differs(lines, [keeper.line(seqno) for seqno in seqnos]))
     batch.tells(lines)
@@ -114,14 +126,15 @@ def meets_fault(replica, batch):
     if not ended.met:
         return batch.is_whole(ended)
     has_ended(ended, 1)
-    call = meets(batch, ended, stop)
-    if stop.call <= 1 + sum(1 for _ in batch.keeper.start.copied().settle()):
+    call, is_early = meets(batch, ended, stop), stop.call <= 1 + sum(1 for _ in batch.keeper.start.copied().settle())
+    if is_early:
         holds(differs(ended.lines, ["fault 2 disk-fault"]))
     else:
         fails_while_served(batch, ended)
+    how = "fails at a %s%s" % (call.kind, " of its opening or settling" * is_early)
     if call.kind == "write":
-        return "fails at a write", [batch.keeper.before, batch.keeper.node]
-    return "fails at a sync", [batch.keeper.node if stop.is_done("sync") else batch.keeper.before]
+        return how, [batch.keeper.before, batch.keeper.node]
+    return how, [batch.keeper.node if stop.is_done("sync") else batch.keeper.before]
 
 
 ENDS = ((ends_whole, 25), (is_killed, 25), (is_stopped, 30), (meets_fault, 20))
@@ -151,6 +164,7 @@ def drawn_batch(life):
     replica, order = life.replica, life.order()
     forgets(order, max(it.node.durable for it in (replica, life.joiner) if it))
     again = order.items[replica.node.durable :]
+    life.counts["batches with items that a joiner has"] += bool(again)
     workers = 1 if again else life.draws.choice((1, 2, 2, 3, 4, 8, 64))
     count = life.draws.choice((0, 1, 2, 3, 5, 8, 13, 20, 30, 60 if workers > 2 else 30))
     return Batch(replica, again + drawn_items(life, count, workers), workers)
