@@ -35,6 +35,10 @@ class Batch:
         """How many blocks there are at least: a worker waits for each of its items."""
         return -(-len(self.items) // self.workers)
 
+    def opening_calls(self):
+        """How many calls there are before the batch begins: the opening's sync, and those of a node that settles."""
+        return 1 + sum(1 for _ in self.keeper.start.copied().settle())
+
     def follows(self):
         """The model makes the calls of the program that ran. Gives these calls."""
         calls = self.replica.disk.calls()
@@ -78,10 +82,10 @@ def is_killed(replica, batch):
 
 
 def drawn_stop(replica, batch, is_failing):
-    """A call of those that there are at least, the opening's sync and four for each block, now and then one of the first; and how much of it
-    is done."""
-    draws, least = replica.draws, 1 + 4 * batch.rounds()
-    call = draws.randint(1, min(least, 4) if draws.chance(25) else least)
+    """A call of those that there are at least, four for each block behind those of the opening, now and then one of these, mostly where there
+    is something to settle; and how much of it is done."""
+    draws, first = replica.draws, batch.opening_calls()
+    call = draws.randint(1, first if draws.chance(12 if first == 1 else 60) else first + 4 * batch.rounds())
     return Stop(call, draws.choice((0, WHOLE, draws.randint(1, WHOLE - 1))), is_failing)
 
 
@@ -126,7 +130,7 @@ def meets_fault(replica, batch):
     if not ended.met:
         return batch.is_whole(ended)
     has_ended(ended, 1)
-    call, is_early = meets(batch, ended, stop), stop.call <= 1 + sum(1 for _ in batch.keeper.start.copied().settle())
+    call, is_early = meets(batch, ended, stop), stop.call <= batch.opening_calls()
     if is_early:
         holds(differs(ended.lines, ["fault 2 disk-fault"]))
     else:
