@@ -2,6 +2,7 @@
 an order is judged by comparing all pairs, and beside it stand the stages of the log's next block and the phases of a checkpoint.
 Nothing here knows bytes, pages' contents, an index or a page table. A line of a script goes in, and the lines of its answer come out.
 """
+from copy import copy
 
 CLUSTER = "11111111-1111-4111-8111-111111111111"
 # What a node of no cluster says of itself.
@@ -235,6 +236,13 @@ class Node:
         self.order, self.log, self.checkpoint = order or Order(window, rows), Log(cells), Checkpoint()
         self.delivered = self.durable = 0
         self.is_defined = is_defined
+
+    def copied(self):
+        """The node as it stands, in the same order."""
+        other = copy(self)
+        other.log, other.checkpoint = copy(self.log), copy(self.checkpoint)
+        other.log.open, other.checkpoint.left = list(self.log.open), set(self.checkpoint.left)
+        return other
 
     def base(self):
         return self.checkpoint.base

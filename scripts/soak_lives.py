@@ -1,10 +1,11 @@
 """The lives of scripts/soak: programs on the files of nodes, each ended in a drawn way, beside the model of what they leave."""
 import os
-from copy import copy
 
 from node_model import CLUSTER, Node, does, key_text
 from proved import Wrong
+from soak_checks import differs, has_ended, holds, is_front, is_met, part_of
 from soak_draws import Cast, Draws
+from soak_served import serves
 from stopping import KILLED, STOPPED, WHOLE, DiskFile, Stop
 from trials import answers
 from trials_drawn import kind_of
@@ -16,17 +17,9 @@ LOSSES = ("keep", "drop", "junk", "some")
 # ---- the node beside its model
 
 
-def copied(node):
-    """The node as it stands, in the same order."""
-    other = copy(node)
-    other.log, other.checkpoint = copy(node.log), copy(node.checkpoint)
-    other.log.open, other.checkpoint.left = list(node.log.open), set(node.checkpoint.left)
-    return other
-
-
 def stopped(node, gates):
     """The node as the stop leaves it that left these gates: an open gate that was pending was kept where it stands open."""
-    node, (cells, are_both) = copied(node), gates
+    node, (cells, are_both) = node.copied(), gates
     is_kept = cells[node.log.cell()] == (node.log.stage == "gate")
     node.durable += node.log.stop("keep" if is_kept else "drop")
     node.delivered = node.durable
@@ -37,7 +30,7 @@ def stopped(node, gates):
 
 def stopped_with(node, loss):
     """The node as a stop with this one loss leaves it."""
-    node = copied(node)
+    node = node.copied()
     node.stop(loss)
     return node
 
@@ -50,7 +43,7 @@ class Script:
     """Events for a node, each with what it has to be answered by."""
 
     def __init__(self, node):
-        self.start, self.node, self.events, self.answers = copied(node), copied(node), [], []
+        self.start, self.node, self.events, self.answers = node.copied(), node.copied(), [], []
 
     def do(self, event):
         self.answers.append(answer(self.node, event))
@@ -64,10 +57,10 @@ class Script:
 
     def states(self, first, last):
         """The node behind the first so many events, and behind each more up to the last."""
-        node, found = copied(self.start), []
+        node, found = self.start.copied(), []
         for count in range(last + 1):
             if count >= first:
-                found.append(copied(node))
+                found.append(node.copied())
             if count < last:
                 answer(node, self.events[count])
         return found
@@ -89,31 +82,6 @@ def answer(node, event):
 # ---- how a script ends
 
 # Each of these runs a script on the node's disk, and gives the nodes that it may have ended as: one, but for a kill.
-
-
-def differs(found, wanted):
-    """What is wrong with these lines."""
-    if found == wanted:
-        return None
-    at = next((at for at, (a, b) in enumerate(zip(found, wanted)) if a != b), min(len(found), len(wanted)))
-    return "answer %d: wanted %r, found %r" % (at + 1, wanted[at : at + 1], found[at : at + 1])
-
-
-def holds(why):
-    if why:
-        raise Wrong(why)
-
-
-def has_ended(ended, status):
-    if ended.status != status:
-        raise Wrong("it ends with %r, and writes %r" % (ended.status, (ended.lines + [ended.rest])[-3:]))
-
-
-def is_front(ended, wanted):
-    """What was written before the end is the front of these lines."""
-    holds(differs(ended.lines, wanted[: len(ended.lines)]))
-    if not "".join(wanted[len(ended.lines) :][:1]).startswith(ended.rest):
-        raise Wrong("it writes %r in the place of %r" % (ended.rest, wanted[len(ended.lines) :][:1]))
 
 
 def ends_whole(replica, script):
@@ -139,25 +107,12 @@ def is_killed(replica, script):
     return script.states(first, last)
 
 
-def part_of(draws, kind, is_failing):
-    """How much of a call of this kind is done, in thousandths: nothing, all, or of a write a part. A sync that fails does nothing."""
-    if kind == "write":
-        return draws.choice((0, WHOLE, draws.randint(1, WHOLE - 1)))
-    return 0 if is_failing else draws.choice((0, WHOLE))
-
-
 def drawn_call(replica, script, is_failing):
     """A call of the script and how much of it is done: the stop, the number of its event, and its kind."""
     draws, calls = replica.draws, script.calls()
     number = draws.randrange(min(4, len(calls)) if draws.chance(15) else len(calls))
     event, kind = calls[number]
     return Stop(number + 1, part_of(draws, kind, is_failing), is_failing), event, kind
-
-
-def is_met(ended, stop, kind):
-    """The call that was met is the one that the model makes there."""
-    if not ended.met or ended.met[:2] != [str(stop.call), kind]:
-        raise Wrong("its call %d is %r, and not a %s" % (stop.call, ended.met, kind))
 
 
 def is_stopped(replica, script):
@@ -333,7 +288,7 @@ def joined_by_calls(node, snapshot, last):
 
 def behind_calls(node, transfer, count):
     """The node behind so many calls of its join."""
-    node = copied(node)
+    node = node.copied()
     does(joined_by_calls(node, transfer.snapshot, transfer.last), count)
     return node
 
@@ -411,7 +366,7 @@ def joins(life):
         return
     words = joiner.words("join", joiner.disk.path, "--from", path)
     how, end = draws.choice(JOINS)
-    nodes = end(joiner, words, transfer, list(joined_by_calls(copied(joiner.node), transfer.snapshot, transfer.last)))
+    nodes = end(joiner, words, transfer, list(joined_by_calls(joiner.node.copied(), transfer.snapshot, transfer.last)))
     life.counts["joins: %s%s" % (how, ", with a snapshot" * bool(transfer.snapshot))] += 1
     joiner.opens(nodes, transfer.last)
     if joiner.node.is_defined and draws.chance(25):
@@ -420,8 +375,8 @@ def joins(life):
 
 
 # Each with how often it comes. It finds the node of `life.replica` closed and synced, and leaves it so: it runs a program on its disk, has
-# `hears` what that told durable, and hands `opens` the nodes that the program may have ended as. A further one stands here.
-KINDS = ((runs_a_script, 85), (joins, 15))
+# `hears` what that told durable, and hands `opens` the nodes that the program may have ended as. A further one is named here.
+KINDS = ((runs_a_script, 70), (joins, 15), (serves, 15))
 
 
 # ---- lives

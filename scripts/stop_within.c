@@ -14,6 +14,8 @@
  *   UNSYNCED=PATH    for each write the place and the size are put there, as two numbers of eight bytes of this machine, and the
  *                    bytes that stood there before (those past the file's end are zeros), before the file changes; a sync
  *                    empties it once it is made
+ *   CALLS=PATH       each call that is counted is put there before it is made: its place and size, in the same way, and the
+ *                    bytes that it is to write; for a sync the place is 2^64 - 1, and the size 0
  */
 #define _GNU_SOURCE
 #include <dlfcn.h>
@@ -28,11 +30,12 @@
 #include <unistd.h>
 
 enum { STOPPED_STATUS = 77, BROKEN_STATUS = 99, WHOLE = 1000 };
+static const uint64_t NO_PLACE = UINT64_MAX; /* of a sync */
 
 static ssize_t (*next_pwrite)(int, const void *, size_t, off_t);
 static int (*next_fdatasync)(int), (*next_fsync)(int);
 static unsigned long stop_at, stop_part, is_failing, short_calls, calls, asked;
-static int unsynced = -1, is_interrupted, rest_file;
+static int unsynced = -1, noted = -1, is_interrupted, rest_file;
 static off_t rest_at = -1; /* where the rest of a short write belongs */
 static pthread_mutex_t turn = PTHREAD_MUTEX_INITIALIZER; /* one call at a time, whatever threads there are */
 
@@ -42,7 +45,7 @@ static unsigned long number_of(const char *name) {
 }
 
 __attribute__((constructor)) static void begin(void) {
-    const char *path = getenv("UNSYNCED");
+    const char *path = getenv("UNSYNCED"), *notes = getenv("CALLS");
     next_pwrite = (ssize_t(*)(int, const void *, size_t, off_t))dlsym(RTLD_NEXT, "pwrite");
     next_fdatasync = (int (*)(int))dlsym(RTLD_NEXT, "fdatasync");
     next_fsync = (int (*)(int))dlsym(RTLD_NEXT, "fsync");
@@ -51,16 +54,22 @@ __attribute__((constructor)) static void begin(void) {
     is_failing = number_of("STOP_FAILS");
     short_calls = number_of("SHORT_CALLS");
     if (path && (unsynced = open(path, O_WRONLY | O_CREAT | O_APPEND | O_CLOEXEC, 0600)) < 0) _exit(BROKEN_STATUS);
+    if (notes && (noted = open(notes, O_WRONLY | O_CREAT | O_APPEND | O_CLOEXEC, 0600)) < 0) _exit(BROKEN_STATUS);
+}
+
+/* Puts so many bytes behind a file, and before them the place where they belong. */
+static void put(int to, uint64_t place, const void *bytes, size_t count) {
+    uint64_t head[2] = {place, count};
+    struct iovec parts[2] = {{head, sizeof head}, {(void *)bytes, count}};
+    if (writev(to, parts, 2) != (ssize_t)(sizeof head + count)) _exit(BROKEN_STATUS);
 }
 
 /* Keeps what stands where a write is to go. */
 static void keep(int file, size_t count, off_t at) {
     if (unsynced < 0) return;
-    uint64_t head[2] = {(uint64_t)at, count};
     char *old = calloc(1, count ? count : 1);
     if (!old || pread(file, old, count, at) < 0) _exit(BROKEN_STATUS);
-    struct iovec parts[2] = {{head, sizeof head}, {old, count}};
-    if (writev(unsynced, parts, 2) != (ssize_t)(sizeof head + count)) _exit(BROKEN_STATUS);
+    put(unsynced, (uint64_t)at, old, count);
     free(old);
 }
 
@@ -117,6 +126,7 @@ static ssize_t write_in_turn(int file, const void *bytes, size_t count, off_t at
     }
     is_interrupted = 0;
     rest_at = -1;
+    if (!is_rest && noted >= 0) put(noted, (uint64_t)at, bytes, count);
     if (!is_rest && ++calls == stop_at) return write_part(file, bytes, count, at);
     return write_some(file, bytes, count, at);
 }
@@ -135,6 +145,7 @@ static int sync_by(int (*sync)(int), int file) {
     int is_met, done = 0;
     pthread_mutex_lock(&turn);
     is_met = ++calls == stop_at;
+    if (noted >= 0) put(noted, NO_PLACE, "", 0);
     if (!is_met || stop_part >= WHOLE) {
         done = sync(file);
         if (done == 0 && unsynced >= 0 && ftruncate(unsynced, 0) != 0) _exit(BROKEN_STATUS);

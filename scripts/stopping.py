@@ -16,6 +16,8 @@ LIMIT = 60
 # Where the gates of both superblocks and that of the first cell are, how far one cell is from the next, and by which byte a gate is open.
 SUPERBLOCK_GATES, FIRST_CELL_GATE, CELL, OPEN = (3_584, 7_680), 61_952, 8_192, 0xA5
 HEAD = struct.Struct("=QQ")
+# Where stop_within.c puts a sync among the calls.
+NO_PLACE = (1 << 64) - 1
 
 
 class Stop:
@@ -39,23 +41,50 @@ class Ended:
             raise Wrong("it writes on standard error: %r" % told[:300])
 
 
+class Call:
+    """A call by which the file is changed or synced: of which kind it is, and of a write the place and the bytes."""
+
+    def __init__(self, place, data):
+        self.kind = "sync" if place == NO_PLACE else "write"
+        self.place, self.data = place, data
+
+    def __str__(self):
+        return "a sync" if self.kind == "sync" else "a write of %d bytes at %d" % (len(self.data), self.place)
+
+
+def pieces(path):
+    """What stop_within.c put into this file: places, each with bytes. The last may be cut, and is left out then."""
+    data, at, found = b"", 0, []
+    if os.path.exists(path):
+        with open(path, "rb") as file:
+            data = file.read()
+    while at + HEAD.size <= len(data):
+        place, size = HEAD.unpack_from(data, at)
+        at += HEAD.size + size
+        if at <= len(data):
+            found.append((place, data[at - size : at]))
+    return found
+
+
 class DiskFile:
     """The file of a disk, of this name in a folder, with what stood there before each write that was not synced."""
 
     def __init__(self, folder, name, library, short_calls=0):
         self.short_calls = short_calls
-        self.path, self.unsynced, self.told = (os.path.join(folder, name + end) for end in ("", ".unsynced", ".told"))
+        self.path, self.unsynced, self.told, self.noted = (os.path.join(folder, name + end) for end in ("", ".unsynced", ".told", ".calls"))
         self.library = library
 
     def environment(self, stop):
         return {
-            "LD_PRELOAD": self.library, "UNSYNCED": self.unsynced, "STOPPED": self.told, "STOP_AT": str(stop.call),
-            "STOP_PART": str(stop.part), "STOP_FAILS": str(int(stop.is_failing)), "SHORT_CALLS": str(self.short_calls),
+            "LD_PRELOAD": self.library, "UNSYNCED": self.unsynced, "STOPPED": self.told, "CALLS": self.noted,
+            "STOP_AT": str(stop.call), "STOP_PART": str(stop.part), "STOP_FAILS": str(int(stop.is_failing)),
+            "SHORT_CALLS": str(self.short_calls),
         }
 
     def begin(self, words, stop):
-        if os.path.exists(self.told):
-            os.remove(self.told)
+        for path in (self.told, self.noted):
+            if os.path.exists(path):
+                os.remove(path)
         pipes = {"stdin": subprocess.PIPE, "stdout": subprocess.PIPE, "stderr": subprocess.PIPE}
         return subprocess.Popen(words, env=self.environment(stop), **pipes)
 
@@ -96,19 +125,34 @@ class DiskFile:
             rest, told = started.communicate()
         return Ended(output + rest, told, started.returncode, None)
 
+    def run_upto(self, words, text, size):
+        """Runs the program on the whole of a text, and kills it once its calls are seen to take so many bytes, if it has not ended."""
+        started, until = self.begin(words, Stop()), time.monotonic() + LIMIT
+        try:
+            write_to(started, text)
+            started.stdin.close()
+            started.stdin = None
+            while started.poll() is None and self.noted_size() < size:
+                if time.monotonic() > until:
+                    raise Wrong("it does not end")
+                time.sleep(0.0001)
+        finally:
+            started.kill()
+            output, told = started.communicate()
+        return Ended(output, told, started.returncode, None)
+
+    def noted_size(self):
+        """How many bytes the calls take that stop_within.c has put down."""
+        return os.stat(self.noted).st_size if os.path.exists(self.noted) else 0
+
     def pending(self):
         """The writes that are not synced, in their order: each place, and the bytes that stood there. The last may be cut: its write
         had not begun."""
-        data, at, found = b"", 0, []
-        if os.path.exists(self.unsynced):
-            with open(self.unsynced, "rb") as file:
-                data = file.read()
-        while at + HEAD.size <= len(data):
-            place, size = HEAD.unpack_from(data, at)
-            at += HEAD.size + size
-            if at <= len(data):
-                found.append((place, data[at - size : at]))
-        return found
+        return pieces(self.unsynced)
+
+    def calls(self):
+        """The calls of the program that ran last, in their order. Where it was killed, the last may not have been made."""
+        return [Call(place, data) for place, data in pieces(self.noted)]
 
     def lose(self, loss, draws):
         """Makes a power failure of the program's end: of what was not synced nothing stays (`drop`), or junk (`junk`), or piece by
@@ -131,7 +175,7 @@ class DiskFile:
         return not self.pending()
 
     def remove(self):
-        for path in (self.path, self.unsynced, self.told):
+        for path in (self.path, self.unsynced, self.told, self.noted):
             if os.path.exists(path):
                 os.remove(path)
 
