@@ -2,26 +2,19 @@
 
 use super::paces::{AtOnce, Crossing, HoldsFirst, StopsAt, Writes};
 use super::replicas::{
-    Found, byte_for, durable_after_crash, formatted, found_at, is_whole, new_disk, putting_each,
-    served,
+    durable_after_crash, formatted, has_no_row, has_row, is_whole, new_disk, putting_each, served,
 };
 use rep_disk::{HeldDisk, MemDisk};
 use rep_node::{Batch, Point};
 use rep_replica::Replica;
 use rep_types::{Params, Refusal};
 use std::alloc::Global;
-use std::process::Abort;
 use std::sync::Wait;
 use std::test::Fail;
 use std::thread::Threads;
 
 /// A replica on a disk in memory, and what came of the batch that it was left by.
 type Came = (Replica<MemDisk>, Batch);
-
-/// Compares what stands under the row in the state after so many items, of which one put its byte there.
-fn has_row<R: Abort>(rt: &R, replica: &mut Replica<MemDisk>, row: u32, at: u64) {
-    assert!(rt; found_at(replica, row, at) == Found::Put(byte_for(row)));
-}
 
 /// Two workers hand in an item each. The one with the first seqno is held behind its verdict until the other has its own.
 fn while_one_is_held<R: Threads + Wait + Sync>(rt: &R, alloc: Global) -> Result<Came, Refusal> {
@@ -34,8 +27,7 @@ fn while_one_is_held<R: Threads + Wait + Sync>(rt: &R, alloc: Global) -> Result<
 fn two_certifies_while_one_is_held(rt: HostRuntime) -> Result<(), Fail> {
     let (mut replica, batch) = while_one_is_held(&rt, rt.alloc())?;
     assert!(rt; is_whole(&replica, &batch, 2, 0));
-    has_row(&rt, &mut replica, 0, 2);
-    has_row(&rt, &mut replica, 1, 2);
+    assert!(rt; has_row(&mut replica, 0, 2) && has_row(&mut replica, 1, 2));
     assert!(rt; durable_after_crash(rt.alloc(), replica.into_disk()) == Ok(2));
     Ok(())
 }
@@ -112,7 +104,6 @@ fn a_full_log_is_freed_beside(rt: HostRuntime) -> Result<(), Fail> {
     assert!(rt; is_whole(&replica, &batch, 5, 35));
     assert!(rt; replica.base() > 0);
     // Over a window of 4 the first five commit, and the others had seen too little.
-    has_row(&rt, &mut replica, 4, 40);
-    assert!(rt; found_at(&mut replica, 5, 40) == Found::Nothing);
+    assert!(rt; has_row(&mut replica, 4, 40) && has_no_row(&mut replica, 5, 40));
     Ok(())
 }
