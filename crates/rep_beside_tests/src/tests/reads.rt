@@ -117,17 +117,22 @@ fn is_closed<R: Abort>(rt: &R, reader: NodeReader) {
     assert!(rt; front == 3);
 }
 
+/// Peeks at each stage of a node: started, behind three items, behind a checkpoint, and closed.
+fn peeks_in_turn<R: Threads + Wait + Sync + Abort>(rt: &R, alloc: Global) -> Result<(), Refusal> {
+    let node = new_node(rt, alloc, new_disk(alloc)?)?;
+    let node = peeks(rt, node, AT_FIRST);
+    let node = write_three(rt, alloc, node);
+    let node = peeks(rt, node, BEHIND_THREE);
+    let node = check(rt, node, 3);
+    let node = peeks(rt, node, BEHIND_A_CHECKPOINT);
+    let (_replica, reader) = node.close(rt);
+    is_closed(rt, reader);
+    Ok(())
+}
+
 #[test]
 fn a_reader_finds_what_is_published(rt: HostRuntime) -> Result<(), Fail> {
-    let node = new_node(&rt, rt.alloc(), new_disk(rt.alloc())?)?;
-    let node = peeks(&rt, node, AT_FIRST);
-    let node = write_three(&rt, rt.alloc(), node);
-    let node = peeks(&rt, node, BEHIND_THREE);
-    let node = check(&rt, node, 3);
-    let node = peeks(&rt, node, BEHIND_A_CHECKPOINT);
-    let (_replica, reader) = node.close(&rt);
-    is_closed(&rt, reader);
-    Ok(())
+    Ok(peeks_in_turn(&rt, rt.alloc())?)
 }
 
 /// What is read before a checkpoint: only the first row's state at the start is asked of the engine.
@@ -158,17 +163,22 @@ const HALTED: &[(Key, u64, Found)] = &[
     (OUTSIDE, 3, Found::Refused(Refusal::BadKey)),
 ];
 
-#[test]
-fn a_row_is_read_of_the_base_and_of_what_is_newer(rt: HostRuntime) -> Result<(), Fail> {
-    let node = new_node(&rt, rt.alloc(), new_disk(rt.alloc())?)?;
-    let node = write_three(&rt, rt.alloc(), node);
-    let node = reads(&rt, node, BEFORE_A_CHECKPOINT);
-    let node = check(&rt, node, 3);
-    let node = write(&rt, rt.alloc(), node, (3, ROW, Some(b'c')));
-    let node = keep(&rt, node, 4);
-    let node = reads(&rt, node, ON_A_BASE);
-    let node = reads(&rt, node.halt(), HALTED);
-    let (replica, _reader) = node.close(&rt);
+/// Reads before a checkpoint, behind it and a fourth item, and once the node was halted.
+fn reads_in_turn<R: Threads + Wait + Sync + Abort>(rt: &R, alloc: Global) -> Result<(), Refusal> {
+    let node = new_node(rt, alloc, new_disk(alloc)?)?;
+    let node = write_three(rt, alloc, node);
+    let node = reads(rt, node, BEFORE_A_CHECKPOINT);
+    let node = check(rt, node, 3);
+    let node = write(rt, alloc, node, (3, ROW, Some(b'c')));
+    let node = keep(rt, node, 4);
+    let node = reads(rt, node, ON_A_BASE);
+    let node = reads(rt, node.halt(), HALTED);
+    let (replica, _reader) = node.close(rt);
     assert!(rt; replica.is_stopped() && replica.durable() == 4 && replica.base() == 3);
     Ok(())
+}
+
+#[test]
+fn a_row_is_read_of_the_base_and_of_what_is_newer(rt: HostRuntime) -> Result<(), Fail> {
+    Ok(reads_in_turn(&rt, rt.alloc())?)
 }

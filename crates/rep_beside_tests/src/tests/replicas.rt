@@ -59,9 +59,11 @@ pub(crate) enum Found {
 
 /// That this value was found.
 pub(crate) fn put(value: &Value) -> Found {
-    match value.as_bytes() {
-        [byte] => Found::Put(*byte),
-        _ => Found::Others,
+    let bytes = value.as_bytes();
+    if bytes.len() == 1 {
+        Found::Put(bytes[0])
+    } else {
+        Found::Others
     }
 }
 

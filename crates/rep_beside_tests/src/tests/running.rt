@@ -57,9 +57,10 @@ fn verdict_of(batch: &Batch) -> Result<Verdict, Refusal> {
     if let Some(refusal) = batch.end {
         return Err(refusal);
     }
-    match batch.receipts.as_slice() {
-        [receipt] => Ok(receipt.verdict),
-        _ => Err(Refusal::NotDue),
+    if batch.receipts.len() == 1 {
+        Ok(batch.receipts[0].verdict)
+    } else {
+        Err(Refusal::NotDue)
     }
 }
 

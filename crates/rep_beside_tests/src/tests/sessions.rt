@@ -95,48 +95,64 @@ fn moves<R: Wait + Abort>(rt: &R, node: Node, session: &mut Session) -> Node {
     )
 }
 
-#[test]
-fn a_transaction_commits_and_the_next_finds_what_it_wrote(rt: HostRuntime) -> Result<(), Fail> {
-    let node = with_a_row(&rt, rt.alloc())?;
-    let (node, mut session) = node.begin(&rt);
-    let node = moves(&rt, node, &mut session);
-    let node = commit(&rt, rt.alloc(), node, &mut session, Verdict::Commit);
+/// A transaction moves a row, and the next one looks.
+fn moves_a_row<R: Threads + Wait + Sync + Abort>(rt: &R, alloc: Global) -> Result<(), Refusal> {
+    let node = with_a_row(rt, alloc)?;
+    let (node, mut session) = node.begin(rt);
+    let node = moves(rt, node, &mut session);
+    let node = commit(rt, alloc, node, &mut session, Verdict::Commit);
     let node = reader_finds(
-        &rt,
+        rt,
         node,
         &[(ROW, Found::Nothing), (OTHER, Found::Put(b'a'))],
     );
-    let (replica, _reader) = node.close(&rt);
+    let (replica, _reader) = node.close(rt);
     assert!(rt; !replica.is_stopped() && replica.durable() == 2);
     Ok(())
 }
 
 #[test]
-fn what_commits_behind_a_snapshot_is_not_seen_and_conflicts(rt: HostRuntime) -> Result<(), Fail> {
-    let node = with_a_row(&rt, rt.alloc())?;
-    let (node, mut session) = node.begin(&rt);
-    let node = write(&rt, rt.alloc(), node, (1, ROW, Some(b'b')));
-    let node = moves(&rt, node, &mut session);
-    let node = commit(&rt, rt.alloc(), node, &mut session, Verdict::Conflict(2));
+fn a_transaction_commits_and_the_next_finds_what_it_wrote(rt: HostRuntime) -> Result<(), Fail> {
+    Ok(moves_a_row(&rt, rt.alloc())?)
+}
+
+/// A transaction moves a row to which another item puts a byte meanwhile, and the next one looks.
+fn moves_a_row_that_changes<R: Threads + Wait + Sync + Abort>(
+    rt: &R,
+    alloc: Global,
+) -> Result<(), Refusal> {
+    let node = with_a_row(rt, alloc)?;
+    let (node, mut session) = node.begin(rt);
+    let node = write(rt, alloc, node, (1, ROW, Some(b'b')));
+    let node = moves(rt, node, &mut session);
+    let node = commit(rt, alloc, node, &mut session, Verdict::Conflict(2));
     let node = reader_finds(
-        &rt,
+        rt,
         node,
         &[(ROW, Found::Put(b'b')), (OTHER, Found::Nothing)],
     );
-    let (replica, _reader) = node.close(&rt);
+    let (replica, _reader) = node.close(rt);
     assert!(rt; !replica.is_stopped() && replica.durable() == 3);
     Ok(())
 }
 
 #[test]
-fn a_snapshot_below_the_base_is_not_read(rt: HostRuntime) -> Result<(), Fail> {
-    let node = with_a_row(&rt, rt.alloc())?;
-    let (node, mut session) = node.begin(&rt);
-    let node = write(&rt, rt.alloc(), node, (1, OTHER, Some(b'b')));
-    let node = check(&rt, node, 2);
+fn what_commits_behind_a_snapshot_is_not_seen_and_conflicts(rt: HostRuntime) -> Result<(), Fail> {
+    Ok(moves_a_row_that_changes(&rt, rt.alloc())?)
+}
+
+/// A checkpoint runs behind a transaction's snapshot.
+fn reads_below_the_base<R: Threads + Wait + Sync + Abort>(
+    rt: &R,
+    alloc: Global,
+) -> Result<(), Refusal> {
+    let node = with_a_row(rt, alloc)?;
+    let (node, mut session) = node.begin(rt);
+    let node = write(rt, alloc, node, (1, OTHER, Some(b'b')));
+    let node = check(rt, node, 2);
     let too_old = Found::Refused(Refusal::TooOld { oldest: 2 });
     let node = finds(
-        &rt,
+        rt,
         node,
         &mut session,
         &[
@@ -146,14 +162,19 @@ fn a_snapshot_below_the_base_is_not_read(rt: HostRuntime) -> Result<(), Fail> {
         ],
     );
     // What it wrote it still finds.
-    writes(&rt, &mut session, ROW, Some(b'c'));
-    let node = finds(&rt, node, &mut session, &[(ROW, Found::Put(b'c'))]);
+    writes(rt, &mut session, ROW, Some(b'c'));
+    let node = finds(rt, node, &mut session, &[(ROW, Found::Put(b'c'))]);
     let node = reader_finds(
-        &rt,
+        rt,
         node,
         &[(ROW, Found::Put(b'a')), (OTHER, Found::Put(b'b'))],
     );
-    let (replica, _reader) = node.close(&rt);
+    let (replica, _reader) = node.close(rt);
     assert!(rt; replica.base() == 2 && replica.durable() == 2);
     Ok(())
+}
+
+#[test]
+fn a_snapshot_below_the_base_is_not_read(rt: HostRuntime) -> Result<(), Fail> {
+    Ok(reads_below_the_base(&rt, rt.alloc())?)
 }

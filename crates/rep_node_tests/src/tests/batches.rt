@@ -9,6 +9,7 @@ use rep_node::{Batch, Point};
 use rep_replica::Replica;
 use rep_types::{Params, Refusal};
 use std::alloc::Global;
+use std::process::Abort;
 use std::sync::Wait;
 use std::test::Fail;
 use std::thread::Threads;
@@ -23,13 +24,21 @@ fn while_one_is_held<R: Threads + Wait + Sync>(rt: &R, alloc: Global) -> Result<
     served(rt, alloc, new_disk(alloc)?, items.as_slice(), 2, &pace)
 }
 
-#[test]
-fn two_certifies_while_one_is_held(rt: HostRuntime) -> Result<(), Fail> {
-    let (mut replica, batch) = while_one_is_held(&rt, rt.alloc())?;
+/// All of that is there, in the replica and behind a crash.
+fn certifies_while_one_is_held<R: Threads + Wait + Sync + Abort>(
+    rt: &R,
+    alloc: Global,
+) -> Result<(), Refusal> {
+    let (mut replica, batch) = while_one_is_held(rt, alloc)?;
     assert!(rt; is_whole(&replica, &batch, 2, 0));
     assert!(rt; has_row(&mut replica, 0, 2) && has_row(&mut replica, 1, 2));
-    assert!(rt; durable_after_crash(rt.alloc(), replica.into_disk()) == Ok(2));
+    assert!(rt; durable_after_crash(alloc, replica.into_disk()) == Ok(2));
     Ok(())
+}
+
+#[test]
+fn two_certifies_while_one_is_held(rt: HostRuntime) -> Result<(), Fail> {
+    Ok(certifies_while_one_is_held(&rt, rt.alloc())?)
 }
 
 /// Two workers hand in an item each. The second is held until the disk's first write has begun, and that write until the second was queued.
@@ -63,11 +72,19 @@ fn longer_than_the_window<R: Threads + Wait + Sync>(
     served(rt, alloc, disk, items.as_slice(), 4, &pace)
 }
 
-#[test]
-fn a_batch_is_longer_than_the_window(rt: HostRuntime) -> Result<(), Fail> {
-    let (replica, batch) = longer_than_the_window(&rt, rt.alloc())?;
+/// The first 257 of those commit, and the others had seen too little.
+fn exceeds_the_window<R: Threads + Wait + Sync + Abort>(
+    rt: &R,
+    alloc: Global,
+) -> Result<(), Refusal> {
+    let (replica, batch) = longer_than_the_window(rt, alloc)?;
     assert!(rt; is_whole(&replica, &batch, 257, 43));
     Ok(())
+}
+
+#[test]
+fn a_batch_is_longer_than_the_window(rt: HostRuntime) -> Result<(), Fail> {
+    Ok(exceeds_the_window(&rt, rt.alloc())?)
 }
 
 /// Two items are handed in, the first of which may not go on from this point.
@@ -81,15 +98,23 @@ fn stopped_at<R: Threads + Wait + Sync>(
     served(rt, alloc, new_disk(alloc)?, items.as_slice(), 1, &pace)
 }
 
-#[test]
-fn a_pace_says_no(rt: HostRuntime) -> Result<(), Fail> {
+/// Neither item is told of, and the replica is stopped.
+fn stops_at_each_point<R: Threads + Wait + Sync + Abort>(
+    rt: &R,
+    alloc: Global,
+) -> Result<(), Refusal> {
     for point in [Point::Claimed, Point::Certified, Point::Queued] {
-        let (mut replica, batch) = stopped_at(&rt, rt.alloc(), point)?;
+        let (mut replica, batch) = stopped_at(rt, alloc, point)?;
         assert!(rt; batch.receipts.is_empty());
         assert!(rt; batch.end == Some(Refusal::Stopped));
         assert!(rt; replica.settle() == Err(Refusal::Stopped));
     }
     Ok(())
+}
+
+#[test]
+fn a_pace_says_no(rt: HostRuntime) -> Result<(), Fail> {
+    Ok(stops_at_each_point(&rt, rt.alloc())?)
 }
 
 /// More items are handed in than the four cells of the log have room for.
@@ -98,12 +123,20 @@ fn over_a_full_log<R: Threads + Wait + Sync>(rt: &R, alloc: Global) -> Result<Ca
     served(rt, alloc, new_disk(alloc)?, items.as_slice(), 1, &AtOnce)
 }
 
-#[test]
-fn a_full_log_is_freed_beside(rt: HostRuntime) -> Result<(), Fail> {
-    let (mut replica, batch) = over_a_full_log(&rt, rt.alloc())?;
+/// All of them are there, and checkpoints ran.
+fn frees_a_full_log<R: Threads + Wait + Sync + Abort>(
+    rt: &R,
+    alloc: Global,
+) -> Result<(), Refusal> {
+    let (mut replica, batch) = over_a_full_log(rt, alloc)?;
     assert!(rt; is_whole(&replica, &batch, 5, 35));
     assert!(rt; replica.base() > 0);
     // Over a window of 4 the first five commit, and the others had seen too little.
     assert!(rt; has_row(&mut replica, 4, 40) && has_no_row(&mut replica, 5, 40));
     Ok(())
+}
+
+#[test]
+fn a_full_log_is_freed_beside(rt: HostRuntime) -> Result<(), Fail> {
+    Ok(frees_a_full_log(&rt, rt.alloc())?)
 }
