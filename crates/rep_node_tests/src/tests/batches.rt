@@ -2,8 +2,7 @@
 
 use super::paces::{AtOnce, Crossing, HoldsFirst, StopsAt, Writes};
 use super::replicas::{
-    Found, byte_for, durable_after_crash, formatted, found_at, is_whole, new_disk, putting_each,
-    served,
+    durable_after_crash, formatted, has_no_row, has_row, is_whole, new_disk, putting_each, served,
 };
 use rep_disk::{HeldDisk, MemDisk};
 use rep_node::{Batch, Point};
@@ -18,11 +17,6 @@ use std::thread::Threads;
 /// A replica on a disk in memory, and what came of the batch that it was left by.
 type Came = (Replica<MemDisk>, Batch);
 
-/// Compares what stands under the row in the state after so many items, of which one put its byte there.
-fn has_row<R: Abort>(rt: &R, replica: &mut Replica<MemDisk>, row: u32, at: u64) {
-    assert!(rt; found_at(replica, row, at) == Found::Put(byte_for(row)));
-}
-
 /// Two workers hand in an item each. The one with the first seqno is held behind its verdict until the other has its own.
 fn while_one_is_held<R: Threads + Wait + Sync>(rt: &R, alloc: Global) -> Result<Came, Refusal> {
     let items = putting_each(alloc, 2)?;
@@ -30,14 +24,21 @@ fn while_one_is_held<R: Threads + Wait + Sync>(rt: &R, alloc: Global) -> Result<
     served(rt, alloc, new_disk(alloc)?, items.as_slice(), 2, &pace)
 }
 
+/// All of that is there, in the replica and behind a crash.
+fn certifies_while_one_is_held<R: Threads + Wait + Sync + Abort>(
+    rt: &R,
+    alloc: Global,
+) -> Result<(), Refusal> {
+    let (mut replica, batch) = while_one_is_held(rt, alloc)?;
+    assert!(rt; is_whole(&replica, &batch, 2, 0));
+    assert!(rt; has_row(&mut replica, 0, 2) && has_row(&mut replica, 1, 2));
+    assert!(rt; durable_after_crash(alloc, replica.into_disk()) == Ok(2));
+    Ok(())
+}
+
 #[test]
 fn two_certifies_while_one_is_held(rt: HostRuntime) -> Result<(), Fail> {
-    let (mut replica, batch) = while_one_is_held(&rt, rt.alloc())?;
-    assert!(rt; is_whole(&replica, &batch, 2, 0));
-    has_row(&rt, &mut replica, 0, 2);
-    has_row(&rt, &mut replica, 1, 2);
-    assert!(rt; durable_after_crash(rt.alloc(), replica.into_disk()) == Ok(2));
-    Ok(())
+    Ok(certifies_while_one_is_held(&rt, rt.alloc())?)
 }
 
 /// Two workers hand in an item each. The second is held until the disk's first write has begun, and that write until the second was queued.
@@ -71,11 +72,19 @@ fn longer_than_the_window<R: Threads + Wait + Sync>(
     served(rt, alloc, disk, items.as_slice(), 4, &pace)
 }
 
-#[test]
-fn a_batch_is_longer_than_the_window(rt: HostRuntime) -> Result<(), Fail> {
-    let (replica, batch) = longer_than_the_window(&rt, rt.alloc())?;
+/// The first 257 of those commit, and the others had seen too little.
+fn exceeds_the_window<R: Threads + Wait + Sync + Abort>(
+    rt: &R,
+    alloc: Global,
+) -> Result<(), Refusal> {
+    let (replica, batch) = longer_than_the_window(rt, alloc)?;
     assert!(rt; is_whole(&replica, &batch, 257, 43));
     Ok(())
+}
+
+#[test]
+fn a_batch_is_longer_than_the_window(rt: HostRuntime) -> Result<(), Fail> {
+    Ok(exceeds_the_window(&rt, rt.alloc())?)
 }
 
 /// Two items are handed in, the first of which may not go on from this point.
@@ -89,15 +98,23 @@ fn stopped_at<R: Threads + Wait + Sync>(
     served(rt, alloc, new_disk(alloc)?, items.as_slice(), 1, &pace)
 }
 
-#[test]
-fn a_pace_says_no(rt: HostRuntime) -> Result<(), Fail> {
+/// Neither item is told of, and the replica is stopped.
+fn stops_at_each_point<R: Threads + Wait + Sync + Abort>(
+    rt: &R,
+    alloc: Global,
+) -> Result<(), Refusal> {
     for point in [Point::Claimed, Point::Certified, Point::Queued] {
-        let (mut replica, batch) = stopped_at(&rt, rt.alloc(), point)?;
+        let (mut replica, batch) = stopped_at(rt, alloc, point)?;
         assert!(rt; batch.receipts.is_empty());
         assert!(rt; batch.end == Some(Refusal::Stopped));
         assert!(rt; replica.settle() == Err(Refusal::Stopped));
     }
     Ok(())
+}
+
+#[test]
+fn a_pace_says_no(rt: HostRuntime) -> Result<(), Fail> {
+    Ok(stops_at_each_point(&rt, rt.alloc())?)
 }
 
 /// More items are handed in than the four cells of the log have room for.
@@ -106,13 +123,20 @@ fn over_a_full_log<R: Threads + Wait + Sync>(rt: &R, alloc: Global) -> Result<Ca
     served(rt, alloc, new_disk(alloc)?, items.as_slice(), 1, &AtOnce)
 }
 
-#[test]
-fn a_full_log_is_freed_beside(rt: HostRuntime) -> Result<(), Fail> {
-    let (mut replica, batch) = over_a_full_log(&rt, rt.alloc())?;
+/// All of them are there, and checkpoints ran.
+fn frees_a_full_log<R: Threads + Wait + Sync + Abort>(
+    rt: &R,
+    alloc: Global,
+) -> Result<(), Refusal> {
+    let (mut replica, batch) = over_a_full_log(rt, alloc)?;
     assert!(rt; is_whole(&replica, &batch, 5, 35));
     assert!(rt; replica.base() > 0);
     // Over a window of 4 the first five commit, and the others had seen too little.
-    has_row(&rt, &mut replica, 4, 40);
-    assert!(rt; found_at(&mut replica, 5, 40) == Found::Nothing);
+    assert!(rt; has_row(&mut replica, 4, 40) && has_no_row(&mut replica, 5, 40));
     Ok(())
+}
+
+#[test]
+fn a_full_log_is_freed_beside(rt: HostRuntime) -> Result<(), Fail> {
+    Ok(frees_a_full_log(&rt, rt.alloc())?)
 }

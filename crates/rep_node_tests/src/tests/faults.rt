@@ -6,6 +6,7 @@ use rep_disk::{FaultOnce, FuseDisk, MemDisk};
 use rep_node::Batch;
 use rep_types::Refusal;
 use std::alloc::Global;
+use std::process::Abort;
 use std::sync::Wait;
 use std::test::Fail;
 use std::thread::Threads;
@@ -19,7 +20,7 @@ enum Ending {
     Early,
     /// All of it is there.
     Whole,
-    /// It ended otherwise than stopped, something that it told of is gone, or there is more than was handed in.
+    /// It was refused otherwise, it ended otherwise than stopped, something that it told of is gone, or there is more than was handed in.
     Wrong,
 }
 
@@ -54,7 +55,8 @@ fn fails_once<R: Threads + Wait + Sync>(
     let disk = FaultOnce::new(new_disk(alloc)?, call);
     match served(rt, alloc, disk, items.as_slice(), 2, &AtOnce) {
         Ok((replica, batch)) => ended(alloc, &batch, replica.into_disk().into_inner()),
-        Err(_) => Ok(Ending::AtOpening),
+        Err(Refusal::DiskFault) => Ok(Ending::AtOpening),
+        Err(_) => Ok(Ending::Wrong),
     }
 }
 
@@ -68,7 +70,8 @@ fn fails_from<R: Threads + Wait + Sync>(
     let disk = FuseDisk::new(new_disk(alloc)?, calls);
     match served(rt, alloc, disk, items.as_slice(), 2, &AtOnce) {
         Ok((replica, batch)) => ended(alloc, &batch, replica.into_disk().into_inner()),
-        Err(_) => Ok(Ending::AtOpening),
+        Err(Refusal::DiskFault) => Ok(Ending::AtOpening),
+        Err(_) => Ok(Ending::Wrong),
     }
 }
 
@@ -100,11 +103,14 @@ impl Counts {
 /// More calls than such a batch and the opening before it make of the disk.
 const CALLS: u64 = 60;
 
-#[test]
-fn each_call_fails_once(rt: HostRuntime) -> Result<(), Fail> {
+/// A batch is served on a device of which each call fails in turn.
+fn fails_once_at_each<R: Threads + Wait + Sync + Abort>(
+    rt: &R,
+    alloc: Global,
+) -> Result<(), Refusal> {
     let mut counts = Counts { early: 0, whole: 0 };
     for call in 0..CALLS {
-        let ending = fails_once(&rt, rt.alloc(), call)?;
+        let ending = fails_once(rt, alloc, call)?;
         assert!(rt; ending != Ending::Wrong, "at call {call}");
         counts = counts.with(ending);
     }
@@ -113,13 +119,23 @@ fn each_call_fails_once(rt: HostRuntime) -> Result<(), Fail> {
 }
 
 #[test]
-fn each_call_and_all_behind_it_fail(rt: HostRuntime) -> Result<(), Fail> {
+fn each_call_fails_once(rt: HostRuntime) -> Result<(), Fail> {
+    Ok(fails_once_at_each(&rt, rt.alloc())?)
+}
+
+/// A batch is served on a device that fails behind each number of calls.
+fn fails_from_each<R: Threads + Wait + Sync + Abort>(rt: &R, alloc: Global) -> Result<(), Refusal> {
     let mut counts = Counts { early: 0, whole: 0 };
     for calls in 0..CALLS {
-        let ending = fails_from(&rt, rt.alloc(), calls)?;
+        let ending = fails_from(rt, alloc, calls)?;
         assert!(rt; ending != Ending::Wrong, "behind {calls} calls");
         counts = counts.with(ending);
     }
     assert!(rt; counts.early > 3 && counts.whole > 3);
     Ok(())
+}
+
+#[test]
+fn each_call_and_all_behind_it_fail(rt: HostRuntime) -> Result<(), Fail> {
+    Ok(fails_from_each(&rt, rt.alloc())?)
 }

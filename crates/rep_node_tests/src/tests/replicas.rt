@@ -12,13 +12,6 @@ use std::sync::Wait;
 use std::thread::Threads;
 use uuid::Uuid;
 
-/// Two rows, and one that the small schema does not have.
-pub(crate) const ROW: Key = Key { table: 0, row: 1 };
-
-pub(crate) const OTHER: Key = Key { table: 0, row: 2 };
-
-pub(crate) const OUTSIDE: Key = Key { table: 0, row: 126 };
-
 /// A formatted disk in memory with these parameters.
 pub(crate) fn formatted(alloc: Global, params: &Params) -> Result<MemDisk, Refusal> {
     let disk = MemDisk::new(alloc, need(params) as usize)?;
@@ -48,30 +41,27 @@ pub(crate) fn durable_after_crash(alloc: Global, disk: MemDisk) -> Result<u64, R
     Ok(replica.durable())
 }
 
-/// A write that puts one byte under the row, or deletes it.
-fn write_of(key: Key, byte: Option<u8>) -> Write {
-    let value = match byte {
-        Some(byte) => Value::new(&[byte]).ok(),
-        None => None,
-    };
-    Write { key, value }
+/// The byte that an item puts under a row of its own: `a` under the first, `b` under the second, and `c` under the others.
+fn byte_for(row: u32) -> u8 {
+    match row {
+        0 => b'a',
+        1 => b'b',
+        _ => b'c',
+    }
 }
 
-/// An item that had seen so many before it, and puts one byte under the row or deletes it.
-pub(crate) fn writing(last_seen: u64, key: Key, byte: Option<u8>) -> Result<WriteSet, Refusal> {
-    WriteSet::new(7, 1, last_seen, &[], &[write_of(key, byte)])
+/// An item that had seen nothing, and puts a byte under a row of its own of the first table.
+fn putting(row: u32) -> Result<WriteSet, Refusal> {
+    let key = Key { table: 0, row };
+    let value = Value::new(&[byte_for(row)]).ok();
+    WriteSet::new(7, u64::from(row), 0, &[], &[Write { key, value }])
 }
 
-/// The byte that an item puts under a row of its own: `a` under the first row, `b` under the second, and so on.
-pub(crate) fn byte_for(row: u32) -> u8 {
-    b'a'.saturating_add((row % 26) as u8)
-}
-
-/// So many items that had seen nothing, each of which puts a byte under a row of its own.
+/// So many such items.
 pub(crate) fn putting_each(alloc: Global, count: u32) -> Result<Vec<WriteSet>, Refusal> {
     let mut items = Vec::new(alloc);
     for row in 0..count {
-        items.push(writing(0, Key { table: 0, row }, Some(byte_for(row)))?)?;
+        items.push(putting(row)?)?;
     }
     Ok(items)
 }
@@ -95,41 +85,20 @@ pub(crate) fn served<R: Threads + Wait + Sync, D: Disk + Drop + Send, P: Pace + 
     Ok(serve_batch(rt, alloc, replica, items, workers, pace))
 }
 
-/// What is found of a row.
-#[derive(Clone, Copy, PartialEq, Eq)]
-pub(crate) enum Found {
-    /// This byte alone stands there.
-    Put(u8),
-    /// Nothing stands there.
-    Nothing,
-    /// No write of the row is left in the published list.
-    Cold,
-    /// Bytes stand there that are not one.
-    Others,
-    /// It is not said, for this reason.
-    Refused(Refusal),
-}
-
-/// That this value was found.
-pub(crate) fn put(value: &Value) -> Found {
-    match value.as_bytes() {
-        [byte] => Found::Put(*byte),
-        _ => Found::Others,
+/// Whether in the state after so many items the byte stands under the row that its item put there.
+pub(crate) fn has_row<D: Disk>(replica: &mut Replica<D>, row: u32, at: u64) -> bool {
+    match replica.read(Key { table: 0, row }, at) {
+        Ok(Some(value)) => value.as_bytes() == [byte_for(row)].as_slice(),
+        Ok(None) | Err(_) => false,
     }
 }
 
-/// What a read found.
-pub(crate) fn found_by_read(row: Result<Option<Value>, Refusal>) -> Found {
-    match row {
-        Ok(Some(value)) => put(&value),
-        Ok(None) => Found::Nothing,
-        Err(refusal) => Found::Refused(refusal),
+/// Whether in the state after so many items nothing stands under the row.
+pub(crate) fn has_no_row<D: Disk>(replica: &mut Replica<D>, row: u32, at: u64) -> bool {
+    match replica.read(Key { table: 0, row }, at) {
+        Ok(row) => row.is_none(),
+        Err(_) => false,
     }
-}
-
-/// What stands under a row of the first table in the state after so many items.
-pub(crate) fn found_at<D: Disk>(replica: &mut Replica<D>, row: u32, at: u64) -> Found {
-    found_by_read(replica.read(Key { table: 0, row }, at))
 }
 
 /// Whether the receipts are of so many items that committed and, behind them, of so many that were stale, one after another from the first

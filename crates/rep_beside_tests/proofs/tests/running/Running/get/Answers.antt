@@ -5,9 +5,9 @@ use Rattle.rep_ordered.specs.Seats.{Place}
 use Rattle.rep_node.specs.declared.home.Home.{Home}
 use Rattle.rep_node.specs.Reading.{IsReaderOf}
 use Rattle.rep_node.specs.Rows.{Beside}
-use Rattle.rep_node_tests.specs.Running.{Runs}
-use Rattle.rep_node_tests.proofs.Running.{gets, same_seat}
-use Rattle.rep_node_tests.proofs.tests.running.Running.get.Goals as goal
+use Rattle.rep_beside_tests.specs.Running.{Runs}
+use Rattle.rep_beside_tests.proofs.Running.{gets, same_seat}
+use Rattle.rep_beside_tests.proofs.tests.running.Running.get.Goals as goal
 
 pub invariant_of-result : goal.invariant_of-result
 invariant_of-result g c =

@@ -1,10 +1,9 @@
 //! A node with one seat and one reader, as a test of one thread sees it: each call of it stands here once, in a function that promises
 //! nothing, so that no test has to be proved beside its contract.
 
-use super::paces::AtOnce;
 use super::replicas::{Found, found_by_read, put};
 use rep_disk::Disk;
-use rep_node::{Batch, Node, NodeReader, NodeRows, Seat};
+use rep_node::{Batch, Node, NodeReader, NodeRows, Pace, Point, Seat};
 use rep_replica::Replica;
 use rep_session::Session;
 use rep_snap::Peek;
@@ -23,7 +22,7 @@ pub(crate) struct Running<D: Disk> {
 
 impl<D: Disk> Model for Running<D> {
     ghost use Rattle.atomic_table.specs.Seated.{TableId, table_id_coded};
-    ghost use Rattle.rep_node_tests.specs.Running.{Runs};
+    ghost use Rattle.rep_beside_tests.specs.Running.{Runs};
 
     ghost Value = { TableId };
 
@@ -32,6 +31,15 @@ impl<D: Disk> Model for Running<D> {
     ghost view = { λ r. r.node };
 
     ghost invariant = { λ r. Runs r.node r.seat r.reader };
+}
+
+/// All go on at once.
+struct AtOnce;
+
+impl Pace for AtOnce {
+    fn at(&self, _point: Point, _seqno: u64) -> bool {
+        true
+    }
 }
 
 /// What a peek found.
@@ -49,9 +57,10 @@ fn verdict_of(batch: &Batch) -> Result<Verdict, Refusal> {
     if let Some(refusal) = batch.end {
         return Err(refusal);
     }
-    match batch.receipts.as_slice() {
-        [receipt] => Ok(receipt.verdict),
-        _ => Err(Refusal::NotDue),
+    if batch.receipts.len() == 1 {
+        Ok(batch.receipts[0].verdict)
+    } else {
+        Err(Refusal::NotDue)
     }
 }
 
@@ -108,13 +117,6 @@ impl<D: Disk> Running<D> {
             Err(refusal) => Err(refusal),
         };
         (Running { node, seat, reader }, done)
-    }
-
-    /// The front that the reader finds.
-    pub(crate) fn front(self) -> (Running<D>, u64) {
-        let Running { node, seat, reader } = self;
-        let (reader, front) = reader.front();
-        (Running { node, seat, reader }, front)
     }
 
     /// What the reader finds of the row.

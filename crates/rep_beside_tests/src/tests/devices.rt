@@ -54,13 +54,13 @@ fn is_answered((first, second, is_stopped): Twice) -> bool {
 /// More calls than the opening and the reads make.
 const CALLS: u64 = 40;
 
-#[test]
-fn a_device_that_fails_in_a_read_halts_the_node(rt: HostRuntime) -> Result<(), Fail> {
-    let disk = based(&rt, rt.alloc())?;
+/// Reads a row of the base twice, on a device that fails behind each number of calls.
+fn fails_in_a_read<R: Threads + Wait + Sync + Abort>(rt: &R, alloc: Global) -> Result<(), Refusal> {
+    let disk = based(rt, alloc)?;
     let mut halting: u64 = 0;
     for calls in 0..CALLS {
-        let copy = MemDisk::from_bytes(rt.alloc(), disk.bytes())?;
-        if let Some(twice) = reads_twice(&rt, rt.alloc(), FuseDisk::new(copy, calls))? {
+        let copy = MemDisk::from_bytes(alloc, disk.bytes())?;
+        if let Some(twice) = reads_twice(rt, alloc, FuseDisk::new(copy, calls))? {
             assert!(rt;
                 is_halting(twice) || is_answered(twice),
                 "behind {calls} calls"
@@ -71,4 +71,9 @@ fn a_device_that_fails_in_a_read_halts_the_node(rt: HostRuntime) -> Result<(), F
     // The page is asked for in one call.
     assert!(rt; halting == 1);
     Ok(())
+}
+
+#[test]
+fn a_device_that_fails_in_a_read_halts_the_node(rt: HostRuntime) -> Result<(), Fail> {
+    Ok(fails_in_a_read(&rt, rt.alloc())?)
 }

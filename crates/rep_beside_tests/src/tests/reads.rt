@@ -117,17 +117,27 @@ fn is_closed<R: Abort>(rt: &R, reader: NodeReader) {
     assert!(rt; front == 3);
 }
 
+/// Peeks behind three items, and behind a checkpoint.
+fn peeks_behind_three<R: Threads + Wait + Sync + Abort>(rt: &R, alloc: Global, node: Node) -> Node {
+    let node = write_three(rt, alloc, node);
+    let node = peeks(rt, node, BEHIND_THREE);
+    let node = check(rt, node, 3);
+    peeks(rt, node, BEHIND_A_CHECKPOINT)
+}
+
+/// Peeks at each stage of a node, from its start until it is closed.
+fn peeks_in_turn<R: Threads + Wait + Sync + Abort>(rt: &R, alloc: Global) -> Result<(), Refusal> {
+    let node = new_node(rt, alloc, new_disk(alloc)?)?;
+    let node = peeks(rt, node, AT_FIRST);
+    let node = peeks_behind_three(rt, alloc, node);
+    let (_replica, reader) = node.close(rt);
+    is_closed(rt, reader);
+    Ok(())
+}
+
 #[test]
 fn a_reader_finds_what_is_published(rt: HostRuntime) -> Result<(), Fail> {
-    let node = new_node(&rt, rt.alloc(), new_disk(rt.alloc())?)?;
-    let node = peeks(&rt, node, AT_FIRST);
-    let node = write_three(&rt, rt.alloc(), node);
-    let node = peeks(&rt, node, BEHIND_THREE);
-    let node = check(&rt, node, 3);
-    let node = peeks(&rt, node, BEHIND_A_CHECKPOINT);
-    let (_replica, reader) = node.close(&rt);
-    is_closed(&rt, reader);
-    Ok(())
+    Ok(peeks_in_turn(&rt, rt.alloc())?)
 }
 
 /// What is read before a checkpoint: only the first row's state at the start is asked of the engine.
@@ -158,17 +168,38 @@ const HALTED: &[(Key, u64, Found)] = &[
     (OUTSIDE, 3, Found::Refused(Refusal::BadKey)),
 ];
 
+/// Closes the node, and compares what is durable, where the base stands, and whether it was halted.
+pub(crate) fn closes<R: Wait + Abort>(rt: &R, node: Node, durable: u64, base: u64, halted: bool) {
+    let (replica, _reader) = node.close(rt);
+    assert!(rt; replica.durable() == durable && replica.base() == base);
+    assert!(rt; replica.is_stopped() == halted);
+}
+
+/// Reads behind three items, and runs a checkpoint.
+fn reads_behind_three<R: Threads + Wait + Sync + Abort>(rt: &R, alloc: Global, node: Node) -> Node {
+    let node = write_three(rt, alloc, node);
+    let node = reads(rt, node, BEFORE_A_CHECKPOINT);
+    check(rt, node, 3)
+}
+
+/// Reads behind a fourth item, and once the node was halted.
+fn reads_behind_four<R: Threads + Wait + Sync + Abort>(rt: &R, alloc: Global, node: Node) -> Node {
+    let node = write(rt, alloc, node, (3, ROW, Some(b'c')));
+    let node = keep(rt, node, 4);
+    let node = reads(rt, node, ON_A_BASE);
+    reads(rt, node.halt(), HALTED)
+}
+
+/// Reads at each stage of a node, from its start until it is closed.
+fn reads_in_turn<R: Threads + Wait + Sync + Abort>(rt: &R, alloc: Global) -> Result<(), Refusal> {
+    let node = new_node(rt, alloc, new_disk(alloc)?)?;
+    let node = reads_behind_three(rt, alloc, node);
+    let node = reads_behind_four(rt, alloc, node);
+    closes(rt, node, 4, 3, true);
+    Ok(())
+}
+
 #[test]
 fn a_row_is_read_of_the_base_and_of_what_is_newer(rt: HostRuntime) -> Result<(), Fail> {
-    let node = new_node(&rt, rt.alloc(), new_disk(rt.alloc())?)?;
-    let node = write_three(&rt, rt.alloc(), node);
-    let node = reads(&rt, node, BEFORE_A_CHECKPOINT);
-    let node = check(&rt, node, 3);
-    let node = write(&rt, rt.alloc(), node, (3, ROW, Some(b'c')));
-    let node = keep(&rt, node, 4);
-    let node = reads(&rt, node, ON_A_BASE);
-    let node = reads(&rt, node.halt(), HALTED);
-    let (replica, _reader) = node.close(&rt);
-    assert!(rt; replica.is_stopped() && replica.durable() == 4 && replica.base() == 3);
-    Ok(())
+    Ok(reads_in_turn(&rt, rt.alloc())?)
 }

@@ -26,7 +26,7 @@ use Rattle.rep_node.specs.Homes.{Start, common_in, durable_in, position_of, valu
 use Rattle.rep_node.specs.Reading.{IsReaderOf}
 use Rattle.rep_node.specs.Rows.{Beside, ReadsBeside}
 use Rattle.rep_node.specs.Seats.{PassedOrStopped, WentIdle}
-use Rattle.rep_node_tests.specs.Running.{Runs}
+use Rattle.rep_beside_tests.specs.Running.{Runs}
 
 -- ---- a node was started with one thing
 

@@ -1,6 +1,6 @@
-use Rattle.rep_node_tests.proofs.Running.{learns, learns_nothing}
-use Rattle.rep_node_tests.proofs.tests.running.Running.keep.Goals as goal
-use Rattle.rep_node_tests.proofs.tests.running.Running.keep.Goals.{in-Ok, in-Err}
+use Rattle.rep_beside_tests.proofs.Running.{learns, learns_nothing}
+use Rattle.rep_beside_tests.proofs.tests.running.Running.keep.Goals as goal
+use Rattle.rep_beside_tests.proofs.tests.running.Running.keep.Goals.{in-Ok, in-Err}
 
 pub invariant_of-result : goal.invariant_of-result
 invariant_of-result g c = elim c.match-keep.branch [
