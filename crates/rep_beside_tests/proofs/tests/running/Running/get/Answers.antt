@@ -1,4 +1,4 @@
-use Rattle.std.proofs.Common.{ap, sym, subst, ◌∙◌}
+use Rattle.std.proofs.Common.{sym, subst}
 use Rattle.rep_types.specs.declared.judged.Judged.{Judged}
 use Rattle.rep_session.specs.Sessions.{known}
 use Rattle.rep_ordered.specs.Seats.{Place}
