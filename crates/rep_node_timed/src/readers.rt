@@ -5,7 +5,7 @@ use rep_node::NodeReader;
 use std::alloc::{AllocError, Global};
 use std::sync::Arc;
 use std::sync::atomic::{AtomicBool, Ordering};
-use std::thread::{JoinHandle, Threads, spawn};
+use std::thread::{JoinHandle, Threads, spawn, yield_now};
 
 /// How often a reader looks rows up before it asks for the front again.
 const LOOKS: u64 = 64;
@@ -92,6 +92,7 @@ fn watch(reader: NodeReader, over: &Over) -> Tally {
         if over.is_told() {
             break;
         }
+        yield_now();
     }
     tally
 }
