@@ -30,7 +30,7 @@ use Rattle.rep_transfer.specs.Taking.{counted, TakesOne}
 use Rattle.rep_transfer.specs.Transfers.{Snapshot, Transfer, front_of, rest_of, snapshot_bytes, record_part, end_bytes, PartFits, part_bytes}
 use Rattle.rep_catchup.specs.Snapshots.{Brought, IsSnapshot, Took, state_of}
 use Rattle.rep_catchup.specs.Growing.{Grown}
-use Rattle.rep_catchup.specs.Joining.{Follows, Followed, FollowedFrom, MayCome, TakesAll, TakesHeader, EndsAt, Joined, Went, end_part}
+use Rattle.rep_catchup.specs.Joining.{Follows, Followed, FollowedFrom, MayCome, TakesAll, TakesHeader, EndsAt, Joined, Went, end_part, TookTransfer}
 use Rattle.rep_catchup.proofs.JoinGrowing.{grown_none, grown_then}
 use Rattle.rep_catchup.proofs.JoinTaking.{took_none, took_then, took_piece}
 use Rattle.rep_catchup.proofs.JoinWent.{stands_is, starts_there, went_records, went_snapshot, went_behind}
@@ -44,6 +44,22 @@ all_both P (x ∷ xs) ys h k = (h.0, all_both P xs ys h.1 k)
 pub flat_both : (xs ys : List Judged) → flat_map record_part (xs ++ ys) ≡ flat_map record_part xs ++ flat_map record_part ys
 flat_both [] ys = refl
 flat_both (x ∷ xs) ys = ap (λ (bs : List ℕ). record_part x ++ bs) (flat_both xs ys) ∙ sym (append_assoc (record_part x) (flat_map record_part xs) (flat_map record_part ys))
+
+-- ---- a quiet replica
+
+both_true : (a b : Bool) → (a && b) ≡ true → a ≡ true
+both_true true b is = refl
+both_true false b is = is
+
+nothing : (xs : List Judged) → length xs ≡ 0 → xs ≡ []
+nothing [] none = refl
+nothing (x ∷ xs) none = absurd (omega (arith, none))
+
+quiet_by : (xs : List Judged) (b : Bool) → ((length xs == 0) && b) ≡ true → xs ≡ []
+quiet_by xs b is = let none : (length xs == 0) ≡ true = both_true (length xs == 0) b is in nothing xs (grind (arith, nat_tests, none))
+
+pub none_ahead : (s : Standing) → is_quiet s ≡ true → s.ahead ≡ []
+none_ahead s quiet = quiet_by s.ahead (is_off s.stage) quiet
 
 module _ {D : Type 0} (honest : D → Type 0) (history : D → History) (failures : D → ℕ) where
   pub took_record : (old new : Replica D) (j : Judged) → IsRecord j → Grown honest history failures old new (j ∷ []) → Follows honest history failures old new None (record_part j)
@@ -61,7 +77,13 @@ module _ {D : Type 0} (honest : D → Type 0) (history : D → History) (failure
     are_records = tt;
     spelled = refl;
     grown = grown;
-    ends = record { quiet = quiet; limit = limit; last_is = λ n holds. omega (arith, is) };
+    ends = record {
+      quiet = quiet;
+      limit = limit;
+      last_is = λ n holds. omega (arith, is);
+      least = omega (arith, is);
+      durable = (let none : length (facts_of failures new).ahead ≡ 0 = ap length (none_ahead (facts_of failures new) quiet) in omega (arith, is, none, grown.count));
+    };
   }
 
   module _ (by_items : HistoryByItems) (joined : RunsAreJoined honest history failures) where
@@ -76,6 +98,8 @@ module _ {D : Type 0} (honest : D → Type 0) (history : D → History) (failure
           let here : delivered n.facts ≡ delivered (facts_of failures a) = ap delivered holds.facts in
           let next : delivered one.0.facts ≡ delivered (facts_of failures b) = ap delivered one.2.facts in
           omega (arith, there, here, next, one.1.count, length-append xs ys);
+      least = omega (arith, grown.count, e.least, length-append xs ys);
+      durable = e.durable;
     }
 
     pub follows_then : (a b c : Replica D) (ended : Option ℕ) (one two : List ℕ) → Follows honest history failures a b None one → Follows honest history failures b c ended two → Follows honest history failures a c ended (one ++ two)
@@ -127,6 +151,7 @@ module _ {D : Type 0} (honest : D → Type 0) (history : D → History) (failure
           setting = h.grown.setting;
           quiet = h.ends.quiet;
           limit = h.ends.limit;
+          durable = h.ends.durable;
           node = λ n holds.
               let one = h.grown.node n holds in
               let here : delivered n.facts ≡ delivered (facts_of failures old) = ap delivered holds.facts in
@@ -155,6 +180,7 @@ module _ {D : Type 0} (honest : D → Type 0) (history : D → History) (failure
             setting = h.grown.setting ∙ b.setting;
             quiet = h.ends.quiet;
             limit = h.ends.limit;
+            durable = h.ends.durable;
             node = λ n holds.
                 let at = b.node n holds in
                 let m = at.node in
@@ -188,6 +214,7 @@ module _ {D : Type 0} (honest : D → Type 0) (history : D → History) (failure
       setting = t.setting;
       quiet = t.quiet;
       limit = t.limit;
+      durable = t.durable;
       node = t.node;
       went = t.went;
     }
@@ -224,20 +251,6 @@ module _ {D : Type 0} (honest : D → Type 0) (history : D → History) (failure
       all_taken honest history failures old new uuid last hand before mid left first (takes_records honest history failures old new uuid last hand mid left cluster defined rest)
 
 -- ---- a whole transfer
-
-both_true : (a b : Bool) → (a && b) ≡ true → a ≡ true
-both_true true b is = refl
-both_true false b is = is
-
-nothing : (xs : List Judged) → length xs ≡ 0 → xs ≡ []
-nothing [] none = refl
-nothing (x ∷ xs) none = absurd (omega (arith, none))
-
-quiet_by : (xs : List Judged) (b : Bool) → ((length xs == 0) && b) ≡ true → xs ≡ []
-quiet_by xs b is = let none : (length xs == 0) ≡ true = both_true (length xs == 0) b is in nothing xs (grind (arith, nat_tests, none))
-
-pub none_ahead : (s : Standing) → is_quiet s ≡ true → s.ahead ≡ []
-none_ahead s quiet = quiet_by s.ahead (is_off s.stage) quiet
 
 module _ {D : Type 0} (honest : D → Type 0) (history : D → History) (failures : D → ℕ) (old mid new : Replica D) (uuid : List ℕ) (last : ℕ) (settled : Grown honest history failures old mid []) where
   may_come : (n : Node) (snapshot : Option Snapshot) → Holds honest history failures n old → MayCome (facts_of failures mid) snapshot → MatchOption snapshot (IsNil n.facts.uuid → ⊥) (λ s. IsSnapshot n.facts.setting s × ((delivered n.facts < s.position) ⊎ IsNil n.facts.uuid))
@@ -305,3 +318,49 @@ module _ {D : Type 0} (honest : D → Type 0) (history : D → History) (failure
   joined_on n None before left result settled holds header all = tt
   joined_on n (Some bytes) before left (Err e) settled holds header all = tt
   joined_on n (Some bytes) before left (Ok last) settled holds header all = joined honest history failures old mid new uuid last settled n (Some bytes) before left holds header all
+
+-- ---- the same on any device
+
+module _ {D : Type 0} (honest : D → Type 0) (history : D → History) (failures : D → ℕ) (old mid new : Replica D) (uuid : List ℕ) (settled : Grown honest history failures old mid []) where
+  came_at : (snapshot : Option Snapshot) → MayCome (facts_of failures mid) snapshot → MayCome (facts_of failures old) snapshot
+  came_at None comes = λ nil. comes (subst IsNil (sym settled.uuid) nil)
+  came_at (Some s) comes = (subst (λ (p : Setting). IsSnapshot p s) settled.setting comes.0, later comes.1)
+    where
+      later : (delivered (facts_of failures mid) < s.position) ⊎ IsNil (facts_of failures mid).uuid → (delivered (facts_of failures old) < s.position) ⊎ IsNil (facts_of failures old).uuid
+      later (inl below) = inl (omega (arith, settled.count, below))
+      later (inr nil) = inr (subst IsNil settled.uuid nil)
+
+  took : (last : ℕ) (start before left : Option (List ℕ)) → TakesHeader (facts_of failures mid) uuid start before → TakesAll honest history failures mid new uuid last [] before left → IfSome start (λ bytes. TookTransfer failures bytes left old new last)
+  took last None before left header all = tt
+  took last (Some bytes) before left header all =
+      by_left left (Consumes-trans (Some bytes) before left (header_bytes header.header) all.bytes header.taken all.taken)
+    where
+      transfer : Transfer
+      transfer = record { header = header.header; snapshot = all.snapshot; records = all.records; last = last }
+
+      cluster : (header.header.uuid ≡ (facts_of failures mid).uuid) ⊎ IsNil (facts_of failures mid).uuid → (header.header.uuid ≡ (facts_of failures old).uuid) ⊎ IsNil (facts_of failures old).uuid
+      cluster (inl same) = inl (same ∙ settled.uuid)
+      cluster (inr nil) = inr (subst IsNil settled.uuid nil)
+
+      by_left : (end : Option (List ℕ)) → Consumes (Some bytes) end (header_bytes header.header ++ all.bytes) → TookTransfer failures bytes end old new last
+      by_left None taken = absurd taken
+      by_left (Some rest) taken = record {
+        transfer = transfer;
+        is_transfer = record { header = header.is_header; snapshot = all.fits; records = all.are_records; last = all.limit };
+        cluster = cluster header.cluster;
+        shape = header.shape ∙ ap shape_of settled.setting;
+        snapshot = came_at all.snapshot all.comes;
+        rest = rest;
+        front = taken ∙ ap (λ (bs : List ℕ). (header_bytes header.header ++ bs) ++ rest) all.spelled;
+        left_is = refl;
+        last_is = refl;
+        durable = all.durable;
+        uuid = all.uuid_is ∙ sym header.uuid_is;
+        setting = all.setting ∙ settled.setting;
+      }
+
+  pub took_on : (start before left : Option (List ℕ)) (result : Result ℕ Refusal) → TakesHeader (facts_of failures mid) uuid start before → IfOk result (λ last. TakesAll honest history failures mid new uuid last [] before left)
+      → IfSome start (λ bytes. IfOk result (TookTransfer failures bytes left old new))
+  took_on None before left result header all = tt
+  took_on (Some bytes) before left (Err e) header all = tt
+  took_on (Some bytes) before left (Ok last) header all = took last (Some bytes) before left header all

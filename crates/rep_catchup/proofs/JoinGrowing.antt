@@ -112,7 +112,7 @@ own_stays s (Flush page) f own = record { uuid = refl; setting = refl; count = o
 own_stays s (Read key at) f own = absurd own
 
 -- what came of a step where no refusal applied
-abbrev Outcome : Standing → Event → Answer → Standing → Type 0
+abbrev pub Outcome : Standing → Event → Answer → Standing → Type 0
 Outcome s e a t = ((found : Found) × (a ≡ answer s e found) × (t ≡ after s e found)) ⊎ (Fails s e a t ⊎ MeetsCorruption s e a t)
 
 -- so it is where one failed
@@ -134,18 +134,18 @@ runs_stay (e ∷ events) (a ∷ answers) s t own run = stays_then s run.0 t (mov
 
 -- ---- whether it is stopped then
 
-not_refused : (r : Refusal) (a : Answer) → a ≡ Refused r → outcome_of a ≡ Ok tt → ⊥
+pub not_refused : (r : Refusal) (a : Answer) → a ≡ Refused r → outcome_of a ≡ Ok tt → ⊥
 not_refused r a is done = let never : Err r ≡ Ok tt = ap outcome_of (sym is) ∙ done in cc
 
 some_same : (r x : Refusal) → Some r ≡ Some x → r ≡ x
 some_same r x is = cc
 
-same_refusal : (r e : Refusal) → Refused e ≡ Refused r → e ≡ r
+pub same_refusal : (r e : Refusal) → Refused e ≡ Refused r → e ≡ r
 same_refusal r e is = cc
 
 -- of what is due, no refusal tells that it is stopped, or that the device failed
 module _ (x : Refusal) (not_due : NotDue ≡ x → ⊥) (not_full : LogFull ≡ x → ⊥) where
-  if_other : (b : Bool) (r : Refusal) (o : Option Refusal) → (r ≡ x → ⊥) → (o ≡ Some x → ⊥) → (if b then Some r else o) ≡ Some x → ⊥
+  pub if_other : (b : Bool) (r : Refusal) (o : Option Refusal) → (r ≡ x → ⊥) → (o ≡ Some x → ⊥) → (if b then Some r else o) ≡ Some x → ⊥
   if_other true r o not never is = not (some_same r x is)
   if_other false r o not never is = never is
 
@@ -187,7 +187,7 @@ module _ (x : Refusal) (not_due : NotDue ≡ x → ⊥) (not_full : LogFull ≡ 
   flush_other (Toward goal SuperOpening) page is = due_other is
   flush_other (Retiring written) page is = due_other is
 
-  here_other : (s : Standing) (e : Event) → IsOwn e → refusal_here s e ≡ Some x → ⊥
+  pub here_other : (s : Standing) (e : Event) → IsOwn e → refusal_here s e ≡ Some x → ⊥
   here_other s (Deliver seqno w) own is = absurd own
   here_other s Log own is = log_other s s.phase is
   here_other s Sync own is = none_other is
@@ -205,7 +205,7 @@ not_a_fault : (s : Standing) (e : Event) → s.stopped ≡ false → IsOwn e →
 not_a_fault = refusal_other DiskFault (λ is. let never : NotDue ≡ DiskFault = is in cc) (λ is. let never : LogFull ≡ DiskFault = is in cc)
 
 -- no own step is answered by a refusal where none came
-answers_none : (r : Refusal) (s : Standing) (e : Event) (f : Found) → IsOwn e → Refused r ≡ answer s e f → ⊥
+pub answers_none : (r : Refusal) (s : Standing) (e : Event) (f : Found) → IsOwn e → Refused r ≡ answer s e f → ⊥
 answers_none r s (Deliver seqno w) f own is = absurd own
 answers_none r s Log f own is = cc
 answers_none r s Sync f own is = cc
@@ -230,10 +230,10 @@ own_runs s (Read key at) f own = absurd own
 abbrev pub StopsBy : Refusal → Standing → Type 0
 StopsBy e t = ((e ≡ DiskFault) × (t.stopped ≡ true)) ⊎ ((e ≢ DiskFault) × (t.stopped ≡ false))
 
-memory_is_none : OutOfMemory ≢ DiskFault
+pub memory_is_none : OutOfMemory ≢ DiskFault
 memory_is_none is = cc
 
-corrupt_is_none : Corrupt Pages ≢ DiskFault
+pub corrupt_is_none : Corrupt Pages ≢ DiskFault
 corrupt_is_none is = cc
 
 pub failed_stops : (s : Standing) (e : Event) (r : Refusal) (t : Standing) → s.stopped ≡ false → Fails s e (Refused r) t ⊎ MeetsCorruption s e (Refused r) t → StopsBy r t
@@ -535,7 +535,7 @@ free_by : (uuid : List ℕ) (n seqno : ℕ) (js : List Judged) → is_nil_bytes 
     → (if is_nil_bytes uuid then Some Undefined else if n == MAX_SEQNO then Some Exhausted else if not (seqno == n + 1) then Some (OutOfOrder (n + 1)) else if nat_le MAX_AHEAD (length js) then Some Backlogged else None) ≡ None
 free_by uuid n seqno js nil most order few = rw nil (rw most (rw order (rw few refl)))
 
-next_free : (s : Standing) (seqno : ℕ) (w : Transaction) → s.stopped ≡ false → (IsNil s.uuid → ⊥) → seqno ≡ delivered s + 1 → seqno ≤ MAX_SEQNO → length s.ahead < MAX_AHEAD → refusal s (Deliver seqno w) ≡ None
+pub next_free : (s : Standing) (seqno : ℕ) (w : Transaction) → s.stopped ≡ false → (IsNil s.uuid → ⊥) → seqno ≡ delivered s + 1 → seqno ≤ MAX_SEQNO → length s.ahead < MAX_AHEAD → refusal s (Deliver seqno w) ≡ None
 next_free s seqno w running not next limit few =
     ap (λ t. if t then Some Stopped else delivery_refusal s seqno) running
     ∙ free_by s.uuid (delivered s) seqno s.ahead (not_nil s.uuid not (is_nil_bytes s.uuid) refl) (grind (arith, nat_tests, next, limit)) (grind (arith, nat_tests, next)) (grind (arith, nat_tests, few))

@@ -8,6 +8,7 @@ mod DonateTail
 mod Donated
 mod JoinTaking
 mod JoinGrowing
+mod JoinTelling
 mod JoinWent
 mod JoinFollowing
 mod JoinCutting

@@ -2,7 +2,8 @@
 use Rattle.std.specs.Prelude.{◌≡◌, ◌≢◌, ◌⊎◌, ℕ, ◌+◌, ◌≤◌, ◌||◌, true, List, [], ◌++◌, length, drop, is_some, Result, Ok, Err}
 use Rattle.rep_types.specs.declared.judged.Judged.{Judged}
 use Rattle.rep_types.specs.declared.refusal.Refusal.{Refusal}
-use Rattle.rep_types.specs.declared.refusal.Refusal.TheVariants.{DiskFault}
+use Rattle.rep_types.specs.declared.refusal.Refusal.TheVariants.{DiskFault, Corrupt}
+use Rattle.rep_types.specs.declared.refusal.Part.{Part}
 use Rattle.rep_types.specs.Order.{Order, items_of, history as history_of}
 use Rattle.rep_disk.specs.History.{History}
 use Rattle.rep_steps.specs.declared.event.Event.{Event}
@@ -12,6 +13,7 @@ use Rattle.rep_steps.specs.Nodes.{Node}
 use Rattle.rep_steps.specs.Orders.{IsOf}
 use Rattle.rep_steps.specs.Runs.{accepted_by}
 use Rattle.rep_replica.specs.Replicas.{Replica, facts_of}
+use Rattle.rep_replica.specs.Refusing.{IsFaultToldBy}
 use Rattle.rep_replica.specs.Holding.{Holds}
 use Rattle.rep_replica.specs.Running.{Ran}
 use Rattle.rep_replica.specs.Settling.{IsRunning}
@@ -45,3 +47,13 @@ where_ok (Err e) xs = []
 abbrev pub EndsRunning : {D T : Type 0} → Result T Refusal → Replica D → Type 0
 EndsRunning (Ok x) r = IsRunning r
 EndsRunning (Err e) r = ((e ≡ DiskFault) × ((r.stopped || is_some r.engine.halted) ≡ true)) ⊎ ((e ≢ DiskFault) × IsRunning r)
+
+-- What a refusal tells of the device: its fault, exactly where there was one; and of no device of a node that a page is not of its form.
+pub record IsToldBy {D : Type 0} (honest : D → Type 0) (history : D → History) (failures : D → ℕ) (old new : Replica D) (e : Refusal) : Type 0 where
+  pub faults : IsFaultToldBy (failures old.engine.disk) (failures new.engine.disk) e
+  pub whole : (n : Node) → Holds honest history failures n old → (part : Part) → e ≢ Corrupt part
+
+-- so it is of a call, whatever came of it
+abbrev pub Tells : {D T : Type 0} → (D → Type 0) → (D → History) → (D → ℕ) → Replica D → Replica D → Result T Refusal → Type 0
+Tells honest history failures old new (Ok x) = failures new.engine.disk ≡ failures old.engine.disk
+Tells honest history failures old new (Err e) = IsToldBy honest history failures old new e

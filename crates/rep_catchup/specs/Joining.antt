@@ -1,5 +1,5 @@
 -- What a transfer makes of the node that joins.
-use Rattle.std.specs.Prelude.{◌≡◌, ◌⊎◌, ℕ, ◌+◌, ◌^◌, ◌<◌, true, List, [], ◌++◌, length, take, drop, Option, None, Some, MatchOption, IfSome}
+use Rattle.std.specs.Prelude.{◌≡◌, ◌≤◌, ◌⊎◌, ℕ, ◌+◌, ◌^◌, ◌<◌, true, List, [], ◌++◌, length, take, drop, Option, None, Some, MatchOption, IfSome}
 use Rattle.std.specs.List.{flat_map, AllByRecursion}
 use Rattle.std.specs.Io.KnownBytes.{Consumes}
 use Rattle.rep_types.specs.declared.judged.Judged.{Judged}
@@ -173,11 +173,14 @@ pub record Ended {D : Type 0} (honest : D → Type 0) (history : D → History) 
 
 -- ---- how it is taken, part by part
 
--- The transfer ends at this position behind these items: all that was delivered, and durable.
+-- The transfer ends at this position behind these items: all that was delivered, and durable. On any device there are so many before it, and
+-- it is durable.
 pub record EndsAt {D : Type 0} (honest : D → Type 0) (history : D → History) (failures : D → ℕ) (old new : Replica D) (records : List Judged) (last : ℕ) : Type 0 where
   pub quiet : is_quiet (facts_of failures new) ≡ true
   pub limit : last < 2 ^ 64
   pub last_is : (n : Node) → Holds honest history failures n old → delivered (facts_of failures old) + length records ≡ last
+  pub least : delivered (facts_of failures old) + length records ≤ last
+  pub durable : last ≤ (facts_of failures new).durable
 
 -- the end, where it was met
 abbrev pub end_part : Option ℕ → List ℕ
@@ -237,5 +240,23 @@ pub record TakesAll {D : Type 0} (honest : D → Type 0) (history : D → Histor
   pub setting : (facts_of failures new).setting ≡ (facts_of failures old).setting
   pub quiet : is_quiet (facts_of failures new) ≡ true
   pub limit : last < 2 ^ 64
+  pub durable : last ≤ (facts_of failures new).durable
   pub node : (n : Node) → Holds honest history failures n old → (m : Node) × Continues n snapshot records last m × Holds honest history failures m new
   pub went : Went honest history failures old new uuid snapshot records
+
+-- On any device, by the facts of the replica: the bytes began with a transfer that it can take, of its cluster, or at a replica of none, and
+-- of its shape, with a snapshot that may come, or, at a replica of a cluster, with none; that is what was taken of them, to its end. The
+-- replica is then of the transfer's cluster, and has the parameters that it had, and what it ends at is durable there.
+pub record TookTransfer {D : Type 0} (failures : D → ℕ) (bytes : List ℕ) (left : Option (List ℕ)) (old new : Replica D) (last : ℕ) : Type 0 where
+  pub transfer : Transfer
+  pub is_transfer : IsTransfer transfer
+  pub cluster : (transfer.header.uuid ≡ (facts_of failures old).uuid) ⊎ IsNil (facts_of failures old).uuid
+  pub shape : transfer.header.shape ≡ shape_of (facts_of failures old).setting
+  pub snapshot : MayCome (facts_of failures old) transfer.snapshot
+  pub rest : List ℕ
+  pub front : bytes ≡ transfer_bytes transfer ++ rest
+  pub left_is : left ≡ Some rest
+  pub last_is : transfer.last ≡ last
+  pub durable : last ≤ (facts_of failures new).durable
+  pub uuid : (facts_of failures new).uuid ≡ transfer.header.uuid
+  pub setting : (facts_of failures new).setting ≡ (facts_of failures old).setting

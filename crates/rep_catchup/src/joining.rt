@@ -16,8 +16,8 @@ ghost use Rattle.rep_transfer.specs.declared.part.Part.TheVariants.{Snapshot, Re
 ghost use Rattle.rep_transfer.specs.Taking.{counted};
 ghost use Rattle.rep_transfer.specs.Pieces.{FrontFits};
 ghost use Rattle.rep_transfer.specs.Transfers.{PartFits, part_bytes};
-ghost use Rattle.rep_catchup.specs.Growing.{Grown, where_ok, EndsRunning};
-ghost use Rattle.rep_catchup.specs.Joining.{JoinsEarly, Lived, Joined, TakesHeader, RefusesHeader, Follows, Followed, FollowedFrom, IsOut, Cut, TakesAll, CutShort, Ended};
+ghost use Rattle.rep_catchup.specs.Growing.{Grown, where_ok, EndsRunning, Tells};
+ghost use Rattle.rep_catchup.specs.Joining.{JoinsEarly, Lived, Joined, TookTransfer, TakesHeader, RefusesHeader, Follows, Followed, FollowedFrom, IsOut, Cut, TakesAll, CutShort, Ended};
 
 use crate::snapshot::bring;
 use rep_disk::Disk;
@@ -59,6 +59,7 @@ fn settle<D: Disk>(replica: &mut Replica<D>) -> Result<(), Refusal>
     requires running { IsRunning replica.old }
     ensures grown { Grown D.honest D.history D.failures replica.old replica.new [] }
     ensures ends { EndsRunning result replica.new }
+    ensures tells { Tells D.honest D.history D.failures replica.old replica.new result }
     ensures quiet { OnOk result (is_quiet (facts_of D.failures replica.new) ≡ true) }
     ensures refused { IfErr result EndsEarly }
 {
@@ -73,6 +74,7 @@ fn make_room<D: Disk>(replica: &mut Replica<D>) -> Result<(), Refusal>
     requires running { IsRunning replica.old }
     ensures grown { Grown D.honest D.history D.failures replica.old replica.new [] }
     ensures ends { EndsRunning result replica.new }
+    ensures tells { Tells D.honest D.history D.failures replica.old replica.new result }
     ensures room { OnOk result (length (facts_of D.failures replica.new).ahead < MAX_AHEAD) }
     ensures refused { IfErr result EndsEarly }
 {
@@ -92,6 +94,7 @@ fn deliver<D: Disk>(replica: &mut Replica<D>, judged: Judged, at: u64) -> Result
     requires room { length (facts_of D.failures replica.old).ahead < MAX_AHEAD }
     ensures grown { Grown D.honest D.history D.failures replica.old replica.new (where_ok result (judged ∷ [])) }
     ensures ends { EndsRunning result replica.new }
+    ensures tells { Tells D.honest D.history D.failures replica.old replica.new result }
     ensures limit { OnOk result (delivered (facts_of D.failures replica.new) ≤ MAX_SEQNO) }
     ensures refused { IfErr result (IsOut D.honest D.history D.failures replica.new (Record judged) at) }
 {
@@ -127,6 +130,7 @@ fn take_record<D: Disk>(replica: &mut Replica<D>, judged: Judged, at: u64) -> Re
     requires fits { IsRecord judged }
     ensures grown { Grown D.honest D.history D.failures replica.old replica.new (where_ok result (judged ∷ [])) }
     ensures ends { EndsRunning result replica.new }
+    ensures tells { Tells D.honest D.history D.failures replica.old replica.new result }
     ensures limit { OnOk result (delivered (facts_of D.failures replica.new) ≤ MAX_SEQNO) }
     ensures refused { IfErr result (IsOut D.honest D.history D.failures replica.new (Record judged) at) }
 {
@@ -145,6 +149,7 @@ fn take_part<D: Disk>(replica: &mut Replica<D>, part: Part, at: u64) -> Result<O
     ensures more { IfOk result (λ ended. ended ≡ None → (delivered (facts_of D.failures replica.old) < delivered (facts_of D.failures replica.new)) × (delivered (facts_of D.failures replica.new) ≤ MAX_SEQNO)) }
     ensures kept { OnErr result (Grown D.honest D.history D.failures replica.old replica.new []) }
     ensures ends { EndsRunning result replica.new }
+    ensures tells { Tells D.honest D.history D.failures replica.old replica.new result }
     ensures refused { IfErr result (IsOut D.honest D.history D.failures replica.new part at) }
 {
     history_by_items();
@@ -172,6 +177,7 @@ fn follow<D: Disk, R: Read>(
     requires defined { IsNil (facts_of D.failures replica.old).uuid → ⊥ }
     ensures followed { IfOk result (λ last. Followed D.honest D.history D.failures replica.old replica.new transfer.old transfer.new (R.remaining reader.old) (R.remaining reader.new) (Some last)) }
     ensures ends { EndsRunning result replica.new }
+    ensures tells { Tells D.honest D.history D.failures replica.old replica.new result }
     ensures cut { IfErr result (Cut D.honest D.history D.failures replica.old replica.new (R.remaining reader.old) transfer.old) }
 {
     history_by_items();
@@ -202,6 +208,7 @@ fn follow_from<D: Disk, R: Read>(
     ensures defined { OnOk result (IsNil (facts_of D.failures replica.old).uuid → ⊥) }
     ensures followed { IfOk result (FollowedFrom D.honest D.history D.failures replica.old replica.new (part_bytes part) (R.remaining reader.old) (R.remaining reader.new)) }
     ensures ends { EndsRunning result replica.new }
+    ensures tells { Tells D.honest D.history D.failures replica.old replica.new result }
     ensures cut { (before : Option (List ℕ)) → Consumes before (R.remaining reader.old) (part_bytes part) → IfErr result (Cut D.honest D.history D.failures replica.old replica.new before at) }
 {
     history_by_items();
@@ -234,6 +241,7 @@ fn take_snapshot<D: Disk, R: Read>(
     requires counted { transfer.old ≡ counted at (length (part_bytes (Snapshot front))) }
     ensures taken { IfOk result.1 (λ last. TakesAll D.honest D.history D.failures replica result.0 uuid last (part_bytes (Snapshot front)) (R.remaining reader.old) (R.remaining reader.new)) }
     ensures ends { EndsRunning result.1 result.0 }
+    ensures tells { Tells D.honest D.history D.failures replica result.0 result.1 }
     ensures cut { (before : Option (List ℕ)) → Consumes before (R.remaining reader.old) (part_bytes (Snapshot front)) → IfErr result.1 (CutShort D.honest D.history D.failures replica result.0 uuid before at) }
 {
     history_by_items();
@@ -262,6 +270,7 @@ fn take_parts<D: Disk, R: Read>(
     requires cluster { (uuid ≡ (facts_of D.failures replica).uuid) ⊎ IsNil (facts_of D.failures replica).uuid }
     ensures taken { IfOk result.1 (λ last. TakesAll D.honest D.history D.failures replica result.0 uuid last [] (R.remaining reader.old) (R.remaining reader.new)) }
     ensures ends { EndsRunning result.1 result.0 }
+    ensures tells { Tells D.honest D.history D.failures replica result.0 result.1 }
     ensures cut { IfErr result.1 (CutShort D.honest D.history D.failures replica result.0 uuid (R.remaining reader.old) transfer.old) }
 {
     history_by_items();
@@ -298,8 +307,12 @@ pub fn join<D: Disk, R: Read>(
     ensures refused { IfErr result.1 (λ e. (e ≡ Stopped) ⊎ JoinsEarly e) }
     ensures early { (replica.stopped || is_some replica.engine.halted) ≡ false → IfErr result.1 JoinsEarly }
     ensures ends { (replica.stopped || is_some replica.engine.halted) ≡ false → EndsRunning result.1 result.0 }
+    // The device's fault is told exactly where there was one, and of no honest device of a node that a page is not of its form.
+    ensures tells { Tells D.honest D.history D.failures replica result.0 result.1 }
     ensures quiet { OnOk result.1 (is_quiet (facts_of D.failures result.0) ≡ true) }
     ensures lived { Lived D.honest D.history D.failures replica result.0 }
+    // On any device: where it succeeds, the bytes began with a transfer of the replica's cluster and shape, of its form to its end.
+    ensures took { IfSome (R.remaining reader.old) (λ bytes. IfOk result.1 (TookTransfer D.failures bytes (R.remaining reader.new) replica result.0)) }
     ensures joined { (n : Node) → Holds D.honest D.history D.failures n replica → IfSome (R.remaining reader.old) (λ bytes. IfOk result.1 (Joined D.honest D.history D.failures n bytes (R.remaining reader.new) replica result.0)) }
     ensures ended { (replica.stopped || is_some replica.engine.halted) ≡ false → IfErr result.1 (Ended D.honest D.history D.failures replica result.0 (R.remaining reader.old)) }
 {

@@ -11,6 +11,7 @@ ghost use Rattle.rep_pages.specs.Slots.{state_of_page};
 ghost use Rattle.rep_checkpoint.specs.Windows.{IsWindowAt};
 ghost use Rattle.rep_steps.specs.Nodes.{Node};
 ghost use Rattle.rep_replica.specs.Replicas.{facts_of};
+ghost use Rattle.rep_replica.specs.Refusing.{TellsFaults};
 ghost use Rattle.rep_replica.specs.Holding.{Holds};
 ghost use Rattle.rep_replica.specs.Settling.{is_quiet, IsRunning};
 ghost use Rattle.rep_replica.specs.Installing.{HoldsBoth, given_up};
@@ -76,6 +77,7 @@ fn take_pages<D: Disk, R: Read>(
     ensures taken { OnOk result ((pages : List Page) × (length pages ≡ count) × TakesPages D.honest D.history D.failures installation.old installation.new pages transfer.old transfer.new (R.remaining reader.old) (R.remaining reader.new)) }
     ensures kept { (n : Node) → (y : State) → HoldsBoth D.honest D.history D.failures n y installation.old → OnErr result (LeavesPages D.honest D.history D.failures n installation.old installation.new) }
     ensures ends { EndsRunning result (given_up installation.new) }
+    ensures told { TellsFaults (D.failures installation.old.engine.disk) (D.failures installation.new.engine.disk) result }
     ensures refused { IfErr result (λ e. (e ≡ StreamFault) ⊎ ((e ≡ DiskFault) ⊎ ((e ≡ Malformed at) × IfSome (R.remaining reader.old) (NoPagesCome installation.old.engine.checkpoint.base.params.rows count)))) }
 {
     let mut least = 0;
@@ -154,6 +156,7 @@ pub(crate) fn bring<D: Disk, R: Read>(
     ensures brought { OnOk result.1 (Brought D.honest D.history D.failures replica result.0 uuid front transfer.old transfer.new (R.remaining reader.old) (R.remaining reader.new)) }
     ensures left { IfErr result.1 (LeavesSnapshot D.honest D.history D.failures replica result.0 uuid front transfer.old (R.remaining reader.old)) }
     ensures ends { EndsRunning result.1 result.0 }
+    ensures told { TellsFaults (D.failures replica.engine.disk) (D.failures result.0.engine.disk) result.1 }
     ensures refused { IfErr result.1 (BringsEarly (facts_of D.failures replica) front at (R.remaining reader.old)) }
 {
     history_by_items();

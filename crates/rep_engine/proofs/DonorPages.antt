@@ -1,8 +1,8 @@
 -- What a donor reads of an engine that stands for a node: the base, its window and its pages.
-use Rattle.std.proofs.Common.{◌≡◌, ℕ, List, None, Some, Result, Ok, Err, inl, inr, refl, sym, ap, subst, ◌∙◌, IfOk, IsOk}
+use Rattle.std.proofs.Common.{◌≡◌, ℕ, List, Option, None, Some, Result, Ok, Err, inl, inr, refl, sym, ap, subst, ◌∙◌, IfOk, IsOk}
 use Rattle.rep_types.specs.declared.refusal.Refusal.{Refusal}
 use Rattle.rep_types.specs.declared.refusal.Refusal.TheVariants.{Corrupt}
-use Rattle.rep_types.specs.declared.refusal.Part.TheVariants.{Pages as in_pages}
+use Rattle.rep_types.specs.declared.refusal.Part.TheVariants.{Window as in_window, Pages as in_pages}
 use Rattle.rep_types.specs.declared.key.Key.{Key}
 use Rattle.rep_types.specs.Entries.{Entry}
 use Rattle.rep_disk.specs.History.{History, seen}
@@ -15,7 +15,7 @@ use Rattle.rep_layout.specs.Places.{side_of}
 use Rattle.rep_layout.specs.Windows.{Window as WindowBody, window, window_bytes, IsWindowBody}
 use Rattle.rep_cells.specs.Readings.{Reading, reading_of}
 use Rattle.rep_cells.specs.States.{States, IsSure, Shows}
-use Rattle.rep_cells.specs.Known.{Assigns}
+use Rattle.rep_cells.specs.Known.{Assigns, IsReadable}
 use Rattle.rep_pages.specs.declared.page.Page.{Page as PageBody}
 use Rattle.rep_pages.specs.Pages.{IsPage, PagesAreTold}
 use Rattle.rep_pages.specs.Slots.{state_of_page}
@@ -24,7 +24,7 @@ use Rattle.rep_steps.specs.Nodes.{Node}
 use Rattle.rep_checkpoint.proofs.Reading.{read_rows, never_bad}
 use Rattle.rep_engine.specs.Engines.{Engine, IsEngine}
 use Rattle.rep_engine.specs.Holding.{Stands, Holds}
-use Rattle.rep_engine.specs.Donating.{IsBasePage}
+use Rattle.rep_engine.specs.Donating.{IsBasePage, IsWindowAsSpelled, IsBasePageAsSpelled}
 
 -- What is so of what was read is so where it was.
 pub if_read : {T E P : Type 0} (result : Result T E) → IsOk result → IfOk result (λ _. P) → P
@@ -71,3 +71,52 @@ module _ {D : Type 0} (honest : D → Type 0) (history : D → History) (failure
     page_whole spelled =
         let here = subst (λ (x : SuperBody). IsPageAsSpelled (reading_of within.layout (seen (history within.disk))) x number (Err (Corrupt in_pages))) b_is spelled in
         never_bad told within.layout (history within.disk) within.checkpoint.base there.states n.base.content number engine.checkpoint.is_super engine.layout there.assigns there.stands.checkpoint.base.content (here.corrupt refl)
+
+-- ---- as the bytes have it, whatever stands on the device
+
+same_bytes : (xs ys : List ℕ) → ◌≡◌ {A = Option (List ℕ)} (Some xs) (Some ys) → xs ≡ ys
+same_bytes xs ys is = cc
+
+spelled_window : (r : Reading) (b : SuperBody) (bytes : List ℕ) (result : Result WindowBody Refusal) → r (Window (side_of b.number)) ≡ Some bytes → IfOk result (λ w. bytes ≡ window_bytes w)
+    → ((entries : List Entry) → IsWindowBody b.params (window b.number b.position entries) → bytes ≡ window_bytes (window b.number b.position entries) → result ≡ Ok (window b.number b.position entries)) → IsWindowAsSpelled r b result in_window
+spelled_window r b bytes (Ok w) shown found only = record { given = shown ∙ ap Some found; corrupt = λ gave. absurd cc }
+spelled_window r b bytes (Err e) shown found only = record {
+  given = tt;
+  corrupt = λ gave entries is stands.
+      let read = only entries is (same_bytes bytes (window_bytes (window b.number b.position entries)) (sym shown ∙ stands)) in
+      absurd cc;
+}
+
+module _ {D : Type 0} (honest : D → Type 0) (history : D → History) (within old : Engine D) (is : within ≡ old) where
+  pub window_spelled :
+      (b : SuperBody) (area : Place) (bytes : List ℕ) (result : Result WindowBody Refusal) → b ≡ within.checkpoint.base → area ≡ Window (side_of b.number)
+      → (honest within.disk → IsReadable within.layout (history within.disk) area → Some bytes ≡ reading_of within.layout (seen (history within.disk)) area)
+      → ((entries : List Entry) → IsWindowBody b.params (window b.number b.position entries) → bytes ≡ window_bytes (window b.number b.position entries) → result ≡ Ok (window b.number b.position entries))
+      → IfOk result (λ w. bytes ≡ window_bytes w) → honest old.disk → IsReadable old.layout (history old.disk) (Window (side_of old.checkpoint.base.number))
+      → IsWindowAsSpelled (reading_of old.layout (seen (history old.disk))) old.checkpoint.base result in_window
+  window_spelled b area bytes result b_is area_is reads only found =
+      subst (λ (e : Engine D). honest e.disk → IsReadable e.layout (history e.disk) (Window (side_of e.checkpoint.base.number)) → IsWindowAsSpelled (reading_of e.layout (seen (history e.disk))) e.checkpoint.base result in_window) is
+      (λ h readable.
+      let at : area ≡ Window (side_of within.checkpoint.base.number) = area_is ∙ ap (λ (x : SuperBody). Window (side_of x.number)) b_is in
+      let shown = ap (reading_of within.layout (seen (history within.disk))) (sym at) ∙ sym (reads h (subst (IsReadable within.layout (history within.disk)) (sym at) readable)) in
+      spelled_window (reading_of within.layout (seen (history within.disk))) within.checkpoint.base bytes result shown found
+      (subst (λ (x : SuperBody). (entries : List Entry) → IsWindowBody x.params (window x.number x.position entries) → bytes ≡ window_bytes (window x.number x.position entries) → result ≡ Ok (window x.number x.position entries)) b_is only))
+
+  module _ (number : ℕ) (b : SuperBody) (b_is : b ≡ within.checkpoint.base) where
+    moved : (result : Result (Option PageBody) Refusal) → IsBasePageAsSpelled (reading_of within.layout (seen (history within.disk))) b number result in_pages → IsBasePageAsSpelled (reading_of old.layout (seen (history old.disk))) old.checkpoint.base number result in_pages
+    moved result here =
+        subst (λ (e : Engine D). IsBasePageAsSpelled (reading_of e.layout (seen (history e.disk))) e.checkpoint.base number result in_pages) is
+        (subst (λ (x : SuperBody). IsBasePageAsSpelled (reading_of within.layout (seen (history within.disk))) x number result in_pages) b_is here)
+
+    pub page_given : (page : PageBody) → IsPageAsSpelled (reading_of within.layout (seen (history within.disk))) b number (Ok page) → IsBasePageAsSpelled (reading_of old.layout (seen (history old.disk))) old.checkpoint.base number (Ok (Some page)) in_pages
+    page_given page spelled = moved (Ok (Some page)) (record { given = spelled.page; corrupt = λ gave. absurd cc })
+
+    pub page_refused : (e : Refusal) → IsPageAsSpelled (reading_of within.layout (seen (history within.disk))) b number (Err e) → IsBasePageAsSpelled (reading_of old.layout (seen (history old.disk))) old.checkpoint.base number (Err e) in_pages
+    page_refused e spelled = moved (Err e) (record { given = tt; corrupt = λ gave. (let same : e ≡ Corrupt in_pages = cc in spelled.corrupt (ap Err same)) })
+
+-- nothing was read, and another refusal is answered
+pub page_elsewise : (r : Reading) (b : SuperBody) (number : ℕ) (e : Refusal) → (e ≡ Corrupt in_pages → ⊥) → IsBasePageAsSpelled r b number (Err e) in_pages
+page_elsewise r b number e other = record { given = tt; corrupt = λ gave. (let same : e ≡ Corrupt in_pages = cc in absurd (other same)) }
+
+pub window_elsewise : (r : Reading) (b : SuperBody) (e : Refusal) → (e ≡ Corrupt in_window → ⊥) → IsWindowAsSpelled r b (Err e) in_window
+window_elsewise r b e other = record { given = tt; corrupt = λ gave. (let same : e ≡ Corrupt in_window = cc in absurd (other same)) }

@@ -6,20 +6,24 @@ use Rattle.rep_types.specs.declared.refusal.Refusal.{Refusal}
 use Rattle.rep_types.specs.declared.refusal.Refusal.TheVariants.{Stopped, DiskFault, Corrupt}
 use Rattle.rep_types.specs.declared.refusal.Part.{Part}
 use Rattle.rep_types.specs.Settings.{IsRow}
+use Rattle.rep_types.specs.Entries.{Entry}
 use Rattle.rep_record.specs.Blocks.{Contents, IsBlock, block_bytes}
 use Rattle.rep_disk.specs.History.{History, IsImage}
 use Rattle.rep_disk.specs.Calls.{IsCall}
 use Rattle.rep_layout.specs.declared.place.Layout.{Layout}
 use Rattle.rep_layout.specs.declared.place.Slot.{Slot}
+use Rattle.rep_layout.specs.declared.place.Place.TheVariants.{Window as in_window_area}
 use Rattle.rep_layout.specs.declared.page_state.PageState.TheVariants.{In}
 use Rattle.rep_layout.specs.declared.super_body.SuperBody.{SuperBody}
-use Rattle.rep_layout.specs.Places.{log_of}
+use Rattle.rep_layout.specs.Places.{log_of, side_of}
 use Rattle.rep_layout.specs.Rows.{row_place}
+use Rattle.rep_layout.specs.Windows.{Window, window, window_bytes, IsWindowBody}
 use Rattle.rep_cells.specs.Readings.{Reading, reading_of}
 use Rattle.rep_pages.specs.declared.page.Page.{Page as PageBody}
 use Rattle.rep_pages.specs.Images.{row_of}
 use Rattle.rep_pages.specs.Pages.{IsPage}
 use Rattle.rep_pages.specs.Slots.{state_of_page}
+use Rattle.rep_pool.specs.BasePages.{IsBadPage, HasPage}
 use Rattle.rep_log.specs.Moves.{fault_of}
 use Rattle.rep_log.specs.Standing.{Standing as Log}
 use Rattle.rep_log.specs.Tail.{Stand, Shows, records_of}
@@ -70,3 +74,14 @@ pub record IsBasePage (b : SuperBody) (content : Key → Option (List ℕ)) (num
 -- Rows of a page that the base has in no slot are absent.
 abbrev pub HasNoRow : SuperBody → (Key → Option (List ℕ)) → ℕ → Type 0
 HasNoRow b content number = (key : Key) → IsRow b.params.rows key → (row_place b.params.rows key).page ≡ number → content key ≡ None
+
+-- The bytes of a reading decide: what is given is the window beside this superblock as they spell it, and it is corrupt only where they spell
+-- none of its number and position.
+pub record IsWindowAsSpelled (r : Reading) (b : SuperBody) (result : Result Window Refusal) (part : Part) : Type 0 where
+  pub given : IfOk result (λ w. r (in_window_area (side_of b.number)) ≡ Some (window_bytes w))
+  pub corrupt : result ≡ Err (Corrupt part) → (entries : List Entry) → IsWindowBody b.params (window b.number b.position entries) → r (in_window_area (side_of b.number)) ≡ Some (window_bytes (window b.number b.position entries)) → ⊥
+
+-- So it is with a page of the superblock's.
+pub record IsBasePageAsSpelled (r : Reading) (b : SuperBody) (number : ℕ) (result : Result (Option PageBody) Refusal) (part : Part) : Type 0 where
+  pub given : IfOk result (λ found. IfSome found (HasPage r b number))
+  pub corrupt : result ≡ Err (Corrupt part) → IsBadPage r b number

@@ -8,14 +8,15 @@ ghost use Rattle.rep_types.specs.Entries.{Entry};
 ghost use Rattle.rep_record.specs.Blocks.{IsBlock, block_bytes, contents};
 ghost use Rattle.rep_disk.specs.History.{seen};
 ghost use Rattle.rep_layout.specs.declared.page_state.PageState.TheVariants.{Nowhere};
-ghost use Rattle.rep_layout.specs.Places.{log_of};
+ghost use Rattle.rep_layout.specs.declared.place.Place.TheVariants.{Window as in_window_area};
+ghost use Rattle.rep_layout.specs.Places.{log_of, side_of};
 ghost use Rattle.rep_layout.specs.Windows.{window, window_bytes, IsWindowBody};
 ghost use Rattle.rep_cells.specs.Readings.{reading_of};
 ghost use Rattle.rep_cells.specs.Known.{IsReadable};
 ghost use Rattle.rep_pages.specs.Slots.{state_of_page};
 ghost use Rattle.rep_steps.specs.Nodes.{Node};
 ghost use Rattle.rep_engine.specs.Holding.{Holds};
-ghost use Rattle.rep_engine.specs.Donating.{Asks, IsTailBlock, IsBlockAsSpelled, IsBasePage, HasNoRow};
+ghost use Rattle.rep_engine.specs.Donating.{Asks, IsTailBlock, IsBlockAsSpelled, IsBasePage, HasNoRow, IsWindowAsSpelled, IsBasePageAsSpelled};
 
 use crate::engine::Engine;
 use rep_cells::images_read_as_allowed;
@@ -46,6 +47,7 @@ fn block_in(number: u64, body: Option<&[u8]>) -> Result<BlockReader<'_>, Refusal
 /// The window of this superblock, which all of the bytes are.
 fn window_in<'a>(base: &SuperBody, bytes: &'a [u8]) -> Result<WindowReader<'a>, Refusal>
     ensures form { IfOk result (λ w. (w ≡ window base.now.number base.now.position w.entries) × IsWindowBody base.now.params w) }
+    ensures found { IfOk result (λ w. bytes.now ≡ window_bytes w) }
     ensures only { (entries : List Entry) → IsWindowBody base.now.params (window base.now.number base.now.position entries) → bytes.now ≡ window_bytes (window base.now.number base.now.position entries) → result ≡ Ok (window base.now.number base.now.position entries) }
     ensures refused { IfErr result (λ e. e ≡ Corrupt in_window) }
 {
@@ -69,6 +71,8 @@ impl<D: Disk> Engine<D> {
     ) -> Result<Option<BlockReader<'a>>, Refusal>
         ensures asks { Asks D.size D.failures D.honest D.history in_log self.old self.new result }
         ensures none { IfOk result (λ found. is_some found ≡ nat_lt index (self.old.log.next - self.old.log.start)) }
+        // And None is given there, whatever stands on the device.
+        ensures behind { nat_lt index (self.old.log.next - self.old.log.start) ≡ false → self.old.halted ≡ None → result ≡ Ok None }
         // On any device what is given is a block of that number.
         ensures form { IfOk result (λ found. IfSome found (λ b. (b.cell ≡ self.old.log.start + index) × IsBlock b.cell b.records)) }
         ensures holds { (n : Node) → Holds D.honest D.history D.failures n self.old → result ≢ Err Refusal.DiskFault → Holds D.honest D.history D.failures n self.new }
@@ -113,6 +117,8 @@ impl<D: Disk> Engine<D> {
         ensures holds { (n : Node) → Holds D.honest D.history D.failures n self.old → result ≢ Err Refusal.DiskFault → Holds D.honest D.history D.failures n self.new }
         ensures window { (n : Node) → Holds D.honest D.history D.failures n self.old → IfOk result (λ w. w.entries ≡ n.base.kept.entries) }
         ensures whole { (n : Node) → Holds D.honest D.history D.failures n self.old → result ≢ Err (Corrupt in_window) }
+        // Whatever stands on an honest device: its bytes decide, where no write failed in the window's area.
+        ensures spelled { D.honest self.old.disk → IsReadable self.old.layout (D.history self.old.disk) (in_window_area (side_of self.old.checkpoint.base.number)) → IsWindowAsSpelled (reading_of self.old.layout (seen (D.history self.old.disk))) self.old.checkpoint.base result in_window }
     {
         if self.halted.is_some() {
             return Err(Refusal::Stopped);
@@ -149,6 +155,8 @@ impl<D: Disk> Engine<D> {
         ensures page { (n : Node) → Holds D.honest D.history D.failures n self.old → IfOk result (λ found. IfSome found (IsBasePage self.old.checkpoint.base n.base.content page)) }
         ensures absent { (n : Node) → Holds D.honest D.history D.failures n self.old → self.old.halted ≡ None → state_of_page self.old.checkpoint.base page ≡ Nowhere → HasNoRow self.old.checkpoint.base n.base.content page }
         ensures whole { (n : Node) → Holds D.honest D.history D.failures n self.old → result ≢ Err (Corrupt in_pages) }
+        // Whatever stands on an honest device: its bytes decide.
+        ensures spelled { D.honest self.old.disk → IsBasePageAsSpelled (reading_of self.old.layout (seen (D.history self.old.disk))) self.old.checkpoint.base page result in_pages }
     {
         pages_are_told();
         if self.halted.is_some() {

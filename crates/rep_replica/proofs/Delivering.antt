@@ -1,5 +1,5 @@
 -- An item that is delivered.
-use Rattle.std.proofs.Common.{◌≡◌, ℕ, ◌+◌, ◌-◌, ◌<◌, ◌≤◌, ◌⊎◌, inl, inr, Bool, true, false, if◌then◌else◌, List, [], ◌∷◌, ◌++◌, append_assoc, length, length-append, length-drop, take, drop, Option, None, Some, refl, sym, ap, subst, ◌∙◌, arith}
+use Rattle.std.proofs.Common.{◌≡◌, ℕ, ◌+◌, ◌-◌, ◌<◌, ◌≤◌, ◌⊎◌, inl, inr, Bool, true, false, if◌then◌else◌, List, [], ◌∷◌, ◌++◌, append_assoc, length, length-append, take, drop, Option, None, Some, refl, sym, ap, subst, ◌∙◌, arith}
 use Rattle.std.specs.Prelude.{◌||◌, ◌==◌, nat_le, is_some, MatchOption}
 use Rattle.std.proofs.lemmas.Bool.{cases_lt}
 use Rattle.std.proofs.lemmas.Bool.Decides.{nat_tests}
@@ -20,7 +20,7 @@ use Rattle.rep_steps.specs.declared.event.Event.TheVariants.{Deliver}
 use Rattle.rep_steps.specs.declared.answer.Answer.TheVariants.{Gave}
 use Rattle.rep_steps.specs.Standings.{Standing, delivered, refusal, delivery_refusal}
 use Rattle.rep_steps.specs.Moves.{Found, Moves, next_item}
-use Rattle.rep_steps.specs.Nodes.{Node, Steps, NodesStayNodes, reached, window_at, moved, verdict_on}
+use Rattle.rep_steps.specs.Nodes.{Node, Steps, NodesStayNodes, reached, moved, verdict_on}
 use Rattle.rep_steps.specs.Parts.{with_ahead, part_of}
 use Rattle.rep_steps.specs.Images.{AreJudgedFrom}
 use Rattle.rep_steps.specs.Judging.{JudgingGoesOn, VerdictsHaveAPlace}

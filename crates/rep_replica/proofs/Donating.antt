@@ -18,7 +18,7 @@ use Rattle.rep_steps.specs.Nodes.{Node}
 use Rattle.rep_steps.specs.Parts.{with_ahead, part_of}
 use Rattle.rep_engine.specs.Engines.{Engine, facts_of as engine_facts}
 use Rattle.rep_engine.specs.Holding.{Holds as EngineHolds}
-use Rattle.rep_engine.specs.Donating.{Asks as EngineAsks, IsTailBlock, IsBlockAsSpelled}
+use Rattle.rep_engine.specs.Donating.{Asks as EngineAsks, IsTailBlock, IsBlockAsSpelled, IsWindowAsSpelled, IsBasePageAsSpelled}
 use Rattle.rep_replica.specs.Replicas.{Replica, facts_of}
 use Rattle.rep_replica.specs.Holding.{Holds}
 use Rattle.rep_replica.specs.Donating.{Asks}
@@ -120,6 +120,12 @@ module _ {D : Type 0} (honest : D → Type 0) (history : D → History) (failure
 
 pub no_block : (r : Reading) (l : Layout) (number : ℕ) (part : Part) → IsBlockAsSpelled r l number (Err Stopped) part
 no_block r l number part = record { block = tt; corrupt = λ is records block stands. absurd cc }
+
+pub no_window : (r : Reading) (b : SuperBody) (part : Part) → IsWindowAsSpelled r b (Err Stopped) part
+no_window r b part = record { given = tt; corrupt = λ is entries window stands. absurd cc }
+
+pub no_page : (r : Reading) (b : SuperBody) (number : ℕ) (part : Part) → IsBasePageAsSpelled r b number (Err Stopped) part
+no_page r b number part = record { given = tt; corrupt = λ is. absurd cc }
 
 pub holds_running : {D : Type 0} (honest : D → Type 0) (history : D → History) (failures : D → ℕ) (r : Replica D) (n : Node) → Holds honest history failures n r → r.engine.halted ≡ None → (r.stopped || is_some r.engine.halted) ≡ true → ⊥
 holds_running honest history failures r n holds none on = never_stopped r.stopped r.engine.halted holds.running none on

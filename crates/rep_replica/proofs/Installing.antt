@@ -12,12 +12,14 @@ use Rattle.rep_types.specs.Settings.{Setting}
 use Rattle.rep_types.specs.Order.{State}
 use Rattle.rep_types.specs.Windows.{Window, fixed}
 use Rattle.rep_disk.specs.History.{History}
+use Rattle.rep_disk.specs.Calls.{Rises, IsCall}
 use Rattle.rep_disk.specs.Moments.{LeavesOnly}
 use Rattle.rep_disk.specs.Leaving.{leaves_none, leaves_then}
 use Rattle.rep_layout.specs.declared.super_body.SuperBody.{SuperBody}
 use Rattle.rep_cert.specs.Holdings.{Holding, Holdings, IsAskable, window_of, made_at}
 use Rattle.rep_log.specs.declared.phase.Phase.{Phase}
 use Rattle.rep_log.specs.declared.phase.Phase.TheVariants.{Resting}
+use Rattle.rep_log.specs.Moves.{fault_of}
 use Rattle.rep_steps.specs.Standings.{Standing, Off as is_off_stage, Retiring as is_retiring, delivered}
 use Rattle.rep_steps.specs.Moves.{is_off}
 use Rattle.rep_steps.specs.Nodes.{Node, window_at, reached}
@@ -36,6 +38,7 @@ use Rattle.rep_engine.specs.Holding.{Holds as EngineHolds}
 use Rattle.rep_engine.specs.Checking.{CertifiersHoldWindows, HoldsWindows}
 use Rattle.rep_engine.specs.Installing.{CanBring, IsBeside, IsTaken, HoldsEither, MeansEither, TakesPlace, snapshot_of}
 use Rattle.rep_replica.specs.Replicas.{Replica, IsReplica, GoOn, facts_of}
+use Rattle.rep_replica.specs.Refusing.{TellsFaults}
 use Rattle.rep_replica.specs.Holding.{Holds}
 use Rattle.rep_replica.specs.Settling.{is_quiet}
 use Rattle.rep_replica.specs.Installing.{Bringing, IsBringing, HoldsBoth, IsInstalled, IsAt, Lands, Installs, LeavesFronts}
@@ -309,6 +312,23 @@ pub lands_failed : {D : Type 0} (failures : D → ℕ) (b : Bringing D) (e : Eng
     → IfErr result (λ r. (r ≡ DiskFault) × (e ≡ record b.engine { disk = e.disk; halted = Some b.engine.log.phase })) → Lands failures b (record { engine = e; backlog = backlog; certifier = certifier; stopped = false }) result
 lands_failed failures b e backlog certifier (Ok x) err h = absurd cc
 lands_failed {D} failures b e backlog certifier (Err r) err h = record { done = tt; fault = (h.0, ap (λ (x : Engine D). is_some x.halted) h.1) }
+
+-- what the engine tells of its device is told
+pub told_by : {D : Type 0} (size failures : D → ℕ) (honest : D → Type 0) (b : Bringing D) (e : Engine D) (result : Result (Unit {0}) Refusal) → IfErr result (λ r. (r ≡ DiskFault) × (e ≡ record b.engine { disk = e.disk; halted = Some b.engine.log.phase }))
+    → IsCall size failures honest b.engine.disk e.disk (fault_of result) → TellsFaults (failures b.engine.disk) (failures e.disk) result
+told_by size failures honest b e (Ok x) fault call = call.no_cause refl
+told_by size failures honest b e (Err r) fault call =
+    let rose : IsErr (fault_of {T = Unit {0}} (Err r)) → Rises (failures b.engine.disk) (failures e.disk) = call.cause in
+    record { fault = λ is. rose (subst (λ (x : Refusal). IsErr (fault_of {T = Unit {0}} (Err x))) (sym is) refl); no_fault = λ not. absurd (not fault.0) }
+
+-- where it succeeded there is none
+pub none_told : {P : Type 0} (result : Result (Unit {0}) Refusal) → (IsOk (fault_of result) → P) → OnOk result P
+none_told (Ok x) same = same refl
+none_told (Err r) same = tt
+
+-- and behind it what else is told
+pub told_behind : (old mid new : ℕ) (result : Result (Unit {0}) Refusal) → mid ≡ old → TellsFaults mid new result → TellsFaults old new result
+told_behind old mid new result same told = subst (λ (k : ℕ). TellsFaults k new result) same told
 
 pub installs_failed : {D : Type 0} (honest : D → Type 0) (history : D → History) (failures : D → ℕ) (n : Node) (y : State) (b : Bringing D) (r : Replica D) (result : Result (Unit {0}) Refusal) → IsErr result
     → TakesPlace honest history failures n y b.coming b.engine r.engine result → Installs honest history failures n y b r result

@@ -1,5 +1,5 @@
 -- How a replica judges: as the node that it stands for.
-use Rattle.std.proofs.Common.{◌≡◌, ℕ, ◌+◌, ◌-◌, false, List, length, length-append, length-drop, take, sym, ap, ◌∙◌, arith}
+use Rattle.std.proofs.Common.{◌≡◌, ℕ, ◌+◌, ◌-◌, false, List, length, length-append, length-drop, sym, ap, ◌∙◌, arith}
 use Rattle.std.proofs.lemmas.List.{take_all}
 use Rattle.rep_types.specs.declared.judged.Judged.{Judged}
 use Rattle.rep_types.specs.declared.item.Item.TheVariants.{WriteSet}

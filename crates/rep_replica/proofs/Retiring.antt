@@ -1,23 +1,25 @@
 -- The two steps that retire a superblock: what they leave of a replica that waits for nothing else.
 use Rattle.std.proofs.Common.{◌≡◌, ◌⊎◌, inl, inr, ℕ, ◌+◌, ◌-◌, true, false, List, Option, None, Result, Ok, IfErr, refl, sym, ap, subst, ◌∙◌, arith}
-use Rattle.std.specs.Prelude.{MatchOption}
+use Rattle.std.specs.Prelude.{◌≢◌, MatchOption}
 use Rattle.rep_types.specs.declared.refusal.Refusal.{Refusal}
-use Rattle.rep_types.specs.declared.refusal.Refusal.TheVariants.{OutOfMemory, DiskFault}
+use Rattle.rep_types.specs.declared.refusal.Refusal.TheVariants.{Stopped, OutOfMemory, DiskFault, Corrupt}
+use Rattle.rep_types.specs.declared.refusal.Part.TheVariants.{Pages}
 use Rattle.rep_disk.specs.History.{History, Begins, Wrote as Written, Spoiled, Synced as Stable, IsImage}
 use Rattle.rep_disk.specs.Moments.{LeavesOnly, ImageSince, moment}
 use Rattle.rep_disk.specs.Leaving.{leaves_then}
 use Rattle.rep_log.specs.declared.phase.Phase.TheVariants.{Resting}
 use Rattle.rep_steps.specs.declared.event.Event.{Event}
-use Rattle.rep_steps.specs.declared.event.Event.TheVariants.{Check, Sync}
+use Rattle.rep_steps.specs.declared.event.Event.TheVariants.{Deliver, Log, Sync, Check, Flush, Read}
 use Rattle.rep_steps.specs.declared.answer.Answer.{Answer}
 use Rattle.rep_steps.specs.declared.answer.Answer.TheVariants.{Refused}
 use Rattle.rep_steps.specs.Standings.{Standing, Stage, Off, Retiring, refusal, check_refusal}
-use Rattle.rep_steps.specs.Moves.{Moves, Fails, answer, checked, takes_memory, reads_a_page, is_off}
+use Rattle.rep_steps.specs.Moves.{Found, Moves, Fails, answer, after, checked, takes_memory, reads_a_page, is_off}
 use Rattle.rep_steps.specs.Nodes.{Node, Steps, found, moved}
 use Rattle.rep_steps.specs.Images.{IsFrontAt}
 use Rattle.rep_image.specs.Meanings.{Means}
 use Rattle.rep_replica.specs.Replicas.{Replica, facts_of}
 use Rattle.rep_replica.specs.Holding.{Holds, IsStep}
+use Rattle.rep_replica.specs.Refusing.{IsFaultToldBy, TellsFaults}
 use Rattle.rep_replica.specs.Settling.{IsRunning, outcome_of}
 use Rattle.rep_replica.specs.Installing.{LeavesFronts}
 use Rattle.rep_replica.proofs.Settling.{refused_done, went_by, done_by, not_refused, answer_done, runs_on}
@@ -40,6 +42,43 @@ fault_by s t e a none memory page m = elim (went_by s t e a none m) [
   where
     Stops : Answer → Type 0
     Stops b = IfErr (outcome_of b) (λ r. (r ≡ DiskFault) × (t.stopped ≡ true))
+
+-- what is done counts no failure
+after_failures : (s : Standing) (e : Event) (f : Found) → (after s e f).failures ≡ s.failures
+after_failures s (Deliver seqno w) f = refl
+after_failures s Log f = refl
+after_failures s Sync f = refl
+after_failures s Check f = refl
+after_failures s (Flush page) f = refl
+after_failures s (Read key at) f = refl
+
+pub stopped_is_none : Stopped ≢ DiskFault
+stopped_is_none is = cc
+
+memory_is_none : OutOfMemory ≢ DiskFault
+memory_is_none is = cc
+
+corrupt_is_none : Corrupt Pages ≢ DiskFault
+corrupt_is_none is = cc
+
+pub told_of_none : (old new : ℕ) (e : Refusal) → e ≢ DiskFault → new ≡ old → IsFaultToldBy old new e
+told_of_none old new e other same = record { fault = λ is. absurd (other is); no_fault = λ not. same }
+
+-- a step tells the device's fault exactly where there was one
+pub step_tells : (s t : Standing) (e : Event) (a : Answer) → refusal s e ≡ None → Moves s e a t → TellsFaults s.failures t.failures (outcome_of a)
+step_tells s t e a none m = elim (went_by s t e a none m) [
+  | inl went ↦ subst Told (sym went.1) (subst (λ (o : Result (Unit {0}) Refusal). TellsFaults s.failures t.failures o) (sym (answer_done s e went.0)) (ap (λ (u : Standing). u.failures) went.2 ∙ after_failures s e went.0))
+  | inr failed ↦ elim failed [
+    | inl why ↦ elim why [
+      | inl hungry ↦ subst Told (sym hungry.1) (told_of_none s.failures t.failures OutOfMemory memory_is_none (ap (λ (u : Standing). u.failures) hungry.2))
+      | inr fault ↦ subst Told (sym fault.1) (record { fault = λ is. fault.2; no_fault = λ not. absurd (not refl) })
+    ]
+    | inr corrupt ↦ subst Told (sym corrupt.1) (told_of_none s.failures t.failures (Corrupt Pages) corrupt_is_none (ap (λ (u : Standing). u.failures) corrupt.2))
+  ]
+]
+  where
+    Told : Answer → Type 0
+    Told b = TellsFaults s.failures t.failures (outcome_of b)
 
 -- one that is done makes of a node what its rule says
 pub steps_done : (n m : Node) (e : Event) (a : Answer) → refusal n.facts e ≡ None → outcome_of a ≡ Ok tt → Steps n e a m → m ≡ moved n e
@@ -69,6 +108,16 @@ module _ (s : Standing) (stage : s.stage ≡ Retiring false) (phase : s.phase �
       let none : s.durable + 0 ≡ s.durable = omega arith in
       let next : s.next + 0 ≡ s.next = omega arith in
       d.1 ∙ rw phase (rw none (rw next refl))
+
+  -- what the first of them tells of the device, and both
+  pub check_tells : (t : Standing) (a : Answer) → Moves s Check a t → TellsFaults s.failures t.failures (outcome_of a)
+  check_tells t a m = step_tells s t Check a check_free m
+
+  pub both_tell : (t u : Standing) (a b : Answer) → Moves s Check a t → outcome_of a ≡ Ok tt → Moves t Sync b u → TellsFaults s.failures u.failures (outcome_of b)
+  both_tell t u a b m done n =
+      let is = checked_facts t a m done in
+      let from : Moves (record s { stage = Retiring true }) Sync b u = subst (λ (x : Standing). Moves x Sync b u) is n in
+      step_tells (record s { stage = Retiring true }) u Sync b (not_refused (record s { stage = Retiring true }) Sync runs refl) from
 
 -- ---- of a node
 

@@ -1,8 +1,9 @@
 -- What a step leaves of a replica that is refused.
-use Rattle.std.specs.Prelude.{◌≡◌, ◌⊎◌, ℕ, ◌++◌, length, take, drop, Some}
+use Rattle.std.specs.Prelude.{◌≡◌, ◌≢◌, ◌⊎◌, ℕ, ◌++◌, length, take, drop, Some, Result, Ok, Err}
 use Rattle.rep_types.specs.declared.refusal.Refusal.{Refusal}
 use Rattle.rep_types.specs.declared.refusal.Refusal.TheVariants.{DiskFault, Corrupt}
 use Rattle.rep_types.specs.declared.refusal.Part.TheVariants.{Pages}
+use Rattle.rep_disk.specs.Calls.{Rises}
 use Rattle.rep_log.specs.Standing.{due_of}
 use Rattle.rep_steps.specs.declared.event.Event.{Event}
 use Rattle.rep_steps.specs.declared.event.Event.TheVariants.{Log}
@@ -46,3 +47,13 @@ IsLeft e r old new = (new ≡ old) ⊎ (((r ≡ Corrupt Pages) × (new ≡ recor
 abbrev pub RefusesUnchanged : {D : Type 0} → Event → Answer → Replica D → Replica D → Type 0
 RefusesUnchanged e (Refused r) old new = IsLeft e r old new
 RefusesUnchanged e a old new = Unit {0}
+
+-- A refusal tells the device's fault exactly where there was one: where the count of failures rose.
+pub record IsFaultToldBy (old new : ℕ) (e : Refusal) : Type 0 where
+  pub fault : e ≡ DiskFault → Rises old new
+  pub no_fault : e ≢ DiskFault → new ≡ old
+
+-- so it is of a call, whatever came of it, whose device had failed this often before it and this often behind it
+abbrev pub TellsFaults : {T : Type 0} → ℕ → ℕ → Result T Refusal → Type 0
+TellsFaults old new (Ok x) = new ≡ old
+TellsFaults old new (Err e) = IsFaultToldBy old new e

@@ -1,18 +1,19 @@
 //! What a replica reads for a joiner: the base with its window, and the durable blocks behind it.
 
-ghost use Rattle.std.specs.Prelude.{◌≡◌, ◌≢◌, ◌+◌, ◌-◌, nat_lt, is_some, None, Err, IfOk, IfSome};
+ghost use Rattle.std.specs.Prelude.{◌≡◌, ◌≢◌, ◌+◌, ◌-◌, ◌||◌, false, nat_lt, is_some, None, Ok, Err, IfOk, IfSome};
 ghost use Rattle.rep_types.specs.declared.refusal.Refusal.TheVariants.{Corrupt};
 ghost use Rattle.rep_types.specs.declared.refusal.Part.TheVariants.{Log as in_log, Window as in_window, Pages as in_pages};
 ghost use Rattle.rep_record.specs.Blocks.{IsBlock};
 ghost use Rattle.rep_disk.specs.History.{seen};
 ghost use Rattle.rep_layout.specs.declared.page_state.PageState.TheVariants.{Nowhere};
-ghost use Rattle.rep_layout.specs.Places.{log_of};
+ghost use Rattle.rep_layout.specs.declared.place.Place.TheVariants.{Window as in_window_area};
+ghost use Rattle.rep_layout.specs.Places.{log_of, side_of};
 ghost use Rattle.rep_layout.specs.Windows.{window, IsWindowBody};
 ghost use Rattle.rep_cells.specs.Readings.{reading_of};
 ghost use Rattle.rep_cells.specs.Known.{IsReadable};
 ghost use Rattle.rep_pages.specs.Slots.{state_of_page};
 ghost use Rattle.rep_steps.specs.Nodes.{Node};
-ghost use Rattle.rep_engine.specs.Donating.{IsTailBlock, IsBlockAsSpelled, IsBasePage, HasNoRow};
+ghost use Rattle.rep_engine.specs.Donating.{IsTailBlock, IsBlockAsSpelled, IsBasePage, HasNoRow, IsWindowAsSpelled, IsBasePageAsSpelled};
 ghost use Rattle.rep_replica.specs.Holding.{Holds};
 ghost use Rattle.rep_replica.specs.Donating.{Asks};
 
@@ -36,6 +37,8 @@ impl<D: Disk> Replica<D> {
     ) -> Result<Option<BlockReader<'a>>, Refusal>
         ensures asks { Asks D.size D.failures D.honest D.history in_log self.old self.new result }
         ensures none { IfOk result (λ found. is_some found ≡ nat_lt index (self.old.engine.log.next - self.old.engine.log.start)) }
+        // And None is given there, whatever stands on the device.
+        ensures behind { nat_lt index (self.old.engine.log.next - self.old.engine.log.start) ≡ false → (self.old.stopped || is_some self.old.engine.halted) ≡ false → result ≡ Ok None }
         // On any device what is given is a block of that number.
         ensures form { IfOk result (λ found. IfSome found (λ b. (b.cell ≡ self.old.engine.log.start + index) × IsBlock b.cell b.records)) }
         ensures holds { (n : Node) → Holds D.honest D.history D.failures n self.old → result ≢ Err Refusal.DiskFault → Holds D.honest D.history D.failures n self.new }
@@ -65,6 +68,8 @@ impl<D: Disk> Replica<D> {
         ensures holds { (n : Node) → Holds D.honest D.history D.failures n self.old → result ≢ Err Refusal.DiskFault → Holds D.honest D.history D.failures n self.new }
         ensures window { (n : Node) → Holds D.honest D.history D.failures n self.old → IfOk result (λ w. w.entries ≡ n.base.kept.entries) }
         ensures whole { (n : Node) → Holds D.honest D.history D.failures n self.old → result ≢ Err (Corrupt in_window) }
+        // Whatever stands on an honest device: its bytes decide, where no write failed in the window's area.
+        ensures spelled { D.honest self.old.engine.disk → IsReadable self.old.engine.layout (D.history self.old.engine.disk) (in_window_area (side_of self.old.engine.checkpoint.base.number)) → IsWindowAsSpelled (reading_of self.old.engine.layout (seen (D.history self.old.engine.disk))) self.old.engine.checkpoint.base result in_window }
     {
         if self.is_stopped() {
             return Err(Refusal::Stopped);
@@ -85,6 +90,8 @@ impl<D: Disk> Replica<D> {
         ensures page { (n : Node) → Holds D.honest D.history D.failures n self.old → IfOk result (λ found. IfSome found (IsBasePage self.old.engine.checkpoint.base n.base.content page)) }
         ensures absent { (n : Node) → Holds D.honest D.history D.failures n self.old → self.old.engine.halted ≡ None → state_of_page self.old.engine.checkpoint.base page ≡ Nowhere → HasNoRow self.old.engine.checkpoint.base n.base.content page }
         ensures whole { (n : Node) → Holds D.honest D.history D.failures n self.old → result ≢ Err (Corrupt in_pages) }
+        // Whatever stands on an honest device: its bytes decide.
+        ensures spelled { D.honest self.old.engine.disk → IsBasePageAsSpelled (reading_of self.old.engine.layout (seen (D.history self.old.engine.disk))) self.old.engine.checkpoint.base page result in_pages }
     {
         if self.is_stopped() {
             return Err(Refusal::Stopped);

@@ -18,6 +18,7 @@ ghost use Rattle.rep_engine.specs.Engines.{durable_of};
 ghost use Rattle.rep_engine.specs.Reading.{halted_by};
 ghost use Rattle.rep_engine.specs.Installing.{CanBring, halted_node};
 ghost use Rattle.rep_replica.specs.Replicas.{facts_of};
+ghost use Rattle.rep_replica.specs.Refusing.{TellsFaults};
 ghost use Rattle.rep_replica.specs.Holding.{Holds};
 ghost use Rattle.rep_replica.specs.Settling.{is_quiet, IsRunning};
 ghost use Rattle.rep_replica.specs.Installing.{HoldsBoth, Installs, Lands, LeavesFronts, given_up};
@@ -99,6 +100,8 @@ impl<D: Disk> Replica<D> {
         ensures stopped { (self.stopped || is_some self.engine.halted) ≡ true → result ≡ Err (self, Stopped) }
         ensures refused { IfErr result (λ e. (e.0 ≡ self) × (((e.1 ≡ Stopped) × ((self.stopped || is_some self.engine.halted) ≡ true)) ⊎ (e.1 ≡ OutOfMemory))) }
         ensures begun { IfOk result (λ i. (i.engine ≡ self.engine) × (i.coming ≡ coming self.engine.checkpoint.base uuid position self.engine.log.next window.entries)) }
+        // What `give_up` gives back has the certifier that the replica has.
+        ensures before { IfOk result (λ i. i.before ≡ self.certifier) }
         ensures holds { (n : Node) → Holds D.honest D.history D.failures n self → IfOk result (λ i. HoldsBoth D.honest D.history D.failures n (blank position window) i) }
     {
         // Tells the proof what holds of the engine.
@@ -144,6 +147,7 @@ impl<D: Disk> Replica<D> {
         requires resting { (facts_of D.failures self.old).phase ≡ Resting }
         ensures done { OnOk result (facts_of D.failures self.new ≡ record (facts_of D.failures self.old) { stage = Off }) }
         ensures fault { IfErr result (λ e. (e ≡ DiskFault) × ((facts_of D.failures self.new).stopped ≡ true)) }
+        ensures told { TellsFaults (D.failures self.old.engine.disk) (D.failures self.new.engine.disk) result }
         ensures holds { (n : Node) → Holds D.honest D.history D.failures n self.old → OnOk result (Holds D.honest D.history D.failures (record n { facts = record n.facts { stage = Off } }) self.new) }
         ensures fronts { (n : Node) → Holds D.honest D.history D.failures n self.old → OnErr result (LeavesFronts D.honest D.history n self.new) }
         ensures leaves { (n : Node) → Holds D.honest D.history D.failures n self.old → LeavesOnly (D.history self.old.engine.disk) (D.history self.new.engine.disk) (IsFrontAt Means n) }
@@ -229,6 +233,7 @@ impl<D: Disk> Installation<D> {
     fn take_place(self) -> (Replica<D>, Result<(), Refusal>)
         requires running { self.engine.halted ≡ None }
         ensures lands { Lands D.failures self result.0 result.1 }
+        ensures told { TellsFaults (D.failures self.engine.disk) (D.failures result.0.engine.disk) result.1 }
         ensures installs { (n : Node) → (y : State) → HoldsBoth D.honest D.history D.failures n y self → Installs D.honest D.history D.failures n y self result.0 result.1 }
     {
         certifiers_hold_windows();
@@ -269,6 +274,8 @@ impl<D: Disk> Installation<D> {
     pub fn end(self) -> (Replica<D>, Result<(), Refusal>)
         ensures stopped { IfSome self.engine.halted (λ _. result ≡ (given_up self, Err Stopped)) }
         ensures lands { self.engine.halted ≡ None → Lands D.failures self result.0 result.1 }
+        // It is refused by the device alone, and exactly where that failed.
+        ensures told { TellsFaults (D.failures self.engine.disk) (D.failures result.0.engine.disk) result.1 }
         ensures installs { (n : Node) → (y : State) → HoldsBoth D.honest D.history D.failures n y self → Installs D.honest D.history D.failures n y self result.0 result.1 }
     {
         if self.is_stopped() {

@@ -1,10 +1,11 @@
 -- What a donor and a joiner say.
 use Rattle.std.proofs.Common.{◌≡◌, inl, ℕ, true, List, Option, None, Some, Result, Ok, Err, sym, ap, subst, ◌∙◌}
-use Rattle.std.specs.Prelude.{IfOk, IfSome, OnOk}
+use Rattle.std.specs.Prelude.{◌≢◌, IfOk, IfErr, IfSome, OnOk}
 use Rattle.std.specs.Io.KnownBytes.{Appends}
 use Rattle.std.proofs.KnownBytes.{Appends-nil}
 use Rattle.rep_types.specs.declared.refusal.Refusal.{Refusal}
-use Rattle.rep_types.specs.declared.refusal.Refusal.TheVariants.{StreamFault}
+use Rattle.rep_types.specs.declared.refusal.Refusal.TheVariants.{DiskFault, Corrupt, StreamFault}
+use Rattle.rep_types.specs.declared.refusal.Part.{Part}
 use Rattle.rep_disk.specs.History.{History}
 use Rattle.rep_steps.specs.Nodes.{Node}
 use Rattle.rep_replica.specs.Replicas.{Replica, facts_of}
@@ -13,7 +14,8 @@ use Rattle.rep_replica.specs.Settling.{is_quiet}
 use Rattle.rep_transfer.specs.declared.have.Have.{Have}
 use Rattle.rep_transfer.specs.Transfers.{Transfer, transfer_bytes}
 use Rattle.rep_catchup.specs.Donating.{IsDonated}
-use Rattle.rep_catchup.specs.Joining.{Joined}
+use Rattle.rep_catchup.specs.Growing.{Tells as TellsOfDevice}
+use Rattle.rep_catchup.specs.Joining.{Joined, TookTransfer}
 use Rattle.rep_script.specs.Answering.{Tells}
 use Rattle.rep_script.specs.CatchingUp.{donated_line, Donated, Donates, Taken}
 
@@ -46,11 +48,29 @@ some_last (Some bytes) P last found = (last, found)
 
 -- the transfer was taken to its end
 pub taken : {D : Type 0} (honest : D → Type 0) (history : D → History) (failures : D → ℕ) (old new : Replica D) (before left : Option (List ℕ)) (joined : Result ℕ Refusal) (last : ℕ) → joined ≡ Ok last → OnOk joined (is_quiet (facts_of failures new) ≡ true)
+    → IfSome before (λ bytes. IfOk joined (TookTransfer failures bytes left old new))
     → ((n : Node) → Holds honest history failures n old → IfSome before (λ bytes. IfOk joined (Joined honest history failures n bytes left old new))) → Taken honest history failures old new before left
-taken honest history failures old new before left (Ok k) last is quiet joins = record { quiet = quiet; joined = λ n holds. some_last before (λ bytes p. Joined honest history failures n bytes left old new p) k (joins n holds) }
-taken honest history failures old new before left (Err e) last is quiet joins = absurd (cc)
+taken honest history failures old new before left (Ok k) last is quiet took joins = record { quiet = quiet; took = some_last before (λ bytes p. TookTransfer failures bytes left old new p) k took; joined = λ n holds. some_last before (λ bytes p. Joined honest history failures n bytes left old new p) k (joins n holds) }
+taken honest history failures old new before left (Err e) last is quiet took joins = absurd (cc)
 
 -- and whether its line could be written or not
 pub either_way : {T : Type 0} (result : Result T Refusal) (P : Type 0) → P → OnOk result P
 either_way (Ok x) P p = p
 either_way (Err e) P p = tt
+
+-- ---- what is told of the device
+
+stream_is_none : StreamFault ≢ DiskFault
+stream_is_none is = cc
+
+stream_is_whole : (part : Part) → StreamFault ≢ Corrupt part
+stream_is_whole part is = cc
+
+module _ {D : Type 0} (honest : D → Type 0) (history : D → History) (failures : D → ℕ) (old new : Replica D) where
+  -- a line that fails tells nothing of it
+  pub line_tells : {T : Type 0} (result : Result T Refusal) → IfErr result (λ e. e ≡ StreamFault) → failures new.engine.disk ≡ failures old.engine.disk → TellsOfDevice honest history failures old new result
+  line_tells (Ok x) told same = same
+  line_tells (Err e) told same = record {
+    faults = record { fault = λ is. absurd (stream_is_none (sym told ∙ is)); no_fault = λ not. same };
+    whole = λ n holds part is. stream_is_whole part (sym told ∙ is);
+  }

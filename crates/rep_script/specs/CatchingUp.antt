@@ -12,7 +12,7 @@ use Rattle.rep_replica.specs.Settling.{is_quiet}
 use Rattle.rep_transfer.specs.declared.have.Have.{Have}
 use Rattle.rep_transfer.specs.Transfers.{Transfer, transfer_bytes}
 use Rattle.rep_catchup.specs.Donating.{IsDonated}
-use Rattle.rep_catchup.specs.Joining.{Joined}
+use Rattle.rep_catchup.specs.Joining.{Joined, TookTransfer}
 use Rattle.rep_script.specs.Answering.{Tells}
 
 -- the line that is said of a transfer that was written up to this position
@@ -35,8 +35,9 @@ abbrev pub Donates : Node → Have → Option (List ℕ) → Option (List ℕ) �
 Donates n have old new before after (Ok x) = Donated n have old new before after (Ok x)
 Donates n have old new before after (Err e) = Donated n have old new before after (Err e) ⊎ Keeps before after
 
--- A transfer was taken to its end: on any device the replica is quiet; and one that stood for a node stands for what the transfer makes
--- of it, where the bytes are known, which began with that.
+-- A transfer was taken to its end: on any device the replica is quiet, and the bytes, where they are known, began with a transfer that it can
+-- take; and one that stood for a node stands for what the transfer makes of it.
 pub record Taken {D : Type 0} (honest : D → Type 0) (history : D → History) (failures : D → ℕ) (old new : Replica D) (before left : Option (List ℕ)) : Type 0 where
   pub quiet : is_quiet (facts_of failures new) ≡ true
+  pub took : IfSome before (λ bytes. (last : ℕ) × TookTransfer failures bytes left old new last)
   pub joined : (n : Node) → Holds honest history failures n old → IfSome before (λ bytes. (last : ℕ) × Joined honest history failures n bytes left old new last)

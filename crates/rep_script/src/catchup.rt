@@ -11,7 +11,7 @@ ghost use Rattle.rep_replica.specs.Holding.{Holds};
 ghost use Rattle.rep_transfer.specs.Haves.{have_bytes};
 ghost use Rattle.rep_catchup.specs.Haves.{have_of};
 ghost use Rattle.rep_catchup.specs.Donating.{IsFirstRefusal, EndsEarly, ReadsAlone};
-ghost use Rattle.rep_catchup.specs.Growing.{EndsRunning};
+ghost use Rattle.rep_catchup.specs.Growing.{EndsRunning, Tells as TellsOfDevice};
 ghost use Rattle.rep_catchup.specs.Joining.{Lived, Ended};
 ghost use Rattle.rep_script.specs.Answering.{Tells};
 ghost use Rattle.rep_script.specs.CatchingUp.{donated_line, joined_line, Donates, Taken};
@@ -78,6 +78,8 @@ pub fn join_text<D: Disk, R: Read, W: Write>(
     ensures told { Tells (joined_line (gtid_of result.0.engine)) (W.contents writer.old) (W.contents writer.new) result.1 }
     ensures stopped { (replica.stopped || is_some replica.engine.halted) ≡ true → (result ≡ (replica, Err Refusal.Stopped)) × Keeps (W.contents writer.old) (W.contents writer.new) }
     ensures ends { (replica.stopped || is_some replica.engine.halted) ≡ false → EndsRunning result.1 result.0 }
+    // The device's fault is told exactly where there was one, and of no honest device of a node that a page is not of its form.
+    ensures tells { TellsOfDevice D.honest D.history D.failures replica result.0 result.1 }
     ensures lived { Lived D.honest D.history D.failures replica result.0 }
     ensures joined { OnOk result.1 (Taken D.honest D.history D.failures replica result.0 (R.remaining transfer.old) (R.remaining transfer.new)) }
     // Where it is refused, the transfer was not taken to its end, and nothing of the line was written; or it was, and the line's writer failed.

@@ -2,6 +2,7 @@ use Rattle.std.proofs.Common.{◌≡◌, ◌+◌, refl, rules, arith, sym, ◌�
 use Rattle.rep_steps.specs.Standings.{delivered}
 use Rattle.rep_replica.specs.Replicas.{facts_of}
 use Rattle.rep_catchup.proofs.JoinGrowing.{grown_none, delivered_judged, delivered_none, delivered_runs, delivery_answers, delivery_early, ends_running, is_stopped, out_by_seqno, out_by_verdict}
+use Rattle.rep_catchup.proofs.JoinTelling.{tells_malformed, gave_tells, delivery_told}
 use Rattle.rep_catchup.proofs.joining.deliver.Goals as goal
 use Rattle.rep_catchup.proofs.joining.deliver.Goals.{then-seqno-delivered-via-then-seqno-delivered, then-seqno-delivered-via-else-seqno-delivered+then-ne}
 
@@ -51,6 +52,9 @@ returns-in-Refused g c =
           delivered_none c.history_by_items.ensures g.D.Disk.honest g.D.Disk.history g.D.Disk.failures c.runs_are_joined.ensures c.nodes_hold_the_order.ensures c.steps_follow_the_order.ensures c.args.replica.now c.step.new.self c.args.judged.seqno
           c.in-WriteSet.item c.in-Refused.refusal c.in-Refused.ensures.step;
       ends = ends_running c.history_by_items.ensures g.D.Disk.honest g.D.Disk.history g.D.Disk.failures c.step.new.self c.in-Refused.refusal early.1;
+      tells =
+          delivery_told g.D.Disk.honest g.D.Disk.history g.D.Disk.failures c.args.replica.now c.step.new.self c.args.judged.seqno c.in-WriteSet.item c.in-Refused.refusal (is_stopped g.D.Disk.failures c.args.replica.now c.requires.running)
+          c.requires.defined next c.requires.fits.seqno c.requires.room c.in-Refused.ensures.step.moves;
       limit = tt;
       refused = inl early.0;
     }
@@ -63,3 +67,12 @@ returns-in_default-step g c =
       | inl gave ↦ c.in_default-step.not-Gave gave.0 gave.1
       | inr refused ↦ c.in_default-step.not-Refused refused.0 refused.1
     ])
+
+-- ---- what is told of the device
+
+pub returns-then-seqno-delivered-clause-tells : goal.returns-then-seqno-delivered-clause-tells
+returns-then-seqno-delivered-clause-tells g c = tells_malformed g.D.Disk.honest g.D.Disk.history g.D.Disk.failures c.args.replica.now c.args.at
+
+pub returns-in-Gave-clause-tells : goal.returns-in-Gave-clause-tells
+returns-in-Gave-clause-tells g c =
+    gave_tells (facts_of g.D.Disk.failures c.args.replica.now) (facts_of g.D.Disk.failures c.step.new.self) c.args.judged.seqno c.in-WriteSet.item c.in-Gave.field-0 c.in-Gave.ensures.step.moves

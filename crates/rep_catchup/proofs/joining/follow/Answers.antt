@@ -1,15 +1,17 @@
-use Rattle.std.proofs.Common.{◌≡◌, ◌<◌, ◌^◌, None, Ok, ap, sym, subst, ◌∙◌, Option, ℕ, rules}
+use Rattle.std.proofs.Common.{◌≡◌, ◌<◌, ◌^◌, None, Ok, refl, ap, sym, subst, ◌∙◌, Option, ℕ, rules}
 use Rattle.std.proofs.lemmas.Result.{err_from_is_err_and}
 use Rattle.rep_transfer.specs.Transfers.{PartFits, part_bytes}
 use Rattle.rep_catchup.specs.Joining.{Followed}
 use Rattle.rep_catchup.proofs.JoinTaking.{consumed, found_fits, counted_small}
 use Rattle.rep_catchup.proofs.JoinCutting.{cut_at_part}
 use Rattle.rep_catchup.proofs.JoinFollowing.{followed_none, part_followed}
+use Rattle.rep_catchup.proofs.JoinTelling.{told_then, tells_stream, tells_malformed, grown_goes}
 use Rattle.rep_catchup.proofs.joining.follow.Goals as goal
 
 pub loop-part-init : goal.loop-part-init
 loop-part-init g c = record {
   running = c.requires.running;
+  same = refl;
   defined = c.requires.defined;
   followed = followed_none g.D.Disk.honest g.D.Disk.history g.D.Disk.failures c.history_by_items.ensures c.runs_are_joined.ensures c.args.replica.now c.args.transfer.now (g.R.Read.remaining c.args.reader.now);
 }
@@ -33,6 +35,7 @@ loop-part-preserved g c =
     (g.R.Read.remaining c.loop-part.reader) left c.in_ok-last.field-0 c.in-Some.part c.next_part.result (c.in_ok-part.was ∙ ap Ok c.in-Some.is) c.loop-part.invariant.followed c.next_part.ensures.known c.next_part.ensures.taken c.in_ok-last.ensures.took) in
     record {
       running = c.in_ok-last.ensures.ends;
+      same = c.in_ok-last.ensures.tells ∙ c.loop-part.invariant.same;
       defined = λ nil. c.requires.defined (sym followed.2.grown.uuid ∙ nil);
       followed = followed;
     }
@@ -52,3 +55,24 @@ returns-in_err-last-clause-cut g c =
     rw (p.1, p.2) (cut_at_part g.D.Disk.honest g.D.Disk.history g.D.Disk.failures c.history_by_items.ensures c.runs_are_joined.ensures c.args.replica.now c.loop-part.replica c.take_part.new.replica c.args.transfer.now c.taken-at.result start before
     (g.R.Read.remaining c.next_part.new.reader) part e (counted_small c.taken-at.result small) followed c.in_err-last.ensures.kept (found_fits PartFits part c.next_part.result is c.next_part.ensures.fits)
     (consumed PartFits part_bytes before (g.R.Read.remaining c.next_part.new.reader) part c.next_part.result is c.next_part.ensures.known) c.in_err-last.ensures.refused)
+
+-- ---- what is told of the device
+
+pub returns-in_err-part-clause-tells : goal.returns-in_err-part-clause-tells
+returns-in_err-part-clause-tells g c =
+    let p = err_from_is_err_and c.from_residual.result c.from_residual.ensures.1 in
+    let e = c.in_err-part.field-0.0 in
+    rw (p.1, p.2) (told_then g.D.Disk.honest g.D.Disk.history g.D.Disk.failures c.args.replica.now c.loop-part.replica c.loop-part.replica e c.loop-part.invariant.same
+    (grown_goes g.D.Disk.honest g.D.Disk.history g.D.Disk.failures c.args.replica.now c.loop-part.replica c.loop-part.invariant.followed.2.records c.loop-part.invariant.followed.2.grown) (tells_stream g.D.Disk.honest g.D.Disk.history g.D.Disk.failures c.loop-part.replica e c.in_err-part.ensures.refused))
+
+pub returns-in_default-clause-tells : goal.returns-in_default-clause-tells
+returns-in_default-clause-tells g c =
+    told_then g.D.Disk.honest g.D.Disk.history g.D.Disk.failures c.args.replica.now c.loop-part.replica c.loop-part.replica _ c.loop-part.invariant.same
+    (grown_goes g.D.Disk.honest g.D.Disk.history g.D.Disk.failures c.args.replica.now c.loop-part.replica c.loop-part.invariant.followed.2.records c.loop-part.invariant.followed.2.grown) (tells_malformed g.D.Disk.honest g.D.Disk.history g.D.Disk.failures c.loop-part.replica c.taken-at.result)
+
+pub returns-in_err-last-clause-tells : goal.returns-in_err-last-clause-tells
+returns-in_err-last-clause-tells g c =
+    let p = err_from_is_err_and c.from_residual-in_err-last.result c.from_residual-in_err-last.ensures.1 in
+    let e = c.in_err-last.field-0.0 in
+    rw (p.1, p.2) (told_then g.D.Disk.honest g.D.Disk.history g.D.Disk.failures c.args.replica.now c.loop-part.replica c.take_part.new.replica e c.loop-part.invariant.same
+    (grown_goes g.D.Disk.honest g.D.Disk.history g.D.Disk.failures c.args.replica.now c.loop-part.replica c.loop-part.invariant.followed.2.records c.loop-part.invariant.followed.2.grown) c.in_err-last.ensures.tells)

@@ -1,4 +1,4 @@
-use Rattle.std.proofs.Common.{◌-◌, None}
+use Rattle.std.proofs.Common.{◌≡◌, ◌-◌, None}
 use Rattle.rep_types.specs.declared.limits.TheConstants.{MAX_SEQNO}
 use Rattle.rep_layout.specs.Supers.{IsNil}
 use Rattle.rep_steps.specs.Standings.{delivered}
@@ -11,6 +11,7 @@ use Rattle.rep_catchup.proofs.joining.follow.Given as goal
 abbrev pub invariant-loop-part : goal.invariant-loop-part
 invariant-loop-part g l = record {
   running : IsRunning l.replica;
+  same : g.D.Disk.failures l.replica.engine.disk ≡ g.D.Disk.failures l.initial.replica.engine.disk;
   defined : IsNil (facts_of g.D.Disk.failures l.replica).uuid → ⊥;
   followed : Followed g.D.Disk.honest g.D.Disk.history g.D.Disk.failures l.initial.replica l.replica l.initial.transfer l.transfer (g.R.Read.remaining l.initial.reader) (g.R.Read.remaining l.reader) None;
 }

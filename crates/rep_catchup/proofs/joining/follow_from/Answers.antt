@@ -8,6 +8,7 @@ use Rattle.rep_catchup.proofs.JoinGrowing.{grown_none}
 use Rattle.rep_catchup.proofs.JoinTaking.{counted_small}
 use Rattle.rep_catchup.proofs.JoinFollowing.{from_end, part_goes_on}
 use Rattle.rep_catchup.proofs.JoinCutting.{cut_in_hand, cut_behind_on, nil_is_out}
+use Rattle.rep_catchup.proofs.JoinTelling.{tells_then, tells_malformed, grown_goes}
 use Rattle.rep_catchup.proofs.joining.follow_from.Goals as goal
 
 pub returns-in-Some-clause-followed : goal.returns-in-Some-clause-followed
@@ -39,3 +40,13 @@ pub returns-in-None-clause-cut : goal.returns-in-None-clause-cut
 returns-in-None-clause-cut g c = λ before taken.
     cut_behind_on g.D.Disk.honest g.D.Disk.history g.D.Disk.failures c.history_by_items.ensures c.runs_are_joined.ensures c.args.replica.now c.take_part.new.replica c.follow.new.replica c.args.at c.args.transfer.now before
     (g.R.Read.remaining c.args.reader.now) c.in_ok-last.field-0 (part_bytes c.args.part) c.follow.result c.in-None.is c.requires.counted taken c.in_ok-last.ensures.took c.follow.ensures.cut
+
+-- ---- what is told of the device
+
+pub returns-then-is_nil-clause-tells : goal.returns-then-is_nil-clause-tells
+returns-then-is_nil-clause-tells g c = tells_malformed g.D.Disk.honest g.D.Disk.history g.D.Disk.failures c.args.replica.now c.args.at
+
+pub returns-in-None-clause-tells : goal.returns-in-None-clause-tells
+returns-in-None-clause-tells g c =
+    tells_then g.D.Disk.honest g.D.Disk.history g.D.Disk.failures c.args.replica.now c.take_part.new.replica c.follow.new.replica c.follow.result c.in_ok-last.ensures.tells
+    (grown_goes g.D.Disk.honest g.D.Disk.history g.D.Disk.failures c.args.replica.now c.take_part.new.replica c.in_ok-last.ensures.took.records c.in_ok-last.ensures.took.grown) c.follow.ensures.tells

@@ -1,12 +1,13 @@
-use Rattle.std.proofs.Common.{List, ℕ, refl, inl, inr, sym, ap, ◌∙◌, arith}
+use Rattle.std.proofs.Common.{List, [], ℕ, refl, inl, inr, sym, ap, ◌∙◌, arith}
 use Rattle.rep_types.specs.declared.refusal.Refusal.TheVariants.{Stopped}
 use Rattle.rep_transfer.specs.Taking.{counted}
 use Rattle.rep_replica.specs.Replicas.{facts_of}
-use Rattle.rep_catchup.specs.Joining.{Joined}
+use Rattle.rep_catchup.specs.Joining.{Joined, TookTransfer}
 use Rattle.rep_catchup.proofs.JoinGrowing.{early_work, is_running}
 use Rattle.rep_catchup.proofs.JoinWent.{lived_none, lived_settling, lived_parts}
-use Rattle.rep_catchup.proofs.JoinFollowing.{not_joined, joined_on}
+use Rattle.rep_catchup.proofs.JoinFollowing.{not_joined, joined_on, took_on}
 use Rattle.rep_catchup.proofs.JoinCutting.{early_header, early_parts, ended_parts, or_stopped}
+use Rattle.rep_catchup.proofs.JoinTelling.{tells_then, tells_stopped, tells_header, grown_goes, told_then}
 use Rattle.rep_catchup.proofs.joining.join.Goals as goal
 
 pub settle-requires : goal.settle-requires
@@ -87,3 +88,40 @@ pub returns-in-Ok-clause-lived : goal.returns-in-Ok-clause-lived
 returns-in-Ok-clause-lived g c =
     lived_parts g.D.Disk.honest g.D.Disk.history g.D.Disk.failures c.args.replica c.settle.new.replica c.take_parts.result.0 c.in-Ok.uuid (g.R.Read.remaining c.take_header.new.reader) (g.R.Read.remaining c.take_parts.new.reader) c.take_header.new.transfer
     c.take_parts.result.1 c.settle.ensures.grown c.take_parts.ensures.taken c.take_parts.ensures.cut
+
+-- ---- what is told of the device
+
+pub returns-then-is_stopped-clause-tells : goal.returns-then-is_stopped-clause-tells
+returns-then-is_stopped-clause-tells g c = tells_stopped g.D.Disk.honest g.D.Disk.history g.D.Disk.failures c.args.replica
+
+pub returns-in-Err-take_header-clause-tells : goal.returns-in-Err-take_header-clause-tells
+returns-in-Err-take_header-clause-tells g c =
+    told_then g.D.Disk.honest g.D.Disk.history g.D.Disk.failures c.args.replica c.settle.new.replica c.settle.new.replica c.in-Err-take_header.refusal c.in_default.ensures.tells
+    (grown_goes g.D.Disk.honest g.D.Disk.history g.D.Disk.failures c.args.replica c.settle.new.replica [] c.settle.ensures.grown)
+    (tells_header g.D.Disk.honest g.D.Disk.history g.D.Disk.failures c.settle.new.replica (g.R.Read.remaining c.args.reader.now) c.in-Err-take_header.refusal c.in-Err-take_header.ensures.refused)
+
+pub returns-in-Ok-clause-tells : goal.returns-in-Ok-clause-tells
+returns-in-Ok-clause-tells g c =
+    tells_then g.D.Disk.honest g.D.Disk.history g.D.Disk.failures c.args.replica c.settle.new.replica c.take_parts.result.0 c.take_parts.result.1 c.in_default.ensures.tells (grown_goes g.D.Disk.honest g.D.Disk.history g.D.Disk.failures c.args.replica c.settle.new.replica [] c.settle.ensures.grown)
+    c.take_parts.ensures.tells
+
+-- ---- what was taken, on any device
+
+pub returns-then-is_stopped-clause-took : goal.returns-then-is_stopped-clause-took
+returns-then-is_stopped-clause-took g c =
+    let start = g.R.Read.remaining c.args.reader.now in
+    not_joined start (λ (bytes : List ℕ). TookTransfer g.D.Disk.failures bytes start c.args.replica c.args.replica) Stopped
+
+pub returns-in-Err-clause-took : goal.returns-in-Err-clause-took
+returns-in-Err-clause-took g c =
+    let start = g.R.Read.remaining c.args.reader.now in
+    not_joined start (λ (bytes : List ℕ). TookTransfer g.D.Disk.failures bytes start c.args.replica c.settle.new.replica) c.in-Err.refusal
+
+pub returns-in-Err-take_header-clause-took : goal.returns-in-Err-take_header-clause-took
+returns-in-Err-take_header-clause-took g c =
+    not_joined (g.R.Read.remaining c.args.reader.now) (λ (bytes : List ℕ). TookTransfer g.D.Disk.failures bytes (g.R.Read.remaining c.take_header.new.reader) c.args.replica c.settle.new.replica) c.in-Err-take_header.refusal
+
+pub returns-in-Ok-clause-took : goal.returns-in-Ok-clause-took
+returns-in-Ok-clause-took g c =
+    took_on g.D.Disk.honest g.D.Disk.history g.D.Disk.failures c.args.replica c.settle.new.replica c.take_parts.result.0 c.in-Ok.uuid c.settle.ensures.grown (g.R.Read.remaining c.args.reader.now) (g.R.Read.remaining c.take_header.new.reader) (g.R.Read.remaining c.take_parts.new.reader)
+    c.take_parts.result.1 c.in-Ok.ensures.taken c.take_parts.ensures.taken

@@ -9,6 +9,7 @@ use Rattle.rep_catchup.specs.Joining.{CutShort}
 use Rattle.rep_catchup.proofs.JoinTaking.{consumed, found_fits, none_found, counted_small}
 use Rattle.rep_catchup.proofs.JoinFollowing.{all_behind, no_snapshot}
 use Rattle.rep_catchup.proofs.JoinCutting.{ends_at_none, no_snapshot_stands, short_none, short_records_on, no_front}
+use Rattle.rep_catchup.proofs.JoinTelling.{tells_malformed, tells_stream}
 use Rattle.rep_catchup.proofs.joining.take_parts.Goals as goal
 
 -- ---- where no part is taken
@@ -67,8 +68,17 @@ returns g c =
           no_snapshot g.D.Disk.honest g.D.Disk.history g.D.Disk.failures c.args.replica c.follow_from-followed.new.replica c.args.uuid (part_bytes part) before mid (g.R.Read.remaining c.follow_from-followed.new.reader)
           c.follow_from-followed.result taken c.requires.cluster c.follow_from-followed.ensures.defined c.follow_from-followed.ensures.followed;
       ends = c.follow_from-followed.ensures.ends;
+      tells = c.follow_from-followed.ensures.tells;
       cut =
           subst (λ k. IfErr c.follow_from-followed.result (CutShort g.D.Disk.honest g.D.Disk.history g.D.Disk.failures c.args.replica c.follow_from-followed.new.replica c.args.uuid before k)) c.taken-at.ensures
           (short_records_on g.D.Disk.honest g.D.Disk.history g.D.Disk.failures c.args.replica c.follow_from-followed.new.replica c.args.uuid c.taken-at.result before c.follow_from-followed.result (c.follow_from-followed.ensures.cut before taken)
           (no_front g.D.Disk.honest g.D.Disk.history g.D.Disk.failures (facts_of g.D.Disk.failures c.args.replica) part before mid (found_fits PartFits part c.next_part.result is c.next_part.ensures.fits) taken c.in_default.not-Snapshot));
     }
+
+-- ---- what is told of the device
+
+pub returns-in-Ok-None-clause-tells : goal.returns-in-Ok-None-clause-tells
+returns-in-Ok-None-clause-tells g c = tells_malformed g.D.Disk.honest g.D.Disk.history g.D.Disk.failures c.args.replica c.taken-at.result
+
+pub returns-in-Err-clause-tells : goal.returns-in-Err-clause-tells
+returns-in-Err-clause-tells g c = tells_stream g.D.Disk.honest g.D.Disk.history g.D.Disk.failures c.args.replica c.in-Err.refusal c.in-Err.ensures.refused

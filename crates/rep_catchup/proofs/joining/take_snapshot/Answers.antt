@@ -2,6 +2,7 @@ use Rattle.rep_catchup.proofs.JoinBringing.{on_ok_of, on_err_of}
 use Rattle.rep_catchup.proofs.JoinTaking.{counted_small}
 use Rattle.rep_catchup.proofs.JoinFollowing.{after_snapshot}
 use Rattle.rep_catchup.proofs.JoinCutting.{short_behind_on, short_left}
+use Rattle.rep_catchup.proofs.JoinTelling.{tells_then, bring_told, brought_same}
 use Rattle.rep_catchup.proofs.joining.take_snapshot.Goals as goal
 
 pub returns-in-Ok-clause-taken : goal.returns-in-Ok-clause-taken
@@ -20,3 +21,16 @@ pub returns-in-Err-clause-cut : goal.returns-in-Err-clause-cut
 returns-in-Err-clause-cut g c = λ before taken.
     short_left g.D.Disk.honest g.D.Disk.history g.D.Disk.failures c.history_by_items.ensures c.args.replica c.bring-replica.result.0 c.args.uuid c.args.front c.args.at c.args.transfer.now before (g.R.Read.remaining c.args.reader.now) c.in-Err.refusal c.requires.fits
     (counted_small c.args.at c.ranges.at.fits) c.requires.counted taken (on_err_of _ c.bring-replica.result.1 c.in-Err.refusal c.in-Err.is c.bring-replica.ensures.refused) (on_err_of _ c.bring-replica.result.1 c.in-Err.refusal c.in-Err.is c.bring-replica.ensures.left)
+
+-- ---- what is told of the device
+
+pub returns-in-Ok-clause-tells : goal.returns-in-Ok-clause-tells
+returns-in-Ok-clause-tells g c =
+    let brought = on_ok_of c.bring-replica.result.1 c.in-Ok.field-0 c.in-Ok.is c.bring-replica.ensures.brought in
+    tells_then g.D.Disk.honest g.D.Disk.history g.D.Disk.failures c.args.replica c.bring-replica.result.0 c.follow-followed.new.replica c.follow-followed.result
+    (brought_same g.D.Disk.honest g.D.Disk.history g.D.Disk.failures c.args.replica c.bring-replica.result.0 c.bring-replica.result.1 c.in-Ok.field-0 c.in-Ok.is c.bring-replica.ensures.told)
+    (λ n holds. let there = brought.node n holds in (there.node, there.holds)) c.follow-followed.ensures.tells
+
+pub returns-in-Err-clause-tells : goal.returns-in-Err-clause-tells
+returns-in-Err-clause-tells g c =
+    bring_told g.D.Disk.honest g.D.Disk.history g.D.Disk.failures c.args.replica c.bring-replica.result.0 c.args.front c.args.at (g.R.Read.remaining c.args.reader.now) c.bring-replica.result.1 c.in-Err.refusal c.in-Err.is c.bring-replica.ensures.told c.bring-replica.ensures.refused

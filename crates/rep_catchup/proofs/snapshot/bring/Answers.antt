@@ -1,9 +1,11 @@
-use Rattle.std.proofs.Common.{Err, inl, sym, subst}
+use Rattle.std.proofs.Common.{Err, ap, inl, sym, subst, ◌∙◌}
 use Rattle.rep_checkpoint.specs.Coming.{blank}
+use Rattle.rep_engine.specs.Engines.{Engine}
 use Rattle.rep_replica.specs.Replicas.{Replica}
 use Rattle.rep_catchup.specs.Growing.{EndsRunning}
 use Rattle.rep_catchup.specs.Snapshots.{GivenUp}
 use Rattle.rep_catchup.proofs.JoinBringing.{brought_on, none_came, given_at_once, given_behind, early_pages}
+use Rattle.rep_catchup.proofs.JoinTelling.{told_behind, told_between, install_told, window_told}
 use Rattle.rep_catchup.proofs.snapshot.bring.Goals as goal
 
 pub take_pages-requires-clause-none : goal.take_pages-requires-clause-none
@@ -15,7 +17,16 @@ returns-in-Ok-take_pages g c =
     let all = brought_on g.D.Disk.honest g.D.Disk.history g.D.Disk.failures c.args.replica c.end.result.0 c.in-Ok-install.installation c.take_pages.new.installation c.args.uuid c.args.front c.in-Ok.taken.0 c.in-Ok.taken.1
     c.args.transfer.now c.take_window.new.transfer c.take_pages.new.transfer (g.R.Read.remaining c.args.reader.now) (g.R.Read.remaining c.take_window.new.reader) (g.R.Read.remaining c.take_pages.new.reader) c.in-Ok.ensures.taken
     c.in-Ok-install.ensures.begun c.requires.fits c.requires.quiet took.0 took.1 took.2 c.requires.cluster c.args.at c.end.result.1 (c.end.ensures.lands took.2.running) (λ n holds. c.in-Ok-install.ensures.holds n holds) (λ n y h. c.end.ensures.installs n y h) in
-    record { brought = all.0; left = all.1; ends = all.2; refused = all.3 }
+    let same = ap (λ (e : Engine g.row.D.Denot). g.D.Disk.failures e.disk) c.in-Ok-install.ensures.begun.0 in
+    record {
+      brought = all.0;
+      left = all.1;
+      ends = all.2;
+      told =
+          told_behind (g.D.Disk.failures c.args.replica.engine.disk) (g.D.Disk.failures c.take_pages.new.installation.engine.disk) (g.D.Disk.failures c.end.result.0.engine.disk) c.end.result.1 (c.in-Ok-take_pages.ensures.told ∙ same)
+          c.end.ensures.told;
+      refused = all.3;
+    }
 
 -- ---- where it isn't taken
 
@@ -36,3 +47,20 @@ returns-in-Err-take_pages-clause-refused g c =
 pub returns-in-Err-install-clause-left : goal.returns-in-Err-install-clause-left
 returns-in-Err-install-clause-left g c =
     inl (subst (λ (r : Replica g.row.D.Denot). GivenUp g.D.Disk.honest g.D.Disk.history g.D.Disk.failures c.args.replica r) (sym c.in-Err-install.ensures.refused.0) (given_at_once g.D.Disk.honest g.D.Disk.history g.D.Disk.failures c.args.replica))
+
+-- ---- what is told of the device, where it isn't taken
+
+pub returns-in-Err-take_pages-clause-told : goal.returns-in-Err-take_pages-clause-told
+returns-in-Err-take_pages-clause-told g c =
+    let first = ap (λ (e : Engine g.row.D.Denot). g.D.Disk.failures e.disk) c.in-Ok-install.ensures.begun.0 in
+    let last = ap (λ (r : Replica g.row.D.Denot). g.D.Disk.failures r.engine.disk) c.give_up.ensures.replica in
+    told_between (g.D.Disk.failures c.args.replica.engine.disk) (g.D.Disk.failures c.in-Ok-install.installation.engine.disk) (g.D.Disk.failures c.take_pages.new.installation.engine.disk) (g.D.Disk.failures c.give_up.result.engine.disk)
+    c.in-Err-take_pages.refusal first last c.in-Err-take_pages.ensures.told
+
+pub returns-in-Err-install-clause-told : goal.returns-in-Err-install-clause-told
+returns-in-Err-install-clause-told g c =
+    install_told (g.D.Disk.failures c.args.replica.engine.disk) (g.D.Disk.failures c.in-Err-install.replica.engine.disk) c.in-Err-install.refusal (ap (λ (r : Replica g.row.D.Denot). g.D.Disk.failures r.engine.disk) c.in-Err-install.ensures.refused.0)
+    c.in-Err-install.ensures.refused.1
+
+pub returns-in-Err-clause-told : goal.returns-in-Err-clause-told
+returns-in-Err-clause-told g c = window_told (g.D.Disk.failures c.args.replica.engine.disk) c.args.at c.in-Err.refusal c.in-Err.ensures.refused

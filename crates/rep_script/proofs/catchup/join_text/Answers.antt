@@ -5,7 +5,7 @@ use Rattle.rep_types.specs.declared.refusal.Refusal.TheVariants.{StreamFault}
 use Rattle.rep_engine.specs.Engines.{gtid_of}
 use Rattle.rep_script.specs.Answering.{Tells}
 use Rattle.rep_script.specs.CatchingUp.{joined_line}
-use Rattle.rep_script.proofs.CatchingUp.{nothing_told, taken, either_way}
+use Rattle.rep_script.proofs.CatchingUp.{nothing_told, taken, either_way, line_tells}
 use Rattle.rep_script.proofs.catchup.join_text.Goals as goal
 
 -- ---- where it is refused
@@ -27,9 +27,18 @@ returns-clause-told g c =
 
 pub returns-clause-joined : goal.returns-clause-joined
 returns-clause-joined g c =
-    either_way c.write_line-told.result _ (taken _ _ _ _ _ _ _ c.join-replica.result.1 c.in_default.field-0 c.in_default.is c.join-replica.ensures.quiet (λ n holds. c.join-replica.ensures.joined n holds))
+    either_way c.write_line-told.result _ (taken _ _ _ _ _ _ _ c.join-replica.result.1 c.in_default.field-0 c.in_default.is c.join-replica.ensures.quiet c.join-replica.ensures.took (λ n holds. c.join-replica.ensures.joined n holds))
 
 pub returns-clause-ended : goal.returns-clause-ended
 returns-clause-ended g c = λ running.
     IfErr-weaker c.write_line-told.result (λ e. e ≡ StreamFault) _
-    (λ e is. inr (is, taken _ _ _ _ _ _ _ c.join-replica.result.1 c.in_default.field-0 c.in_default.is c.join-replica.ensures.quiet (λ n holds. c.join-replica.ensures.joined n holds))) c.write_line-told.ensures.err
+    (λ e is. inr (is, taken _ _ _ _ _ _ _ c.join-replica.result.1 c.in_default.field-0 c.in_default.is c.join-replica.ensures.quiet c.join-replica.ensures.took (λ n holds. c.join-replica.ensures.joined n holds))) c.write_line-told.ensures.err
+
+-- ---- what is told of the device
+
+pub returns-in-Err-clause-tells : goal.returns-in-Err-clause-tells
+returns-in-Err-clause-tells g c = rw c.in-Err.is at c.join-replica.ensures.tells
+
+pub returns-clause-tells : goal.returns-clause-tells
+returns-clause-tells g c =
+    line_tells g.D.Disk.honest g.D.Disk.history g.D.Disk.failures c.args.replica c.join-replica.result.0 c.write_line-told.result c.write_line-told.ensures.err (rw c.in_default.is at c.join-replica.ensures.tells)

@@ -1,6 +1,6 @@
 use Rattle.std.proofs.Common.{◌≡◌, Ok, Err, IsOk, rules, refl, sym, ap, subst, ◌∙◌}
 use Rattle.rep_types.specs.declared.refusal.Refusal.{Refusal}
-use Rattle.rep_types.specs.declared.refusal.Refusal.TheVariants.{DiskFault, Corrupt}
+use Rattle.rep_types.specs.declared.refusal.Refusal.TheVariants.{Stopped, DiskFault, Corrupt}
 use Rattle.rep_types.specs.declared.refusal.Part.TheVariants.{Pages as in_pages}
 use Rattle.rep_disk.specs.History.{seen}
 use Rattle.rep_layout.specs.declared.super_body.SuperBody.{SuperBody}
@@ -14,18 +14,22 @@ use Rattle.rep_engine.specs.Engines.{Engine}
 use Rattle.rep_engine.specs.Holding.{Holds}
 use Rattle.rep_engine.proofs.Answering.{none_of}
 use Rattle.rep_engine.proofs.Asking.{holds_read}
-use Rattle.rep_engine.proofs.DonorPages.{page_read, page_whole}
+use Rattle.rep_engine.proofs.DonorPages.{page_read, page_whole, page_given, page_refused, page_elsewise}
 use Rattle.rep_engine.proofs.engine.Engine.base_page.Goals as goal
 use Rattle.rep_engine.proofs.engine.Engine.base_page.Goals.{After-take_page, then-eq, else-eq}
 
 -- the pool agrees with the device: so the bytes decide what it gives
-spelled : (g : _) (c : After-take_page g) (n : Node) → Holds g.D.Disk.honest g.D.Disk.history g.D.Disk.failures n c.args.self.now
+spelled_on : (g : _) (c : After-take_page g) → g.D.Disk.honest c.args.self.now.disk
     → IsPageAsSpelled (reading_of (layout_of c.self.inside.cells) (seen (g.D.Disk.history (disk_of c.self.inside.cells)))) c.base-base.result.now c.args.page c.take_page.result
-spelled g c n holds =
-    let honest = subst (λ (e : Engine g.row.D.Denot). g.D.Disk.honest e.disk) (sym c.self.view_is) holds.is_honest in
+spelled_on g c is_honest =
+    let honest = subst (λ (e : Engine g.row.D.Denot). g.D.Disk.honest e.disk) (sym c.self.view_is) is_honest in
     let pooled = subst (λ (b : SuperBody). IsPooled g.D.Disk.honest g.D.Disk.history b.params.rows (layout_of c.self.inside.cells) (disk_of c.self.inside.cells) c.self.inside.pool) (sym c.base-base.ensures.base)
     (c.self.invariant.2 (none_of c.self.inside.halted c.if-is_some.ensures)) in
     c.take_page.ensures.page honest (pooled honest)
+
+spelled : (g : _) (c : After-take_page g) (n : Node) → Holds g.D.Disk.honest g.D.Disk.history g.D.Disk.failures n c.args.self.now
+    → IsPageAsSpelled (reading_of (layout_of c.self.inside.cells) (seen (g.D.Disk.history (disk_of c.self.inside.cells)))) c.base-base.result.now c.args.page c.take_page.result
+spelled g c n holds = spelled_on g c holds.is_honest
 
 pub returns-in-Ok-clause-holds : goal.returns-in-Ok-clause-holds
 returns-in-Ok-clause-holds g c = λ n holds other.
@@ -54,3 +58,18 @@ returns-after-eq-clause-whole g c = λ n holds corrupt.
     let here = spelled g (goal.at.returns-after-eq-clause-whole g c).After-take_page n holds in
     page_whole g.D.Disk.honest g.D.Disk.history g.D.Disk.failures _ c.args.self.now c.self.view_is c.self.invariant.0 (none_of c.self.inside.halted c.if-is_some.ensures) n holds c.pages_are_told.ensures c.args.page c.base-base.result.now c.base-base.ensures.base
     (subst (IsPageAsSpelled _ c.base-base.result.now c.args.page) (c.in-Err.is ∙ ap Err same) here)
+
+-- ---- what the bytes say
+
+pub returns-then-is_some-clause-spelled : goal.returns-then-is_some-clause-spelled
+returns-then-is_some-clause-spelled g c = λ honest. page_elsewise _ c.args.self.now.checkpoint.base c.args.page Stopped (λ is. absurd cc)
+
+pub returns-in-Ok-clause-spelled : goal.returns-in-Ok-clause-spelled
+returns-in-Ok-clause-spelled g c = λ honest.
+    let here = spelled_on g (goal.at.returns-in-Ok-clause-spelled g c).After-take_page honest in
+    page_given g.D.Disk.honest g.D.Disk.history _ c.args.self.now c.self.view_is c.args.page c.base-base.result.now c.base-base.ensures.base c.in-Ok.page (subst (IsPageAsSpelled _ c.base-base.result.now c.args.page) c.in-Ok.is here)
+
+pub returns-after-eq-clause-spelled : goal.returns-after-eq-clause-spelled
+returns-after-eq-clause-spelled g c = λ honest.
+    let here = spelled_on g (goal.at.returns-after-eq-clause-spelled g c).After-take_page honest in
+    page_refused g.D.Disk.honest g.D.Disk.history _ c.args.self.now c.self.view_is c.args.page c.base-base.result.now c.base-base.ensures.base c.in-Err.refusal (subst (IsPageAsSpelled _ c.base-base.result.now c.args.page) c.in-Err.is here)

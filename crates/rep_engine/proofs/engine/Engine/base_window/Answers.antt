@@ -1,12 +1,13 @@
 use Rattle.std.proofs.Common.{◌≡◌, Ok, Result, IfOk, IsOk, rules, refl, sym, ap, subst}
 use Rattle.rep_types.specs.declared.refusal.Refusal.{Refusal}
+use Rattle.rep_types.specs.declared.refusal.Refusal.TheVariants.{Stopped, DiskFault}
 use Rattle.rep_layout.specs.declared.place.Place.TheVariants.{Window as in_window_area}
 use Rattle.rep_layout.specs.Windows.{Window, window}
 use Rattle.rep_steps.specs.Nodes.{Node}
 use Rattle.rep_engine.specs.Holding.{Holds}
 use Rattle.rep_engine.proofs.Answering.{none_of}
 use Rattle.rep_engine.proofs.Asking.{holds_read}
-use Rattle.rep_engine.proofs.DonorPages.{if_read, window_read}
+use Rattle.rep_engine.proofs.DonorPages.{if_read, window_read, window_spelled, window_elsewise}
 use Rattle.rep_engine.proofs.engine.Engine.base_window.Goals as goal
 use Rattle.rep_engine.proofs.engine.Engine.base_window.Goals.{After-window_in}
 
@@ -29,3 +30,17 @@ returns-clause-window g c = λ n holds. subst (λ (r : Result Window Refusal). I
 
 pub returns-clause-whole : goal.returns-clause-whole
 returns-clause-whole g c = λ n holds corrupt. let was = read g c n holds in absurd cc
+
+-- ---- what the bytes say
+
+pub returns-clause-spelled : goal.returns-clause-spelled
+returns-clause-spelled g c =
+    let ok : IsOk c.read_area.result = search rules in
+    window_spelled g.D.Disk.honest g.D.Disk.history _ c.args.self.now c.self.view_is c.base-base.result.now (in_window_area c.of.result) c.read_area.new.room c.window_in.result c.base-base.ensures.base (ap in_window_area c.of.ensures)
+    (λ honest readable. if_read c.read_area.result ok (c.read_area.ensures.read honest readable)) c.window_in.ensures.only c.window_in.ensures.found
+
+pub returns-then-is_some-clause-spelled : goal.returns-then-is_some-clause-spelled
+returns-then-is_some-clause-spelled g c = λ honest readable. window_elsewise _ c.args.self.now.checkpoint.base Stopped (λ is. absurd cc)
+
+pub returns-then-is_err-clause-spelled : goal.returns-then-is_err-clause-spelled
+returns-then-is_err-clause-spelled g c = λ honest readable. window_elsewise _ c.args.self.now.checkpoint.base DiskFault (λ is. absurd cc)

@@ -4,9 +4,10 @@ use Rattle.rep_steps.specs.Nodes.{Node}
 use Rattle.rep_checkpoint.specs.Arriving.{installed}
 use Rattle.rep_engine.specs.Engines.{facts_of as engine_facts}
 use Rattle.rep_replica.specs.Replicas.{Replica, IsReplica}
+use Rattle.rep_replica.specs.Refusing.{TellsFaults}
 use Rattle.rep_replica.specs.Holding.{Holds}
 use Rattle.rep_replica.specs.Installing.{Bringing, HoldsBoth, Installs, Lands}
-use Rattle.rep_replica.proofs.Installing.{err_of, replica_failed, replica_there, lands_failed, installs_failed, held, installs_there, taken_of}
+use Rattle.rep_replica.proofs.Installing.{err_of, replica_failed, replica_there, lands_failed, told_by, told_behind, none_told, installs_failed, held, installs_there, taken_of}
 use Rattle.rep_replica.proofs.install.Installation.take_place.Goals as goal
 
 pub invariant_of-replica : goal.invariant_of-replica
@@ -50,3 +51,18 @@ returns-clause-installs g c = λ n y.
     (held g.D.Disk.honest g.D.Disk.history g.D.Disk.failures c.certifiers_hold_windows.ensures n y b holds runs c.self.invariant.1 c.position-position.ensures.beside.0 c.end-engine.result.0 c.end-engine.result.1 c.if-is_err.ensures.negation takes) in
     installs_there g.D.Disk.honest g.D.Disk.history g.D.Disk.failures c.certifiers_hold_windows.ensures n y b holds runs c.self.invariant.1 c.position-position.ensures.beside.0 c.end-engine.result.0 c.end-engine.result.1 c.if-is_err.ensures.negation takes
     c.retire-retired.new.self c.retire-retired.result (c.retire-retired.ensures.holds m mid) (c.retire-retired.ensures.fronts m mid) (c.retire-retired.ensures.leaves m mid))
+
+-- ---- what is told of the device
+
+pub returns-then-is_err-clause-told : goal.returns-then-is_err-clause-told
+returns-then-is_err-clause-told g c =
+    let runs : c.self.inside.engine.engine.halted ≡ None = ap (λ (b : Bringing g.row.D.Denot). b.engine.halted) c.self.view_is ∙ c.requires.running in
+    subst (λ (b : Bringing g.row.D.Denot). TellsFaults (g.D.Disk.failures b.engine.disk) (g.D.Disk.failures c.end-engine.result.0.disk) c.end-engine.result.1) c.self.view_is
+    (told_by g.D.Disk.size g.D.Disk.failures g.D.Disk.honest (record { engine = c.self.inside.engine.engine; coming = c.self.inside.engine.coming; before = c.self.inside.before; after = c.self.inside.after }) c.end-engine.result.0 c.end-engine.result.1
+    (c.end-engine.ensures.fault runs) c.end-engine.ensures.call)
+
+pub returns-clause-told : goal.returns-clause-told
+returns-clause-told g c =
+    let same = taken_of c.end-engine.result.1 c.if-is_err.ensures.negation (none_told c.end-engine.result.1 c.end-engine.ensures.call.no_cause) in
+    subst (λ (b : Bringing g.row.D.Denot). TellsFaults (g.D.Disk.failures b.engine.disk) (g.D.Disk.failures c.retire-retired.new.self.engine.disk) c.retire-retired.result) c.self.view_is
+    (told_behind (g.D.Disk.failures c.self.inside.engine.engine.disk) (g.D.Disk.failures c.end-engine.result.0.disk) (g.D.Disk.failures c.retire-retired.new.self.engine.disk) c.retire-retired.result same c.retire-retired.ensures.told)

@@ -7,7 +7,7 @@ use Rattle.rep_layout.specs.declared.page_state.PageState.TheVariants.{Nowhere}
 use Rattle.rep_pages.specs.Slots.{state_of_page}
 use Rattle.rep_engine.specs.Donating.{IsBasePage, HasNoRow}
 use Rattle.rep_replica.specs.Replicas.{Replica}
-use Rattle.rep_replica.proofs.Donating.{asks, holds_on, base_of_all, holds_running}
+use Rattle.rep_replica.proofs.Donating.{asks, holds_on, base_of_all, holds_running, no_page}
 use Rattle.rep_replica.proofs.replica.Replica.base_page.Goals as goal
 
 abbrev within : (g : _) (c : goal.After-base_page g) → Replica g.row.D.Denot
@@ -40,3 +40,6 @@ returns-clause-whole g c n holds =
 
 pub returns-then-is_stopped-clause-absent : goal.returns-then-is_stopped-clause-absent
 returns-then-is_stopped-clause-absent g c n holds none = absurd (holds_running g.D.Disk.honest g.D.Disk.history g.D.Disk.failures c.args.self.now n holds none (sym c.is_stopped.ensures ∙ c.if-is_stopped.true))
+
+pub returns-then-is_stopped-clause-spelled : goal.returns-then-is_stopped-clause-spelled
+returns-then-is_stopped-clause-spelled g c honest = no_page _ c.args.self.now.engine.checkpoint.base c.args.page in_pages

@@ -3,7 +3,7 @@ use Rattle.rep_types.specs.declared.refusal.Refusal.TheVariants.{Corrupt}
 use Rattle.rep_types.specs.declared.refusal.Part.TheVariants.{Window as in_window}
 use Rattle.rep_types.specs.Order.{State}
 use Rattle.rep_replica.specs.Replicas.{Replica}
-use Rattle.rep_replica.proofs.Donating.{asks, holds_on, base_of_all}
+use Rattle.rep_replica.proofs.Donating.{asks, holds_on, base_of_all, no_window}
 use Rattle.rep_replica.proofs.replica.Replica.base_window.Goals as goal
 
 abbrev within : (g : _) (c : goal.After-base_window g) → Replica g.row.D.Denot
@@ -25,3 +25,6 @@ returns-clause-window g c n holds =
 pub returns-clause-whole : goal.returns-clause-whole
 returns-clause-whole g c n holds =
     base_of_all g.D.Disk.honest g.D.Disk.history g.D.Disk.failures (within g c) c.args.self.now c.self.view_is n holds (λ _. c.base_window.result ≢ Err (Corrupt in_window)) c.base_window.ensures.whole
+
+pub returns-then-is_stopped-clause-spelled : goal.returns-then-is_stopped-clause-spelled
+returns-then-is_stopped-clause-spelled g c honest readable = no_window _ c.args.self.now.engine.checkpoint.base in_window

@@ -1,6 +1,4 @@
-use Rattle.std.proofs.Common.{sym, subst, ap, ◌∙◌}
-use Rattle.rep_types.specs.declared.item.Item.TheVariants.{WriteSet}
-use Rattle.rep_cert.specs.Holdings.{verdict_of}
+use Rattle.std.proofs.Common.{sym, subst, ◌∙◌}
 use Rattle.rep_replica.specs.Replicas.{Replica}
 use Rattle.rep_replica.specs.Holding.{Holds}
 use Rattle.rep_replica.proofs.Judging.{judges_as}

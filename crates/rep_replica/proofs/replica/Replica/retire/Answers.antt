@@ -1,6 +1,9 @@
-use Rattle.std.proofs.Common.{sym, ◌∙◌}
-use Rattle.rep_replica.proofs.Settling.{ok_of, on_ok}
-use Rattle.rep_replica.proofs.Retiring.{step_fronts, second_leaves, second_fronts, holds_retired}
+use Rattle.std.proofs.Common.{Result, sym, subst, ◌∙◌}
+use Rattle.rep_types.specs.declared.refusal.Refusal.{Refusal}
+use Rattle.rep_replica.specs.Replicas.{facts_of}
+use Rattle.rep_replica.specs.Refusing.{TellsFaults}
+use Rattle.rep_replica.proofs.Settling.{ok_of, on_ok, runs_on}
+use Rattle.rep_replica.proofs.Retiring.{step_fronts, second_leaves, second_fronts, holds_retired, check_tells, both_tell}
 use Rattle.rep_replica.proofs.Installing.{on_err}
 use Rattle.rep_replica.proofs.replica.Replica.retire.Goals as goal
 
@@ -23,3 +26,17 @@ pub returns-clause-leaves : goal.returns-clause-leaves
 returns-clause-leaves g c = λ n holds.
     let done = sym c.outcome-checked.ensures ∙ ok_of c.outcome-checked.result c.if-is_err.ensures.value in
     second_leaves g.D.Disk.honest g.D.Disk.history g.D.Disk.failures c.args.self.now c.check.new.self c.check.result c.check.ensures n holds c.requires.running c.requires.retiring c.requires.resting done c.sync.new.self c.sync.result c.sync.ensures.step
+
+-- ---- what is told of the device
+
+pub returns-then-is_err-clause-told : goal.returns-then-is_err-clause-told
+returns-then-is_err-clause-told g c =
+    subst (λ (o : Result (Unit {0}) Refusal). TellsFaults (g.D.Disk.failures c.args.self.now.engine.disk) (g.D.Disk.failures c.check.new.self.engine.disk) o) (sym c.outcome-checked.ensures)
+    (check_tells (facts_of g.D.Disk.failures c.args.self.now) c.requires.retiring c.requires.resting (runs_on g.D.Disk.failures c.args.self.now c.requires.running) (facts_of g.D.Disk.failures c.check.new.self) c.check.result c.check.ensures.moves)
+
+pub returns-clause-told : goal.returns-clause-told
+returns-clause-told g c =
+    let done = sym c.outcome-checked.ensures ∙ ok_of c.outcome-checked.result c.if-is_err.ensures.value in
+    subst (λ (o : Result (Unit {0}) Refusal). TellsFaults (g.D.Disk.failures c.args.self.now.engine.disk) (g.D.Disk.failures c.sync.new.self.engine.disk) o) (sym c.outcome.ensures)
+    (both_tell (facts_of g.D.Disk.failures c.args.self.now) c.requires.retiring c.requires.resting (runs_on g.D.Disk.failures c.args.self.now c.requires.running) (facts_of g.D.Disk.failures c.check.new.self) (facts_of g.D.Disk.failures c.sync.new.self)
+    c.check.result c.sync.result c.check.ensures.moves done c.sync.ensures.step.moves)

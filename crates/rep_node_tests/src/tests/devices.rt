@@ -1,0 +1,74 @@
+//! What is read beside a node whose device fails.
+
+use super::reads::{check, new_node, write};
+use super::replicas::{Found, ROW, new_disk, opened};
+use super::running::Running;
+use rep_disk::{Disk, FuseDisk, MemDisk};
+use rep_types::Refusal;
+use std::alloc::Global;
+use std::process::Abort;
+use std::sync::Wait;
+use std::test::Fail;
+use std::thread::Threads;
+
+/// A disk whose base has `a` under the row.
+fn based<R: Threads + Wait + Sync + Abort>(rt: &R, alloc: Global) -> Result<MemDisk, Refusal> {
+    let node = new_node(rt, alloc, new_disk(alloc)?)?;
+    let node = write(rt, alloc, node, (0, ROW, Some(b'a')));
+    let node = check(rt, node, 1);
+    let (replica, _reader) = node.close(rt);
+    Ok(replica.into_disk())
+}
+
+/// What two reads of a row of the base were answered, one after the other, and whether the node was halted then.
+type Twice = (Found, Found, bool);
+
+/// Reads the row twice beside a node on a disk; or nothing where the disk can't be opened.
+fn reads_twice<R: Wait, D: Disk + Drop>(
+    rt: &R,
+    alloc: Global,
+    disk: D,
+) -> Result<Option<Twice>, Refusal> {
+    let Ok(replica) = opened(alloc, disk) else {
+        return Ok(None);
+    };
+    let node = Running::start(rt, alloc, replica)?;
+    let (node, first) = node.read(rt, ROW, 1);
+    let (node, second) = node.read(rt, ROW, 1);
+    let (replica, _reader) = node.close(rt);
+    Ok(Some((first, second, replica.is_stopped())))
+}
+
+/// Whether the first read met a device that failed, and the second a node that was halted by that.
+fn is_halting((first, second, is_stopped): Twice) -> bool {
+    first == Found::Refused(Refusal::DiskFault)
+        && second == Found::Refused(Refusal::Stopped)
+        && is_stopped
+}
+
+/// Whether both reads found the row.
+fn is_answered((first, second, is_stopped): Twice) -> bool {
+    first == Found::Put(b'a') && second == Found::Put(b'a') && !is_stopped
+}
+
+/// More calls than the opening and the reads make.
+const CALLS: u64 = 40;
+
+#[test]
+fn a_device_that_fails_in_a_read_halts_the_node(rt: HostRuntime) -> Result<(), Fail> {
+    let disk = based(&rt, rt.alloc())?;
+    let mut halting: u64 = 0;
+    for calls in 0..CALLS {
+        let copy = MemDisk::from_bytes(rt.alloc(), disk.bytes())?;
+        if let Some(twice) = reads_twice(&rt, rt.alloc(), FuseDisk::new(copy, calls))? {
+            assert!(rt;
+                is_halting(twice) || is_answered(twice),
+                "behind {calls} calls"
+            );
+            halting = halting.saturating_add(u64::from(is_halting(twice)));
+        }
+    }
+    // The page is asked for in one call.
+    assert!(rt; halting == 1);
+    Ok(())
+}

@@ -1,0 +1,125 @@
+//! What comes of a batch on a device that fails.
+
+use super::paces::AtOnce;
+use super::replicas::{durable_after_crash, new_disk, putting_each, served};
+use rep_disk::{FaultOnce, FuseDisk, MemDisk};
+use rep_node::Batch;
+use rep_types::Refusal;
+use std::alloc::Global;
+use std::sync::Wait;
+use std::test::Fail;
+use std::thread::Threads;
+
+/// What came of a batch of two on a device that failed, and of what opens of it after a crash that loses all that was not stable.
+#[derive(Clone, Copy, PartialEq, Eq)]
+enum Ending {
+    /// The device failed while it was opened.
+    AtOpening,
+    /// The batch was stopped, and what it told of is there.
+    Early,
+    /// All of it is there.
+    Whole,
+    /// It ended otherwise than stopped, something that it told of is gone, or there is more than was handed in.
+    Wrong,
+}
+
+/// What came of the batch, of which so many items are there.
+fn ending_of(batch: &Batch, durable: u64) -> Ending {
+    let last = match batch.receipts.last() {
+        Some(receipt) => receipt.seqno,
+        None => 0,
+    };
+    if durable < last || durable > 2 {
+        return Ending::Wrong;
+    }
+    match batch.end {
+        Some(Refusal::Stopped) => Ending::Early,
+        None if batch.receipts.len() == 2 => Ending::Whole,
+        _ => Ending::Wrong,
+    }
+}
+
+/// What came of the batch that left this disk.
+fn ended(alloc: Global, batch: &Batch, disk: MemDisk) -> Result<Ending, Refusal> {
+    Ok(ending_of(batch, durable_after_crash(alloc, disk)?))
+}
+
+/// Serves a batch of two on a disk whose call of this number fails, from 0.
+fn fails_once<R: Threads + Wait + Sync>(
+    rt: &R,
+    alloc: Global,
+    call: u64,
+) -> Result<Ending, Refusal> {
+    let items = putting_each(alloc, 2)?;
+    let disk = FaultOnce::new(new_disk(alloc)?, call);
+    match served(rt, alloc, disk, items.as_slice(), 2, &AtOnce) {
+        Ok((replica, batch)) => ended(alloc, &batch, replica.into_disk().into_inner()),
+        Err(_) => Ok(Ending::AtOpening),
+    }
+}
+
+/// Serves a batch of two on a disk that fails behind so many calls.
+fn fails_from<R: Threads + Wait + Sync>(
+    rt: &R,
+    alloc: Global,
+    calls: u64,
+) -> Result<Ending, Refusal> {
+    let items = putting_each(alloc, 2)?;
+    let disk = FuseDisk::new(new_disk(alloc)?, calls);
+    match served(rt, alloc, disk, items.as_slice(), 2, &AtOnce) {
+        Ok((replica, batch)) => ended(alloc, &batch, replica.into_disk().into_inner()),
+        Err(_) => Ok(Ending::AtOpening),
+    }
+}
+
+/// How often batches ended early, and how often they were whole.
+#[derive(Clone, Copy)]
+struct Counts {
+    early: u64,
+    whole: u64,
+}
+
+impl Counts {
+    /// With one more.
+    fn with(self, ending: Ending) -> Counts {
+        let Counts { early, whole } = self;
+        match ending {
+            Ending::Early => Counts {
+                early: early.saturating_add(1),
+                whole,
+            },
+            Ending::Whole => Counts {
+                early,
+                whole: whole.saturating_add(1),
+            },
+            Ending::AtOpening | Ending::Wrong => self,
+        }
+    }
+}
+
+/// More calls than such a batch and the opening before it make of the disk.
+const CALLS: u64 = 60;
+
+#[test]
+fn each_call_fails_once(rt: HostRuntime) -> Result<(), Fail> {
+    let mut counts = Counts { early: 0, whole: 0 };
+    for call in 0..CALLS {
+        let ending = fails_once(&rt, rt.alloc(), call)?;
+        assert!(rt; ending != Ending::Wrong, "at call {call}");
+        counts = counts.with(ending);
+    }
+    assert!(rt; counts.early > 3 && counts.whole > 3);
+    Ok(())
+}
+
+#[test]
+fn each_call_and_all_behind_it_fail(rt: HostRuntime) -> Result<(), Fail> {
+    let mut counts = Counts { early: 0, whole: 0 };
+    for calls in 0..CALLS {
+        let ending = fails_from(&rt, rt.alloc(), calls)?;
+        assert!(rt; ending != Ending::Wrong, "behind {calls} calls");
+        counts = counts.with(ending);
+    }
+    assert!(rt; counts.early > 3 && counts.whole > 3);
+    Ok(())
+}

@@ -1,0 +1,164 @@
+//! Replicas, batches, and what comes of a batch that is served: each call stands here once, in a function that promises nothing, so that
+//! no test has to be proved beside its contract.
+
+use rep_disk::{Disk, Loss, MemDisk};
+use rep_layout::need;
+use rep_node::{Batch, Pace, serve_batch};
+use rep_recover::format_disk;
+use rep_replica::Replica;
+use rep_types::{Key, Params, Refusal, Value, Verdict, Write, WriteSet};
+use std::alloc::Global;
+use std::sync::Wait;
+use std::thread::Threads;
+use uuid::Uuid;
+
+/// Two rows, and one that the small schema does not have.
+pub(crate) const ROW: Key = Key { table: 0, row: 1 };
+
+pub(crate) const OTHER: Key = Key { table: 0, row: 2 };
+
+pub(crate) const OUTSIDE: Key = Key { table: 0, row: 126 };
+
+/// A formatted disk in memory with these parameters.
+pub(crate) fn formatted(alloc: Global, params: &Params) -> Result<MemDisk, Refusal> {
+    let disk = MemDisk::new(alloc, need(params) as usize)?;
+    let (disk, answer) = format_disk(disk, params, Some(Uuid::from_bytes([0x11; 16])));
+    answer?;
+    Ok(disk)
+}
+
+/// A formatted disk in memory for a window of 4, four cells and one table of 126 rows.
+pub(crate) fn new_disk(alloc: Global) -> Result<MemDisk, Refusal> {
+    formatted(alloc, &Params::new(4, 4, &[126])?)
+}
+
+/// The replica on a disk.
+pub(crate) fn opened<D: Disk + Drop>(alloc: Global, disk: D) -> Result<Replica<D>, Refusal> {
+    match Replica::open(alloc, disk) {
+        Ok(replica) => Ok(replica),
+        Err((_, refusal)) => Err(refusal),
+    }
+}
+
+/// How many items are durable in what opens of the disk after a crash that loses all that was not stable.
+pub(crate) fn durable_after_crash(alloc: Global, disk: MemDisk) -> Result<u64, Refusal> {
+    let mut disk = disk;
+    disk.crash(Loss::Drop);
+    let replica = opened(alloc, disk)?;
+    Ok(replica.durable())
+}
+
+/// A write that puts one byte under the row, or deletes it.
+fn write_of(key: Key, byte: Option<u8>) -> Write {
+    let value = match byte {
+        Some(byte) => Value::new(&[byte]).ok(),
+        None => None,
+    };
+    Write { key, value }
+}
+
+/// An item that had seen so many before it, and puts one byte under the row or deletes it.
+pub(crate) fn writing(last_seen: u64, key: Key, byte: Option<u8>) -> Result<WriteSet, Refusal> {
+    WriteSet::new(7, 1, last_seen, &[], &[write_of(key, byte)])
+}
+
+/// The byte that an item puts under a row of its own: `a` under the first row, `b` under the second, and so on.
+pub(crate) fn byte_for(row: u32) -> u8 {
+    b'a'.saturating_add((row % 26) as u8)
+}
+
+/// So many items that had seen nothing, each of which puts a byte under a row of its own.
+pub(crate) fn putting_each(alloc: Global, count: u32) -> Result<Vec<WriteSet>, Refusal> {
+    let mut items = Vec::new(alloc);
+    for row in 0..count {
+        items.push(writing(0, Key { table: 0, row }, Some(byte_for(row)))?)?;
+    }
+    Ok(items)
+}
+
+/// Serves the batch at the replica on a disk.
+///
+/// Refuses as opening the disk does; and with `Undefined` a replica that is not quiet or of no cluster, or a number of workers that may
+/// not be.
+pub(crate) fn served<R: Threads + Wait + Sync, D: Disk + Drop + Send, P: Pace + Sync>(
+    rt: &R,
+    alloc: Global,
+    disk: D,
+    items: &[WriteSet],
+    workers: usize,
+    pace: &P,
+) -> Result<(Replica<D>, Batch), Refusal> {
+    let replica = opened(alloc, disk)?;
+    if !replica.is_quiet() || replica.uuid().is_nil() || workers == 0 || workers > 64 {
+        return Err(Refusal::Undefined);
+    }
+    Ok(serve_batch(rt, alloc, replica, items, workers, pace))
+}
+
+/// What is found of a row.
+#[derive(Clone, Copy, PartialEq, Eq)]
+pub(crate) enum Found {
+    /// This byte alone stands there.
+    Put(u8),
+    /// Nothing stands there.
+    Nothing,
+    /// No write of the row is left in the published list.
+    Cold,
+    /// Bytes stand there that are not one.
+    Others,
+    /// It is not said, for this reason.
+    Refused(Refusal),
+}
+
+/// That this value was found.
+pub(crate) fn put(value: &Value) -> Found {
+    match value.as_bytes() {
+        [byte] => Found::Put(*byte),
+        _ => Found::Others,
+    }
+}
+
+/// What a read found.
+pub(crate) fn found_by_read(row: Result<Option<Value>, Refusal>) -> Found {
+    match row {
+        Ok(Some(value)) => put(&value),
+        Ok(None) => Found::Nothing,
+        Err(refusal) => Found::Refused(refusal),
+    }
+}
+
+/// What stands under a row of the first table in the state after so many items.
+pub(crate) fn found_at<D: Disk>(replica: &mut Replica<D>, row: u32, at: u64) -> Found {
+    found_by_read(replica.read(Key { table: 0, row }, at))
+}
+
+/// Whether the receipts are of so many items that committed and, behind them, of so many that were stale, one after another from the first
+/// seqno on.
+fn has_verdicts(batch: &Batch, commits: u64, stale: u64) -> bool {
+    let mut seqno: u64 = 0;
+    for receipt in &batch.receipts {
+        seqno = seqno.saturating_add(1);
+        let verdict = if seqno <= commits {
+            Verdict::Commit
+        } else {
+            Verdict::Stale
+        };
+        if receipt.seqno != seqno || receipt.verdict != verdict {
+            return false;
+        }
+    }
+    seqno == commits.saturating_add(stale)
+}
+
+/// Whether a batch of so many items that commit and, behind them, so many that are stale came to its end, and all is durable in the
+/// replica that it left.
+pub(crate) fn is_whole<D: Disk>(
+    replica: &Replica<D>,
+    batch: &Batch,
+    commits: u64,
+    stale: u64,
+) -> bool {
+    has_verdicts(batch, commits, stale)
+        && batch.end.is_none()
+        && replica.durable() == commits.saturating_add(stale)
+}
