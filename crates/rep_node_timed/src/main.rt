@@ -9,7 +9,7 @@ use anyhow::{Context, Result, bail};
 use items::{batch, params};
 use rep_disk::FileDisk;
 use rep_layout::need;
-use serving::{new_replica, serve_beside};
+use serving::{Outcome, new_replica, serve_beside};
 use std::env;
 use std::fs::{File, Files};
 use std::rt::Env;
@@ -23,6 +23,19 @@ const MOST: usize = 64;
 /// How many that are in a second where there are so many in this time.
 fn rate(count: u64, took: Duration) -> u128 {
     u128::from(count) * 1_000_000_000 / took.as_nanos().max(1)
+}
+
+/// Prints how many items are durable and how many look-ups had an answer that is not right, and the rates where these are wanted.
+fn report<R: Print>(rt: &R, came: Outcome, has_rates: bool) -> Result<()> {
+    let wrong = came.tally.wrong;
+    rt.println(format_args!("{} durable, {wrong} wrong", came.durable))?;
+    if has_rates {
+        let took = came.took().context("the clock can't be read")?;
+        let served = rate(came.durable, took);
+        let looked = rate(came.tally.peeks, took);
+        rt.println(format_args!("{served} items a second, {looked} peeks a second"))?;
+    }
+    Ok(())
 }
 
 /// The words of the command line are the path of the new file, the number of workers, from 1 to 64, the number of readers, from 0 to 64, and
@@ -63,14 +76,13 @@ fn run<R: Env + Files<File = File> + Print + AllocGlobal + Clock + Threads + Wai
         workers,
         readers,
     )?;
-    let wrong = came.tally.wrong;
-    rt.println(format_args!("{} durable, {wrong} wrong", came.durable))?;
-    if has_rates {
-        let served = rate(came.durable, came.took);
-        let looked = rate(came.tally.peeks, came.took);
-        rt.println(format_args!("{served} items a second, {looked} peeks a second"))?;
+    if let Some(refusal) = came.end {
+        return Err(refusal.into());
     }
-    Ok(())
+    if came.tally.readers < readers {
+        bail!("there are threads for {} readers alone", came.tally.readers);
+    }
+    report(rt, came, has_rates)
 }
 
 fn main(rt: HostRuntime) -> Result<()> {

@@ -40,9 +40,10 @@ impl Over {
     }
 }
 
-/// How often rows were looked up, and how often with an answer that is not right.
+/// How many readers there were, how often they looked rows up, and how often with an answer that is not right.
 #[derive(Clone, Copy)]
 pub(crate) struct Tally {
+    pub(crate) readers: usize,
     pub(crate) peeks: u64,
     pub(crate) wrong: u64,
 }
@@ -50,20 +51,26 @@ pub(crate) struct Tally {
 impl Tally {
     /// No look-up yet.
     fn nothing() -> Tally {
-        Tally { peeks: 0, wrong: 0 }
+        Tally {
+            readers: 0,
+            peeks: 0,
+            wrong: 0,
+        }
     }
 
-    /// With the look-ups of another.
+    /// With the readers and the look-ups of another.
     fn with(self, other: Tally) -> Tally {
         Tally {
+            readers: self.readers.saturating_add(other.readers),
             peeks: self.peeks.saturating_add(other.peeks),
             wrong: self.wrong.saturating_add(other.wrong),
         }
     }
 }
 
-/// Asks for the front, and looks up there the rows that are written by the items with its number and with those before it.
-fn look_round(reader: NodeReader) -> (NodeReader, Tally) {
+/// Asks for the front, and looks up there the rows that are written by the items with its number and with those before it. It says how often the
+/// answer was not right.
+fn look_round(reader: NodeReader) -> (NodeReader, u64) {
     let (mut reader, front) = reader.front();
     let mut wrong = 0u64;
     for back in 0..LOOKS {
@@ -74,27 +81,29 @@ fn look_round(reader: NodeReader) -> (NodeReader, Tally) {
             wrong = wrong.saturating_add(1);
         }
     }
-    let tally = Tally {
-        peeks: LOOKS,
-        wrong,
-    };
-    (reader, tally)
+    (reader, wrong)
 }
 
 /// Looks rows up until it is told that the batch is over, at least once round.
 fn watch(reader: NodeReader, over: &Over) -> Tally {
     let mut reader = reader;
-    let mut tally = Tally::nothing();
+    let mut peeks = 0u64;
+    let mut all = 0u64;
     for _ in 0..u64::MAX {
-        let (looked, more) = look_round(reader);
+        let (looked, wrong) = look_round(reader);
         reader = looked;
-        tally = tally.with(more);
+        peeks = peeks.saturating_add(LOOKS);
+        all = all.saturating_add(wrong);
         if over.is_told() {
             break;
         }
         yield_now();
     }
-    tally
+    Tally {
+        readers: 1,
+        peeks,
+        wrong: all,
+    }
 }
 
 /// Starts a reader in a thread of its own, where there is one.
@@ -109,8 +118,9 @@ pub(crate) fn start_all<R: Threads>(
     readers: Vec<NodeReader>,
     count: usize,
     over: &Over,
-    threads: &mut Vec<JoinHandle<Tally>>,
-) {
+    room: Vec<JoinHandle<Tally>>,
+) -> Vec<JoinHandle<Tally>> {
+    let mut threads = room;
     for reader in readers.into_iter().take(count) {
         let Some(thread) = started(rt, reader, over) else {
             break;
@@ -119,6 +129,7 @@ pub(crate) fn start_all<R: Threads>(
             break;
         }
     }
+    threads
 }
 
 /// Waits for the readers to end, and says what they all found.
