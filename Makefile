@@ -4,12 +4,13 @@ CRATES := rep_types rep_plain rep_forms rep_record rep_disk rep_layout rep_versi
 	rep_checkpoint rep_cert rep_backlog rep_engine rep_recover rep_replica rep_saved rep_transfer rep_catchup rep_script \
 	rep_ordered rep_snap rep_stations rep_node rep_serve replicad
 PROGRAM := crates/replicad/out/replicad
-# What `make bench` needs beside these: what times the certifier against the plain node, what times the versions of rows, and
-# what times readers against a lock.
-TIMED := rep_compare rep_timed rep_snap_uses rep_snap_timed
+# What `make bench` needs beside these: what times the certifier against the plain node, what times the versions of rows, what
+# times readers against a lock, and what times them beside a node that serves.
+TIMED := rep_compare rep_timed rep_snap_uses rep_snap_timed rep_node_timed
 COMPARE := crates/rep_compare/out/rep_compare
 VERSIONS := crates/rep_timed/out/rep_timed
 PEEKS := crates/rep_snap_timed/out/rep_snap_timed
+BESIDE := crates/rep_node_timed/out/rep_node_timed
 
 .PHONY: run build test check edits gate-time bench soak toolchain
 
@@ -40,10 +41,11 @@ gate-time: toolchain
 
 # Items judged in a second, for orders of 1,000, 10,000 and 100,000 items; what an item costs the certifier and the plain
 # node; what a version that is added and a look-up cost among few and among many; rows of pages, with a pool and without; peeks in a second beside a publisher, and
-# behind one lock; and on a file durable commits in a second beside the same writes alone, checkpoints, and openings.
+# behind one lock; items and peeks in a second of a node that serves, beside no reader and beside more; and on a file durable commits in
+# a second beside the same writes alone, checkpoints, and openings.
 bench: toolchain
 	@scripts/build $(CRATES) $(TIMED)
-	@scripts/bench $(PROGRAM) $(COMPARE) $(VERSIONS) $(PEEKS)
+	@scripts/bench $(PROGRAM) $(COMPARE) $(VERSIONS) $(PEEKS) $(BESIDE)
 
 # Drawn lives of the proved program on a file, killed, stopped within writes and syncs, and opened again, for so many seconds, as
 # `SECONDS=600 make soak`; with SEED=N from the life of this seed on.

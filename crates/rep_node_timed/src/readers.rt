@@ -1,0 +1,142 @@
+//! Readers that look rows up beside the batch.
+
+use crate::items::{is_right, row_of};
+use rep_node::NodeReader;
+use std::alloc::{AllocError, Global};
+use std::sync::Arc;
+use std::sync::atomic::{AtomicBool, Ordering};
+use std::thread::{JoinHandle, Threads, spawn, yield_now};
+
+/// How often a reader looks rows up before it asks for the front again.
+const LOOKS: u64 = 64;
+
+/// Whether the batch is over, which readers look at.
+#[derive(Drop)]
+pub(crate) struct Over {
+    told: Arc<AtomicBool>,
+}
+
+impl Over {
+    /// It is not over yet.
+    pub(crate) fn not_yet(alloc: Global) -> Result<Over, AllocError> {
+        Ok(Over {
+            told: Arc::new(alloc, AtomicBool::new(false))?,
+        })
+    }
+
+    /// The same for a thread of its own; nothing where it can't be shared once more.
+    fn for_reader(&self) -> Option<Over> {
+        let told = Arc::try_clone(&self.told).ok()?;
+        Some(Over { told })
+    }
+
+    /// Tells the readers that it is over.
+    pub(crate) fn tell(&self) {
+        self.told.store(true, Ordering::SeqCst);
+    }
+
+    fn is_told(&self) -> bool {
+        self.told.load(Ordering::SeqCst)
+    }
+}
+
+/// How many readers there were, how often they looked rows up, and how often with an answer that is not right.
+#[derive(Clone, Copy)]
+pub(crate) struct Tally {
+    pub(crate) readers: usize,
+    pub(crate) peeks: u64,
+    pub(crate) wrong: u64,
+}
+
+impl Tally {
+    /// No look-up yet.
+    fn nothing() -> Tally {
+        Tally {
+            readers: 0,
+            peeks: 0,
+            wrong: 0,
+        }
+    }
+
+    /// With the readers and the look-ups of another.
+    fn with(self, other: Tally) -> Tally {
+        Tally {
+            readers: self.readers.saturating_add(other.readers),
+            peeks: self.peeks.saturating_add(other.peeks),
+            wrong: self.wrong.saturating_add(other.wrong),
+        }
+    }
+}
+
+/// Asks for the front, and looks up there the rows that are written by the items with its number and with those before it. It says how often the
+/// answer was not right.
+fn look_round(reader: NodeReader) -> (NodeReader, u64) {
+    let (mut reader, front) = reader.front();
+    let mut wrong = 0u64;
+    for back in 0..LOOKS {
+        let key = row_of(front.saturating_sub(back));
+        let (looked, answer) = reader.peek(key, front);
+        reader = looked;
+        if !is_right(key, &answer) {
+            wrong = wrong.saturating_add(1);
+        }
+    }
+    (reader, wrong)
+}
+
+/// Looks rows up until it is told that the batch is over, at least once round.
+fn watch(reader: NodeReader, over: &Over) -> Tally {
+    let mut reader = reader;
+    let mut peeks = 0u64;
+    let mut all = 0u64;
+    for _ in 0..u64::MAX {
+        let (looked, wrong) = look_round(reader);
+        reader = looked;
+        peeks = peeks.saturating_add(LOOKS);
+        all = all.saturating_add(wrong);
+        if over.is_told() {
+            break;
+        }
+        yield_now();
+    }
+    Tally {
+        readers: 1,
+        peeks,
+        wrong: all,
+    }
+}
+
+/// Starts a reader in a thread of its own, where there is one.
+fn started<R: Threads>(rt: &R, reader: NodeReader, over: &Over) -> Option<JoinHandle<Tally>> {
+    let over = over.for_reader()?;
+    spawn(rt, move || watch(reader, &over)).ok()
+}
+
+/// Starts so many of the readers in threads of their own, as far as there are threads and room for their handles.
+pub(crate) fn start_all<R: Threads>(
+    rt: &R,
+    readers: Vec<NodeReader>,
+    count: usize,
+    over: &Over,
+    room: Vec<JoinHandle<Tally>>,
+) -> Vec<JoinHandle<Tally>> {
+    let mut threads = room;
+    for reader in readers.into_iter().take(count) {
+        let Some(thread) = started(rt, reader, over) else {
+            break;
+        };
+        if threads.push(thread).is_err() {
+            break;
+        }
+    }
+    threads
+}
+
+/// Waits for the readers to end, and says what they all found.
+pub(crate) fn joined<R: Threads>(rt: &R, threads: Vec<JoinHandle<Tally>>) -> Tally {
+    let mut all = Tally::nothing();
+    for thread in threads {
+        all = all.with(thread.join(rt));
+    }
+    all
+}
