@@ -40,9 +40,9 @@ abbrev pub EndedFor : {D : Type 0} → Replica D → ℕ → Replica D → List 
 EndedFor old count new receipts refusal = ((refusal ≡ Stopped) × ((new.stopped || is_some new.engine.halted) ≡ true)) ⊎ ((((refusal ≡ Exhausted) × (MAX_SEQNO ≤ durable_of old.engine.log + count + 1)) ⊎ (refusal ≡ OutOfMemory)) × (receipts ≡ []))
 
 -- The history that the node came to is legal behind what the old replica held. Each receipt is of an entry of it, of another item of the
--- batch, and durable; where the batch has no end, the history is that of the receipts, one for each item, and where it was refused, there is none. Where the old replica stood for an
--- order, the history is what that order has behind it with the history's items at its end; so the new one stands for that longer order unless
--- it was stopped, and each image of its device for a front of it with what is durable.
+-- batch, and durable; where the batch has no end, the history is that of the receipts, one for each item, and where it was refused, there is
+-- none. Where the old replica stood for an order, the history is what that order has behind it with the history's items at its end; so the new
+-- one stands for that longer order unless it was stopped, and each image of its device for a front of it with what is durable.
 pub record IsServed {D : Type 0} (honest : D → Type 0) (history : D → History) (failures : D → ℕ) (old : Replica D) (items : List Item) (new : Replica D) (receipts : List Receipt) (end : Option Refusal) : Type 0 where
   pub judged : List Judged
   pub legal : Legal old.certifier.current judged
