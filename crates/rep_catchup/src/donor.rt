@@ -4,8 +4,8 @@ ghost use Rattle.std.specs.Prelude.{◌≡◌, ◌≢◌, ◌↔◌, [], ◌∷�
 ghost use Rattle.std.specs.List.{flat_map, AllByRecursion};
 ghost use Rattle.std.specs.Io.KnownBytes.{Appends, Keeps};
 ghost use Rattle.rep_types.specs.declared.refusal.Refusal.TheVariants.{DiskFault};
-ghost use Rattle.rep_types.specs.declared.refusal.Part.{Part};
 ghost use Rattle.rep_types.specs.Settings.{pages_of};
+ghost use Rattle.rep_types.specs.declared.refusal.Part.{Part};
 ghost use Rattle.rep_disk.specs.Calls.{Rises};
 ghost use Rattle.rep_forms.specs.Entries.{EntryFits, entry_bytes};
 ghost use Rattle.rep_record.specs.Records.{IsRecord};
@@ -14,9 +14,9 @@ ghost use Rattle.rep_layout.specs.Supers.{IsNil};
 ghost use Rattle.rep_steps.specs.Nodes.{Node};
 ghost use Rattle.rep_replica.specs.Replicas.{facts_of};
 ghost use Rattle.rep_replica.specs.Holding.{Holds};
-ghost use Rattle.rep_transfer.specs.Transfers.{Transfer, Snapshot, SnapshotFits, snapshot_bytes, record_part, transfer_bytes};
 ghost use Rattle.rep_transfer.specs.Writing.{Wrote};
 ghost use Rattle.rep_catchup.specs.Donating.{IsOfCluster, IsFirstRefusal, ComesFirst, EndsEarly, ReadsAlone, IsRunning, Leaves, IsSnapshotOf, IsDonated, NeedsSnapshot, WroteWindow, WrotePage, WrotePages, WroteBase, held_below, above, durable_items};
+ghost use Rattle.rep_transfer.specs.Transfers.{Transfer, Snapshot, SnapshotFits, snapshot_bytes, record_part, transfer_bytes};
 
 use rep_checkpoint::windows_go_on;
 use rep_disk::Disk;

@@ -2,8 +2,8 @@
 
 ghost use Rattle.std.specs.Prelude.{◌≡◌, ◌||◌, ◌⊎◌, ℕ, ◌<◌, ◌≤◌, List, [], ◌∷◌, true, false, is_some, length, Option, None, Some, Ok, Err, IfOk, IfErr, IfSome, OnOk, OnErr};
 ghost use Rattle.std.specs.Io.KnownBytes.{Consumes};
-ghost use Rattle.rep_types.specs.declared.limits.TheConstants.{MAX_SEQNO, MAX_AHEAD};
 ghost use Rattle.rep_types.specs.declared.refusal.Refusal.TheVariants.{Stopped};
+ghost use Rattle.rep_types.specs.declared.limits.TheConstants.{MAX_SEQNO, MAX_AHEAD};
 ghost use Rattle.rep_forms.specs.Forms.{IsPart};
 ghost use Rattle.rep_record.specs.Records.{IsRecord};
 ghost use Rattle.rep_layout.specs.Supers.{IsNil};

@@ -5,8 +5,8 @@ ghost use Rattle.rep_types.specs.declared.refusal.Refusal.TheVariants.{OutOfMemo
 ghost use Rattle.rep_types.specs.Order.{State};
 ghost use Rattle.rep_types.specs.Windows.{fixed};
 ghost use Rattle.rep_forms.specs.Forms.{IsPart};
-ghost use Rattle.rep_layout.specs.Supers.{IsNil};
 ghost use Rattle.rep_layout.specs.declared.page_state.PageState.TheVariants.{Nowhere};
+ghost use Rattle.rep_layout.specs.Supers.{IsNil};
 ghost use Rattle.rep_pages.specs.Slots.{state_of_page};
 ghost use Rattle.rep_checkpoint.specs.Windows.{IsWindowAt};
 ghost use Rattle.rep_steps.specs.Nodes.{Node};

@@ -1,23 +1,23 @@
 //! Reads of rows.
 
 ghost use Rattle.std.specs.Prelude.{◌≡◌, ◌⊎◌, None, Some, IfErr};
-ghost use Rattle.rep_types.specs.declared.refusal.Refusal.TheVariants.{DiskFault, Corrupt};
 ghost use Rattle.rep_types.specs.declared.refusal.Part.TheVariants.{Pages};
+ghost use Rattle.rep_types.specs.declared.refusal.Refusal.TheVariants.{DiskFault, Corrupt};
 ghost use Rattle.rep_disk.specs.History.{seen};
 ghost use Rattle.rep_disk.specs.Calls.{IsCall};
 ghost use Rattle.rep_disk.specs.Moments.{LeavesOnly};
 ghost use Rattle.rep_layout.specs.Rows.{row_place};
 ghost use Rattle.rep_cells.specs.Readings.{reading_of};
 ghost use Rattle.rep_log.specs.Moves.{fault_of};
-ghost use Rattle.rep_steps.specs.declared.event.Event.TheVariants.{Read};
-ghost use Rattle.rep_steps.specs.Standings.{read_refusal};
 ghost use Rattle.rep_steps.specs.Moves.{Moves};
+ghost use Rattle.rep_steps.specs.Standings.{read_refusal};
+ghost use Rattle.rep_steps.specs.declared.event.Event.TheVariants.{Read};
 ghost use Rattle.rep_steps.specs.Nodes.{Node, Steps};
 ghost use Rattle.rep_versions.specs.Versions.{IsAnswer};
-ghost use Rattle.rep_engine.specs.Engines.{facts_of};
+ghost use Rattle.rep_engine.specs.Holding.{Holds, row};
 ghost use Rattle.rep_pool.specs.BasePages.{IsPageReadable};
 ghost use Rattle.rep_engine.specs.Reading.{ReadsRow, ReadsAt};
-ghost use Rattle.rep_engine.specs.Holding.{Holds, row};
+ghost use Rattle.rep_engine.specs.Engines.{facts_of};
 
 use crate::engine::Engine;
 use crate::write::base_row;

@@ -4,11 +4,11 @@ ghost use Rattle.std.specs.Prelude.{◌≡◌, ◌+◌, ◌<◌, ◌≤◌, ◌%
 ghost use Rattle.rep_types.specs.declared.judged.Judged.{Judged};
 ghost use Rattle.rep_types.specs.declared.refusal.Refusal.TheVariants.{OutOfMemory};
 ghost use Rattle.rep_record.specs.declared.limits.TheConstants.{BLOCK};
-ghost use Rattle.rep_disk.specs.History.{seen, failed};
 ghost use Rattle.rep_disk.specs.Calls.{IsCall};
+ghost use Rattle.rep_disk.specs.History.{seen, failed};
 ghost use Rattle.rep_layout.specs.Places.{log_of};
-ghost use Rattle.rep_cells.specs.Device.{disk_of, layout_of};
 ghost use Rattle.rep_cells.specs.Readings.{reading_of};
+ghost use Rattle.rep_cells.specs.Device.{disk_of, layout_of};
 ghost use Rattle.rep_log.specs.Tail.{cell_in};
 ghost use Rattle.rep_log.specs.Moves.{fault_of};
 ghost use Rattle.rep_types.specs.declared.limits.TheConstants.{MAX_CELLS, MAX_SEQNO};

@@ -8,9 +8,9 @@ ghost use Rattle.rep_cells.specs.Device.{disk_of, layout_of};
 ghost use Rattle.rep_pool.specs.BasePages.{IsPooled};
 ghost use Rattle.rep_checkpoint.specs.Moves.{found_at};
 ghost use Rattle.rep_engine.specs.Engines.{IsEngine};
-ghost use Rattle.rep_recover.specs.Looking.{fault_in};
-ghost use Rattle.rep_recover.specs.Opening.{without_log, RefusesToOpen, IsUnwritten};
 ghost use Rattle.rep_recover.specs.Starting.{engine_of, IsStart, OpensNode};
+ghost use Rattle.rep_recover.specs.Opening.{without_log, RefusesToOpen, IsUnwritten};
+ghost use Rattle.rep_recover.specs.Looking.{fault_in};
 
 use crate::open::{Opened, read_disk};
 use rep_cells::images_read_as_allowed;

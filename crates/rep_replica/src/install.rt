@@ -18,9 +18,9 @@ ghost use Rattle.rep_engine.specs.Engines.{durable_of};
 ghost use Rattle.rep_engine.specs.Reading.{halted_by};
 ghost use Rattle.rep_engine.specs.Installing.{CanBring, halted_node};
 ghost use Rattle.rep_replica.specs.Replicas.{facts_of};
-ghost use Rattle.rep_replica.specs.Refusing.{TellsFaults};
-ghost use Rattle.rep_replica.specs.Holding.{Holds};
 ghost use Rattle.rep_replica.specs.Settling.{is_quiet, IsRunning};
+ghost use Rattle.rep_replica.specs.Holding.{Holds};
+ghost use Rattle.rep_replica.specs.Refusing.{TellsFaults};
 ghost use Rattle.rep_replica.specs.Installing.{HoldsBoth, Installs, Lands, LeavesFronts, given_up};
 
 use crate::replica::Replica;

@@ -3,11 +3,11 @@
 ghost use Rattle.std.specs.Prelude.{◌≡◌, ℕ, List, length, IfOk, IfErr, OnErr};
 ghost use Rattle.rep_disk.specs.History.{History};
 ghost use Rattle.rep_disk.specs.Moments.{LeavesOnly};
-ghost use Rattle.rep_steps.specs.Standings.{Standing};
-ghost use Rattle.rep_steps.specs.Moves.{Moves};
-ghost use Rattle.rep_steps.specs.Nodes.{Node, IsNode, Steps};
-ghost use Rattle.rep_steps.specs.Runs.{Runs};
 ghost use Rattle.rep_steps.specs.Images.{Meaning, IsFrontAt, RunsOn};
+ghost use Rattle.rep_steps.specs.Nodes.{Node, IsNode, Steps};
+ghost use Rattle.rep_steps.specs.Moves.{Moves};
+ghost use Rattle.rep_steps.specs.Runs.{Runs};
+ghost use Rattle.rep_steps.specs.Standings.{Standing};
 
 use crate::answer::Answer;
 use crate::event::Event;
