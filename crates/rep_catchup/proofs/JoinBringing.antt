@@ -38,6 +38,7 @@ use Rattle.rep_image.specs.Meanings.{Means}
 use Rattle.rep_engine.specs.Engines.{Engine}
 use Rattle.rep_engine.specs.Reading.{halted_by}
 use Rattle.rep_engine.specs.Installing.{MeansEither, halted_node, snapshot_of}
+use Rattle.rep_checkpoint.specs.Ascending.{ascend_push}
 use Rattle.rep_replica.specs.Replicas.{Replica, facts_of}
 use Rattle.rep_replica.specs.Holding.{Holds}
 use Rattle.rep_replica.specs.Settling.{is_quiet}
@@ -149,16 +150,6 @@ no_pages s front v count from now start before small w none = by start before w.
         none y.pages rest (sym one.0) fits.pages one.1 snapshot.ascend snapshot.pages
 
 -- ---- pages
-
--- one number more, above all
-ascend_push : (xs : List ℕ) (y : ℕ) → IsStrictlyIncreasing xs → All (λ (x : ℕ). x < y) xs → IsStrictlyIncreasing (xs ++ y ∷ [])
-ascend_push xs y up below k within =
-    let long = length_push xs y in
-    let low = get_or_append_left xs (y ∷ []) 0 k (omega (arith, within, long)) in
-    elim (cases_lt (k + 1) (length xs)) [
-      | inl inside ↦ rw (low, get_or_append_left xs (y ∷ []) 0 (k + 1) inside) (up k inside)
-      | inr end ↦ rw (low, get_or_push xs y 0 (k + 1) (omega (arith, within, long, end))) (All-get_or (λ (x : ℕ). x < y) xs k 0 (omega (arith, within, long)) below)
-    ]
 
 all_lower : (xs : List ℕ) (least y : ℕ) → least ≤ y → All (λ (x : ℕ). x < least) xs → All (λ (x : ℕ). x < y) xs
 all_lower xs least y above below = All-weaker (λ (x : ℕ). x < least) (λ (x : ℕ). x < y) (λ x h. omega (arith, above, h)) xs below

@@ -20,6 +20,7 @@ use Rattle.rep_steps.specs.declared.answer.Answer.TheVariants.{Gave, Refused}
 use Rattle.rep_steps.specs.Standings.{Standing, delivered, refusal, refusal_here}
 use Rattle.rep_steps.specs.Moves.{Found, Moves, Fails, MeetsCorruption, answer, after}
 use Rattle.rep_steps.specs.Nodes.{Node, Steps, moved, found}
+use Rattle.rep_steps.specs.FactLaws.{after_failures}
 use Rattle.rep_steps.specs.Runs.{Runs}
 use Rattle.rep_replica.specs.Replicas.{Replica, facts_of}
 use Rattle.rep_replica.specs.Refusing.{IsFaultToldBy, TellsFaults}
@@ -83,14 +84,6 @@ own_refusal : (x : Refusal) → (NotDue ≡ x → ⊥) → (LogFull ≡ x → �
 own_refusal x not_due not_full not_stopped s e own is = if_other x not_due not_full s.stopped Stopped (refusal_here s e) not_stopped (here_other x not_due not_full s e own) is
 
 -- ---- steps of its own
-
-after_failures : (s : Standing) (e : Event) (f : Found) → (after s e f).failures ≡ s.failures
-after_failures s (Deliver seqno w) f = refl
-after_failures s Log f = refl
-after_failures s Sync f = refl
-after_failures s Check f = refl
-after_failures s (Flush page) f = refl
-after_failures s (Read key at) f = refl
 
 -- one that is done counts no failure
 done_failures : (s : Standing) (e : Event) (a : Answer) (t : Standing) → outcome_of a ≡ Ok tt → (o : Option Refusal) → MatchOption o (Outcome s e a t) (λ r. (a ≡ Refused r) × (t ≡ s)) → t.failures ≡ s.failures

@@ -15,6 +15,7 @@ use Rattle.rep_types.specs.Transactions.{Transaction, written, key_of, IsWithinL
 use Rattle.rep_types.specs.Windows.{Window as Kept, fixed}
 use Rattle.rep_types.specs.Order.{recent, judge, is_commit, window_after}
 use Rattle.rep_layout.specs.Windows.{IsEntry, seqno_of}
+use Rattle.rep_checkpoint.specs.Ascending.{ascend_push}
 use Rattle.rep_checkpoint.specs.Windows.{IsWindowAt, passed_by, WindowsGoOn}
 use Rattle.rep_checkpoint.proofs.Rows.{commits_inside, writes_inside}
 
@@ -27,16 +28,6 @@ seqnos_recent lowest (e ∷ es) = grind (arith, seqnos_recent lowest es)
 
 ascend_recent : (lowest : ℕ) (es : List Entry) → IsStrictlyIncreasing (map seqno_of es) → IsStrictlyIncreasing (map seqno_of (recent lowest es))
 ascend_recent lowest es up = subst IsStrictlyIncreasing (sym (seqnos_recent lowest es)) (IsStrictlyIncreasing-filter (nat_le lowest) (map seqno_of es) up)
-
--- one number more, above all
-ascend_push : (xs : List ℕ) (y : ℕ) → IsStrictlyIncreasing xs → All (λ (x : ℕ). x < y) xs → IsStrictlyIncreasing (xs ++ y ∷ [])
-ascend_push xs y up below k within =
-    let long = length_push xs y in
-    let low = get_or_append_left xs (y ∷ []) 0 k (omega (arith, within, long)) in
-    elim (cases_lt (k + 1) (length xs)) [
-      | inl inside ↦ rw (low, get_or_append_left xs (y ∷ []) 0 (k + 1) inside) (up k inside)
-      | inr end ↦ rw (low, get_or_push xs y 0 (k + 1) (omega (arith, within, long, end))) (All-get_or (λ (x : ℕ). x < y) xs k 0 (omega (arith, within, long)) below)
-    ]
 
 -- the first of them, and how many are behind it
 spans : (p : Setting) (position : ℕ) (e : Entry) (es : List Entry) → IsStrictlyIncreasing (map seqno_of (e ∷ es)) → AllByRecursion (IsEntry p position) (e ∷ es) → e.seqno + length es ≤ position

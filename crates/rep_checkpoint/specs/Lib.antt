@@ -10,3 +10,4 @@ pub mod Installing
 pub mod Nodes
 pub mod Arriving
 pub mod Windows
+pub mod Ascending

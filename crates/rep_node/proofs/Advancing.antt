@@ -68,8 +68,7 @@ module _ {D : Type 0} (honest : D → Type 0) (history : D → History) (failure
       works_as : e.halted ≡ None → published p.list ++ waiting ≡ published d.publisher.list ++ d.waiting → d.publisher.start + length (published p.list) ≡ durable_of e.log → oldest_of p.start p.list ≤ max (position_of s) e.checkpoint.base.position
           → AtWork honest history failures s items (record { engine = e; publisher = p; waiting = waiting })
       works_as works whole durable oldest = record {
-        begins = w.begins;
-        legal = w.legal;
+        begins = w.begins; legal = w.legal;
         desk = record {
           front = w.desk.front;
           begins = w.desk.begins;

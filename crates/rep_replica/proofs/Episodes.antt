@@ -21,13 +21,14 @@ use Rattle.rep_steps.specs.Orders.{IsOf, NodesHoldTheOrder, StepsFollowTheOrder}
 use Rattle.rep_steps.specs.Runs.{accepted_by, acknowledged, RunsComeTo, RunsAnswerTheOrder}
 use Rattle.rep_steps.specs.Images.{StandsFor, IsFrontAt, IsFrontOf, FrontsStandForTheOrder}
 use Rattle.rep_image.specs.Meanings.{Means, ImagesMeanOneThing}
+use Rattle.rep_steps.specs.FrontLaws.{front_longer, front_older}
 use Rattle.rep_replica.specs.Replicas.{Replica, facts_of}
 use Rattle.rep_replica.specs.Running.{Ran}
 use Rattle.rep_replica.specs.Stopping.{StoppedReplicasHold}
 use Rattle.rep_replica.specs.Lives.{AreRepliesOf, Follows, OpensOn}
 use Rattle.rep_replica.specs.Episodes.{brought_by, MeansOneOf, CanCome, StandsAt, GaveUp, Brought, Episode, Runs, GivesUp, Brings, Breaks, AreEpisodes, AreWhole, Life, IsLife, Lives, IsSnapshotOf, reached_by, FedFrom, AreFed, IsOfCluster, IsFrontIn, IsAtFront, EpisodesFollow, replies_of, LifeFollows, LivesFollow, LivesWithSnapshotsFollowTheOrder}
 use Rattle.rep_replica.proofs.Stopping.{front_of}
-use Rattle.rep_replica.proofs.Lives.{front_longer, replies_longer, replies_more, opened_on, ran_on}
+use Rattle.rep_replica.proofs.Lives.{replies_longer, replies_more, opened_on, ran_on}
 
 -- ---- clusters
 
@@ -49,30 +50,19 @@ by_none before uuid own k (inr (nil, same)) none = inr (nil, same, none (same �
 
 -- ---- fronts
 
--- a front with more first items is one with fewer
-front_less : (uuid : List ℕ) (p : Setting) (L : Order) (d c : ℕ) (image : List ℕ) → c ≤ d → IsFrontOf Means uuid p L d image → IsFrontOf Means uuid p L c image
-front_less uuid p L d c image le f = record {
-  meaning = f.meaning;
-  reads = f.reads;
-  end = f.end;
-  least = omega (arith, le, f.least);
-  most = f.most;
-  stands = f.stands;
-}
-
--- and one of at most so many items is one of at most more
+-- a front of at most so many items is one of at most more, with fewer first items
 front_wider : (uuid : List ℕ) (p : Setting) (O : Order) (h j d c : ℕ) (image : List ℕ) → h ≤ j → c ≤ d → IsFrontOf Means uuid p (take h O) d image → IsFrontOf Means uuid p (take j O) c image
 front_wider uuid p O h j d c image le least f =
     let all : h + (j - h) ≡ j = omega (arith, le) in
     let whole : take h O ++ take (j - h) (drop h O) ≡ take j O = sym (take-add h (j - h) O) ∙ ap (λ i. take i O) all in
-    front_less uuid p (take j O) d c image least (subst (λ (M : Order). IsFrontOf Means uuid p M d image) whole (front_longer uuid p (take h O) (take (j - h) (drop h O)) d image f))
+    front_older Means uuid p (take j O) d c image least (subst (λ (M : Order). IsFrontOf Means uuid p M d image) whole (front_longer Means uuid p (take h O) (take (j - h) (drop h O)) d image f))
 
 in_wider : (before own uuid : List ℕ) (p : Setting) (O : Order) (h j d c : ℕ) (image : List ℕ) → h ≤ j → c ≤ d → (own ≡ uuid) ⊎ (own ≡ before) → IsFrontIn own uuid p O h d image → IsFrontIn before uuid p O j c image
 in_wider before own uuid p O h j d c image le least cluster (inl f) = inl (front_wider uuid p O h j d c image le least f)
 in_wider before own uuid p O h j d c image le least (inl is) (inr (nil, f)) =
-    inl (front_less uuid p (take j O) d c image least (subst (λ (u : List ℕ). IsFrontOf Means u p (take j O) d image) is (front_longer own p [] (take j O) d image f)))
+    inl (front_older Means uuid p (take j O) d c image least (subst (λ (u : List ℕ). IsFrontOf Means u p (take j O) d image) is (front_longer Means own p [] (take j O) d image f)))
 in_wider before own uuid p O h j d c image le least (inr same) (inr (nil, f)) =
-    inr (subst IsNil same nil, subst (λ (u : List ℕ). IsFrontOf Means u p [] c image) same (front_less own p [] d c image least f))
+    inr (subst IsNil same nil, subst (λ (u : List ℕ). IsFrontOf Means u p [] c image) same (front_older Means own p [] d c image least f))
 
 -- what stands for a front of k items, under the cluster's UUID or the nil one
 in_order : (before uuid own : List ℕ) (p q : Setting) (O : Order) (k d : ℕ) (image : List ℕ) → IsOfCluster before uuid own k → q ≡ p → IsFrontOf Means own q (take k O) d image → IsFrontIn before uuid p O k d image
@@ -416,7 +406,7 @@ module _ {D : Type 0} (honest : D → Type 0) (history : D → History) (failure
       → FedFrom uuid p O (facts_of failures life.start).durable (life.past ++ life.begun)
       → LifeFollows honest history failures before uuid p O d h given life × AreRepliesOf (take (facts_of failures life.mid).durable H) (given ++ replies_of life.past)
   one_life before d h given image life (inl f) kept is fed = life_on before uuid d h given image life f (inl refl) kept is fed
-  one_life before d h given image life (inr (nil, f)) kept is fed = life_on before before d h given image life (front_longer before p [] (take h O) d image f) (inr (nil, refl)) kept is fed
+  one_life before d h given image life (inr (nil, f)) kept is fed = life_on before before d h given image life (front_longer Means before p [] (take h O) d image f) (inr (nil, refl)) kept is fed
 
   follow_on : (before : List ℕ) (d h : ℕ) (given : List Reply) (image : List ℕ) (lives : List (Life D)) → IsFrontIn before uuid p O h d image → AreRepliesOf (take d H) given → Lives honest history failures image lives → AreFed failures uuid p O lives
       → LivesFollow honest history failures before uuid p O d h given lives

@@ -28,6 +28,7 @@ use Rattle.rep_steps.specs.Orders.{IsOf, accepted, answer_of, NodesHoldTheOrder,
 use Rattle.rep_steps.specs.Runs.{Runs, accepted_by, verdicts, acknowledged, verdict_of, ComesTo, AnswersOf, RunsComeTo, RunsAnswerTheOrder}
 use Rattle.rep_steps.specs.Images.{StandsFor, opened, IsFrontOf}
 use Rattle.rep_image.specs.Meanings.{Means, ImagesMeanOneThing}
+use Rattle.rep_steps.specs.FrontLaws.{front_longer}
 use Rattle.rep_replica.specs.Replicas.{Replica, facts_of}
 use Rattle.rep_replica.specs.Holding.{Holds}
 use Rattle.rep_replica.specs.Opening.{Opens}
@@ -97,18 +98,6 @@ module _ (hold : NodesHoldTheOrder) (follow : StepsFollowTheOrder) (come : RunsC
         subst (λ (K : Order). AreRowsOf n.facts.setting K events answers) whole
             (subst (λ (p : Setting). AreRowsOf p (((L ++ accepted e a) ++ M) ++ rest) events answers) same (rows_follow (L ++ accepted e a) rest mid m events answers f.node f.order r.2)),
       )
-
--- ---- fronts of longer orders
-
-pub front_longer : (uuid : List ℕ) (p : Setting) (L M : Order) (d : ℕ) (image : List ℕ) → IsFrontOf Means uuid p L d image → IsFrontOf Means uuid p (L ++ M) d image
-front_longer uuid p L M d image f = record {
-  meaning = f.meaning;
-  reads = f.reads;
-  end = f.end;
-  least = f.least;
-  most = omega (arith, f.most, length-append L M);
-  stands = rw (take-append-le f.end L M f.most) f.stands;
-}
 
 -- ---- fronts of lists
 
@@ -272,7 +261,7 @@ module _ {D : Type 0} (honest : D → Type 0) (history : D → History) (failure
       λ M g. subst (λ j. IsFrontOf Means uuid p M j life.left) durable_k (subst (λ (q : Setting). IsFrontOf Means uuid q M k.facts.durable life.left) setting_k (subst (λ (u : List ℕ). IsFrontOf Means u k.facts.setting M k.facts.durable life.left) uuid_k g)) in
       let here : IsImage (history life.mid.engine.disk) life.left → IsFrontOf Means uuid p (take (delivered (facts_of failures life.last)) O) c life.left =
       λ i. subst (λ (M : Order). IsFrontOf Means uuid p M c life.left) whole
-      (front_longer uuid p (L ++ A1) A2 c life.left (as_said (L ++ A1) (stopped.leaves (L ++ A1) k life.mid (stopped.of_node k life.mid first.2) follows.comes.order life.left i))) in
+      (front_longer Means uuid p (L ++ A1) A2 c life.left (as_said (L ++ A1) (stopped.leaves (L ++ A1) k life.mid (stopped.of_node k life.mid first.2) follows.comes.order life.left i))) in
       let there : IsFrontOf Means k.facts.uuid k.facts.setting ((L ++ A1) ++ A2) k.facts.durable life.left → IsFrontOf Means uuid p (take (delivered (facts_of failures life.last)) O) c life.left =
       λ g. subst (λ (M : Order). IsFrontOf Means uuid p M c life.left) whole (as_said ((L ++ A1) ++ A2) g) in
       record {

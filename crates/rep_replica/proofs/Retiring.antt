@@ -15,6 +15,7 @@ use Rattle.rep_steps.specs.declared.answer.Answer.TheVariants.{Refused}
 use Rattle.rep_steps.specs.Standings.{Standing, Stage, Off, Retiring, refusal, check_refusal}
 use Rattle.rep_steps.specs.Moves.{Found, Moves, Fails, answer, after, checked, takes_memory, reads_a_page, is_off}
 use Rattle.rep_steps.specs.Nodes.{Node, Steps, found, moved}
+use Rattle.rep_steps.specs.FactLaws.{after_failures}
 use Rattle.rep_steps.specs.Images.{IsFrontAt}
 use Rattle.rep_image.specs.Meanings.{Means}
 use Rattle.rep_replica.specs.Replicas.{Replica, facts_of}
@@ -42,15 +43,6 @@ fault_by s t e a none memory page m = elim (went_by s t e a none m) [
   where
     Stops : Answer → Type 0
     Stops b = IfErr (outcome_of b) (λ r. (r ≡ DiskFault) × (t.stopped ≡ true))
-
--- what is done counts no failure
-after_failures : (s : Standing) (e : Event) (f : Found) → (after s e f).failures ≡ s.failures
-after_failures s (Deliver seqno w) f = refl
-after_failures s Log f = refl
-after_failures s Sync f = refl
-after_failures s Check f = refl
-after_failures s (Flush page) f = refl
-after_failures s (Read key at) f = refl
 
 pub stopped_is_none : Stopped ≢ DiskFault
 stopped_is_none is = cc

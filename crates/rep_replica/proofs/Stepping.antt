@@ -22,6 +22,7 @@ use Rattle.rep_steps.specs.Nodes.{Node, Steps, NodesStayNodes, passed, reached, 
 use Rattle.rep_steps.specs.Parts.{with_ahead, part_of, Widens, PartsStepAsTheWhole}
 use Rattle.rep_steps.specs.Images.{IsFrontAt}
 use Rattle.rep_steps.specs.Judging.{JudgingGoesOn}
+use Rattle.rep_steps.specs.FactLaws.{passed_by}
 use Rattle.rep_image.specs.Meanings.{Means}
 use Rattle.rep_engine.specs.Engines.{Engine, IsWhole, facts_of as engine_facts, phase_at, durable_of}
 use Rattle.rep_engine.specs.Holding.{Holds as EngineHolds}
@@ -59,17 +60,6 @@ opening_within Closing block h = omega arith
 opening_within (Filling n) block h = omega arith
 opening_within (Filled n) block h = omega arith
 opening_within (Opening n) block h = omega (arith, h.all)
-
--- what a sync leaves behind the base was durable
-passed_by : (base durable start next : ℕ) (stage : Stage) → HasGoal base durable start next stage → base ≤ durable → base_after base stage - base ≤ durable - base
-passed_by base durable start next Off h le = omega arith
-passed_by base durable start next (Toward goal (Flushing left)) h le = omega arith
-passed_by base durable start next (Toward goal Saving) h le = omega arith
-passed_by base durable start next (Toward goal Ready) h le = omega arith
-passed_by base durable start next (Toward goal SuperFilling) h le = omega arith
-passed_by base durable start next (Toward goal SuperFilled) h le = omega arith
-passed_by base durable start next (Toward goal SuperOpening) h le = omega (arith, h.within)
-passed_by base durable start next (Retiring written) h le = omega arith
 
 -- ---- steps that change nothing
 

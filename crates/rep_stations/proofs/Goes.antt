@@ -18,6 +18,7 @@ use Rattle.rep_steps.specs.Standings.{Stage, Off, Toward, Retiring, Flushing, Sa
 use Rattle.rep_steps.specs.Moves.{Found, Moves, Fails, opening, replies, after, base_after}
 use Rattle.rep_steps.specs.Nodes.{Node, IsNode, Steps, moved, passed, reached}
 use Rattle.rep_steps.specs.Judging.{JudgingGoesOn}
+use Rattle.rep_steps.specs.FactLaws.{passed_by}
 use Rattle.rep_stations.specs.Taking.{GoesOn, IsOfAnEngine, MakesNothingDurable}
 
 -- ---- the facts
@@ -148,17 +149,6 @@ pub record NodeGoes (n m : Node) : Type 0 where
   pub few : past ≤ length n.items
   pub base : m.base ≡ reached n.facts.setting n.base (take past n.items)
   pub items : m.items ≡ drop past n.items
-
--- what a sync leaves behind the base was durable
-passed_by : (base durable start next : ℕ) (stage : Stage) → HasGoal base durable start next stage → base ≤ durable → base_after base stage - base ≤ durable - base
-passed_by base durable start next Off h le = omega arith
-passed_by base durable start next (Toward goal (Flushing left)) h le = omega arith
-passed_by base durable start next (Toward goal Saving) h le = omega arith
-passed_by base durable start next (Toward goal Ready) h le = omega arith
-passed_by base durable start next (Toward goal SuperFilling) h le = omega arith
-passed_by base durable start next (Toward goal SuperFilled) h le = omega arith
-passed_by base durable start next (Toward goal SuperOpening) h le = omega (arith, h.within)
-passed_by base durable start next (Retiring written) h le = omega arith
 
 node_moved : (n : Node) (e : Event) → IsOfAnEngine e → IsNode n → NodeGoes n (moved n e)
 node_moved n (Deliver seqno w) own node = absurd own

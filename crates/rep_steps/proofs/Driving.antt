@@ -16,6 +16,7 @@ use Rattle.rep_steps.specs.Orders.{IsOf, accepted}
 use Rattle.rep_steps.specs.Runs.{Runs, accepted_by}
 use Rattle.rep_steps.specs.Images.{Meaning, IsFrontAt, IsFrontOf, RunsOn}
 use Rattle.rep_steps.specs.Joining.{RunsAreJoined}
+use Rattle.rep_steps.specs.FrontLaws.{front_longer, front_older}
 use Rattle.rep_steps.proofs.Reaching.{OrderLaws}
 use Rattle.rep_steps.proofs.Following.{count_behind}
 use Rattle.rep_steps.proofs.Running.{runs_come}
@@ -24,16 +25,6 @@ use Rattle.rep_steps.proofs.Fronts.{fronts_stand}
 -- ---- fronts of longer orders
 
 module _ (means : List ℕ → Meaning → Type 0) where
-  front_longer : (uuid : List ℕ) (p : Setting) (L M : Order) (d : ℕ) (image : List ℕ) → IsFrontOf means uuid p L d image → IsFrontOf means uuid p (L ++ M) d image
-  front_longer uuid p L M d image f = record {
-    meaning = f.meaning;
-    reads = f.reads;
-    end = f.end;
-    least = f.least;
-    most = omega (arith, f.most, length-append L M);
-    stands = rw (take-append-le f.end L M f.most) f.stands;
-  }
-
   -- what a node's images mean stands for a front of its order
   front_of : OrderLaws → (L : Order) (n : Node) (d : ℕ) (image : List ℕ) → IsNode n → IsOf L n → d ≤ n.facts.durable → IsFrontAt means n image → IsFrontOf means n.facts.uuid n.facts.setting L d image
   front_of laws L n d image h o le f = record {
@@ -43,17 +34,6 @@ module _ (means : List ℕ → Meaning → Type 0) where
     least = omega (arith, le, f.least);
     most = omega (arith, f.front.within, count_behind laws L n h o);
     stands = fronts_stand laws L n f.end f.meaning h o f.front;
-  }
-
-  -- a front that has more has less
-  front_older : (uuid : List ℕ) (p : Setting) (L : Order) (d e : ℕ) (image : List ℕ) → e ≤ d → IsFrontOf means uuid p L d image → IsFrontOf means uuid p L e image
-  front_older uuid p L d e image le f = record {
-    meaning = f.meaning;
-    reads = f.reads;
-    end = f.end;
-    least = omega (arith, le, f.least);
-    most = f.most;
-    stands = f.stands;
   }
 
 -- ---- runs one after another

@@ -7,3 +7,5 @@ pub mod Images
 pub mod Joining
 pub mod Judging
 pub mod Parts
+pub mod FactLaws
+pub mod FrontLaws
