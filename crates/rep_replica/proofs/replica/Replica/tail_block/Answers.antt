@@ -8,14 +8,14 @@ use Rattle.rep_replica.proofs.replica.Replica.tail_block.Goals as goal
 abbrev within : (g : _) (c : goal.After-tail_block g) → Replica g.row.D.Denot
 within g c = record { engine = c.self.inside.engine; backlog = c.self.inside.backlog; certifier = c.self.inside.certifier; stopped = c.self.inside.stopped }
 
-pub returns-clause-asks : goal.returns-clause-asks
-returns-clause-asks g c =
-    asks g.D.Disk.size g.D.Disk.failures g.D.Disk.honest g.D.Disk.history in_log (within g c) c.args.self.now c.self.view_is (sym c.is_stopped.ensures ∙ c.if-is_stopped.false) c.tail_block.new.self c.tail_block.result c.tail_block.ensures.asks
-
 pub returns-clause-holds : goal.returns-clause-holds
 returns-clause-holds g c n holds other =
     holds_on g.D.Disk.size g.D.Disk.failures g.D.Disk.honest g.D.Disk.history in_log (within g c) c.args.self.now c.self.view_is (sym c.is_stopped.ensures ∙ c.if-is_stopped.false) c.tail_block.new.self c.tail_block.result c.tail_block.ensures.asks n
     c.tail_block.ensures.holds holds other
+
+pub returns-clause-asks : goal.returns-clause-asks
+returns-clause-asks g c =
+    asks g.D.Disk.size g.D.Disk.failures g.D.Disk.honest g.D.Disk.history in_log (within g c) c.args.self.now c.self.view_is (sym c.is_stopped.ensures ∙ c.if-is_stopped.false) c.tail_block.new.self c.tail_block.result c.tail_block.ensures.asks
 
 pub returns-clause-block : goal.returns-clause-block
 returns-clause-block g c n holds =
