@@ -4,8 +4,7 @@ use Rattle.std.specs.Prelude.{IfErr, IfSome, OnOk, map}
 use Rattle.std.specs.List.{flat_map, AllByRecursion}
 use Rattle.std.specs.List.Sorted.{IsStrictlyIncreasing}
 use Rattle.std.specs.Io.KnownBytes.{Consumes}
-use Rattle.std.proofs.lemmas.Bool.{cases_lt}
-use Rattle.std.proofs.lemmas.List.{map-append, length_push, get_or_push, get_or_append_left, get_or-set_other}
+use Rattle.std.proofs.lemmas.List.{map-append, length_push, get_or_append_left, get_or-set_other}
 use Rattle.std.proofs.lemmas.List.Elements.{All-get_or, All-from_get_or, All-nil, All-push, All-weaker}
 use Rattle.std.proofs.lemmas.List.Kept.{AllPairs-from_increasing}
 use Rattle.rep_types.specs.declared.refusal.Refusal.{Refusal}

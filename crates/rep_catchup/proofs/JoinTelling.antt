@@ -14,11 +14,11 @@ use Rattle.rep_disk.specs.Calls.{Rises, IsCall}
 use Rattle.rep_layout.specs.Supers.{IsNil}
 use Rattle.rep_log.specs.Moves.{fault_of}
 use Rattle.rep_steps.specs.declared.event.Event.{Event}
-use Rattle.rep_steps.specs.declared.event.Event.TheVariants.{Deliver, Log, Sync, Check, Flush, Read}
+use Rattle.rep_steps.specs.declared.event.Event.TheVariants.{Deliver}
 use Rattle.rep_steps.specs.declared.answer.Answer.{Answer}
 use Rattle.rep_steps.specs.declared.answer.Answer.TheVariants.{Gave, Refused}
 use Rattle.rep_steps.specs.Standings.{Standing, delivered, refusal, refusal_here}
-use Rattle.rep_steps.specs.Moves.{Found, Moves, Fails, MeetsCorruption, answer, after}
+use Rattle.rep_steps.specs.Moves.{Moves, Fails, MeetsCorruption, answer}
 use Rattle.rep_steps.specs.Nodes.{Node, Steps, moved, found}
 use Rattle.rep_steps.specs.FactLaws.{after_failures}
 use Rattle.rep_steps.specs.Runs.{Runs}

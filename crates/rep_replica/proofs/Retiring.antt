@@ -9,11 +9,11 @@ use Rattle.rep_disk.specs.Moments.{LeavesOnly, ImageSince, moment}
 use Rattle.rep_disk.specs.Leaving.{leaves_then}
 use Rattle.rep_log.specs.declared.phase.Phase.TheVariants.{Resting}
 use Rattle.rep_steps.specs.declared.event.Event.{Event}
-use Rattle.rep_steps.specs.declared.event.Event.TheVariants.{Deliver, Log, Sync, Check, Flush, Read}
+use Rattle.rep_steps.specs.declared.event.Event.TheVariants.{Sync, Check}
 use Rattle.rep_steps.specs.declared.answer.Answer.{Answer}
 use Rattle.rep_steps.specs.declared.answer.Answer.TheVariants.{Refused}
 use Rattle.rep_steps.specs.Standings.{Standing, Stage, Off, Retiring, refusal, check_refusal}
-use Rattle.rep_steps.specs.Moves.{Found, Moves, Fails, answer, after, checked, takes_memory, reads_a_page, is_off}
+use Rattle.rep_steps.specs.Moves.{Moves, Fails, answer, checked, takes_memory, reads_a_page, is_off}
 use Rattle.rep_steps.specs.Nodes.{Node, Steps, found, moved}
 use Rattle.rep_steps.specs.FactLaws.{after_failures}
 use Rattle.rep_steps.specs.Images.{IsFrontAt}

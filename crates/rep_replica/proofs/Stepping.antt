@@ -16,8 +16,8 @@ use Rattle.rep_steps.specs.declared.event.Event.{Event}
 use Rattle.rep_steps.specs.declared.event.Event.TheVariants.{Log, Sync, Check, Flush, Read}
 use Rattle.rep_steps.specs.declared.answer.Answer.{Answer}
 use Rattle.rep_steps.specs.declared.answer.Answer.TheVariants.{Refused}
-use Rattle.rep_steps.specs.Standings.{Stage, Off, Toward, Retiring, Flushing, Saving, Ready, SuperFilling, SuperFilled, SuperOpening, HasGoal, Standing, gathered, refusal, refusal_here, log_refusal}
-use Rattle.rep_steps.specs.Moves.{Moves, opening, takes_memory, base_after}
+use Rattle.rep_steps.specs.Standings.{Standing, gathered, refusal, refusal_here, log_refusal}
+use Rattle.rep_steps.specs.Moves.{Moves, opening, takes_memory}
 use Rattle.rep_steps.specs.Nodes.{Node, Steps, NodesStayNodes, passed, reached, window_at}
 use Rattle.rep_steps.specs.Parts.{with_ahead, part_of, Widens, PartsStepAsTheWhole}
 use Rattle.rep_steps.specs.Images.{IsFrontAt}

@@ -14,8 +14,8 @@ use Rattle.rep_steps.specs.declared.event.Event.{Event}
 use Rattle.rep_steps.specs.declared.event.Event.TheVariants.{Deliver, Log, Sync, Check, Flush, Read}
 use Rattle.rep_steps.specs.declared.answer.Answer.{Answer}
 use Rattle.rep_steps.specs.declared.answer.Answer.TheVariants.{Gave, Wrote, Began, Synced, Row, Refused}
-use Rattle.rep_steps.specs.Standings.{Stage, Off, Toward, Retiring, Flushing, Saving, Ready, SuperFilling, SuperFilled, SuperOpening, HasGoal, Standing, refusal, refusal_here}
-use Rattle.rep_steps.specs.Moves.{Found, Moves, Fails, opening, replies, after, base_after}
+use Rattle.rep_steps.specs.Standings.{Standing, refusal, refusal_here}
+use Rattle.rep_steps.specs.Moves.{Found, Moves, Fails, opening, replies, after}
 use Rattle.rep_steps.specs.Nodes.{Node, IsNode, Steps, moved, passed, reached}
 use Rattle.rep_steps.specs.Judging.{JudgingGoesOn}
 use Rattle.rep_steps.specs.FactLaws.{passed_by}
