@@ -160,7 +160,12 @@ module _ {D : Type 0} (honest : D → Type 0) (history : D → History) (failure
     pub short_none : (old : Replica D) (uuid : List ℕ) (at : ℕ) (before : Option (List ℕ)) (e : Refusal) → counted at 0 ≡ at → EndsHere honest history failures old at before e → ((k : ℕ) → e ≡ Malformed k → IfSome before (NoSnapshotComes (facts_of failures old)))
         → CutShort honest history failures old old uuid before at e
     short_none old uuid at before e small ends none = record {
-      snapshot = None; comes = tt; records = []; are_records = tt; left = before; taken = Consumes-nil before;
+      snapshot = None;
+      comes = tt;
+      records = [];
+      are_records = tt;
+      left = before;
+      taken = Consumes-nil before;
       went = went_records honest history failures old old uuid [] (grown_none by_items honest history failures joined old);
       ends = subst (λ k. EndsHere honest history failures old k before e) (sym small) ends;
       none = λ _ _ k is. none k is;
@@ -169,10 +174,15 @@ module _ {D : Type 0} (honest : D → Type 0) (history : D → History) (failure
   -- records alone were taken
   pub short_records : (old new : Replica D) (uuid : List ℕ) (at : ℕ) (before : Option (List ℕ)) (e : Refusal) → Cut honest history failures old new before at e → IfSome before (NoSnapshotComes (facts_of failures old)) → CutShort honest history failures old new uuid before at e
   short_records old new uuid at before e cut other = record {
-    snapshot = None; comes = tt; records = cut.records; are_records = cut.are_records; left = cut.left;
+    snapshot = None;
+    comes = tt;
+    records = cut.records;
+    are_records = cut.are_records;
+    left = cut.left;
     taken = cut.taken;
     went = went_records honest history failures old new uuid cut.records cut.grown;
-    ends = cut.ends; none = λ _ _ _ _. other;
+    ends = cut.ends;
+    none = λ _ _ _ _. other;
   }
 
   pub short_records_on : (old new : Replica D) (uuid : List ℕ) (at : ℕ) (before : Option (List ℕ)) (result : Result ℕ Refusal) → IfErr result (Cut honest history failures old new before at) → IfSome before (NoSnapshotComes (facts_of failures old))
@@ -216,7 +226,12 @@ module _ {D : Type 0} (honest : D → Type 0) (history : D → History) (failure
 
     pub short_left : BringsEarly (facts_of failures old) front at left e → LeavesSnapshot honest history failures old new uuid front start left e → CutShort honest history failures old new uuid before at e
     short_left early (inl given) = record {
-      snapshot = None; comes = tt; records = []; are_records = tt; left = before; taken = Consumes-nil before;
+      snapshot = None;
+      comes = tt;
+      records = [];
+      are_records = tt;
+      left = before;
+      taken = Consumes-nil before;
       went = went_nowhere honest history failures by_items old new uuid given;
       ends = subst (λ k. EndsHere honest history failures new k before e) (sym small) (ends_early early);
       none = λ _ _ k is. none_here k is early;

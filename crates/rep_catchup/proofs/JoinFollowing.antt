@@ -73,7 +73,10 @@ module _ {D : Type 0} (honest : D → Type 0) (history : D → History) (failure
 
   pub took_end : (old new : Replica D) (last : ℕ) → last < 2 ^ 64 → delivered (facts_of failures old) ≡ last → is_quiet (facts_of failures new) ≡ true → Grown honest history failures old new [] → Follows honest history failures old new (Some last) (end_bytes last)
   took_end old new last limit is quiet grown = record {
-    records = []; are_records = tt; spelled = refl; grown = grown;
+    records = [];
+    are_records = tt;
+    spelled = refl;
+    grown = grown;
     ends = record {
       quiet = quiet;
       limit = limit;
@@ -199,11 +202,21 @@ module _ {D : Type 0} (honest : D → Type 0) (history : D → History) (failure
     -- with what was taken before
     pub all_taken : (hand : List ℕ) (before mid left : Option (List ℕ)) → Consumes before mid hand → TakesAll honest history failures old new uuid last hand mid left → TakesAll honest history failures old new uuid last [] before left
     all_taken hand before mid left first t = record {
-      snapshot = t.snapshot; fits = t.fits; comes = t.comes; records = t.records; are_records = t.are_records;
+      snapshot = t.snapshot;
+      fits = t.fits;
+      comes = t.comes;
+      records = t.records;
+      are_records = t.are_records;
       bytes = hand ++ t.bytes;
       taken = Consumes-trans before mid left hand t.bytes first t.taken;
-      spelled = t.spelled; uuid_is = t.uuid_is; setting = t.setting; quiet = t.quiet; limit = t.limit;
-      durable = t.durable; node = t.node; went = t.went;
+      spelled = t.spelled;
+      uuid_is = t.uuid_is;
+      setting = t.setting;
+      quiet = t.quiet;
+      limit = t.limit;
+      durable = t.durable;
+      node = t.node;
+      went = t.went;
     }
 
 -- ---- the same of what calls answer

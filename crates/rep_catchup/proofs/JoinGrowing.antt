@@ -466,8 +466,12 @@ module _ (by_items : HistoryByItems) where
       delivered_one v next step =
           let is = came v step.moves in
           record {
-            uuid = is.uuid; setting = is.setting; count = omega (arith, is.count); events = Deliver seqno w ∷ [];
-            answers = Gave v ∷ []; paired = refl;
+            uuid = is.uuid;
+            setting = is.setting;
+            count = omega (arith, is.count);
+            events = Deliver seqno w ∷ [];
+            answers = Gave v ∷ [];
+            paired = refl;
             ran = joined.one_run old new (Deliver seqno w) (Gave v) step;
             accepted = refl;
             node = λ n holds.
@@ -508,8 +512,12 @@ module _ (by_items : HistoryByItems) where
       delivered_none r step =
           let stays = refused_stays r (facts_of failures old) (facts_of failures new) (refusal (facts_of failures old) (Deliver seqno w)) step.moves in
           record {
-            uuid = stays.uuid; setting = stays.setting; count = omega (arith, stays.count);
-            events = Deliver seqno w ∷ []; answers = Refused r ∷ []; paired = refl;
+            uuid = stays.uuid;
+            setting = stays.setting;
+            count = omega (arith, stays.count);
+            events = Deliver seqno w ∷ [];
+            answers = Refused r ∷ [];
+            paired = refl;
             ran = joined.one_run old new (Deliver seqno w) (Refused r) step;
             accepted = refl;
             node = λ n holds.

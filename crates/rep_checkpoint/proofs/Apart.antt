@@ -41,8 +41,15 @@ stand_as l s t n first (records ∷ blocks) same h = (same _ ∙ h.0, h.1, stand
 
 pub checkpoint_apart : TheCheckpointIsApart
 checkpoint_apart l log first blocks sealed s t same is = record {
-  cells = is.cells; some = is.some; known = is.known; starts = is.starts; limit = is.limit;
-  live = stand_as l s t log.start first blocks same is.live; next = is.next; seqno = is.seqno; room = is.room;
+  cells = is.cells;
+  some = is.some;
+  known = is.known;
+  starts = is.starts;
+  limit = is.limit;
+  live = stand_as l s t log.start first blocks same is.live;
+  next = is.next;
+  seqno = is.seqno;
+  room = is.room;
   rest = λ i lt other. subst (AtRest (stands_at log i) l i log.next) (sym (same i)) (is.rest i lt other);
   due = subst (IsDue log.phase l (log.next % l.cells) log.next log.seqno sealed) (sym (same _)) is.due;
 }

@@ -45,10 +45,17 @@ means_brought : (image : List ℕ) (base : SuperBody) (i : Coming) (y : State) �
 means_brought image base i y coming has log = record {
   super = i.next.super;
   means = subst (λ (p : Setting). MeansBy (length image) i.next.super (reading_of (layout_of p) image) (brought i y)) (sym coming.params) (record {
-    chosen = has.chosen; uuid = refl; setting = refl; position = has.position; window = has.window;
-    content = has.content; blocks = [];
+    chosen = has.chosen;
+    uuid = refl;
+    setting = refl;
+    position = has.position;
+    window = has.window;
+    content = has.content;
+    blocks = [];
     log = subst (λ (p : Setting). IsLog (reading_of (layout_of base.params) image) (layout_of p) i.next.super.start (i.next.super.position + 1) []) (sym coming.params) log;
-    undefined = λ nil. refl; tail = refl; judged = tt;
+    undefined = λ nil. refl;
+    tail = refl;
+    judged = tt;
   });
 }
 

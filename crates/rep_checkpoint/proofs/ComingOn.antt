@@ -55,7 +55,8 @@ goes_next {D} honest history l base before after old new answer result due fault
     let wrote_in = subst (λ (r : Result (Unit {0}) Fault). WritesIn honest history l (next_place base stage) old new r) (sym fault) inside in
     let stepped = subst (λ (r : Result (Unit {0}) Fault). StepsAt honest history l (next_place base stage) (next_step stage) old new r) (sym fault) steps in
     record {
-      done = done; fault = failed;
+      done = done;
+      fault = failed;
       written = λ h. record { done = ok_as result _ (wrote h).done; failed = err_as result _ only (wrote h).failed };
       inside = λ h. ok_as result _ (wrote_in h);
       steps = λ h size s x y assigns is.

@@ -150,8 +150,14 @@ pub record IsOpening (base : SuperBody) (next : Next) (y : State) (s : States) :
 -- a checkpoint's next base is one
 pub toward_opens : (base : SuperBody) (next : Next) (y : State) (s : States) → IsToward base next SuperOpening y s → IsOpening base next y s
 toward_opens base next y s h = record {
-  is_super = h.follows.is_super; number = h.follows.number; params = h.follows.params;
-  is_window = h.follows.is_window; position = h.position; entries = h.entries; saved = h.far; cell = h.cell;
+  is_super = h.follows.is_super;
+  number = h.follows.number;
+  params = h.follows.params;
+  is_window = h.follows.is_window;
+  position = h.position;
+  entries = h.entries;
+  saved = h.far;
+  cell = h.cell;
 }
 
 -- the next base comes as far as its window, its pages and its superblock's cell do

@@ -128,7 +128,8 @@ goes_on {D} honest history l c after old new answer result due fault done failed
     let wrote_in = subst (λ (r : Result (Unit {0}) Fault). WritesIn honest history l (next_place c.base c.stage) old new r) (sym fault) inside in
     let stepped = subst (λ (r : Result (Unit {0}) Fault). StepsAt honest history l (next_place c.base c.stage) (next_step c.stage) old new r) (sym fault) steps in
     record {
-      done = done; fault = failed;
+      done = done;
+      fault = failed;
       written = λ h. record { done = ok_as result _ (wrote h).done; failed = err_as result _ only (wrote h).failed };
       inside = λ h. ok_as result _ (wrote_in h);
       steps = λ h size s x y assigns is.

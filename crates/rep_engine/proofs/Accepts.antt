@@ -105,7 +105,10 @@ longer_front n js image f =
     let left : length (drop past n.items) ≡ length n.items - past = length-drop past n.items in
     let most : f.end - (n.base.position + past) ≤ length (drop past n.items) = omega (arith, left, f.front.within, f.front.order) in
     record {
-      meaning = f.meaning; reads = f.reads; end = f.end; least = f.least;
+      meaning = f.meaning;
+      reads = f.reads;
+      end = f.end;
+      least = f.least;
       front = record {
         uuid_is = f.front.uuid_is;
         setting_is = f.front.setting_is;

@@ -27,9 +27,23 @@ module _ (l : Layout) (c : Checkpoint) (log : Log) (kept : Kept) (block : List J
   -- where its checkpoint is at another stage
   pub with_stage : (next : Stages) → IsCheckpoint (record c { stage = next }) → HasGoal c.base.position (durable_of log) log.start log.next (stage_in next) → HasItemsBehind (stage_in next) log → IsEngine l (record c { stage = next }) log kept block
   with_stage next is goal behind = record {
-    checkpoint = is; layout = h.layout; cells = h.cells; start = h.start; behind = h.behind; begun = h.begun;
-    room = h.room; items = h.items; goal = goal; behind_goal = behind; follow = h.follow; fits = h.fits; few = h.few;
-    whole = h.whole; limit = h.limit; undefined = h.undefined; within = h.within;
+    checkpoint = is;
+    layout = h.layout;
+    cells = h.cells;
+    start = h.start;
+    behind = h.behind;
+    begun = h.begun;
+    room = h.room;
+    items = h.items;
+    goal = goal;
+    behind_goal = behind;
+    follow = h.follow;
+    fits = h.fits;
+    few = h.few;
+    whole = h.whole;
+    limit = h.limit;
+    undefined = h.undefined;
+    within = h.within;
   }
 
   -- where no block becomes durable

@@ -120,11 +120,21 @@ module _ (l : Layout) (b : SuperBody) (log : Log) (kept after : Kept) (block : L
   raised_by (Toward_ next SuperOpening) h is pruned =
       let follows : IsNext b next = h.checkpoint.going in
       subst (λ (k : Log). IsEngine l (record { base = next.super; stage = Retiring_ false }) k after block) (sym (started_later log next.super.start h.goal.started h.goal.begun)) (record {
-        checkpoint = is; layout = h.layout ∙ ap layout_of (sym follows.params);
+        checkpoint = is;
+        layout = h.layout ∙ ap layout_of (sym follows.params);
         cells = h.cells ∙ ap (λ (p : Setting). p.cells) (sym follows.params);
-        start = refl; behind = omega (arith, h.goal.within, h.behind); begun = h.goal.begun;
-        room = omega (arith, h.room, h.goal.started); items = h.behind_goal; goal = tt; behind_goal = tt;
-        follow = h.follow; fits = h.fits; few = h.few; whole = h.whole; limit = h.limit;
+        start = refl;
+        behind = omega (arith, h.goal.within, h.behind);
+        begun = h.goal.begun;
+        room = omega (arith, h.room, h.goal.started);
+        items = h.behind_goal;
+        goal = tt;
+        behind_goal = tt;
+        follow = h.follow;
+        fits = h.fits;
+        few = h.few;
+        whole = h.whole;
+        limit = h.limit;
         undefined = λ nil. h.undefined (subst (λ (u : List ℕ). IsTrue (is_nil_bytes u)) follows.uuid nil);
         within = within_pruned b.position next.super.position (durable_of log + length block) kept after h.within pruned;
       })

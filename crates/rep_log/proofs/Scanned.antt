@@ -275,7 +275,11 @@ finds turns told l bytes first scan log some long starts limit at e =
     let r = reading_of l bytes in
     let whole = is_log r l first scan some starts limit at in
     subst (λ (x : Standing). Finds l bytes scan.from first x scan.items) (sym e) (record {
-      blocks = at.blocks; items_are = at.items_are; is_log = whole; start = refl; phase = refl;
+      blocks = at.blocks;
+      items_are = at.items_are;
+      is_log = whole;
+      start = refl;
+      phase = refl;
       log_is = record {
         cells = refl;
         some = some;

@@ -70,7 +70,8 @@ pub step_is :
     → WritesOnly honest history at bytes old new (fault_of result) → WritesIn honest history l (log_of l log.next) old new (fault_of result) → StepsAt honest history l (log_of l log.next) step old new (fault_of result)
     → IsStep honest history l log (record log { phase = phase }) (record log { phase = phase }) coming at bytes old new result
 step_is turns honest history l log phase coming at bytes old new step result writes due only written inside steps = record {
-  stands = refl; fault = only;
+  stands = refl;
+  fault = only;
   written = λ h. record { done = ok_as result _ (written h).done; failed = err_as result _ only (written h).failed };
   inside = λ h. ok_as result _ (inside h);
   steps = λ h s first blocks sealed assigns is.

@@ -60,9 +60,15 @@ stays_synced :
     (l : Layout) (log : Standing) (phase : Phase) (first : ℕ) (blocks : List (List Judged)) (sealed : List Judged) (s t : States) → Syncs s t → LogIs l log first blocks sealed s
     → busy phase ≡ busy log.phase → IsDue phase l (log.next % l.cells) log.next log.seqno sealed (t (log_of l log.next)) → LogIs l (record log { phase = phase }) first blocks sealed t
 stays_synced l log phase first blocks sealed s t syncs is same due = record {
-  cells = is.cells; some = is.some; known = is.known; starts = is.starts; limit = is.limit;
+  cells = is.cells;
+  some = is.some;
+  known = is.known;
+  starts = is.starts;
+  limit = is.limit;
   live = open_synced s t l log.start first blocks syncs is.live;
-  next = is.next; seqno = is.seqno; room = omega (arith, same, is.room);
+  next = is.next;
+  seqno = is.seqno;
+  room = omega (arith, same, is.room);
   rest = λ i lt other. rest_synced (stands_at log i) l i log.next (s (Log i)) (t (Log i)) (syncs (Log i)) (is.rest i lt (λ b. other (same ∙ b)));
   due = due;
 }

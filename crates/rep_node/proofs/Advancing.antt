@@ -13,92 +13,132 @@ use Rattle.rep_node.specs.declared.home.Desk.{Desk}
 use Rattle.rep_node.specs.declared.origin.Origin.{Origin}
 use Rattle.rep_node.specs.Publishing.{AreShown, shown}
 use Rattle.rep_node.specs.Homes.{Start, DeskAt, position_of}
-use Rattle.rep_node.specs.Keeping.{AtWork, common_of_desk}
+use Rattle.rep_node.specs.Keeping.{AtWork, HasStepped, common_of_desk}
 use Rattle.rep_node.specs.Checking.{IsPruned}
 use Rattle.rep_node.proofs.Publishes.{oldest_least, shown_both, shown_front}
 
-module _ {D : Type 0} (honest : D → Type 0) (history : D → History) (failures : D → ℕ) (s : Start D) (items : List Judged) (d : Desk D) (w : AtWork honest history failures s items d) where
-  -- what is published and what waits is of the items that the engine has taken
-  as_long : length (published d.publisher.list ++ d.waiting) ≡ length w.desk.front
-  as_long = ap length (w.desk.shown refl).shown_or_waits ∙ length-map w.desk.front _
+module _ {D : Type 0} (honest : D → Type 0) (history : D → History) (failures : D → ℕ) (s : Start D) (items : List Judged) where
+  -- ---- a step of the engine
 
-  start_is : d.publisher.start ≡ position_of s
-  start_is = w.desk.publisher.2 ∙ w.begins.start
-
-  pub are_allowed : (c : Holdings) × (d.publisher.basis.certifier.log ≡ c ∷ []) × (d.publisher.start ≡ c.current.delivered) × AreShown c.current (published d.publisher.list ++ d.waiting)
-  are_allowed =
-      let b = w.desk.begins in
-      let all : AreShown s.certifier.current (shown w.desk.front ++ shown b.0) = record { items = items; legal = w.legal.legal; are = sym (ap shown b.1 ∙ shown_both w.desk.front b.0) } in (
-        s.certifier,
-        ap (λ (o : Origin). o.certifier.log) w.desk.publisher.1 ∙ w.begins.origin,
-        start_is,
-        subst (AreShown s.certifier.current) (sym (w.desk.shown refl).shown_or_waits) (shown_front s.certifier.current (shown w.desk.front) (shown b.0) all),
-      )
-
-  module _ (e : Engine D) (stays : (first : Engine D) (c : Holding) (items : List Judged) → HasTaken honest history failures first c items d.engine → HasTaken honest history failures first c items e) where
+  module _ (d : Desk D) (w : AtWork honest history failures s items d) (e : Engine D) (stays : (first : Engine D) (c : Holding) (items : List Judged) → HasTaken honest history failures first c items d.engine → HasTaken honest history failures first c items e) where
     taken_still : HasTaken honest history failures s.desk.engine s.certifier.current w.desk.front e
     taken_still = stays s.desk.engine s.certifier.current w.desk.front w.desk.taken
-
-    -- what is durable is published or waits
-    pub is_within : durable_of e.log ≤ d.publisher.start + length (published d.publisher.list ++ d.waiting)
-    is_within = let count = taken_still.count in let long = as_long in let start = start_is in omega (arith, count, long, start)
-
-    -- and what was published is durable
-    pub is_behind : durable_of d.engine.log ≤ durable_of e.log → d.publisher.start + length (published d.publisher.list) ≤ durable_of e.log
-    is_behind rises = let start = start_is in let durable = (w.desk.shown refl).durable in omega (arith, start, durable, rises)
 
     pub same_common : durable_of e.log + length e.block ≡ common_of_desk d
     same_common = let after = taken_still.count in let before = w.desk.taken.count in omega (arith, after, before)
 
+    -- one that failed is to be given up
+    pub step_failed : DeskAt honest history failures s 1 items (record (d) { engine = e })
+    step_failed = record {
+      front = w.desk.front;
+      begins = w.desk.begins;
+      taken = taken_still;
+      publisher = w.desk.publisher;
+      works = λ (z : 1 ≡ 0). absurd (omega arith);
+      shown = λ (z : 1 ≡ 0). absurd (omega arith);
+    }
+
+    -- readers find no snapshot gone above the base still
+    pub step_done : e.halted ≡ None → durable_of d.engine.log ≤ durable_of e.log → d.engine.checkpoint.base.position ≤ e.checkpoint.base.position → HasStepped honest history failures s items (record (d) { engine = e })
+    step_done works rises base = let was = w.desk.shown refl in record {
+      begins = w.begins;
+      legal = w.legal;
+      front = w.desk.front;
+      starts = w.desk.begins;
+      taken = taken_still;
+      publisher = w.desk.publisher;
+      works = works;
+      waits = was.shown_or_waits;
+      behind = let durable = was.durable in omega (arith, durable, rises);
+      oldest = let oldest = was.oldest in omega (arith, oldest, base);
+    }
+
+  -- ---- what is durable behind it is published
+
+  module _ (d : Desk D) (h : HasStepped honest history failures s items d) where
+    -- what is published and what waits is of the items that the engine has taken
+    as_long : length (published d.publisher.list ++ d.waiting) ≡ length h.front
+    as_long = ap length h.waits ∙ length-map h.front _
+
+    start_is : d.publisher.start ≡ position_of s
+    start_is = h.publisher.2 ∙ h.begins.start
+
+    pub are_allowed : (c : Holdings) × (d.publisher.basis.certifier.log ≡ c ∷ []) × (d.publisher.start ≡ c.current.delivered) × AreShown c.current (published d.publisher.list ++ d.waiting)
+    are_allowed =
+        let b = h.starts in
+        let all : AreShown s.certifier.current (shown h.front ++ shown b.0) = record { items = items; legal = h.legal.legal; are = sym (ap shown b.1 ∙ shown_both h.front b.0) } in (
+          s.certifier,
+          ap (λ (o : Origin). o.certifier.log) h.publisher.1 ∙ h.begins.origin,
+          start_is,
+          subst (AreShown s.certifier.current) (sym h.waits) (shown_front s.certifier.current (shown h.front) (shown b.0) all),
+        )
+
+    -- what is durable is published or waits
+    pub is_within : durable_of d.engine.log ≤ d.publisher.start + length (published d.publisher.list ++ d.waiting)
+    is_within = let count = h.taken.count in let long = as_long in let start = start_is in omega (arith, count, long, start)
+
+    -- and what was published is durable
+    pub is_behind : d.publisher.start + length (published d.publisher.list) ≤ durable_of d.engine.log
+    is_behind = let start = start_is in let behind = h.behind in omega (arith, start, behind)
+
     module _ (p : Listing Origin) (waiting : List Pair) (same : (p.book ≡ d.publisher.book) × (p.basis ≡ d.publisher.basis) × (p.start ≡ d.publisher.start)) where
-      pub given_up : DeskAt honest history failures s 1 items (record { engine = e; publisher = p; waiting = waiting })
+      pub given_up : DeskAt honest history failures s 1 items (record { engine = d.engine; publisher = p; waiting = waiting })
       given_up = record {
-        front = w.desk.front;
-        begins = w.desk.begins;
-        taken = taken_still;
-        publisher = (same.0 ∙ w.desk.publisher.0, same.1 ∙ w.desk.publisher.1, same.2 ∙ w.desk.publisher.2);
+        front = h.front;
+        begins = h.starts;
+        taken = h.taken;
+        publisher = (same.0 ∙ h.publisher.0, same.1 ∙ h.publisher.1, same.2 ∙ h.publisher.2);
         works = λ (z : 1 ≡ 0). absurd (omega arith);
         shown = λ (z : 1 ≡ 0). absurd (omega arith);
       }
 
-      -- readers find no snapshot gone above the base still
-      oldest_still : d.engine.checkpoint.base.position ≤ e.checkpoint.base.position → oldest_of d.publisher.start p.list ≡ oldest_of d.publisher.start d.publisher.list → oldest_of p.start p.list ≤ max (position_of s) e.checkpoint.base.position
-      oldest_still rises oldest = let before = (w.desk.shown refl).oldest in let here : oldest_of p.start p.list ≡ oldest_of d.publisher.start d.publisher.list = ap (λ n. oldest_of n p.list) same.2 ∙ oldest in omega (arith, before, here, rises)
-
-      works_as : e.halted ≡ None → published p.list ++ waiting ≡ published d.publisher.list ++ d.waiting → d.publisher.start + length (published p.list) ≡ durable_of e.log → oldest_of p.start p.list ≤ max (position_of s) e.checkpoint.base.position
-          → AtWork honest history failures s items (record { engine = e; publisher = p; waiting = waiting })
-      works_as works whole durable oldest = record {
-        begins = w.begins; legal = w.legal;
+      pub works_on : published p.list ++ waiting ≡ published d.publisher.list ++ d.waiting → oldest_of d.publisher.start p.list ≡ oldest_of d.publisher.start d.publisher.list → d.publisher.start + length (published p.list) ≡ durable_of d.engine.log
+          → AtWork honest history failures s items (record { engine = d.engine; publisher = p; waiting = waiting })
+      works_on whole oldest durable = record {
+        begins = h.begins;
+        legal = h.legal;
         desk = record {
-          front = w.desk.front;
-          begins = w.desk.begins;
-          taken = taken_still;
-          publisher = (same.0 ∙ w.desk.publisher.0, same.1 ∙ w.desk.publisher.1, same.2 ∙ w.desk.publisher.2);
-          works = λ _. works;
-          shown = λ _. record { shown_or_waits = whole ∙ (w.desk.shown refl).shown_or_waits; durable = let start = start_is in omega (arith, start, durable); oldest = oldest };
+          front = h.front;
+          begins = h.starts;
+          taken = h.taken;
+          publisher = (same.0 ∙ h.publisher.0, same.1 ∙ h.publisher.1, same.2 ∙ h.publisher.2);
+          works = λ _. h.works;
+          shown = λ _. record {
+            shown_or_waits = whole ∙ h.waits;
+            durable = let start = start_is in omega (arith, start, durable);
+            oldest = let before = h.oldest in let here : oldest_of p.start p.list ≡ oldest_of d.publisher.start d.publisher.list = ap (λ n. oldest_of n p.list) same.2 ∙ oldest in omega (arith, before, here);
+          };
         };
       }
 
-      pub works_on : e.halted ≡ None → published p.list ++ waiting ≡ published d.publisher.list ++ d.waiting → d.publisher.start + length (published p.list) ≡ durable_of e.log → d.engine.checkpoint.base.position ≤ e.checkpoint.base.position
-          → oldest_of d.publisher.start p.list ≡ oldest_of d.publisher.start d.publisher.list → AtWork honest history failures s items (record { engine = e; publisher = p; waiting = waiting })
-      works_on works whole durable rises oldest = works_as works whole durable (oldest_still rises oldest)
-
   -- ---- readers' snapshots below the base are let go
 
-  module _ (p : Listing Origin) (same : (p.book ≡ d.publisher.book) × (p.basis ≡ d.publisher.basis) × (p.start ≡ d.publisher.start)) where
+  module _ (d : Desk D) (w : AtWork honest history failures s items d) (p : Listing Origin) (same : (p.book ≡ d.publisher.book) × (p.basis ≡ d.publisher.basis) × (p.start ≡ d.publisher.start)) where
+    started_at : d.publisher.start ≡ position_of s
+    started_at = w.desk.publisher.2 ∙ w.begins.start
+
     pub pruned_works : (base : ℕ) → base ≡ d.engine.checkpoint.base.position → published p.list ≡ published d.publisher.list → oldest_of d.publisher.start p.list ≡ max (oldest_of d.publisher.start d.publisher.list) base
         → AtWork honest history failures s items (record { engine = d.engine; publisher = p; waiting = d.waiting })
-    pruned_works base is list oldest =
-        let before = w.desk.shown refl in
-        let start = start_is in
-        let count : d.publisher.start + length (published p.list) ≡ durable_of d.engine.log = let durable = before.durable in let long : length (published p.list) ≡ length (published d.publisher.list) = ap length list in omega (arith, durable, long, start) in
-        let low : oldest_of p.start p.list ≤ max (position_of s) d.engine.checkpoint.base.position =
-        let was = before.oldest in let here : oldest_of p.start p.list ≡ max (oldest_of d.publisher.start d.publisher.list) base = ap (λ n. oldest_of n p.list) same.2 ∙ oldest in omega (arith, was, here, is) in
-        works_as d.engine (λ first c taken h. h) p d.waiting same (w.desk.works refl) (ap (λ l. l ++ d.waiting) list) count low
+    pruned_works base is list oldest = let before = w.desk.shown refl in record {
+      begins = w.begins;
+      legal = w.legal;
+      desk = record {
+        front = w.desk.front;
+        begins = w.desk.begins;
+        taken = w.desk.taken;
+        publisher = (same.0 ∙ w.desk.publisher.0, same.1 ∙ w.desk.publisher.1, same.2 ∙ w.desk.publisher.2);
+        works = λ _. w.desk.works refl;
+        shown = λ _. record {
+          shown_or_waits = ap (λ l. l ++ d.waiting) list ∙ before.shown_or_waits;
+          durable = let durable = before.durable in let long : length (published p.list) ≡ length (published d.publisher.list) = ap length list in omega (arith, durable, long);
+          oldest = let was = before.oldest in let here : oldest_of p.start p.list ≡ max (oldest_of d.publisher.start d.publisher.list) base = ap (λ n. oldest_of n p.list) same.2 ∙ oldest in omega (arith, was, here, is);
+        };
+      };
+    }
 
     pub pruned_oldest : (base : ℕ) → base ≡ d.engine.checkpoint.base.position → oldest_of d.publisher.start p.list ≡ max (oldest_of d.publisher.start d.publisher.list) base → IsPruned s (record { engine = d.engine; publisher = p; waiting = d.waiting })
     pruned_oldest base is oldest =
-        let start = start_is in
+        let start = started_at in
         let before : oldest_of (position_of s) d.publisher.list ≡ oldest_of d.publisher.start d.publisher.list = sym (ap (λ n. oldest_of n d.publisher.list) start) in
         let after : oldest_of (position_of s) p.list ≡ oldest_of d.publisher.start p.list = sym (ap (λ n. oldest_of n p.list) start) in
         let low = oldest_least (position_of s) d.publisher.list in

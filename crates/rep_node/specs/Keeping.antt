@@ -1,10 +1,11 @@
 -- What the engine and the queue are while somebody works at them, and what a keeper says.
-use Rattle.std.specs.Prelude.{◌≡◌, ℕ, ◌+◌, ◌-◌, ◌≤◌, List, length, take}
+use Rattle.std.specs.Prelude.{◌≡◌, ℕ, ◌+◌, ◌-◌, ◌≤◌, ◌++◌, max, None, List, StartsWith, length, take}
 use Rattle.rep_types.specs.declared.judged.Judged.{Judged}
 use Rattle.rep_types.specs.declared.limits.TheConstants.{MAX_SEQNO}
 use Rattle.rep_disk.specs.History.{History}
 use Rattle.rep_engine.specs.Engines.{durable_of}
-use Rattle.rep_snap.specs.Lists.{published}
+use Rattle.rep_snap.specs.Lists.{oldest_of, published}
+use Rattle.rep_stations.specs.Taking.{HasTaken}
 use Rattle.rep_ordered.specs.declared.view.View.{View}
 use Rattle.rep_node.specs.declared.home.Desk.{Desk}
 use Rattle.rep_node.specs.declared.home.Queue.{Queue}
@@ -23,6 +24,19 @@ module _ {D : Type 0} (honest : D → Type 0) (history : D → History) (failure
     pub begins : Begins honest history failures s
     pub legal : IsLegalBehind s.certifier.current items
     pub desk : DeskAt honest history failures s 0 items d
+
+  -- The engine has taken a step: it works, but more may be durable than is published.
+  pub record HasStepped (s : Start D) (items : List Judged) (d : Desk D) : Type 0 where
+    pub begins : Begins honest history failures s
+    pub legal : IsLegalBehind s.certifier.current items
+    pub front : List Judged
+    pub starts : StartsWith items front
+    pub taken : HasTaken honest history failures s.desk.engine s.certifier.current front d.engine
+    pub publisher : (d.publisher.book ≡ s.desk.publisher.book) × (d.publisher.basis ≡ s.desk.publisher.basis) × (d.publisher.start ≡ s.desk.publisher.start)
+    pub works : d.engine.halted ≡ None
+    pub waits : published d.publisher.list ++ d.waiting ≡ shown front
+    pub behind : position_of s + length (published d.publisher.list) ≤ durable_of d.engine.log
+    pub oldest : oldest_of d.publisher.start d.publisher.list ≤ max (position_of s) d.engine.checkpoint.base.position
 
   -- At both engine and queue: they name the same item as the last that the engine accepted.
   pub record AreAtWork (s : Start D) (number : ℕ) (items : List Judged) (d : Desk D) (q : Queue) : Type 0 where

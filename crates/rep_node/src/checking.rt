@@ -14,9 +14,9 @@ ghost use Rattle.rep_node.specs.Seats.{IsSeat, SeesLegal, WentIdle};
 ghost use Rattle.rep_node.specs.Checking.{EndsAt, IsChecked, IsPruned, MayLend, Tells, progress_of};
 
 use crate::home::{Desk, Home};
+use crate::keeping::publish_durable;
 use crate::node::{LockSeat, Node};
 use crate::parts::{certifier_of, desk_of};
-use crate::publishing::publish_upto;
 use crate::seat::Seat;
 use rep_cert::Certifier;
 use rep_checkpoint::Step;
@@ -120,32 +120,14 @@ fn take_on<D: Disk, R: Wait>(rt: &R, desk: Desk<D>) -> (Desk<D>, Result<Progress
     ensures progress { IfOk result.1 (λ progress. progress ≡ progress_of (due_in desk.engine.checkpoint.stage)) }
     ensures unchanged { IfErr result.1 (λ refusal. refusal ≡ NotDue → result.0 ≡ desk) }
 {
-    let Desk {
-        mut engine,
-        publisher,
-        mut waiting,
-    } = desk;
-    let progress = match flush_or_sync(engine.get_mut()) {
+    let mut desk = desk;
+    let progress = match flush_or_sync(desk.engine.get_mut()) {
         Ok(progress) => progress,
-        Err(refusal) => {
-            let desk = Desk {
-                engine,
-                publisher,
-                waiting,
-            };
-            return (desk, Err(refusal));
-        }
+        Err(refusal) => return (desk, Err(refusal)),
     };
-    let durable = engine.get().durable();
-    let (publisher, published) = publish_upto(rt, publisher, &mut waiting, durable);
-    let desk = Desk {
-        engine,
-        publisher,
-        waiting,
-    };
-    match published {
-        Ok(()) => (desk, Ok(progress)),
-        Err(refusal) => (desk, Err(refusal)),
+    match publish_durable(rt, desk) {
+        (desk, Ok(())) => (desk, Ok(progress)),
+        (desk, Err(refusal)) => (desk, Err(refusal)),
     }
 }
 
@@ -246,8 +228,7 @@ impl<D: Disk> Node<D> {
                 Err(Refusal::NotDue)
             }
             Err(_) => {
-                self.lock.halt(seat);
-                self.changes.halted();
+                self.changes.halt(&self.lock, seat);
                 self.lock.give_up(seat, 1, Home::Desk(desk));
                 Err(Refusal::Stopped)
             }
@@ -314,8 +295,7 @@ impl<D: Disk> Node<D> {
             Progress::Goes => Ok(Outcome::Goes),
             Progress::ForCertifier => Ok(Outcome::ForCertifier),
             Progress::Ended => {
-                self.lock.raise(seat, durable);
-                self.changes.rose(durable);
+                self.changes.raise(&self.lock, seat, durable);
                 self.wait_durable(rt, seat, durable)?;
                 Ok(Outcome::Ended(checked))
             }

@@ -9,7 +9,7 @@ ghost use Rattle.rep_engine.specs.Engines.{durable_of};
 ghost use Rattle.rep_ordered.specs.Views.{HasAll, opened};
 ghost use Rattle.rep_node.specs.Homes.{Start, IsLegal, durable_in, common_in, values_of};
 ghost use Rattle.rep_node.specs.Seats.{PassedOrStopped};
-ghost use Rattle.rep_node.specs.Ending.{StartsFrom, EndsAs};
+ghost use Rattle.rep_node.specs.Ending.{AreParts, StartsFrom, StartsFromParts, EndsAs};
 ghost use Rattle.rep_node.specs.Reading.{AreParams};
 
 use crate::boxed::Boxed;
@@ -21,8 +21,10 @@ use crate::parts::{certifier_of, desk_of, queue_of};
 use crate::reading::NodeReader;
 use crate::seat::Seat;
 use crate::waiting::Waiting;
+use rep_backlog::Backlog;
 use rep_cert::Certifier;
 use rep_disk::Disk;
+use rep_engine::Engine;
 use rep_ordered::{OrderedLock, Refused};
 use rep_replica::Replica;
 use rep_snap::Reader;
@@ -31,27 +33,45 @@ use rep_types::{MAX_SEQNO, Params, Refusal};
 use std::alloc::Global;
 use std::sync::Wait;
 
-/// The memory that a node takes beside its lock and its publisher.
+/// The engine on the heap, and the memory that a node takes beside its lock and its publisher.
 struct Space<D: Disk> {
+    engine: Boxed<Engine<D>>,
     waiting: Waiting,
     readers: Vec<NodeReader>,
     room: Vec<Home<D>>,
 }
 
-fn reserved<D: Disk>(alloc: Global, readers: usize) -> Result<Space<D>, Refusal>
+/// Where there is no memory, the engine is handed back.
+fn reserved<D: Disk>(
+    alloc: Global,
+    engine: Engine<D>,
+    readers: usize,
+) -> Result<Space<D>, Engine<D>>
+    ensures engine { IfOk result (λ s. s.engine ≡ engine) }
     ensures empty { IfOk result (λ s. (s.waiting ≡ []) × (s.room.items ≡ []) × (3 ≤ vec_capacity s.room)) }
     ensures readers { IfOk result (λ s. (s.readers.items ≡ []) × (readers ≤ vec_capacity s.readers)) }
-    ensures refused { IfErr result (λ refusal. refusal ≡ OutOfMemory) }
+    ensures refused { IfErr result (λ back. back ≡ engine) }
 {
-    let waiting = Waiting::new(alloc)?;
-    let readers = Vec::with_capacity(alloc, readers)?;
-    match Vec::with_capacity(alloc, 3) {
-        Ok(room) => Ok(Space {
+    let Ok(waiting) = Waiting::new(alloc) else {
+        return Err(engine);
+    };
+    let Ok(readers) = Vec::with_capacity(alloc, readers) else {
+        return Err(engine);
+    };
+    let Ok(room) = Vec::with_capacity(alloc, 3) else {
+        return Err(engine);
+    };
+    match Boxed::new(alloc, engine) {
+        Ok(engine) => Ok(Space {
+            engine,
             waiting,
             readers,
             room,
         }),
-        Err(_) => Err(Refusal::OutOfMemory),
+        Err(engine) => {
+            room.destroy_empty();
+            Err(engine)
+        }
     }
 }
 
@@ -120,6 +140,76 @@ fn closed_values_of<D: Disk>(mut homes: Vec<Option<Home<D>>>) -> (Certifier, Des
     (certifier, desk, queue)
 }
 
+/// A node with its first seat and its readers.
+type Started<D> = (Node<D>, Seat<D>, Vec<NodeReader>);
+
+/// Starts a node from what a replica was taken apart into. Where a growth is refused, the parts are handed back as they were.
+fn start_from<D: Disk, R: Wait>(
+    alloc: Global,
+    rt: &R,
+    certifier: Certifier,
+    backlog: Backlog,
+    engine: Engine<D>,
+    readers: usize,
+) -> Result<Started<D>, (Certifier, Backlog, Engine<D>)>
+    requires parts { AreParts D.honest D.history D.failures certifier backlog engine }
+    requires readers { (0 < readers) × (readers ≤ 64) }
+    ensures lock { IfOk result (λ made. made.1.lock ≡ made.0) }
+    ensures view { IfOk result (λ made. made.1.view ≡ opened durable_in common_in (durable_of engine.log + 1) (MAX_SEQNO - durable_of engine.log) made.1.view.first (durable_of engine.log)) }
+    ensures starts { IfOk result (λ made. StartsFromParts D.honest D.history D.failures certifier backlog engine made.1.view made.2.items) }
+    ensures readers { IfOk result (λ made. length made.2.items ≡ readers) }
+    ensures refused { IfErr result (λ back. (back.0 ≡ certifier) × (back.1 ≡ backlog) × (back.2 ≡ engine)) }
+{
+    histories_go_on();
+    let Space {
+        engine,
+        waiting,
+        readers: kept,
+        mut room,
+    } = match reserved(alloc, engine, readers) {
+        Ok(space) => space,
+        Err(engine) => return Err((certifier, backlog, engine)),
+    };
+    let position = engine.get().durable();
+    let params = engine.get().params().copied();
+    let origin = Origin::of(&certifier);
+    let Ok((publisher, readers)) = rep_snap::start(alloc, rt, origin, position, readers) else {
+        room.destroy_empty();
+        return Err((certifier, backlog, engine.into_inner()));
+    };
+    room.push_reserved(Home::Certifier(certifier));
+    room.push_reserved(Home::Desk(Desk {
+        engine,
+        publisher,
+        waiting,
+    }));
+    room.push_reserved(Home::Queue(Queue {
+        backlog,
+        accepted: position,
+    }));
+    match OrderedLock::new(alloc, room, position, position) {
+        Ok((lock, seat)) => {
+            let seat = Seat {
+                seat,
+                allowance: MAX_SEQNO - position,
+            };
+            let readers = with_params(readers, &params, kept);
+            let changes = Changes::new(position);
+            Ok((Node { lock, changes }, seat, readers))
+        }
+        Err(Refused { values }) => {
+            let (certifier, desk, queue) = values_of(values);
+            let Desk {
+                engine,
+                publisher,
+                ..
+            } = desk;
+            publisher.close(rt);
+            Err((certifier, queue.backlog, engine.into_inner()))
+        }
+    }
+}
+
 impl<D: Disk> Node<D> {
     /// Starts a node from a replica that has nothing left to do and belongs to a cluster, with its first seat, which may draw every seqno
     /// that is left, and so many readers, 1 to 64.
@@ -143,71 +233,14 @@ impl<D: Disk> Node<D> {
         ensures refused { IfErr result (λ back. (back.0 ≡ replica) × (((back.1 ≡ OutOfMemory) × IsRunning replica) ⊎ ((back.1 ≡ is_stopped) × ((replica.stopped || is_some replica.engine.halted) ≡ true)))) }
     {
         histories_lie_between_replicas::<D>();
-        histories_go_on();
         if replica.is_stopped() {
             return Err((replica, Refusal::Stopped));
         }
         let (certifier, backlog, engine) = replica.into_parts();
-        let engine = match Boxed::new(alloc, engine) {
-            Ok(engine) => engine,
-            Err(engine) => {
+        match start_from(alloc, rt, certifier, backlog, engine, readers) {
+            Ok(started) => Ok(started),
+            Err((certifier, backlog, engine)) => {
                 let replica = Replica::from_parts(certifier, backlog, engine, false);
-                return Err((replica, Refusal::OutOfMemory));
-            }
-        };
-        let Ok(
-            Space {
-                waiting,
-                readers: kept,
-                mut room,
-            },
-        ) = reserved(alloc, readers)
-        else {
-            let replica = Replica::from_parts(certifier, backlog, engine.into_inner(), false);
-            return Err((replica, Refusal::OutOfMemory));
-        };
-        let position = engine.get().durable();
-        let params = engine.get().params().copied();
-        let origin = Origin::of(&certifier);
-        let Ok((publisher, readers)) = rep_snap::start(alloc, rt, origin, position, readers) else {
-            room.destroy_empty();
-            let replica = Replica::from_parts(certifier, backlog, engine.into_inner(), false);
-            return Err((replica, Refusal::OutOfMemory));
-        };
-        room.push_reserved(Home::Certifier(certifier));
-        room.push_reserved(Home::Desk(Desk {
-            engine,
-            publisher,
-            waiting,
-        }));
-        room.push_reserved(Home::Queue(Queue {
-            backlog,
-            accepted: position,
-        }));
-        match OrderedLock::new(alloc, room, position, position) {
-            Ok((lock, seat)) => {
-                let seat = Seat {
-                    seat,
-                    allowance: MAX_SEQNO - position,
-                };
-                let readers = with_params(readers, &params, kept);
-                let changes = Changes::new(position);
-                Ok((Node { lock, changes }, seat, readers))
-            }
-            Err(Refused { values }) => {
-                let (certifier, desk, queue) = values_of(values);
-                let Desk {
-                    engine,
-                    publisher,
-                    waiting: _,
-                } = desk;
-                publisher.close(rt);
-                let replica = Replica::from_parts(
-                    certifier,
-                    queue.backlog,
-                    engine.into_inner(),
-                    false,
-                );
                 Err((replica, Refusal::OutOfMemory))
             }
         }

@@ -2,13 +2,13 @@
 
 ghost use Rattle.std.specs.Prelude.{◌≡◌, ◌≢◌, ◌⊎◌, ℕ, ◌≤◌, [], List, None, Err, IfOk, IfErr, OnOk, OnErr};
 ghost use Rattle.rep_types.specs.declared.judged.Judged.{Judged as Entry};
-ghost use Rattle.rep_types.specs.declared.refusal.Refusal.TheVariants.{LogFull, Stopped as is_stopped};
+ghost use Rattle.rep_types.specs.declared.refusal.Refusal.TheVariants.{LogFull, OutOfMemory, Stopped as is_stopped};
 ghost use Rattle.rep_cert.specs.Holdings.{Holding};
 ghost use Rattle.rep_engine.specs.Engines.{Engine as Contents, durable_of};
 ghost use Rattle.rep_stations.specs.Taking.{HasTaken};
 ghost use Rattle.rep_node.specs.Homes.{Start, DeskAt};
 ghost use Rattle.rep_node.specs.Seats.{IsSeat, WentIdle};
-ghost use Rattle.rep_node.specs.Keeping.{AtWork, AreAtWork, IsKept, common_of_desk};
+ghost use Rattle.rep_node.specs.Keeping.{AtWork, AreAtWork, HasStepped, IsKept, common_of_desk};
 
 use crate::home::{Desk, Home, Queue};
 use crate::node::{LockSeat, Node};
@@ -81,6 +81,34 @@ fn write_or_sync<D: Disk>(engine: &mut Engine<D>) -> Result<(), Refusal>
     }
 }
 
+/// Publishes what is durable behind a step of the engine.
+///
+/// Refuses with `OutOfMemory` where a growth was refused, which leaves an engine to be given up.
+pub(crate) fn publish_durable<D: Disk, R: Wait>(
+    rt: &R,
+    desk: Desk<D>,
+) -> (Desk<D>, Result<(), Refusal>)
+    requires stepped { (s : Start D) × (items : List Entry) × HasStepped D.honest D.history D.failures s items desk }
+    ensures works { (s : Start D) → (items : List Entry) → HasStepped D.honest D.history D.failures s items desk → OnOk result.1 (AtWork D.honest D.history D.failures s items result.0) }
+    ensures given { (s : Start D) → (items : List Entry) → HasStepped D.honest D.history D.failures s items desk → DeskAt D.honest D.history D.failures s 1 items result.0 }
+    ensures engine { result.0.engine ≡ desk.engine }
+    ensures refused { IfErr result.1 (λ refusal. refusal ≡ OutOfMemory) }
+{
+    let Desk {
+        engine,
+        publisher,
+        mut waiting,
+    } = desk;
+    let durable = engine.get().durable();
+    let (publisher, done) = publish_upto(rt, publisher, &mut waiting, durable);
+    let desk = Desk {
+        engine,
+        publisher,
+        waiting,
+    };
+    (desk, done)
+}
+
 /// The step that the log waits for, after which what is durable is published.
 ///
 /// Refuses with `LogFull` where the log's next cell is still needed: nothing has changed then. Any other refusal, of the device or of a
@@ -93,29 +121,11 @@ fn advance<D: Disk, R: Wait>(rt: &R, desk: Desk<D>) -> (Desk<D>, Result<(), Refu
     ensures common { common_of_desk result.0 ≡ common_of_desk desk }
     ensures full { IfErr result.1 (λ refusal. refusal ≡ LogFull → result.0 ≡ desk) }
 {
-    taken_items_stay::<D>();
-    let Desk {
-        mut engine,
-        publisher,
-        mut waiting,
-    } = desk;
-    let done = write_or_sync(engine.get_mut());
-    if let Err(refusal) = done {
-        let desk = Desk {
-            engine,
-            publisher,
-            waiting,
-        };
+    let mut desk = desk;
+    if let Err(refusal) = write_or_sync(desk.engine.get_mut()) {
         return (desk, Err(refusal));
     }
-    let durable = engine.get().durable();
-    let (publisher, done) = publish_upto(rt, publisher, &mut waiting, durable);
-    let desk = Desk {
-        engine,
-        publisher,
-        waiting,
-    };
-    (desk, done)
+    publish_durable(rt, desk)
 }
 
 impl<D: Disk> Node<D> {
@@ -143,8 +153,7 @@ impl<D: Disk> Node<D> {
         let done = accept(&mut desk, &mut queue);
         self.lock.side_leave(seat, 2, Home::Queue(queue));
         if done.is_err() {
-            self.lock.halt(seat);
-            self.changes.halted();
+            self.changes.halt(&self.lock, seat);
             self.lock.give_up(seat, 1, Home::Desk(desk));
             return Err(Refusal::Stopped);
         }
@@ -173,8 +182,7 @@ impl<D: Disk> Node<D> {
         match done {
             Ok(()) => {
                 self.lock.side_leave(seat, 1, Home::Desk(desk));
-                self.lock.raise(seat, durable);
-                self.changes.rose(durable);
+                self.changes.raise(&self.lock, seat, durable);
                 self.wait_durable(rt, seat, durable)?;
                 Ok(Kept { durable, told })
             }
@@ -183,8 +191,7 @@ impl<D: Disk> Node<D> {
                 Err(Refusal::LogFull)
             }
             Err(_) => {
-                self.lock.halt(seat);
-                self.changes.halted();
+                self.changes.halt(&self.lock, seat);
                 self.lock.give_up(seat, 1, Home::Desk(desk));
                 Err(Refusal::Stopped)
             }

@@ -165,8 +165,7 @@ impl<D: Disk> Node<D> {
         let mut desk = desk_of(self.lock.side_enter(rt, seat, 1)?);
         let row = look_up(desk.engine.get_mut(), key, at);
         if desk.engine.get().is_stopped() {
-            self.lock.halt(seat);
-            self.changes.halted();
+            self.changes.halt(&self.lock, seat);
             self.lock.give_up(seat, 1, Home::Desk(desk));
             return row;
         }

@@ -87,7 +87,6 @@ impl<D: Disk> Node<D> {
         ensures sees { SeesLegal seat.old.view seat.new.view }
         ensures halted { seat.new.view.halted ≡ 1 }
     {
-        self.lock.halt(&mut seat.seat);
-        self.changes.halted();
+        self.changes.halt(&self.lock, &mut seat.seat);
     }
 }

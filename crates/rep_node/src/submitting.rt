@@ -92,8 +92,7 @@ impl<D: Disk> Node<D> {
         if pace.at(point, seqno) {
             return Ok(());
         }
-        self.lock.halt(seat);
-        self.changes.halted();
+        self.changes.halt(&self.lock, seat);
         Err(Refusal::Stopped)
     }
 

@@ -71,10 +71,15 @@ module _ {D T : Type 0} (size failures : D → ℕ) (honest : D → Type 0) (his
     -- It goes on to stand for the node.
     pub holds_on : Holds honest history failures n (record within { engine = engine })
     holds_on = record {
-      running = before.running; facts = facts_same; node = before.node; judged = before.judged; taken = before.taken;
+      running = before.running;
+      facts = facts_same;
+      node = before.node;
+      judged = before.judged;
+      taken = before.taken;
       within = before.within;
       engine = subst (λ (xs : List Judged). EngineHolds honest history failures (part_of xs before.taken n) engine) (sym block_same) after;
-      waiting = before.waiting; windows = before.windows;
+      waiting = before.waiting;
+      windows = before.windows;
     }
 
 -- ---- what is given

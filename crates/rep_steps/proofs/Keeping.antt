@@ -58,8 +58,16 @@ logs : FrontsAreDetermined → (s : Standing) (f : Found) → IsStanding s → l
 logs fronts s f h none =
     let fits = fits_logged fronts s f.stale s.phase refl h none in
     record {
-      allowed = h.allowed; undefined = h.undefined; based = h.based; near = h.near; limit = h.limit;
-      block = fits.block; few = fits.few; started = h.started; room = fits.room; goal = h.goal;
+      allowed = h.allowed;
+      undefined = h.undefined;
+      based = h.based;
+      near = h.near;
+      limit = h.limit;
+      block = fits.block;
+      few = fits.few;
+      started = h.started;
+      room = fits.room;
+      goal = h.goal;
     }
 
 -- ---- a sync
@@ -153,8 +161,16 @@ syncs s f h =
 pub stands_with : (failures : ℕ) (stopped : Bool) (stage : Stage) (s : Standing) → IsStanding s → HasGoal s.base s.durable s.start s.next stage
     → IsStanding (record s { failures = failures; stopped = stopped; stage = stage })
 stands_with failures stopped stage s h goal = record {
-  allowed = h.allowed; undefined = h.undefined; based = h.based; near = h.near; limit = h.limit; block = h.block;
-  few = h.few; started = h.started; room = h.room; goal = goal;
+  allowed = h.allowed;
+  undefined = h.undefined;
+  based = h.based;
+  near = h.near;
+  limit = h.limit;
+  block = h.block;
+  few = h.few;
+  started = h.started;
+  room = h.room;
+  goal = goal;
 }
 
 goal_checked : (s : Standing) (left : List ℕ) (stage : Stage) → IsStanding s → check_refusal s stage ≡ None → HasGoal s.base s.durable s.start s.next stage → HasGoal s.base s.durable s.start s.next (checked s left stage)

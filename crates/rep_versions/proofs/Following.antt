@@ -206,7 +206,13 @@ next_content false content writes key = refl
 
 pub follow : VersionsFollowTheItems
 follow = record {
-  none = none_is; added = added_is; passed = passed_is; taken_back = taken_back_is; pruned = pruned_is;
-  answers = answers_are; row = rows_are; order = rows_of_order;
+  none = none_is;
+  added = added_is;
+  passed = passed_is;
+  taken_back = taken_back_is;
+  pruned = pruned_is;
+  answers = answers_are;
+  row = rows_are;
+  order = rows_of_order;
   next = λ p S i key. next_content (is_commit (judge p S.position S.kept i)) S.content (writes_of i) key;
 }
