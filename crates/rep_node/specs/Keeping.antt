@@ -1,5 +1,5 @@
 -- What the engine and the queue are while somebody works at them, and what a keeper says.
-use Rattle.std.specs.Prelude.{◌≡◌, ℕ, ◌+◌, ◌-◌, ◌≤◌, ◌++◌, max, None, List, StartsWith, length, take}
+use Rattle.std.specs.Prelude.{◌≡◌, ℕ, ◌+◌, ◌-◌, ◌≤◌, ◌++◌, max, None, List, length, take}
 use Rattle.rep_types.specs.declared.judged.Judged.{Judged}
 use Rattle.rep_types.specs.declared.limits.TheConstants.{MAX_SEQNO}
 use Rattle.rep_disk.specs.History.{History}
@@ -7,6 +7,7 @@ use Rattle.rep_engine.specs.Engines.{durable_of}
 use Rattle.rep_snap.specs.Lists.{oldest_of, published}
 use Rattle.rep_stations.specs.Taking.{HasTaken}
 use Rattle.rep_ordered.specs.declared.view.View.{View}
+use Rattle.rep_ordered.specs.Views.{StartsWith}
 use Rattle.rep_node.specs.declared.home.Desk.{Desk}
 use Rattle.rep_node.specs.declared.home.Queue.{Queue}
 use Rattle.rep_node.specs.declared.home.Home.{Home}

@@ -125,9 +125,10 @@ fn take_on<D: Disk, R: Wait>(rt: &R, desk: Desk<D>) -> (Desk<D>, Result<Progress
         Ok(progress) => progress,
         Err(refusal) => return (desk, Err(refusal)),
     };
-    match publish_durable(rt, desk) {
-        (desk, Ok(())) => (desk, Ok(progress)),
-        (desk, Err(refusal)) => (desk, Err(refusal)),
+    let (desk, published) = publish_durable(rt, desk);
+    match published {
+        Ok(()) => (desk, Ok(progress)),
+        Err(refusal) => (desk, Err(refusal)),
     }
 }
 

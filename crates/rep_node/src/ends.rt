@@ -202,7 +202,7 @@ fn start_from<D: Disk, R: Wait>(
             let Desk {
                 engine,
                 publisher,
-                ..
+                waiting: _,
             } = desk;
             publisher.close(rt);
             Err((certifier, queue.backlog, engine.into_inner()))

@@ -1,43 +1,45 @@
-use Rattle.std.proofs.Common.{◌≡◌, Result, ◌+◌, ◌≤◌, ◌∙◌, ◌++◌, length, sym, subst, refl}
+use Rattle.std.proofs.Common.{◌≡◌, ◌+◌, ◌∙◌, List, Result, length, refl, ap, subst}
 use Rattle.std.specs.Prelude.{OnOk}
+use Rattle.rep_types.specs.declared.judged.Judged.{Judged}
 use Rattle.rep_types.specs.declared.refusal.Refusal.{Refusal}
-use Rattle.rep_snap.specs.Lists.{published}
-use Rattle.rep_node.proofs.Advancing.{are_allowed, is_within, same_common, given_up, works_on}
+use Rattle.rep_engine.specs.Engines.{Engine, durable_of}
+use Rattle.rep_node.specs.Homes.{Start}
+use Rattle.rep_node.specs.Keeping.{AtWork, HasStepped}
+use Rattle.rep_node.proofs.Advancing.{same_common, step_failed, step_done}
 use Rattle.rep_node.proofs.checking.take_on.Goals as goal
+use Rattle.rep_node.proofs.checking.take_on.Goals.{After-publish_durable-desk}
 
 pub returns-in-Err-clause-given : goal.returns-in-Err-clause-given
-returns-in-Err-clause-given g c = λ s items w. given_up g.D.Disk.honest g.D.Disk.history g.D.Disk.failures s items c.args.desk w c.flush_or_sync.new.engine (rw c.get_mut.ensures.value at c.in-Err.ensures.taken) c.args.desk.publisher c.args.desk.waiting (refl, refl, refl)
+returns-in-Err-clause-given g c = λ s items w. step_failed g.D.Disk.honest g.D.Disk.history g.D.Disk.failures s items c.args.desk w c.flush_or_sync.new.engine (rw c.get_mut.ensures.value at c.in-Err.ensures.taken)
 
 pub returns-in-Err-clause-common : goal.returns-in-Err-clause-common
 returns-in-Err-clause-common g c = let w = c.requires.work in same_common g.D.Disk.honest g.D.Disk.history g.D.Disk.failures w.0 w.1 c.args.desk w.2 c.flush_or_sync.new.engine (rw c.get_mut.ensures.value at c.in-Err.ensures.taken)
 
-pub publish_upto-publisher-requires-clause-allowed : goal.publish_upto-publisher-requires-clause-allowed
-publish_upto-publisher-requires-clause-allowed g c = let w = c.requires.work in are_allowed g.D.Disk.honest g.D.Disk.history g.D.Disk.failures w.0 w.1 c.args.desk w.2
+pub publish_durable-desk-requires : goal.publish_durable-desk-requires
+publish_durable-desk-requires g c = let w = c.requires.work in let e = c.in-Ok.ensures in record {
+  stepped = (w.0, w.1, step_done g.D.Disk.honest g.D.Disk.history g.D.Disk.failures w.0 w.1 c.args.desk w.2 c.flush_or_sync.new.engine (rw c.get_mut.ensures.value at e.taken) ((rw c.get_mut.ensures.value at e.works) (w.2.desk.works refl)) (rw c.get_mut.ensures.value at e.rises) (rw c.get_mut.ensures.value at e.base));
+}
 
-pub publish_upto-publisher-requires-clause-within : goal.publish_upto-publisher-requires-clause-within
-publish_upto-publisher-requires-clause-within g c =
-    let w = c.requires.work in
-    subst (λ n. n ≤ c.args.desk.publisher.start + length (published c.args.desk.publisher.list ++ c.args.desk.waiting)) (sym (rw c.get.ensures at c.durable-durable.ensures.durable))
-    (is_within g.D.Disk.honest g.D.Disk.history g.D.Disk.failures w.0 w.1 c.args.desk w.2 c.flush_or_sync.new.engine (rw c.get_mut.ensures.value at c.in-Ok.ensures.taken))
+-- what lay at the desk once the step was done
+stepped : (g : _) (c : After-publish_durable-desk g) (s : Start g.row.D.Denot) (items : List Judged) → AtWork g.D.Disk.honest g.D.Disk.history g.D.Disk.failures s items c.args.desk → HasStepped g.D.Disk.honest g.D.Disk.history g.D.Disk.failures s items (record (c.args.desk) { engine = c.flush_or_sync.new.engine })
+stepped g c s items w = let e = c.in-Ok.ensures in step_done g.D.Disk.honest g.D.Disk.history g.D.Disk.failures s items c.args.desk w c.flush_or_sync.new.engine (rw c.get_mut.ensures.value at e.taken) ((rw c.get_mut.ensures.value at e.works) (w.desk.works refl)) (rw c.get_mut.ensures.value at e.rises) (rw c.get_mut.ensures.value at e.base)
+
+common : (g : _) (c : After-publish_durable-desk g) → durable_of c.publish_durable-desk.result.0.engine.log + length c.publish_durable-desk.result.0.engine.block ≡ durable_of c.args.desk.engine.log + length c.args.desk.engine.block
+common g c = let w = c.requires.work in
+    ap (λ (e : Engine g.row.D.Denot). durable_of e.log + length e.block) c.publish_durable-desk.ensures.engine ∙ same_common g.D.Disk.honest g.D.Disk.history g.D.Disk.failures w.0 w.1 c.args.desk w.2 c.flush_or_sync.new.engine (rw c.get_mut.ensures.value at c.in-Ok.ensures.taken)
 
 pub returns-in-Ok-published-clause-works : goal.returns-in-Ok-published-clause-works
-returns-in-Ok-published-clause-works g c = λ s items w.
-    let p = c.publish_upto-publisher in
-    let shown = subst (λ (r : Result (Unit {0}) Refusal). OnOk r (c.args.desk.publisher.start + length (published p.result.0.list) ≡ c.durable-durable.result)) c.in-Ok-published.is p.ensures.shown in
-    works_on g.D.Disk.honest g.D.Disk.history g.D.Disk.failures s items c.args.desk w c.flush_or_sync.new.engine (rw c.get_mut.ensures.value at c.in-Ok.ensures.taken) p.result.0 p.new.waiting p.ensures.same ((rw c.get_mut.ensures.value at c.in-Ok.ensures.works) (w.desk.works refl)) p.ensures.whole (shown ∙ (rw c.get.ensures at c.durable-durable.ensures.durable)) (rw c.get_mut.ensures.value at c.in-Ok.ensures.base) p.ensures.oldest
+returns-in-Ok-published-clause-works g c = λ s items w. let p = c.publish_durable-desk in
+    subst (λ (r : Result (Unit {0}) Refusal). OnOk r (AtWork g.D.Disk.honest g.D.Disk.history g.D.Disk.failures s items p.result.0)) c.in-Ok-published.is (p.ensures.works s items (stepped g (goal.at.returns-in-Ok-published-clause-works g c).After-publish_durable-desk s items w))
 
 pub returns-in-Ok-published-clause-given : goal.returns-in-Ok-published-clause-given
-returns-in-Ok-published-clause-given g c = λ s items w.
-    let p = c.publish_upto-publisher in
-    given_up g.D.Disk.honest g.D.Disk.history g.D.Disk.failures s items c.args.desk w c.flush_or_sync.new.engine (rw c.get_mut.ensures.value at c.in-Ok.ensures.taken) p.result.0 p.new.waiting p.ensures.same
+returns-in-Ok-published-clause-given g c = λ s items w. c.publish_durable-desk.ensures.given s items (stepped g (goal.at.returns-in-Ok-published-clause-given g c).After-publish_durable-desk s items w)
 
 pub returns-in-Ok-published-clause-common : goal.returns-in-Ok-published-clause-common
-returns-in-Ok-published-clause-common g c = let w = c.requires.work in same_common g.D.Disk.honest g.D.Disk.history g.D.Disk.failures w.0 w.1 c.args.desk w.2 c.flush_or_sync.new.engine (rw c.get_mut.ensures.value at c.in-Ok.ensures.taken)
+returns-in-Ok-published-clause-common g c = common g (goal.at.returns-in-Ok-published-clause-common g c).After-publish_durable-desk
 
 pub returns-in-Err-published-clause-given : goal.returns-in-Err-published-clause-given
-returns-in-Err-published-clause-given g c = λ s items w.
-    let p = c.publish_upto-publisher in
-    given_up g.D.Disk.honest g.D.Disk.history g.D.Disk.failures s items c.args.desk w c.flush_or_sync.new.engine (rw c.get_mut.ensures.value at c.in-Ok.ensures.taken) p.result.0 p.new.waiting p.ensures.same
+returns-in-Err-published-clause-given g c = λ s items w. c.publish_durable-desk.ensures.given s items (stepped g (goal.at.returns-in-Err-published-clause-given g c).After-publish_durable-desk s items w)
 
 pub returns-in-Err-published-clause-common : goal.returns-in-Err-published-clause-common
-returns-in-Err-published-clause-common g c = let w = c.requires.work in same_common g.D.Disk.honest g.D.Disk.history g.D.Disk.failures w.0 w.1 c.args.desk w.2 c.flush_or_sync.new.engine (rw c.get_mut.ensures.value at c.in-Ok.ensures.taken)
+returns-in-Err-published-clause-common g c = common g (goal.at.returns-in-Err-published-clause-common g c).After-publish_durable-desk

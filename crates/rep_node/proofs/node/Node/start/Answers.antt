@@ -1,5 +1,4 @@
-use Rattle.std.proofs.Common.{◌∙◌, refl, inl, ap}
-use Rattle.rep_stations.specs.Ending.{Begins as PartsBegin}
+use Rattle.std.proofs.Common.{◌∙◌, inl, refl}
 use Rattle.rep_replica.specs.Settling.{IsRunning}
 use Rattle.rep_node.specs.Ending.{IsTakenApart}
 use Rattle.rep_node.proofs.Beginning.{is_running, again, same_replica}
@@ -18,3 +17,19 @@ apart g c = let parts = c.into_parts-certifier.ensures.parts in record {
   works = (runs g c).device;
   defined = c.requires.defined;
 }
+
+pub start_from-requires-clause-parts : goal.start_from-requires-clause-parts
+start_from-requires-clause-parts g c = (c.args.replica, apart g c)
+
+pub returns-in-Ok-clause-starts : goal.returns-in-Ok-clause-starts
+returns-in-Ok-clause-starts g c = c.in-Ok.ensures.starts c.args.replica (apart g (goal.at.returns-in-Ok-clause-starts g c).After-into_parts-certifier)
+
+pub from_parts-replica-requires : goal.from_parts-replica-requires
+from_parts-replica-requires g c = let at = (goal.at.from_parts-replica-requires g c).After-into_parts-certifier in let parts = c.into_parts-certifier.ensures.parts in let back = c.in-Err.ensures.refused in
+    again g.D.Disk.honest g.D.Disk.history g.D.Disk.failures c.args.replica _ _ _ (back.0 ∙ parts.0) (back.1 ∙ parts.1) (back.2 ∙ parts.2) (runs g at).inside c.into_parts-certifier.ensures.replica
+
+pub returns-in-Err-clause-refused : goal.returns-in-Err-clause-refused
+returns-in-Err-clause-refused g c = let at = (goal.at.returns-in-Err-clause-refused g c).After-into_parts-certifier in let parts = c.into_parts-certifier.ensures.parts in let back = c.in-Err.ensures.refused in (
+  same_replica g.D.Disk.honest g.D.Disk.history g.D.Disk.failures c.args.replica c.from_parts-replica.result _ _ _ c.from_parts-replica.ensures (back.0 ∙ parts.0) (back.1 ∙ parts.1) (back.2 ∙ parts.2) (runs g at).inside,
+  inl (refl, runs g at),
+)
