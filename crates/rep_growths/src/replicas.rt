@@ -15,10 +15,10 @@ use uuid::Uuid;
 const STATE: [u8; 16] = [0x11; 16];
 
 fn device(alloc: Global, size: usize) -> Result<MemDisk, AllocError> {
-    match MemDisk::new(alloc, size) {
-        Err(_) => MemDisk::new(alloc, size),
-        made => made,
+    if let Ok(disk) = MemDisk::new(alloc, size) {
+        return Ok(disk);
     }
+    MemDisk::new(alloc, size)
 }
 
 /// A device that was formatted.

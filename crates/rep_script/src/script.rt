@@ -53,6 +53,15 @@ pub fn on_new_disk(alloc: Global, params: &Params) -> Result<Replica<MemDisk>, R
     opened(alloc, disk)
 }
 
+/// What a stop with this loss leaves of the replica's disk.
+fn stopped(replica: Replica<MemDisk>, loss: Loss) -> MemDisk
+    ensures { Crashes loss replica.engine.disk result }
+{
+    let mut disk = replica.into_disk();
+    disk.crash(loss);
+    disk
+}
+
 /// Stops the replica, with this loss, and opens what is left.
 fn stopped_and_opened(
     alloc: Global,
@@ -61,8 +70,7 @@ fn stopped_and_opened(
 ) -> Result<Replica<MemDisk>, Refusal>
     ensures { Stops ⟦<MemDisk as Disk>⟧.size ⟦<MemDisk as Disk>⟧.failures ⟦<MemDisk as Disk>⟧.honest ⟦<MemDisk as Disk>⟧.history Crashes loss replica result }
 {
-    let mut disk = replica.into_disk();
-    disk.crash(loss);
+    let disk = stopped(replica, loss);
     opened(alloc, disk)
 }
 
