@@ -116,5 +116,5 @@ def joining(refusing, program):
     return "%d growths refused, %d of them without harm, and behind each other the node joins once more" % (asked, without)
 
 
-# By which lines growths are refused, and by which the disk has failed.
-WANTED = {REFUSED: {"join"}, FAULT: {"join"}}
+# By which lines growths are refused, and by which the disk has failed. What a donor writes is kept in memory: a writer that has no room fails.
+WANTED = {"refused 24 stream-fault": {"donate"}, REFUSED: {"join"}, FAULT: {"join"}}
