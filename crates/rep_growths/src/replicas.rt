@@ -72,16 +72,22 @@ fn window(alloc: Global, replica: &Replica<MemDisk>) -> Result<Window, Refusal> 
     }
 }
 
+/// Delivers an item for each row, and makes them durable.
+fn serve(replica: &mut Replica<MemDisk>) -> Result<(), Refusal> {
+    for (before, row) in ROWS.iter().enumerate() {
+        let seqno = before as u64 + 1;
+        step(replica, &Event::Deliver(seqno, item(*row, 0)?))?;
+    }
+    for event in [Event::Log, Event::Sync, Event::Log, Event::Sync] {
+        step(replica, &event)?;
+    }
+    Ok(())
+}
+
 /// A replica to which an item for each row was delivered and is durable, opened again after a stop.
 fn served(alloc: Global) -> Result<Replica<MemDisk>, Refusal> {
     let mut replica = opened(alloc, formatted(alloc)?)?;
-    for (before, row) in ROWS.iter().enumerate() {
-        let seqno = before as u64 + 1;
-        step(&mut replica, &Event::Deliver(seqno, item(*row, 0)?))?;
-    }
-    for event in [Event::Log, Event::Sync, Event::Log, Event::Sync] {
-        step(&mut replica, &event)?;
-    }
+    serve(&mut replica)?;
     let mut disk = replica.into_disk();
     disk.crash(Loss::Drop);
     opened(alloc, disk)
@@ -95,14 +101,20 @@ fn settle(replica: &mut Replica<MemDisk>) -> Result<(), Refusal> {
     }
 }
 
-/// The same replica behind five items more, each of which it made durable by settling. For the fourth the log has no cell: a
-/// checkpoint comes before it.
+/// Delivers five items more, each of which the replica makes durable by settling. For the fourth the log has no cell: a checkpoint
+/// comes before it.
+fn settle_each(replica: &mut Replica<MemDisk>) -> Result<(), Refusal> {
+    for before in 3..8 {
+        step(replica, &Event::Deliver(before + 1, item(70, before)?))?;
+        settle(replica)?;
+    }
+    Ok(())
+}
+
+/// The same replica behind five items more.
 fn settled(alloc: Global) -> Result<Replica<MemDisk>, Refusal> {
     let mut replica = served(alloc)?;
-    for before in 3..8 {
-        step(&mut replica, &Event::Deliver(before + 1, item(70, before)?))?;
-        settle(&mut replica)?;
-    }
+    settle_each(&mut replica)?;
     Ok(replica)
 }
 
