@@ -89,7 +89,7 @@ class Joining:
         elif said == FAULT:
             lost = [("join", [FAULT]), ("log", [STOPPED]), ("settle", [STOPPED]), ("crash drop", ["crashed"])]
             opened, _ = self.found([self.donate, *lost, ("open", [])], growth)
-            # (a block that opens a gate is closed again by what settles)
+            # What an opening leaves to be done is done by the settling, so that the node is shown with nothing left.
             self.joins_again(growth, [*lost, ("open", opened[-1:]), ("settle", ["settled"])], True)
         else:
             raise Wrong("with growth %d refused it joins so: %r" % (growth, found))
@@ -100,13 +100,13 @@ def joining(refusing, program):
     """Each growth of a donation and of a join is refused in turn."""
     asked, without, kinds = 0, 0, {}
     for make in (fresh, of_no_cluster, wrapped, behind_by_items, with_full_log):
-        joining = Joining(make, refusing, program)
-        _, first = joining.found([])
-        found, last = joining.found([joining.donate, joining.join])
-        if found != [*joining.donate[1], *joining.join[1]]:
+        node = Joining(make, refusing, program)
+        _, first = node.found([])
+        found, last = node.found([node.donate, node.join])
+        if found != [*node.donate[1], *node.join[1]]:
             raise Wrong("without a refused growth: %r" % found)
         for growth in range(first + 1, last + 1):
-            said, word = joining.kind(growth)
+            said, word = node.kind(growth)
             kinds.setdefault(said, set()).add(word)
             without += said == "without harm"
         asked += last - first

@@ -1,4 +1,5 @@
 //! A file for each library.
 
 mod lock;
+mod node;
 mod snapshots;

@@ -1,0 +1,5 @@
+pub mod Judging
+pub mod Homes
+pub mod Growing
+pub mod Seats
+pub mod Batches
