@@ -41,7 +41,7 @@ struct Space<D: Disk> {
     room: Vec<Home<D>>,
 }
 
-/// Where there is no memory, the engine is handed back.
+/// Puts the engine on the heap, and takes that memory. Where there is none, the engine is handed back.
 fn reserved<D: Disk>(
     alloc: Global,
     engine: Engine<D>,
@@ -140,6 +140,19 @@ fn closed_values_of<D: Disk>(mut homes: Vec<Option<Home<D>>>) -> (Certifier, Des
     (certifier, desk, queue)
 }
 
+/// The engine of a desk. Readers find nothing from then on; it waits for those that are just looking.
+fn engine_of<D: Disk, R: Wait>(rt: &R, desk: Desk<D>) -> Engine<D>
+    ensures { result ≡ desk.engine }
+{
+    let Desk {
+        engine,
+        publisher,
+        waiting: _,
+    } = desk;
+    publisher.close(rt);
+    engine.into_inner()
+}
+
 /// A node with its first seat and its readers.
 type Started<D> = (Node<D>, Seat<D>, Vec<NodeReader>);
 
@@ -199,13 +212,7 @@ fn start_from<D: Disk, R: Wait>(
         }
         Err(Refused { values }) => {
             let (certifier, desk, queue) = values_of(values);
-            let Desk {
-                engine,
-                publisher,
-                waiting: _,
-            } = desk;
-            publisher.close(rt);
-            Err((certifier, queue.backlog, engine.into_inner()))
+            Err((certifier, queue.backlog, engine_of(rt, desk)))
         }
     }
 }
@@ -268,12 +275,6 @@ impl<D: Disk> Node<D> {
         let stopped = lock.front(&mut seat).halted;
         let homes = lock.close(seat);
         let (certifier, desk, queue) = closed_values_of(homes);
-        let Desk {
-            engine,
-            publisher,
-            waiting: _,
-        } = desk;
-        publisher.close(rt);
-        Replica::from_parts(certifier, queue.backlog, engine.into_inner(), stopped)
+        Replica::from_parts(certifier, queue.backlog, engine_of(rt, desk), stopped)
     }
 }

@@ -1,7 +1,11 @@
-use Rattle.std.proofs.Common.{◌+◌, ◌∙◌, length, refl, ap}
+use Rattle.std.proofs.Common.{◌+◌, ◌∙◌, List, length, refl, ap}
+use Rattle.rep_types.specs.declared.judged.Judged.{Judged}
 use Rattle.rep_engine.specs.Engines.{Engine, durable_of}
+use Rattle.rep_node.specs.Homes.{Start}
+use Rattle.rep_node.specs.Keeping.{AtWork, HasStepped}
 use Rattle.rep_node.proofs.Advancing.{same_common, step_failed, step_done}
 use Rattle.rep_node.proofs.keeping.advance.Goals as goal
+use Rattle.rep_node.proofs.keeping.advance.Goals.{After-publish_durable}
 
 pub returns-in-Err-clause-given : goal.returns-in-Err-clause-given
 returns-in-Err-clause-given g c = λ s items w. step_failed g.D.Disk.honest g.D.Disk.history g.D.Disk.failures s items c.args.desk w c.write_or_sync.new.engine (rw c.get_mut.ensures.value at c.in-Err.ensures.taken)
@@ -14,13 +18,15 @@ publish_durable-requires g c = let w = c.requires.work in let e = c.in_default.e
   stepped = (w.0, w.1, step_done g.D.Disk.honest g.D.Disk.history g.D.Disk.failures w.0 w.1 c.args.desk w.2 c.write_or_sync.new.engine (rw c.get_mut.ensures.value at e.taken) ((rw c.get_mut.ensures.value at e.works) (w.2.desk.works refl)) (rw c.get_mut.ensures.value at e.rises) (rw c.get_mut.ensures.value at e.base));
 }
 
+-- what lay at the desk once the step was done
+stepped : (g : _) (c : After-publish_durable g) (s : Start g.row.D.Denot) (items : List Judged) → AtWork g.D.Disk.honest g.D.Disk.history g.D.Disk.failures s items c.args.desk → HasStepped g.D.Disk.honest g.D.Disk.history g.D.Disk.failures s items (record (c.args.desk) { engine = c.write_or_sync.new.engine })
+stepped g c s items w = let e = c.in_default.ensures in step_done g.D.Disk.honest g.D.Disk.history g.D.Disk.failures s items c.args.desk w c.write_or_sync.new.engine (rw c.get_mut.ensures.value at e.taken) ((rw c.get_mut.ensures.value at e.works) (w.desk.works refl)) (rw c.get_mut.ensures.value at e.rises) (rw c.get_mut.ensures.value at e.base)
+
 pub returns-clause-works : goal.returns-clause-works
-returns-clause-works g c = λ s items w. let e = c.in_default.ensures in
-    c.publish_durable.ensures.works s items (step_done g.D.Disk.honest g.D.Disk.history g.D.Disk.failures s items c.args.desk w c.write_or_sync.new.engine (rw c.get_mut.ensures.value at e.taken) ((rw c.get_mut.ensures.value at e.works) (w.desk.works refl)) (rw c.get_mut.ensures.value at e.rises) (rw c.get_mut.ensures.value at e.base))
+returns-clause-works g c = λ s items w. c.publish_durable.ensures.works s items (stepped g c s items w)
 
 pub returns-clause-given : goal.returns-clause-given
-returns-clause-given g c = λ s items w. let e = c.in_default.ensures in
-    c.publish_durable.ensures.given s items (step_done g.D.Disk.honest g.D.Disk.history g.D.Disk.failures s items c.args.desk w c.write_or_sync.new.engine (rw c.get_mut.ensures.value at e.taken) ((rw c.get_mut.ensures.value at e.works) (w.desk.works refl)) (rw c.get_mut.ensures.value at e.rises) (rw c.get_mut.ensures.value at e.base))
+returns-clause-given g c = λ s items w. c.publish_durable.ensures.given s items (stepped g c s items w)
 
 pub returns-clause-common : goal.returns-clause-common
 returns-clause-common g c = let w = c.requires.work in

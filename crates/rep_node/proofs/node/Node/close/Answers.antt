@@ -38,7 +38,7 @@ closed_values_of-certifier-requires g c = let p = closed g c in (p.0, p.1)
 
 pub from_parts-requires : goal.from_parts-requires
 from_parts-requires g c = let at = goal.at.from_parts-requires g c in let e = ends g at.After-close-homes (taken g at.After-closed_values_of-certifier) c.closed_values_of-certifier.ensures in
-    rw c.into_inner.ensures (c.histories_lie_between_replicas.ensures.ends e.start.desk.engine e.start.certifier.current c.args.seat.view.seen e.taken e.waits (replica_of (taken g at.After-closed_values_of-certifier) c.front-stopped.result.halted) e.ends)
+    rw c.engine_of.ensures (c.histories_lie_between_replicas.ensures.ends e.start.desk.engine e.start.certifier.current c.args.seat.view.seen e.taken e.waits (replica_of (taken g at.After-closed_values_of-certifier) c.front-stopped.result.halted) e.ends)
 
 pub returns-clause-stopped : goal.returns-clause-stopped
 returns-clause-stopped g c = let f = c.front-stopped.ensures in
@@ -49,4 +49,4 @@ returns-clause-legal g c = let at = (goal.at.returns-clause-legal g c).After-clo
     legal_before g.D.Disk.honest g.D.Disk.history g.D.Disk.failures c.args.seat.view c.front-stopped.new.seat.view (later g at) (last g at).1 c.close-homes.ensures.values.sees.legal
 
 pub returns-clause-ends : goal.returns-clause-ends
-returns-clause-ends g c = let at = goal.at.returns-clause-ends g c in subst (EndsAs g.D.Disk.honest g.D.Disk.history g.D.Disk.failures c.args.seat.view) (sym (rw c.into_inner.ensures at c.from_parts.ensures)) (ends g at.After-close-homes (taken g at.After-closed_values_of-certifier) c.closed_values_of-certifier.ensures)
+returns-clause-ends g c = let at = goal.at.returns-clause-ends g c in subst (EndsAs g.D.Disk.honest g.D.Disk.history g.D.Disk.failures c.args.seat.view) (sym (rw c.engine_of.ensures at c.from_parts.ensures)) (ends g at.After-close-homes (taken g at.After-closed_values_of-certifier) c.closed_values_of-certifier.ensures)
