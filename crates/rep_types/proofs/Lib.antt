@@ -14,3 +14,4 @@ pub mod Tests
 pub mod Digits
 pub mod Gtids
 pub mod Reaches
+pub mod KeyNumbers

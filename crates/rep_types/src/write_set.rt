@@ -86,14 +86,14 @@ fn first_misplaced(reads: &[Key], writes: &[Write]) -> Option<usize>
 fn is_among(keys: &[Key], key: Key) -> bool
     ensures { result ≡ list_any (key_eq key) keys.now }
 {
-    keys.iter().any(|other| key == *other)
+    keys.iter().any(|other| key.is(*other))
 }
 
 /// Whether one of the writes is of the key.
 fn is_written(writes: &[Write], key: Key) -> bool
     ensures { result ≡ list_any (λ write. key_eq key write.key) writes.now }
 {
-    writes.iter().any(|write| key == write.key)
+    writes.iter().any(|write| key.is(write.key))
 }
 
 /// A copy of the writes.
