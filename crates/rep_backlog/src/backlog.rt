@@ -66,10 +66,10 @@ impl Backlog {
         ensures count { result ≡ fitting builder.now self.now }
         ensures within { result ≤ length self.now }
     {
-        let mut trial = builder.copied();
+        let mut room = builder.room();
         let mut count = 0;
         while let Some(judged) = self.items.get(usize::from(count)) {
-            if !trial.push(judged) {
+            if !room.take(judged) {
                 break;
             }
             count += 1;

@@ -8,3 +8,4 @@ pub mod Writing
 pub mod Blocks
 pub mod Gathering
 pub mod Fronts
+pub mod Rooms

@@ -39,6 +39,15 @@ is_next (r ∷ records) j = j.seqno == r.seqno + (length records + 1)
 abbrev pub has_room : List Judged → Judged → Bool
 has_room records j = is_placed j && is_next records j && nat_lt (length records) MAX_RECORDS && nat_le (length (run_bytes records) + length (record_bytes j)) MAX_BLOCK
 
+-- what it depends on of the records: their first seqno, how many they are, and how many bytes they have
+pub record Filled : Type 0 where
+  pub first : ℕ
+  pub count : ℕ
+  pub size : ℕ
+
+abbrev pub filled_by : List Judged → Filled
+filled_by records = record { first = first_seqno records; count = length records; size = length (run_bytes records) }
+
 -- the records that the bytes spell
 abbrev pub gathered_in : ℕ → List ℕ → List Judged
 gathered_in count bytes = values_in record_form.read count bytes

@@ -1,7 +1,6 @@
 -- The law of records as bytes.
 use Rattle.std.proofs.Common.{◌≡◌, ℕ, ◌≤◌, length, Ok, refl, arith, lit<, ◌*◌, length-append}
 use Rattle.std.proofs.lemmas.Bool.{le-ltb, lt-ltb}
-use Rattle.rep_types.specs.declared.judged.Judged.{Judged}
 use Rattle.rep_types.specs.declared.item.Item.{Item}
 use Rattle.rep_types.specs.declared.item.Item.TheVariants.{WriteSet, SetWindow}
 use Rattle.rep_types.specs.declared.verdict.Verdict.{Verdict}
@@ -15,7 +14,7 @@ use Rattle.rep_forms.specs.Keys.{key_bytes}
 use Rattle.rep_forms.specs.KeyLaws.{key_is_form, key_short}
 use Rattle.rep_forms.specs.Writes.{write_bytes}
 use Rattle.rep_forms.specs.WriteLaws.{write_is_form, write_short}
-use Rattle.rep_record.specs.Records.{IsVerdictAt, IsSpelled, HasSpelling, IsRecord, item_parts, item_of, body_bytes, record_bytes, label_fields, verdict_fields, list_fields, record_fields, record_form}
+use Rattle.rep_record.specs.Records.{IsVerdictAt, IsSpelled, HasSpelling, IsRecord, body_bytes, record_bytes, label_fields, verdict_fields, list_fields, record_fields, record_form}
 
 ruleset forms = (via_is_form, both_is_form, number_is_form, byte_is_form, many_is_form, key_is_form, write_is_form)
 

@@ -1,11 +1,12 @@
 //! Blocks of records while they are gathered.
 
 ghost use Rattle.std.specs.Prelude.{◌≡◌, ◌≤◌, ◌==◌, ◌<◌, ◌^◌, ◌++◌, ◌∷◌, ◌↔◌, [], length, if◌then◌else◌, IsSome, IfSome};
-ghost use Rattle.rep_record.specs.Blocks.{has_room, is_next, first_seqno, run_bytes, IsBlock, block_bytes};
+ghost use Rattle.rep_record.specs.Blocks.{has_room, is_next, first_seqno, run_bytes, IsBlock, block_bytes, filled_by};
 
 use crate::block_reader::Head;
 use crate::limits::{BLOCK, MAX_BLOCK, MAX_RECORDS};
 use crate::record::put_record;
+use crate::room::{Room, first_of};
 use arrayvec::ArrayVec;
 use rep_forms::{Put, put_bytes, put_zeros};
 use rep_types::Judged;
@@ -32,13 +33,6 @@ impl Model for BlockBuilder {
     ghost invariant = { λ b. IsGathered b.first b.count b.bytes.items };
 }
 
-/// The first seqno of a block of so many records with one more.
-fn first_of(count: u16, first: u64, seqno: u64) -> u64
-    ensures { result ≡ (if count == 0 then seqno else first) }
-{
-    if count == 0 { seqno } else { first }
-}
-
 impl BlockBuilder {
     /// A block without records.
     #[tactic(auto, using(crate::proofs::Gathering::gathered_none, crate::proofs::Gathering::none_read))]
@@ -52,12 +46,18 @@ impl BlockBuilder {
         }
     }
 
+    /// How far it is filled.
+    pub fn room(&self) -> Room
+        ensures { result ≡ filled_by self.now }
+    {
+        Room::new(self.first, self.count, self.bytes.len())
+    }
+
     /// Whether the seqno is the next one; the first may be any.
     fn is_next(&self, judged: &Judged) -> bool
         ensures { result ≡ is_next self.now judged.now }
     {
-        self.count == 0
-            || (judged.seqno >= self.first && judged.seqno - self.first == u64::from(self.count))
+        self.room().is_next(judged)
     }
 
     /// Adds the record at the end, where the block takes it, and says whether it did: where the
