@@ -82,19 +82,6 @@ impl BlockBuilder {
         true
     }
 
-    /// A copy of the block.
-    pub fn copied(&self) -> BlockBuilder
-        ensures { result ≡ self.now }
-    {
-        let mut bytes = ArrayVec::new();
-        put_bytes(&mut bytes, self.bytes.as_slice());
-        BlockBuilder {
-            first: self.first,
-            count: self.count,
-            bytes,
-        }
-    }
-
     /// How many records there are.
     pub fn len(&self) -> u16
         ensures count { result ≡ length self.now }
