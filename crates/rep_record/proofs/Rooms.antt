@@ -12,7 +12,7 @@ use Rattle.rep_types.specs.Transactions.{Transaction}
 use Rattle.rep_forms.specs.Keys.{key_bytes}
 use Rattle.rep_forms.specs.Writes.{write_bytes}
 use Rattle.rep_forms.specs.FormLaws.{sizes, run_more}
-use Rattle.rep_record.specs.Records.{record_bytes, spelled}
+use Rattle.rep_record.specs.Records.{record_bytes, body_bytes, spelled}
 use Rattle.rep_record.specs.Blocks.{first_seqno, run_bytes, is_next, filled_by}
 
 keys_size : (keys : List Key) → length (flat_map key_bytes keys) ≡ 5 * length keys
@@ -22,6 +22,9 @@ keys_size (key ∷ keys) = grind (arith, sizes, keys_size keys, flat_map-cons ke
 -- how many bytes a record has
 pub record_size : (seqno : ℕ) (w : Transaction) (verdict : Verdict) → length (spelled seqno (WriteSet w) verdict) ≡ 45 + 5 * length w.reads + length (flat_map write_bytes w.writes)
 record_size seqno w verdict = grind (arith, sizes, keys_size w.reads)
+
+pub body_size : (seqno : ℕ) (w : Transaction) (verdict : Verdict) → length (body_bytes seqno w verdict) ≡ 43 + 5 * length w.reads + length (flat_map write_bytes w.writes)
+body_size seqno w verdict = grind (arith, sizes, keys_size w.reads)
 
 -- the next seqno, by numbers
 pub next_by_numbers : (records : List Judged) (j : Judged) → is_next records j ≡ (length records == 0 || (nat_le (first_seqno records) j.seqno && (j.seqno - first_seqno records == length records)))

@@ -10,6 +10,7 @@ ghost use Rattle.rep_forms.specs.Writes.{WriteFits};
 ghost use Rattle.rep_record.specs.Records.{IsSpelled, IsRecord, spelled, IsFront, RecordsAreTold, is_verdict_at, is_placed, conflict_seqno, verdict_bytes, label_bytes, list_bytes, body_bytes, record_bytes, label_fields, verdict_of, verdict_fields, list_fields, record_form};
 
 use crate::limits::MAX_RECORD;
+use crate::room::write_set_len;
 use arrayvec::ArrayVec;
 use rep_forms::{
     Exact, Form, put_bytes, put_run, put_u8, put_u16, put_u64, read_front, read_run, read_u8,
@@ -102,20 +103,6 @@ fn put_lists(out: &mut Bytes, item: &WriteSet)
     put_run(out, writes);
 }
 
-/// The record behind its length.
-#[tactic(auto, using(rep_forms::specs::FormLaws::sizes, rep_forms::specs::FormLaws::joined))]
-fn body_of(seqno: u64, item: &WriteSet, verdict: Verdict) -> Bytes
-    ensures bytes { result.items ≡ body_bytes seqno item.now verdict }
-    ensures size { length result.items ≤ 1227 }
-    ensures spelled { IsSpelled item.now }
-{
-    let mut body = ArrayVec::new();
-    put_labels(&mut body, seqno, item);
-    put_verdict(&mut body, verdict);
-    put_lists(&mut body, item);
-    body
-}
-
 /// The bytes of a record of this item with this seqno and this verdict, whether or not they fit it.
 #[tactic(auto, using(rep_forms::specs::FormLaws::sizes, rep_forms::specs::FormLaws::joined))]
 fn put_write_set(seqno: u64, item: &WriteSet, verdict: Verdict) -> ArrayVec<u8, MAX_RECORD>
@@ -123,10 +110,11 @@ fn put_write_set(seqno: u64, item: &WriteSet, verdict: Verdict) -> ArrayVec<u8, 
     ensures size { length result.items ≤ MAX_RECORD }
     ensures spelled { IsSpelled item.now }
 {
-    let body = body_of(seqno, item, verdict);
     let mut out = ArrayVec::new();
-    put_u16(&mut out, body.len() as u16 + 2);
-    put_bytes(&mut out, body.as_slice());
+    put_u16(&mut out, write_set_len(item) as u16);
+    put_labels(&mut out, seqno, item);
+    put_verdict(&mut out, verdict);
+    put_lists(&mut out, item);
     out
 }
 

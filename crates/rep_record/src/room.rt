@@ -1,15 +1,17 @@
 //! What a block takes, without its bytes.
 
-ghost use Rattle.std.specs.Prelude.{◌≡◌, ◌*◌, ◌≤◌, ◌++◌, ◌∷◌, ◌↔◌, [], List, length, true, IsSome, IfSome, if◌then◌else◌, ◌==◌};
+ghost use Rattle.std.specs.Prelude.{◌≡◌, ℕ, ◌+◌, ◌*◌, ◌≤◌, ◌++◌, ◌∷◌, ◌↔◌, [], List, length, true, IsSome, IfSome, if◌then◌else◌, ◌==◌};
 ghost use Rattle.std.specs.List.{flat_map};
 ghost use Rattle.rep_types.specs.declared.judged.Judged.{Judged};
 ghost use Rattle.rep_forms.specs.Writes.{write_bytes};
-ghost use Rattle.rep_record.specs.Records.{is_placed, record_bytes};
+ghost use Rattle.rep_types.specs.declared.item.Item.TheVariants.{WriteSet as OfWriteSet};
+ghost use Rattle.rep_types.specs.declared.verdict.Verdict.{Verdict};
+ghost use Rattle.rep_record.specs.Records.{is_placed, body_bytes, spelled, record_bytes};
 ghost use Rattle.rep_record.specs.Blocks.{is_next, has_room, filled_by};
 
 use crate::limits::{MAX_BLOCK, MAX_RECORD, MAX_RECORDS};
 use crate::record::is_placed;
-use rep_types::{Item, Judged, MAX_WRITES, Write};
+use rep_types::{Item, Judged, MAX_WRITES, Write, WriteSet};
 use std::marker::Model;
 
 /// How many bytes the write has in a record.
@@ -37,8 +39,17 @@ fn writes_len(writes: &[Write]) -> usize
     size
 }
 
+/// How many bytes a record of the item has, of which its first two say how many they are.
+#[tactic(auto, using(crate::proofs::Rooms::record_size, crate::proofs::Rooms::body_size))]
+pub(crate) fn write_set_len(item: &WriteSet) -> usize
+    ensures body { (seqno : ℕ) (verdict : Verdict) → result ≡ length (body_bytes seqno item.now verdict) + 2 }
+    ensures size { (seqno : ℕ) (verdict : Verdict) → result ≡ length (spelled seqno (OfWriteSet item.now) verdict) }
+    ensures few { result ≤ MAX_RECORD }
+{
+    45 + 5 * item.reads().len() + writes_len(item.writes())
+}
+
 /// How many bytes the record has, at most 1,229. None where it has no spelling, as `put_record` says.
-#[tactic(auto, using(crate::proofs::Rooms::record_size))]
 fn record_len(judged: &Judged) -> Option<usize>
     ensures some { IsSome result ↔ (is_placed judged.now ≡ true) }
     ensures size { IfSome result (λ n. n ≡ length (record_bytes judged.now)) }
@@ -48,7 +59,7 @@ fn record_len(judged: &Judged) -> Option<usize>
         return None;
     }
     match &judged.item {
-        Item::WriteSet(item) => { Some(45 + 5 * item.reads().len() + writes_len(item.writes())) }
+        Item::WriteSet(item) => Some(write_set_len(item)),
         Item::SetWindow(_) => None,
     }
 }
