@@ -1,14 +1,16 @@
 -- Items in the order of their seqnos, and records that are gathered one by one.
-use Rattle.std.proofs.Common.{◌≡◌, ℕ, zero, suc, ◌+◌, ◌≤◌, List, [], ◌∷◌, ◌++◌, length, take, drop, add-zero, arith, ◌<◌, true, false, eqb, Option, Some, refl, sym, ap, subst, ◌∙◌, length-append, cond}
+use Rattle.std.proofs.Common.{◌≡◌, ℕ, zero, suc, ◌+◌, ◌≤◌, List, [], ◌∷◌, ◌++◌, length, take, drop, add-zero, arith, ◌<◌, true, ltb, leb, Option, Some, refl, sym, ap, subst, ◌∙◌, length-append}
+use Rattle.std.specs.Prelude.{◌&&◌}
 use Rattle.rep_types.specs.declared.judged.Judged.{Judged}
-use Rattle.rep_record.specs.Blocks.{SeqnosFrom, first_seqno, run_bytes, is_next, gathered_in, AreGathered, IsGathered}
+use Rattle.rep_record.specs.Blocks.{SeqnosFrom, first_seqno, run_bytes, is_next, has_room, Filled, filled_by, gathered_in, AreGathered, IsGathered}
 use Rattle.std.specs.Option.{option_map_or}
-use Rattle.std.proofs.lemmas.Bool.{eqb-true, ne_eqb}
+use Rattle.std.proofs.lemmas.Bool.Decides.{nat_tests}
+use Rattle.std.proofs.lemmas.Bool.{eqb-true, ltb-true}
 use Rattle.std.proofs.lemmas.List.{append-nil}
 use Rattle.rep_forms.specs.Forms.{each}
-use Rattle.rep_forms.specs.FormLaws.{each_again, run_more, all_more}
+use Rattle.rep_forms.specs.FormLaws.{each_again, run_more, all_more, conjuncts}
 use Rattle.rep_record.specs.declared.limits.TheConstants.{MAX_RECORDS, MAX_BLOCK}
-use Rattle.rep_record.specs.Records.{IsRecord, record_bytes, record_form}
+use Rattle.rep_record.specs.Records.{IsRecord, is_placed, record_bytes, record_form}
 use Rattle.rep_record.specs.RecordLaws.{record_is_form}
 
 -- the next item behind those of a run
@@ -50,29 +52,30 @@ pub none_read : (bytes : List ℕ) → gathered_in 0 bytes ≡ []
 unfolding each
 none_read bytes = refl
 
--- the first seqno with one more
-first_more : (js : List Judged) (j : Judged) (n first : ℕ) → length js ≡ n → first ≡ first_seqno js → cond (eqb n 0) j.seqno first ≡ first_seqno (js ++ j ∷ [])
-first_more [] j n first size e = rw (← size) refl
-first_more (i ∷ js) j n first size e =
-    let some : eqb n 0 ≡ false = ne_eqb n 0 (λ none. omega (arith, size, none)) in
-    rw some e
-
 -- the next seqno is the one behind them
 next_is : (js : List Judged) (j : Judged) → is_next js j ≡ true → SeqnosFrom (first_seqno js) js → SeqnosFrom (first_seqno (js ++ j ∷ [])) (js ++ j ∷ [])
 next_is [] j e h = (refl, tt)
 next_is (i ∷ js) j e h = SeqnosFrom_push i.seqno (i ∷ js) j h (omega (arith, eqb-true j.seqno (i.seqno + (length js + 1)) e))
 
--- one more
-pub gathered_more : (first count : ℕ) (bytes more : List ℕ) (j : Judged) → IsGathered first count bytes → IsRecord j → is_next (gathered_in count bytes) j ≡ true → count < MAX_RECORDS
-    → more ≡ bytes ++ record_bytes j → length more ≤ MAX_BLOCK → IsGathered (cond (eqb count 0) j.seqno first) (count + 1) more × (gathered_in (count + 1) more ≡ gathered_in count bytes ++ j ∷ [])
-gathered_more first count bytes more j h r next room there fits =
+-- one more, for which there is room
+pub gathered_more : (first count : ℕ) (bytes more : List ℕ) (j : Judged) (filled : Filled) → IsGathered first count bytes → IsRecord j → has_room (gathered_in count bytes) j ≡ true → filled ≡ filled_by (gathered_in count bytes ++ j ∷ [])
+    → more ≡ bytes ++ record_bytes j → IsGathered filled.first filled.count more × (gathered_in filled.count more ≡ gathered_in count bytes ++ j ∷ [])
+gathered_more first count bytes more j filled h r room is there =
     let js : List Judged = gathered_in count bytes in
+    let fourth = conjuncts (is_placed j && is_next js j && ltb (length js) MAX_RECORDS) (leb (length (run_bytes js) + length (record_bytes j)) MAX_BLOCK) room in
+    let third = conjuncts (is_placed j && is_next js j) (ltb (length js) MAX_RECORDS) fourth.0 in
+    let next : is_next js j ≡ true = (conjuncts (is_placed j) (is_next js j) third.0).1 in
+    let spelled : more ≡ run_bytes (js ++ j ∷ []) = there ∙ ap (λ (xs : List ℕ). xs ++ record_bytes j) h.spelled ∙ sym (run_more record_bytes js j) in
+    let long : length (js ++ j ∷ []) ≡ length js + 1 = length-append js (j ∷ []) in
+    let most : length js < MAX_RECORDS = ltb-true (length js) MAX_RECORDS third.1 in
+    let size : length (run_bytes js) + length (record_bytes j) ≤ MAX_BLOCK = grind (arith, nat_tests, fourth.1) in
+    let more_size : length more ≡ length (run_bytes js) + length (record_bytes j) = ap length there ∙ (length-append bytes (record_bytes j) ∙ ap (λ n. n + length (record_bytes j)) (ap length h.spelled)) in
     are_gathered (record {
-      spelled = there ∙ ap (λ (xs : List ℕ). xs ++ record_bytes j) h.spelled ∙ sym (run_more record_bytes js j);
+      spelled = spelled;
       are_records = all_more IsRecord js j h.are_records r;
-      is_first = first_more js j count first h.size h.is_first;
+      is_first = ap (λ (f : Filled). f.first) is;
       follow = next_is js j next h.follow;
-      size = length-append js (j ∷ []) ∙ omega (arith, h.size);
-      few = omega (arith, room);
-      fits = fits;
+      size = sym (ap (λ (f : Filled). f.count) is);
+      few = omega (arith, ap (λ (f : Filled). f.count) is, long, most);
+      fits = omega (arith, more_size, size);
     })

@@ -6,7 +6,7 @@ ghost use Rattle.rep_record.specs.Blocks.{has_room, is_next, first_seqno, run_by
 use crate::block_reader::Head;
 use crate::limits::{BLOCK, MAX_BLOCK, MAX_RECORDS};
 use crate::record::put_record;
-use crate::room::{Room, first_of};
+use crate::room::Room;
 use arrayvec::ArrayVec;
 use rep_forms::{Put, put_bytes, put_zeros};
 use rep_types::Judged;
@@ -53,13 +53,6 @@ impl BlockBuilder {
         Room::new(self.first, self.count, self.bytes.len())
     }
 
-    /// Whether the seqno is the next one; the first may be any.
-    fn is_next(&self, judged: &Judged) -> bool
-        ensures { result ≡ is_next self.now judged.now }
-    {
-        self.room().is_next(judged)
-    }
-
     /// Adds the record at the end, where the block takes it, and says whether it did: where the
     /// record has a spelling, its seqno is the one after the last, and there is room for it. A block
     /// that does not take it stays as it is.
@@ -67,18 +60,16 @@ impl BlockBuilder {
         ensures room { result ≡ has_room self.old judged.now }
         ensures after { self.new ≡ (if has_room self.old judged.now then self.old ++ judged.now ∷ [] else self.old) }
     {
+        let mut room = self.room();
+        if !room.take(judged) {
+            return false;
+        }
         let Some(bytes) = put_record(judged) else {
-            return false;
+            unreachable!();
         };
-        if !self.is_next(judged) || self.count >= MAX_RECORDS {
-            return false;
-        }
-        if self.bytes.len() + bytes.len() > MAX_BLOCK {
-            return false;
-        }
         put_bytes(&mut self.bytes, bytes.as_slice());
-        self.first = first_of(self.count, self.first, judged.seqno);
-        self.count += 1;
+        self.first = room.first();
+        self.count = room.count();
         true
     }
 

@@ -65,7 +65,7 @@ fn record_len(judged: &Judged) -> Option<usize>
 }
 
 /// The first seqno of so many records with one more.
-pub(crate) fn first_of(count: u16, first: u64, seqno: u64) -> u64
+fn first_of(count: u16, first: u64, seqno: u64) -> u64
     ensures { result ≡ (if count == 0 then seqno else first) }
 {
     if count == 0 { seqno } else { first }
@@ -102,9 +102,23 @@ impl Room {
         Room { first, count, size }
     }
 
+    /// The seqno of the first record; 0 where there is none.
+    pub(crate) fn first(&self) -> u64
+        ensures { result ≡ self.now.first }
+    {
+        self.first
+    }
+
+    /// How many records there are.
+    pub(crate) fn count(&self) -> u16
+        ensures count { result ≡ self.now.count }
+    {
+        self.count
+    }
+
     /// Whether the record's seqno is the next one; the first may be any.
     #[tactic(auto, using(crate::proofs::Rooms::next_by_numbers))]
-    pub(crate) fn is_next(&self, judged: &Judged) -> bool
+    fn is_next(&self, judged: &Judged) -> bool
         ensures { (records : List Judged) → self.now ≡ filled_by records → result ≡ is_next records judged.now }
     {
         self.count == 0

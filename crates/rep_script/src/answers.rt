@@ -25,6 +25,20 @@ fn put<D: Display + Drop>(line: &mut Line, text: D) -> Result<(), Refusal>
     line.write_fmt(text).map_err(|_| Refusal::StreamFault)
 }
 
+/// Writes the line of this text, of at most 6,143 bytes, and its line feed, by way of this buffer: what that had is let go.
+///
+/// Refuses with `StreamFault` as `write_line` does.
+fn write_by<W: Write, D: Display + Drop>(line: &mut Line, writer: &mut W, text: D) -> Result<(), Refusal>
+    ensures ok { OnOk result (IfSome (D.output text) (λ bytes. Appends (W.contents writer.old) (W.contents writer.new) (bytes ++ 10 ∷ []))) }
+    ensures cut { OnErr result (IfSome (D.output text) (λ bytes. (k : ℕ) × Appends (W.contents writer.old) (W.contents writer.new) (take k (bytes ++ 10 ∷ [])))) }
+    ensures err { IfErr result (λ refusal. refusal ≡ Refusal.StreamFault) }
+{
+    line.clear();
+    put(line, text)?;
+    put(line, "\n")?;
+    put_all(writer, line.as_slice())
+}
+
 /// Writes the line of this text, of at most 6,143 bytes, and its line feed.
 ///
 /// Refuses with `StreamFault` a writer that fails, which has then taken a front of the line, and a longer text, of which
@@ -34,10 +48,7 @@ pub fn write_line<W: Write, D: Display + Drop>(writer: &mut W, text: D) -> Resul
     ensures cut { OnErr result (IfSome (D.output text) (λ bytes. (k : ℕ) × Appends (W.contents writer.old) (W.contents writer.new) (take k (bytes ++ 10 ∷ [])))) }
     ensures err { IfErr result (λ refusal. refusal ≡ Refusal.StreamFault) }
 {
-    let mut line = Line::new();
-    put(&mut line, text)?;
-    put(&mut line, "\n")?;
-    put_all(writer, line.as_slice())
+    write_by(&mut Line::new(), writer, text)
 }
 
 /// Writes the lines of the replies: how many there are, and each.
@@ -45,13 +56,14 @@ fn write_replies<W: Write>(writer: &mut W, replies: &[Reply]) -> Result<(), Refu
     ensures { IfErr result (λ refusal. refusal ≡ Refusal.StreamFault) }
 {
     let count = replies.len();
-    write_line(writer, format_args!("synced {count}"))?;
+    let mut line = Line::new();
+    write_by(&mut line, writer, format_args!("synced {count}"))?;
     for reply in replies {
         let text = format_args!(
             "reply {} {} {}:{}",
             reply.seqno, reply.verdict, reply.source, reply.trx
         );
-        write_line(writer, text)?;
+        write_by(&mut line, writer, text)?;
     }
     Ok(())
 }
