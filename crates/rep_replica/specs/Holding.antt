@@ -1,13 +1,15 @@
 -- What a replica stands for on an honest device, and what a step of it is.
-use Rattle.std.specs.Prelude.{◌≡◌, ℕ, ◌≤◌, false, List, length, drop, None}
+use Rattle.std.specs.Prelude.{◌≡◌, ℕ, ◌≤◌, false, List, length, drop, None, Result, Ok, Err}
 use Rattle.rep_disk.specs.History.{History, IsImage}
 use Rattle.rep_disk.specs.Moments.{LeavesOnly}
 use Rattle.rep_types.specs.declared.item.Item.TheVariants.{WriteSet}
+use Rattle.rep_types.specs.declared.refusal.Refusal.{Refusal}
+use Rattle.rep_types.specs.declared.verdict.Verdict.{Verdict}
 use Rattle.rep_cert.specs.Holdings.{Holding, IsAskable, window_of, verdict_of}
 use Rattle.rep_steps.specs.declared.event.Event.{Event}
 use Rattle.rep_steps.specs.declared.event.Event.TheVariants.{Deliver}
 use Rattle.rep_steps.specs.declared.answer.Answer.{Answer}
-use Rattle.rep_steps.specs.declared.answer.Answer.TheVariants.{Gave}
+use Rattle.rep_steps.specs.declared.answer.Answer.TheVariants.{Gave, Refused}
 use Rattle.rep_steps.specs.Moves.{Moves}
 use Rattle.rep_steps.specs.Nodes.{Node, IsNode, Steps, window_at}
 use Rattle.rep_steps.specs.Parts.{part_of}
@@ -42,6 +44,11 @@ pub record IsStep {D : Type 0} (honest : D → Type 0) (history : D → History)
   pub leaves : (n : Node) → Holds honest history failures n old → LeavesOnly (history old.engine.disk) (history new.engine.disk) (IsFrontAt Means n)
   pub unchanged : RefusesUnchanged e a old new
   pub spelled : Spells honest history old e a new
+
+-- what a delivery answers
+abbrev pub gave : Result Verdict Refusal → Answer
+gave (Ok verdict) = Gave verdict
+gave (Err refusal) = Refused refusal
 
 -- The verdict by which a delivery is answered is the certifier's, on any device.
 abbrev pub IsJudgedBy : Holding → Event → Answer → Type 0

@@ -17,7 +17,7 @@ ghost use Rattle.rep_engine.specs.Writing.{written_in};
 ghost use Rattle.rep_replica.specs.Replicas.{facts_of};
 ghost use Rattle.rep_replica.specs.Refusing.{Gathers};
 ghost use Rattle.rep_replica.specs.Spelling.{ReadIsSpelled};
-ghost use Rattle.rep_replica.specs.Holding.{Holds, IsStep, IsJudgedBy};
+ghost use Rattle.rep_replica.specs.Holding.{Holds, IsStep, IsJudgedBy, gave};
 ghost use Rattle.rep_replica.specs.Settling.{outcome_of};
 
 use crate::replica::Replica;
@@ -28,7 +28,17 @@ use rep_steps::{
     Answer, Event, Replies, judging_goes_on, nodes_stay_nodes, parts_step_as_the_whole,
     verdicts_have_a_place,
 };
-use rep_types::{Item, Judged, Key, MAX_AHEAD, MAX_SEQNO, Refusal, Value, WriteSet};
+use rep_types::{Item, Judged, Key, MAX_AHEAD, MAX_SEQNO, Refusal, Value, Verdict, WriteSet};
+
+/// What a delivery answers.
+fn gave(outcome: Result<Verdict, Refusal>) -> Answer
+    ensures { result ≡ gave outcome }
+{
+    match outcome {
+        Ok(verdict) => Answer::Gave(verdict),
+        Err(refusal) => Answer::Refused(refusal),
+    }
+}
 
 /// What the log's step answers.
 fn wrote(outcome: Result<(), Refusal>) -> Answer
@@ -96,10 +106,10 @@ impl<D: Disk> Replica<D> {
     }
 
     /// Takes the item with this seqno.
-    fn deliver(&mut self, seqno: u64, item: WriteSet) -> Answer
+    fn deliver(&mut self, seqno: u64, item: WriteSet) -> Result<Verdict, Refusal>
         requires running { (self.old.stopped ≡ false) × (self.old.engine.halted ≡ None) }
-        ensures step { IsStep D.honest D.history D.failures self.old (Deliver seqno item) result self.new }
-        ensures judged { IsJudgedBy self.old.certifier.current (Deliver seqno item) result }
+        ensures step { IsStep D.honest D.history D.failures self.old (Deliver seqno item) (gave result) self.new }
+        ensures judged { IsJudgedBy self.old.certifier.current (Deliver seqno item) (gave result) }
     {
         nodes_stay_nodes();
         judging_goes_on();
@@ -108,7 +118,7 @@ impl<D: Disk> Replica<D> {
         // For its clause: what holds of every write set.
         item.writes();
         if let Some(refusal) = self.delivery_refusal(seqno) {
-            return Answer::Refused(refusal);
+            return Err(refusal);
         }
         let Ok((seqno, verdict)) = self.certifier.admit(&item) else {
             unreachable!();
@@ -121,7 +131,7 @@ impl<D: Disk> Replica<D> {
         if self.backlog.push(judged).is_err() {
             unreachable!();
         }
-        Answer::Gave(verdict)
+        Ok(verdict)
     }
 
     /// Lets the engine accept what it takes of the items that wait.
@@ -267,7 +277,7 @@ impl<D: Disk> Replica<D> {
             return Answer::Refused(Refusal::Stopped);
         }
         match event {
-            Event::Deliver(seqno, item) => self.deliver(seqno, item),
+            Event::Deliver(seqno, item) => gave(self.deliver(seqno, item)),
             Event::Log => self.log(),
             Event::Sync => self.sync(),
             Event::Check => self.check(),

@@ -25,18 +25,14 @@ fn put<D: Display + Drop>(line: &mut Line, text: D) -> Result<(), Refusal>
     line.write_fmt(text).map_err(|_| Refusal::StreamFault)
 }
 
-/// Writes the line of this text, of at most 6,143 bytes, and its line feed, by way of this buffer: what that had is let go.
-///
-/// Refuses with `StreamFault` as `write_line` does.
-fn write_by<W: Write, D: Display + Drop>(line: &mut Line, writer: &mut W, text: D) -> Result<(), Refusal>
-    ensures ok { OnOk result (IfSome (D.output text) (λ bytes. Appends (W.contents writer.old) (W.contents writer.new) (bytes ++ 10 ∷ []))) }
-    ensures cut { OnErr result (IfSome (D.output text) (λ bytes. (k : ℕ) × Appends (W.contents writer.old) (W.contents writer.new) (take k (bytes ++ 10 ∷ [])))) }
+/// Puts this text and its line feed in the place of what the line had.
+fn put_line<D: Display + Drop>(line: &mut Line, text: D) -> Result<(), Refusal>
+    ensures put { OnOk result (IfSome (D.output text) (λ bytes. line.new.items ≡ bytes ++ 10 ∷ [])) }
     ensures err { IfErr result (λ refusal. refusal ≡ Refusal.StreamFault) }
 {
     line.clear();
     put(line, text)?;
-    put(line, "\n")?;
-    put_all(writer, line.as_slice())
+    put(line, "\n")
 }
 
 /// Writes the line of this text, of at most 6,143 bytes, and its line feed.
@@ -48,7 +44,9 @@ pub fn write_line<W: Write, D: Display + Drop>(writer: &mut W, text: D) -> Resul
     ensures cut { OnErr result (IfSome (D.output text) (λ bytes. (k : ℕ) × Appends (W.contents writer.old) (W.contents writer.new) (take k (bytes ++ 10 ∷ [])))) }
     ensures err { IfErr result (λ refusal. refusal ≡ Refusal.StreamFault) }
 {
-    write_by(&mut Line::new(), writer, text)
+    let mut line = Line::new();
+    put_line(&mut line, text)?;
+    put_all(writer, line.as_slice())
 }
 
 /// Writes the lines of the replies: how many there are, and each.
@@ -56,14 +54,15 @@ fn write_replies<W: Write>(writer: &mut W, replies: &[Reply]) -> Result<(), Refu
     ensures { IfErr result (λ refusal. refusal ≡ Refusal.StreamFault) }
 {
     let count = replies.len();
+    write_line(writer, format_args!("synced {count}"))?;
     let mut line = Line::new();
-    write_by(&mut line, writer, format_args!("synced {count}"))?;
     for reply in replies {
         let text = format_args!(
             "reply {} {} {}:{}",
             reply.seqno, reply.verdict, reply.source, reply.trx
         );
-        write_by(&mut line, writer, text)?;
+        put_line(&mut line, text)?;
+        put_all(writer, line.as_slice())?;
     }
     Ok(())
 }
