@@ -21,7 +21,7 @@ use Rattle.rep_node.specs.declared.home.Queue.{Queue}
 use Rattle.rep_node.specs.Publishing.{shown}
 use Rattle.rep_node.specs.Homes.{Start}
 use Rattle.rep_node.specs.Keeping.{AreAtWork}
-use Rattle.rep_node.proofs.Lists.{front_begins}
+use Rattle.rep_ordered.specs.Beginnings.{front_begins}
 use Rattle.rep_node.proofs.Publishes.{shown_both}
 
 -- ---- how many come next

@@ -35,7 +35,7 @@ use Rattle.rep_node.specs.declared.batch.Receipt.{Receipt}
 use Rattle.rep_node.specs.declared.batch.Job.{Job}
 use Rattle.rep_node.specs.declared.batch.Share.{Share}
 use Rattle.rep_node.specs.Seats.{DrewOne, IsGiven, IsSeat, Joins, PassedOrStopped, own_entry}
-use Rattle.rep_node.proofs.Lists.{shorter}
+use Rattle.rep_ordered.specs.Beginnings.{shorter}
 use Rattle.rep_node.proofs.Moves.{seat_still}
 use Rattle.rep_node.specs.Batches.{Ascends, ComeFrom, IsBatch, IsReceipt, IsWhole, carried, entry_of, index_of, items_of, seqno_of}
 use Rattle.rep_node.specs.Jobs.{Adjoin, Among, Gathered, IsAll, IsDone, IsJob, IsNoted, IsPart, IsReady, IsShare, Worked, regaining}

@@ -26,7 +26,7 @@ use Rattle.rep_node.specs.declared.home.Home.TheVariants.{Certifier as AtFirst, 
 use Rattle.rep_node.specs.Homes.{Start, AtHome, CertifierAt, DeskAt, QueueAt, IsLegal, IsLegalBehind, position_of, values_of, durable_in, common_in}
 use Rattle.rep_node.specs.Seats.{IsSeat, PassedOrStopped}
 use Rattle.rep_node.specs.Ending.{EndsAs}
-use Rattle.rep_node.proofs.Lists.{shorter, whole_front}
+use Rattle.rep_ordered.specs.Beginnings.{shorter, whole_front}
 use Rattle.rep_node.proofs.Standing.{certifier_found, desk_found, queue_found, at_first, at_second, at_third, one_start}
 
 -- ---- the values that were closed are one thing

@@ -13,7 +13,7 @@ use Rattle.rep_node.specs.declared.home.Home.{Home}
 use Rattle.rep_node.specs.declared.home.Home.TheVariants.{Certifier as AtFirst, Desk as AtSecond, Queue as AtThird}
 use Rattle.rep_node.specs.Homes.{Start, CertifierAt, DeskAt, QueueAt, AtHome, position_of, values_of}
 use Rattle.rep_node.specs.Seats.{own_entry}
-use Rattle.rep_node.proofs.Lists.{one_front, whole_front}
+use Rattle.rep_ordered.specs.Beginnings.{one_front, whole_front}
 
 -- ---- what a node was started with is one thing
 

@@ -2,29 +2,9 @@
 
 ghost use Rattle.std.specs.Prelude.{◌≡◌, ◌∷◌, []};
 
-use logbook::{Opening, Rule, Seen, Start};
+use logbook::{Opening, Seen, Start};
 use rep_cert::Certifier;
-use rep_snap::{Admits, Again};
-
-/// The rule of a book to which nothing is added.
-pub struct Fixed;
-
-impl Rule<Certifier, u64> for Fixed {
-    ghost use Rattle.std.specs.Prelude.{[]};
-    ghost use base.Fml.{ftrue};
-
-    ghost holds = { λ cells log. Unit {0} };
-
-    ghost first = { [] };
-
-    ghost hinted = { λ n log. Unit {0} };
-
-    ghost shows = { λ log. [] };
-
-    ghost keeps = { λ names log. ftrue };
-
-    ghost moves = { λ ask before after answer. Unit {0} };
-}
+use rep_snap::{Admits, Again, Fixed};
 
 /// The book opens with the certifier.
 struct Alone;

@@ -6,4 +6,5 @@ pub mod Ends
 pub mod Seats
 pub mod Going
 pub mod GoingLaws
+pub mod Beginnings
 pub mod Rooms

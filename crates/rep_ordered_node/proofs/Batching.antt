@@ -19,7 +19,8 @@ use Rattle.rep_ordered_node.specs.Judging.{item_of}
 use Rattle.rep_ordered_node.specs.Homes.{durable_in, order_of}
 use Rattle.rep_ordered_node.specs.Seats.{EndsAs, Joins, Quiet, own_entry}
 use Rattle.rep_ordered_node.specs.Batches.{AllKept, Batch, Rise, SomeJoined, latest_first}
-use Rattle.rep_ordered_node.proofs.Lists.{shorter, items_append, items_long}
+use Rattle.rep_ordered.specs.Beginnings.{shorter}
+use Rattle.rep_ordered_node.proofs.Lists.{items_append, items_long}
 
 every_to : {A : Type 0} (P Q : A → Type 0) (xs : List A) → ((x : A) → P x → Q x) → Every P xs → Every Q xs
 every_to P Q [] f e = tt

@@ -16,7 +16,8 @@ use Rattle.rep_ordered_node.specs.declared.home.Home.TheVariants.{Certifier as A
 use Rattle.rep_ordered_node.specs.Judging.{Legal, highest, item_of, commits_of}
 use Rattle.rep_ordered_node.specs.Homes.{AtHome, CertifierAt, EngineAt, durable_in, order_of, commits_first}
 use Rattle.rep_ordered_node.specs.Seats.{EndsAs, Follows, IsSeat, PassedOrStopped, Quiet}
-use Rattle.rep_ordered_node.proofs.Lists.{shorter, whole_front, items_long}
+use Rattle.rep_ordered.specs.Beginnings.{shorter, whole_front}
+use Rattle.rep_ordered_node.proofs.Lists.{items_long}
 
 -- the two parts may lie at home at the start
 pub starts : (c : Certifier) (e : Engine) (number durable : ℕ) → Quiet e → Follows e.log.items c → number ≡ length e.log.items + 1 → durable ≡ length e.log.items

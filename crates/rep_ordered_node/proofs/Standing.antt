@@ -10,7 +10,8 @@ use Rattle.rep_ordered_node.specs.declared.home.Home.{Home}
 use Rattle.rep_ordered_node.specs.Judging.{Judged, highest, item_of, commit_of, commits_of}
 use Rattle.rep_ordered_node.specs.Homes.{CertifierAt, EngineAt, order_of, commits_first}
 use Rattle.rep_ordered_node.specs.Seats.{own_entry}
-use Rattle.rep_ordered_node.proofs.Lists.{one_front, whole_front, items_long, items_more, highest_more, commits_more}
+use Rattle.rep_ordered.specs.Beginnings.{one_front, whole_front}
+use Rattle.rep_ordered_node.proofs.Lists.{items_long, items_more, highest_more, commits_more}
 
 -- inside station 0 the certifier has judged the whole history
 all_judged : (first : List Home) (t : ℕ) (history : List Done) (word : ℕ) (c : Certifier) (h : CertifierAt first t 0 history word c) → length (order_of first) + 1 + length history ≡ t → h.front ≡ history

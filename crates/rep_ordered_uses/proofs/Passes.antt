@@ -11,6 +11,7 @@ use Rattle.rep_ordered.specs.declared.view.View.{View}
 use Rattle.rep_ordered.specs.Counts.{times}
 use Rattle.rep_ordered.specs.Views.{StartsWith, held_at, reached_at, reach}
 use Rattle.rep_ordered.specs.GoingLaws.{append_nil, passed_more, passed_joined}
+use Rattle.rep_ordered.specs.Beginnings.{whole_front}
 use Rattle.rep_ordered_uses.specs.Passing.{Anything, HavePassed, numbers, AllDone}
 
 pub length-numbers : (first n : ℕ) → length (numbers first n) ≡ n
@@ -26,22 +27,15 @@ numbers_more : (start t : ℕ) (tickets : List ℕ) → start + length tickets �
 numbers_more start t tickets count all = let long : suc (length tickets) ≡ length (tickets ++ t ∷ []) = omega (arith, length-append tickets (t ∷ [])) in
     ap (λ l. l ++ t ∷ []) all ∙ (numbers_snoc start (length tickets) t count ∙ ap (numbers start) long)
 
-same_front : {A : Type 0} (xs front : List A) → StartsWith xs front → length xs ≡ length front → front ≡ xs
-same_front {A} xs front h e = go h.0 h.1 (let d : length xs ≡ length (front ++ h.0) = ap length h.1 in omega (arith, length-append front h.0))
-  where
-    go : (rest : List A) → xs ≡ front ++ rest → length rest ≡ 0 → front ≡ xs
-    go [] d none_left = sym (d ∙ append_nil front)
-    go (x ∷ rest) d none_left = absurd (omega arith)
-
 pub next_first : (start t : ℕ) (seen tickets : List ℕ) → HavePassed start t seen tickets → start + length seen ≡ t → HavePassed start (t + 1) (seen ++ t ∷ []) (tickets ++ t ∷ [])
-next_first start t seen tickets h place = let count = h.count in let same = same_front seen tickets h.front (omega arith) in record {
+next_first start t seen tickets h place = let count = h.count in let same = whole_front seen tickets h.front (omega arith) in record {
   count = omega (arith, length-append tickets (t ∷ []));
   all = numbers_more start t tickets h.count h.all;
   front = ([], ap (λ l. l ++ t ∷ []) (sym same) ∙ sym (append_nil (tickets ++ t ∷ [])));
 }
 
 pub next_second : (start t : ℕ) (before seen old tickets : List ℕ) → HavePassed start t before old → start + length before ≡ t → StartsWith seen (before ++ t ∷ []) → HavePassed start t seen tickets → HavePassed start (t + 1) seen (tickets ++ t ∷ [])
-next_second start t before seen old tickets g place begins h = let count = h.count in let old_count = g.count in let same = same_front before old g.front (omega arith) in
+next_second start t before seen old tickets g place begins h = let count = h.count in let old_count = g.count in let same = whole_front before old g.front (omega arith) in
     let lengths : length tickets ≡ length old = omega arith in
     let is : tickets ≡ before = h.all ∙ (ap (numbers start) lengths ∙ (sym g.all ∙ same)) in record {
       count = omega (arith, length-append tickets (t ∷ []));

@@ -5,6 +5,7 @@
 mod change;
 mod copies;
 mod door;
+mod fixed;
 mod history;
 mod laws;
 mod peek;
@@ -17,6 +18,7 @@ mod shelf;
 pub use change::{Change, Pair};
 pub use copies::{Glance, TwoCopies};
 pub use door::Door;
+pub use fixed::Fixed;
 pub use history::{Law, Told};
 pub use laws::{histories_grow, peeks_follow_the_fold, peeks_have_one_answer};
 pub use peek::Peek;

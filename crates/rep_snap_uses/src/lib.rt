@@ -10,5 +10,5 @@ mod steady;
 pub use beside::{Count, watched_beside};
 pub use counted::{Numbers, number_at, publish_next};
 pub use folded::row_at;
-pub use planned::{Fixed, Plan, planned_row_at};
+pub use planned::{Plan, planned_row_at};
 pub use steady::{Free, Steady};

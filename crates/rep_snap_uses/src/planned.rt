@@ -5,31 +5,11 @@ ghost use Rattle.rep_snap.specs.Lists.{published, front_of, Ascends};
 ghost use Rattle.rep_snap.specs.Doors.{FoundShut};
 ghost use Rattle.rep_snap_uses.specs.Folding.{FindsTheRow};
 
-use logbook::{Opening, Rule, Seen, Start};
+use logbook::{Opening, Seen, Start};
 use rep_snap::{
-    Admits, Again, Door, Pair, Peek, Reader, Told, histories_grow, peeks_follow_the_fold,
+    Admits, Again, Door, Fixed, Pair, Peek, Reader, Told, histories_grow, peeks_follow_the_fold,
 };
 use rep_types::{Key, Refusal};
-
-/// The rule of a book to which nothing is added.
-pub struct Fixed;
-
-impl Rule<Pair, u64> for Fixed {
-    ghost use Rattle.std.specs.Prelude.{[]};
-    ghost use base.Fml.{ftrue};
-
-    ghost holds = { λ cells log. Unit {0} };
-
-    ghost first = { [] };
-
-    ghost hinted = { λ n log. Unit {0} };
-
-    ghost shows = { λ log. [] };
-
-    ghost keeps = { λ names log. ftrue };
-
-    ghost moves = { λ ask before after answer. Unit {0} };
-}
 
 /// The book opens with the pairs.
 struct Whole;

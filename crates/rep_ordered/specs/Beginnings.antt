@@ -1,4 +1,4 @@
--- Beginnings of a history.
+-- The laws of the beginnings of a list, for the proofs of clients.
 use Rattle.std.proofs.Common.{◌≡◌, ◌≤◌, List, [], ◌∷◌, ◌++◌, length, sym, refl, ap, ◌∙◌, arith, length-append}
 use Rattle.rep_ordered.specs.Views.{StartsWith}
 use Rattle.rep_ordered.specs.GoingLaws.{append_nil}
