@@ -311,7 +311,7 @@ module _ {D : Type 0} (honest : D → Type 0) (history : D → History) (size fa
   under : c.stage ≢ Off
   under = (next_due c.stage w.due).0
 
-  goes : GoesOn honest history old.layout c new.checkpoint old.disk new.disk result
+  pub goes : GoesOn honest history old.layout c new.checkpoint old.disk new.disk result
   goes = w.goes (here old.layout c (next_refusal_at (stage_of c)) w.engine.layout ∙ (next_due c.stage w.due).1)
 
   check_none : refusal_here was Check ≡ None

@@ -73,14 +73,8 @@ engine_went honest history l c d log kept block page old disk result h is refuse
 
 -- only while pages are flushed
 flushing : (page : ℕ) (stage : Stage) → flush_refusal_at (stage_in stage) page ≡ None → (to : Next) × (stage ≡ Toward to Flushing)
-flushing page Off e = absurd cc
 flushing page (Toward to Flushing) e = (to, refl)
-flushing page (Toward to Saving) e = absurd cc
-flushing page (Toward to Ready) e = absurd cc
-flushing page (Toward to SuperFilling) e = absurd cc
-flushing page (Toward to SuperFilled) e = absurd cc
-flushing page (Toward to SuperOpening) e = absurd cc
-flushing page (Retiring written) e = absurd cc
+flushing page _ e = absurd cc
 
 -- the part of a stage
 abbrev part_in : Part → Stage → Part

@@ -120,20 +120,9 @@ led_at_stage n stage log blocks b x led = record { past = led.past; position = l
 pub stands_at_stage : (n : Node) (stage : StageOf) (size : ℕ) (c : Checkpoint) (next : Stage) (log : Log) (blocks : List (List Judged)) (sealed : List Judged) (s t : States) (goal : State) → StandsAs n size c log blocks sealed s
     → CheckpointIs size (record c { stage = next }) n.base goal t → ((to : Next) (part : Part) → next ≡ Toward to part → IsLedTo n log blocks to.super goal) → LogIs (layout_of c.base.params) log (c.base.position + 1) blocks sealed t
     → StandsAs (at_stage stage n) size (record c { stage = next }) log blocks sealed t
-stands_at_stage n stage size c next log blocks sealed s t goal stands checkpoint toward is = record {
-  uuid = stands.uuid;
-  setting = stands.setting;
-  goal = goal;
-  checkpoint = checkpoint;
-  toward = λ to part e. led_at_stage n stage log blocks to.super goal (toward to part e);
-  start = stands.start;
-  log_is = is;
-  phase = stands.phase;
-  durable = stands.durable;
-  coming = stands.coming;
-  judged = stands.judged;
-  undefined = stands.undefined;
-}
+stands_at_stage n stage size c next log blocks sealed s t goal stands checkpoint toward is =
+    let led : (to : Next) (part : Part) → next ≡ Toward to part → IsLedTo (at_stage stage n) log blocks to.super goal = λ to part e. led_at_stage n stage log blocks to.super goal (toward to part e) in
+    search
 
 -- ---- without a cluster nothing is held
 

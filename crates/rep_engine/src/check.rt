@@ -110,9 +110,7 @@ impl<D: Disk> Engine<D> {
         the_stage_is_the_facts();
         versions_lead_to_the_state();
         judging_goes_on();
-        if self.halted.is_some() {
-            return Err(Refusal::Stopped);
-        }
+        self.running()?;
         match self.checkpoint.step_due() {
             Step::Begin => match self.begin(certifier) {
                 Ok(position) => Ok(Some(position)),

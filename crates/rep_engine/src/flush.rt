@@ -78,9 +78,7 @@ impl<D: Disk> Engine<D> {
         the_stage_is_the_facts();
         versions_lead_to_the_state();
         row_places_are_told();
-        if self.halted.is_some() {
-            return Err(Refusal::Stopped);
-        }
+        self.running()?;
         match u32::try_from(page) {
             Ok(page) => self.flush_page(page),
             Err(_) => Err(Refusal::NotDue),
