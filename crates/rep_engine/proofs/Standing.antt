@@ -6,6 +6,7 @@ use Rattle.rep_types.specs.declared.judged.Judged.{Judged}
 use Rattle.rep_types.specs.Settings.{Setting}
 use Rattle.rep_types.specs.Order.{State}
 use Rattle.rep_disk.specs.History.{History, stable, IsImage}
+use Rattle.rep_layout.specs.declared.place.Layout.{Layout}
 use Rattle.rep_layout.specs.declared.place.Place.{Place}
 use Rattle.rep_layout.specs.declared.place.Place.TheVariants.{Log as in_log}
 use Rattle.rep_layout.specs.declared.super_body.SuperBody.{SuperBody}
@@ -29,7 +30,14 @@ use Rattle.rep_checkpoint.specs.Standing.{Standing as Checkpoint}
 use Rattle.rep_checkpoint.specs.States.{CheckpointIs}
 use Rattle.rep_checkpoint.specs.Laws.{TheLogIsApart}
 use Rattle.rep_checkpoint.specs.Nodes.{IsLedTo, StandsAs, NodesLeaveTheirFronts}
-use Rattle.rep_engine.specs.Engines.{IsWhole}
+use Rattle.rep_engine.specs.Engines.{Engine, IsWhole}
+
+-- where the places of an engine lie by its parameters, and how many bytes its device has
+abbrev pub places : {D : Type 0} → Engine D → Layout
+places e = layout_of e.checkpoint.base.params
+
+abbrev pub long : {D : Type 0} → (D → History) → Engine D → ℕ
+long history e = length (stable (history e.disk))
 
 -- ---- a front of one node is one of another with the same base and items
 
