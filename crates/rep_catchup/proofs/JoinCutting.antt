@@ -173,17 +173,9 @@ module _ {D : Type 0} (honest : D → Type 0) (history : D → History) (failure
 
   -- records alone were taken
   pub short_records : (old new : Replica D) (uuid : List ℕ) (at : ℕ) (before : Option (List ℕ)) (e : Refusal) → Cut honest history failures old new before at e → IfSome before (NoSnapshotComes (facts_of failures old)) → CutShort honest history failures old new uuid before at e
-  short_records old new uuid at before e cut other = record {
-    snapshot = None;
-    comes = tt;
-    records = cut.records;
-    are_records = cut.are_records;
-    left = cut.left;
-    taken = cut.taken;
-    went = went_records honest history failures old new uuid cut.records cut.grown;
-    ends = cut.ends;
-    none = λ _ _ _ _. other;
-  }
+  short_records old new uuid at before e cut other =
+      let none : None {A = Snapshot} ≡ None → cut.records ≡ [] → (from : ℕ) → e ≡ Malformed from → IfSome before (NoSnapshotComes (facts_of failures old)) = λ _ _ _ _. other in
+      search (cut, went_records honest history failures old new uuid cut.records cut.grown)
 
   pub short_records_on : (old new : Replica D) (uuid : List ℕ) (at : ℕ) (before : Option (List ℕ)) (result : Result ℕ Refusal) → IfErr result (Cut honest history failures old new before at) → IfSome before (NoSnapshotComes (facts_of failures old))
       → IfErr result (CutShort honest history failures old new uuid before at)
