@@ -7,6 +7,7 @@ use Rattle.rep_disk.specs.declared.faulty.Call.TheVariants.{Read, Write, Sync}
 use Rattle.rep_disk.specs.declared.faulty.FaultyDisk.{FaultyDisk}
 use Rattle.rep_disk.specs.declared.fuse.Fuse.{Fuse}
 use Rattle.rep_disk.specs.declared.fault_once.Once.{Once}
+use Rattle.rep_disk.specs.declared.held.Held.{Held}
 use Rattle.rep_disk.specs.Calls.{IsCall}
 
 -- A call that fails on purpose answers a fault and leaves the disk inside untouched.
@@ -54,6 +55,10 @@ counted_down (Some (suc n)) = Some n
 -- It fails the call before which it passes none.
 abbrev pub CountsDown : Option ℕ → Option ℕ → Bool → Type 0
 CountsDown old new fails = ((fails ≡ true) ↔ (old ≡ Some 0)) × (new ≡ counted_down old)
+
+-- what lets its writes go
+abbrev pub hold_of : {H : Type 0} → Held H → H
+hold_of held = held.hold
 
 -- It may fail a write, and nothing else.
 abbrev pub HoldsBack : Call → Bool → Type 0

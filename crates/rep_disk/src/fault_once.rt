@@ -1,15 +1,27 @@
 //! A disk that fails one call.
-ghost use Rattle.std.specs.Prelude.{◌≡◌, ◌↔◌, Some};
+ghost use Rattle.std.specs.Prelude.{◌≡◌, Some};
 ghost use Rattle.rep_disk.specs.declared.faulty.Call.{Call as Calls};
 ghost use Rattle.rep_disk.specs.Fuses.{CountsDown};
 
-use crate::Disk;
 use crate::faulty::{Call, Faults, FaultyDisk};
 
-/// Fails one call; the first has number 0.
+/// Fails one call.
 #[derive(Drop)]
 pub struct Once {
     calls_before: Option<u64>,
+}
+
+impl Once {
+    ghost use Rattle.rep_disk.specs.Fuses.{calls_before};
+
+    /// Fails the call of this number alone, so after that many others: the first has number 0.
+    pub fn after(call: u64) -> Once
+        ensures { calls_before result ≡ Some call }
+    {
+        Once {
+            calls_before: Some(call),
+        }
+    }
 }
 
 impl Faults for Once {
@@ -32,22 +44,3 @@ impl Faults for Once {
 
 /// A disk that passes each call to the one inside but one, which it fails.
 pub type FaultOnce<D> = FaultyDisk<D, Once>;
-
-impl<D: Disk> FaultyDisk<D, Once> {
-    ghost use Rattle.rep_disk.specs.Fuses.{inside_of, faults_of, refusals_of, calls_before};
-
-    /// A disk that fails the call of this number alone, so after that many others.
-    pub fn new(inner: D, call: u64) -> FaultyDisk<D, Once>
-        ensures inner { inside_of result ≡ inner }
-        ensures calls { calls_before (faults_of result) ≡ Some call }
-        ensures refusals { refusals_of result ≡ 0 }
-        ensures honest { ⟦<FaultyDisk<D, Once> as Disk>⟧.honest result ↔ D.honest inner }
-    {
-        FaultyDisk::with(
-            inner,
-            Once {
-                calls_before: Some(call),
-            },
-        )
-    }
-}

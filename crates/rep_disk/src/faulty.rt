@@ -55,7 +55,7 @@ impl<D: Disk, F: Faults + Drop> FaultyDisk<D, F> {
     ghost use Rattle.rep_disk.specs.Fuses.{inside_of, faults_of, refusals_of};
 
     /// A disk with these faults.
-    pub fn with(inner: D, faults: F) -> FaultyDisk<D, F>
+    pub fn new(inner: D, faults: F) -> FaultyDisk<D, F>
         ensures inner { inside_of result ≡ inner }
         ensures faults { faults_of result ≡ faults }
         ensures refusals { refusals_of result ≡ 0 }

@@ -1,9 +1,8 @@
 //! A disk whose writes somebody holds back.
-ghost use Rattle.std.specs.Prelude.{◌≡◌, ◌↔◌};
+ghost use Rattle.std.specs.Prelude.{◌≡◌};
 ghost use Rattle.rep_disk.specs.declared.faulty.Call.{Call as Calls};
 ghost use Rattle.rep_disk.specs.Fuses.{HoldsBack};
 
-use crate::Disk;
 use crate::faulty::{Call, Faults, FaultyDisk};
 use crossbeam_utils::Backoff;
 
@@ -22,6 +21,17 @@ const TURNS: u32 = 1_000_000;
 #[derive(Drop)]
 pub struct Held<H: Hold> {
     hold: H,
+}
+
+impl<H: Hold> Held<H> {
+    ghost use Rattle.rep_disk.specs.Fuses.{hold_of};
+
+    /// Holds back what this does not let go.
+    pub fn by(hold: H) -> Held<H>
+        ensures { hold_of result ≡ hold }
+    {
+        Held { hold }
+    }
 }
 
 /// Asks until the write may go on, and says whether it may.
@@ -52,16 +62,3 @@ impl<H: Hold> Faults for Held<H> {
 /// A write that was not let go when it asked for the 1,000,000th time fails: it leaves the disk inside untouched, and is counted as a
 /// failure beside that disk's own.
 pub type HeldDisk<D, H> = FaultyDisk<D, Held<H>>;
-
-impl<D: Disk, H: Hold + Drop> FaultyDisk<D, Held<H>> {
-    ghost use Rattle.rep_disk.specs.Fuses.{inside_of, refusals_of};
-
-    /// A disk whose writes this holds back.
-    pub fn new(inner: D, hold: H) -> FaultyDisk<D, Held<H>>
-        ensures inner { inside_of result ≡ inner }
-        ensures refusals { refusals_of result ≡ 0 }
-        ensures honest { ⟦<FaultyDisk<D, Held<H>> as Disk>⟧.honest result ↔ D.honest inner }
-    {
-        FaultyDisk::with(inner, Held { hold })
-    }
-}
