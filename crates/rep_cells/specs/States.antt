@@ -102,29 +102,19 @@ filling body (Stable before) = Unknown
 
 -- What writing the open gate makes of a cell: only over a stable body is it known what the cell then reads as.
 abbrev pub opening : State → State
-opening Unknown = Unknown
-opening Shutting = Unknown
-opening Closed = Unknown
-opening (Filling body) = Unknown
 opening (Filled body) = Opening body
 opening (Opening body) = Opening body
 opening (Opened body) = Opening body
 opening (Closing body) = Opening body
-opening (Pending body) = Unknown
-opening (Stable body) = Unknown
+opening state = Unknown
 
 -- What writing the closed gate makes of a cell. A gate that was closed is so no more in every image: this write may tear.
 abbrev pub closing : State → State
-closing Unknown = Shutting
-closing Shutting = Shutting
-closing Closed = Shutting
-closing (Filling body) = Shutting
 closing (Filled body) = Closing body
 closing (Opening body) = Closing body
 closing (Opened body) = Closing body
 closing (Closing body) = Closing body
-closing (Pending body) = Shutting
-closing (Stable body) = Shutting
+closing state = Shutting
 
 -- what writing a body makes of an area
 abbrev pub writing : List ℕ → State → State
