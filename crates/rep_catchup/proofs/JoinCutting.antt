@@ -23,7 +23,7 @@ use Rattle.rep_transfer.specs.Taking.{counted, BeginWithNone}
 use Rattle.rep_transfer.specs.Transfers.{Snapshot, SnapshotFits, front_of, rest_of, snapshot_bytes, snapshot_part, record_part, PartFits, part_bytes}
 use Rattle.rep_catchup.specs.Snapshots.{Brought, NoneComes, BringsEarly, LeavesSnapshot}
 use Rattle.rep_catchup.specs.Growing.{Grown}
-use Rattle.rep_catchup.specs.Joining.{JoinsEarly, Follows, Followed, MayFollow, NoneFollows, NoSnapshotComes, EndsHere, IsOut, Cut, CutShort, TakesHeader, RefusesHeader, Ended}
+use Rattle.rep_catchup.specs.Joining.{JoinsEarly, Went, Follows, Followed, MayFollow, NoneFollows, NoSnapshotComes, EndsHere, IsOut, Cut, CutShort, TakesHeader, RefusesHeader, Ended}
 use Rattle.rep_catchup.proofs.JoinGrowing.{early_work, grown_none, grown_then}
 use Rattle.rep_catchup.proofs.JoinTaking.{same_part}
 use Rattle.rep_catchup.proofs.JoinFollowing.{all_both, flat_both}
@@ -95,6 +95,21 @@ module _ {D : Type 0} (honest : D → Type 0) (history : D → History) (failure
 
   -- ---- records that were taken
 
+  -- where nothing was taken
+  short_nothing : (old new : Replica D) (uuid : List ℕ) (at : ℕ) (before : Option (List ℕ)) (e : Refusal) → counted at 0 ≡ at → Went honest history failures old new uuid None [] → EndsHere honest history failures new at before e
+      → ((k : ℕ) → e ≡ Malformed k → IfSome before (NoSnapshotComes (facts_of failures old))) → CutShort honest history failures old new uuid before at e
+  short_nothing old new uuid at before e small went ends none = record {
+    snapshot = None;
+    comes = tt;
+    records = [];
+    are_records = tt;
+    left = before;
+    taken = Consumes-nil before;
+    went = went;
+    ends = subst (λ k. EndsHere honest history failures new k before e) (sym small) ends;
+    none = λ _ _ k is. none k is;
+  }
+
   module _ (by_items : HistoryByItems) (joined : RunsAreJoined honest history failures) where
     -- behind those that were taken no more
     cut_at : (old now new : Replica D) (start at : ℕ) (first before : Option (List ℕ)) (e : Refusal) → counted at 0 ≡ at → Followed honest history failures old now start at first before None → Grown honest history failures now new [] → EndsHere honest history failures new at before e
@@ -159,31 +174,14 @@ module _ {D : Type 0} (honest : D → Type 0) (history : D → History) (failure
     -- nothing was taken
     pub short_none : (old : Replica D) (uuid : List ℕ) (at : ℕ) (before : Option (List ℕ)) (e : Refusal) → counted at 0 ≡ at → EndsHere honest history failures old at before e → ((k : ℕ) → e ≡ Malformed k → IfSome before (NoSnapshotComes (facts_of failures old)))
         → CutShort honest history failures old old uuid before at e
-    short_none old uuid at before e small ends none = record {
-      snapshot = None;
-      comes = tt;
-      records = [];
-      are_records = tt;
-      left = before;
-      taken = Consumes-nil before;
-      went = went_records honest history failures old old uuid [] (grown_none by_items honest history failures joined old);
-      ends = subst (λ k. EndsHere honest history failures old k before e) (sym small) ends;
-      none = λ _ _ k is. none k is;
-    }
+    short_none old uuid at before e small ends none = short_nothing old old uuid at before e small (went_records honest history failures old old uuid [] (grown_none by_items honest history failures joined old)) ends none
 
   -- records alone were taken
   pub short_records : (old new : Replica D) (uuid : List ℕ) (at : ℕ) (before : Option (List ℕ)) (e : Refusal) → Cut honest history failures old new before at e → IfSome before (NoSnapshotComes (facts_of failures old)) → CutShort honest history failures old new uuid before at e
-  short_records old new uuid at before e cut other = record {
-    snapshot = None;
-    comes = tt;
-    records = cut.records;
-    are_records = cut.are_records;
-    left = cut.left;
-    taken = cut.taken;
-    went = went_records honest history failures old new uuid cut.records cut.grown;
-    ends = cut.ends;
-    none = λ _ _ _ _. other;
-  }
+  short_records old new uuid at before e cut other =
+      let nothing : Option Snapshot = None in
+      let none : nothing ≡ None → cut.records ≡ [] → (from : ℕ) → e ≡ Malformed from → IfSome before (NoSnapshotComes (facts_of failures old)) = λ _ _ _ _. other in
+      search (cut, went_records honest history failures old new uuid cut.records cut.grown)
 
   pub short_records_on : (old new : Replica D) (uuid : List ℕ) (at : ℕ) (before : Option (List ℕ)) (result : Result ℕ Refusal) → IfErr result (Cut honest history failures old new before at) → IfSome before (NoSnapshotComes (facts_of failures old))
       → IfErr result (CutShort honest history failures old new uuid before at)
@@ -225,17 +223,7 @@ module _ {D : Type 0} (honest : D → Type 0) (history : D → History) (failure
             none y rest fit (sym part) (behind_same front (front_of y) behind (rest_of y ++ rest) part same) snapshot later
 
     pub short_left : BringsEarly (facts_of failures old) front at left e → LeavesSnapshot honest history failures old new uuid front start left e → CutShort honest history failures old new uuid before at e
-    short_left early (inl given) = record {
-      snapshot = None;
-      comes = tt;
-      records = [];
-      are_records = tt;
-      left = before;
-      taken = Consumes-nil before;
-      went = went_nowhere honest history failures by_items old new uuid given;
-      ends = subst (λ k. EndsHere honest history failures new k before e) (sym small) (ends_early early);
-      none = λ _ _ k is. none_here k is early;
-    }
+    short_left early (inl given) = short_nothing old new uuid at before e small (went_nowhere honest history failures by_items old new uuid given) (ends_early early) (λ k is. none_here k is early)
     short_left early (inr (fault, b)) = record {
       snapshot = Some b.snapshot;
       comes = (b.takes.fits, b.takes.is_snapshot, b.takes.later);

@@ -1,5 +1,6 @@
 -- What is known of a place, whatever a stop may leave of it.
-use Rattle.std.specs.Prelude.{◌≡◌, ◌⊎◌, List, ℕ, Option, None, Some}
+use Rattle.std.specs.Prelude.{◌≡◌, ◌⊎◌, List, ℕ, Option, None, Some, option_map}
+use Rattle.std.specs.Option.{unwrap_or}
 use Rattle.rep_layout.specs.declared.place.Layout.{Layout}
 use Rattle.rep_layout.specs.declared.place.Place.{Place}
 use Rattle.rep_cells.specs.Readings.{IsPlace, Reading}
@@ -100,31 +101,21 @@ filling body (Closing before) = Shutting
 filling body (Pending before) = Unknown
 filling body (Stable before) = Unknown
 
+-- the stable body of a cell, where there is one
+abbrev pub stable_in : State → Option (List ℕ)
+stable_in (Filled body) = Some body
+stable_in (Opening body) = Some body
+stable_in (Opened body) = Some body
+stable_in (Closing body) = Some body
+stable_in state = None
+
 -- What writing the open gate makes of a cell: only over a stable body is it known what the cell then reads as.
 abbrev pub opening : State → State
-opening Unknown = Unknown
-opening Shutting = Unknown
-opening Closed = Unknown
-opening (Filling body) = Unknown
-opening (Filled body) = Opening body
-opening (Opening body) = Opening body
-opening (Opened body) = Opening body
-opening (Closing body) = Opening body
-opening (Pending body) = Unknown
-opening (Stable body) = Unknown
+opening state = unwrap_or (option_map Opening (stable_in state)) Unknown
 
 -- What writing the closed gate makes of a cell. A gate that was closed is so no more in every image: this write may tear.
 abbrev pub closing : State → State
-closing Unknown = Shutting
-closing Shutting = Shutting
-closing Closed = Shutting
-closing (Filling body) = Shutting
-closing (Filled body) = Closing body
-closing (Opening body) = Closing body
-closing (Opened body) = Closing body
-closing (Closing body) = Closing body
-closing (Pending body) = Shutting
-closing (Stable body) = Shutting
+closing state = unwrap_or (option_map Closing (stable_in state)) Shutting
 
 -- what writing a body makes of an area
 abbrev pub writing : List ℕ → State → State

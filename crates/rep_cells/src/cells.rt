@@ -88,6 +88,18 @@ impl<D: Disk> Cells<D> {
         self.disk.write_at(self.layout.offset(cell), body)
     }
 
+    /// Writes a cell's gate, whose first byte is this one.
+    fn write_gate(&mut self, cell: Place, first: u8) -> Result<(), DiskFault>
+        requires { IsCell (layout_of self.old) cell }
+        ensures call { IsCall D.size D.failures D.honest (disk_of self.old) (disk_of self.new) result }
+        ensures layout { layout_of self.new ≡ layout_of self.old }
+        ensures written { WritesOnly D.honest D.history (gate_of (layout_of self.old) cell) (gate first) (disk_of self.old) (disk_of self.new) result }
+        ensures inside { WritesIn D.honest D.history (layout_of self.old) cell (disk_of self.old) (disk_of self.new) result }
+    {
+        self.disk
+            .write_at(self.layout.gate(cell), &gate_sector(first))
+    }
+
     /// Writes an open gate behind a body that has to be stable: the cell reads as nothing or as
     /// its body, and as its body from the next successful sync on.
     pub fn open_gate(&mut self, cell: Place) -> Result<(), DiskFault>
@@ -98,8 +110,7 @@ impl<D: Disk> Cells<D> {
         ensures inside { WritesIn D.honest D.history (layout_of self.old) cell (disk_of self.old) (disk_of self.new) result }
         ensures states { StepsAt D.honest D.history (layout_of self.old) cell opening (disk_of self.old) (disk_of self.new) result }
     {
-        self.disk
-            .write_at(self.layout.gate(cell), &gate_sector(OPEN))
+        self.write_gate(cell, OPEN)
     }
 
     /// Writes a closed gate: an opened cell reads as nothing or as its body, and as nothing from
@@ -112,8 +123,7 @@ impl<D: Disk> Cells<D> {
         ensures inside { WritesIn D.honest D.history (layout_of self.old) cell (disk_of self.old) (disk_of self.new) result }
         ensures states { StepsAt D.honest D.history (layout_of self.old) cell closing (disk_of self.old) (disk_of self.new) result }
     {
-        self.disk
-            .write_at(self.layout.gate(cell), &gate_sector(CLOSED))
+        self.write_gate(cell, CLOSED)
     }
 
     /// Writes an area's body, which stands there from the next successful sync on.

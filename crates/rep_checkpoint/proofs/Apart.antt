@@ -1,14 +1,15 @@
 -- Log and checkpoint have no place in common.
-use Rattle.std.proofs.Common.{◌≡◌, ◌≢◌, sym, subst, ◌∙◌, ℕ, ◌+◌, ◌%◌, List, [], ◌∷◌, length}
+use Rattle.std.proofs.Common.{◌≡◌, ◌≢◌, sym, subst, ◌∙◌, ℕ, ◌+◌, ◌%◌, ◌<◌, List, [], ◌∷◌, length}
 use Rattle.rep_types.specs.declared.judged.Judged.{Judged}
 use Rattle.rep_types.specs.Order.{State}
 use Rattle.rep_layout.specs.declared.super_body.SuperBody.{SuperBody}
 use Rattle.rep_layout.specs.declared.place.Layout.{Layout}
 use Rattle.rep_layout.specs.declared.place.Place.{Place}
 use Rattle.rep_layout.specs.declared.place.Place.TheVariants.{Super, Window, Log, Page}
+use Rattle.rep_layout.specs.Places.{log_of}
 use Rattle.rep_cells.specs.States.{States}
 use Rattle.rep_log.specs.Tail.{Stand}
-use Rattle.rep_log.specs.Standing.{stands_at, AtRest, IsDue, StandsOpen}
+use Rattle.rep_log.specs.Standing.{stands_at, busy, AtRest, IsDue, StandsOpen}
 use Rattle.rep_checkpoint.specs.declared.stage.Stage.{Stage}
 use Rattle.rep_checkpoint.specs.declared.stage.Stage.TheVariants.{Off, Toward, Retiring}
 use Rattle.rep_checkpoint.specs.Standing.{spare_side}
@@ -40,16 +41,8 @@ stand_as l s t n first [] same h = tt
 stand_as l s t n first (records ∷ blocks) same h = (same _ ∙ h.0, h.1, stand_as l s t (n + 1) (first + length records) blocks same h.2)
 
 pub checkpoint_apart : TheCheckpointIsApart
-checkpoint_apart l log first blocks sealed s t same is = record {
-  cells = is.cells;
-  some = is.some;
-  known = is.known;
-  starts = is.starts;
-  limit = is.limit;
-  live = stand_as l s t log.start first blocks same is.live;
-  next = is.next;
-  seqno = is.seqno;
-  room = is.room;
-  rest = λ i lt other. subst (AtRest (stands_at log i) l i log.next) (sym (same i)) (is.rest i lt other);
-  due = subst (IsDue log.phase l (log.next % l.cells) log.next log.seqno sealed) (sym (same _)) is.due;
-}
+checkpoint_apart l log first blocks sealed s t same is =
+    let live : Stand (StandsOpen t l) log.start first blocks = stand_as l s t log.start first blocks same is.live in
+    let rest : (i : ℕ) → i < l.cells → (busy log.phase ≡ 1 → i ≢ log.next % l.cells) → AtRest (stands_at log i) l i log.next (t (Log i)) = λ i lt other. subst (AtRest (stands_at log i) l i log.next) (sym (same i)) (is.rest i lt other) in
+    let due : IsDue log.phase l (log.next % l.cells) log.next log.seqno sealed (t (log_of l log.next)) = subst (IsDue log.phase l (log.next % l.cells) log.next log.seqno sealed) (sym (same _)) is.due in
+    search

@@ -84,20 +84,7 @@ shut_checkpoint size c x y s off is = record {
 module _ (n : Node) (size : ℕ) (c : Standing) (log : Log) (blocks : List (List Judged)) (sealed : List Judged) (s t : States) (off : c.stage ≡ Off) (stands : StandsAs n size c log blocks sealed s) (base : IsBase size c.base n.base t) where
   -- it stands where its base and its log do
   stands_with : LogIs (layout_of c.base.params) log (c.base.position + 1) blocks sealed (shut t (spare_side c.base)) → StandsAs n size c log blocks sealed (shut t (spare_side c.base))
-  stands_with log_is = record {
-    uuid = stands.uuid;
-    setting = stands.setting;
-    goal = stands.goal;
-    checkpoint = shut_checkpoint size c n.base stands.goal t off base;
-    toward = stands.toward;
-    start = stands.start;
-    log_is = log_is;
-    phase = stands.phase;
-    durable = stands.durable;
-    coming = stands.coming;
-    judged = stands.judged;
-    undefined = stands.undefined;
-  }
+  stands_with log_is = search (shut_checkpoint size c n.base stands.goal t off base)
 
   -- as it does where no cell of the log has changed
   stands_on : ((j : ℕ) → t (LogCell j) ≡ s (LogCell j)) → StandsAs n size c log blocks sealed (shut t (spare_side c.base))

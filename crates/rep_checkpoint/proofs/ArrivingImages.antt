@@ -42,22 +42,10 @@ empty_behind r l start first at seqno held holds at_is starts limit =
 -- An image that has the snapshot as its base means it, and nothing behind it: the log from the snapshot's first cell on is empty.
 means_brought : (image : List ℕ) (base : SuperBody) (i : Coming) (y : State) → IsComing base i.next → HasBase (length image) (reading_of (layout_of base.params) image) i.next.super y
     → IsLog (reading_of (layout_of base.params) image) (layout_of base.params) i.next.super.start (i.next.super.position + 1) [] → Means image (brought i y)
-means_brought image base i y coming has log = record {
-  super = i.next.super;
-  means = subst (λ (p : Setting). MeansBy (length image) i.next.super (reading_of (layout_of p) image) (brought i y)) (sym coming.params) (record {
-    chosen = has.chosen;
-    uuid = refl;
-    setting = refl;
-    position = has.position;
-    window = has.window;
-    content = has.content;
-    blocks = [];
-    log = subst (λ (p : Setting). IsLog (reading_of (layout_of base.params) image) (layout_of p) i.next.super.start (i.next.super.position + 1) []) (sym coming.params) log;
-    undefined = λ nil. refl;
-    tail = refl;
-    judged = tt;
-  });
-}
+means_brought image base i y coming has log =
+    let none : IsLog (reading_of (layout_of base.params) image) (layout_of i.next.super.params) i.next.super.start (i.next.super.position + 1) [] =
+    subst (λ (p : Setting). IsLog (reading_of (layout_of base.params) image) (layout_of p) i.next.super.start (i.next.super.position + 1) []) (sym coming.params) log in
+    record { super = i.next.super; means = subst (λ (p : Setting). MeansBy (length image) i.next.super (reading_of (layout_of p) image) (brought i y)) (sym coming.params) (search (has, none)) }
 
 pub leave_the_old_or_the_new : JudgingGoesOn → LogsEndInTheirNode → TheOldBaseOrTheSnapshot → TheLogInEveryImage → InstallationsLeaveTheOldOrTheNew
 leave_the_old_or_the_new goes logs_end base law image n c i y log blocks sealed s is h allowed =

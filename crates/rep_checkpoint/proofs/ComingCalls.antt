@@ -25,7 +25,7 @@ use Rattle.rep_checkpoint.specs.declared.stage.Part.TheVariants.{Flushing}
 use Rattle.rep_checkpoint.specs.Pages.{PutsPage}
 use Rattle.rep_checkpoint.specs.Coming.{Coming, IsComing, IsNewPage, placed}
 use Rattle.rep_checkpoint.specs.Installing.{InstallsPage}
-use Rattle.rep_checkpoint.proofs.GoingOn.{ok_as, err_as, if_ok}
+use Rattle.rep_checkpoint.proofs.GoingOn.{if_ok, writes_as, reaches_as}
 use Rattle.rep_checkpoint.proofs.Reading.{written_agrees}
 use Rattle.rep_checkpoint.proofs.ComingPages.{is_within, page_stays, page_came}
 
@@ -44,7 +44,7 @@ comes {D} told honest history l base page rows before after body old new result 
     record {
       done = done;
       fault = failed;
-      written = λ h. record { bytes = put.bytes; size = put.size; writes = record { done = ok_as result _ (written h).done; failed = err_as result _ only (written h).failed } };
+      written = λ h. record { bytes = put.bytes; size = put.size; writes = writes_as (offset_of l (Page page (spare_slot (state_of_page base page)))) put.bytes (history old) (history new) result only (written h) };
       steps = λ h size s x y assigns is.
           let step = steps h s assigns in
           record {
@@ -52,7 +52,7 @@ comes {D} told honest history l base page rows before after body old new result 
             elsewhere = λ n. step.moves.elsewhere (Log n) (λ e. absurd cc);
             during_is = page_stays size base before x y s step.after page new_page.new is step.moves.elsewhere;
             after_is = if_ok result _ (page_came size base before x y s step.after page new_page.new is step.moves.elsewhere rows due (is_within told base before.next page rows coming new_page) body put.bytes body_is put.is_page step.moves.there);
-            reaches = record { ok = ok_as result _ step.reaches.ok; images = step.reaches.images; moments = step.reaches.moments };
+            reaches = reaches_as l (history old) (history new) step.after step.after result step.reaches;
           };
     }
 

@@ -23,16 +23,10 @@ use Rattle.rep_checkpoint.proofs.ComingOn.{coming_as}
 
 -- a snapshot whose gate opens
 opens : (size : ℕ) (base : SuperBody) (i : Coming) (x y : State) (s : States) → i.part ≡ SuperOpening → InstallationIs size base i x y s → IsOpening base i.next y s
-opens size base i x y s at is = record {
-  is_super = is.coming.is_super;
-  number = is.coming.number;
-  params = is.coming.params;
-  is_window = is.coming.is_window;
-  position = is.position;
-  entries = is.entries;
-  saved = subst (λ (part : Part). IsFar part (spare_side base) i.next y s) at is.far;
-  cell = is.cell ∙ ap (λ (part : Part). cell_in part (super_bytes i.next.super)) at;
-}
+opens size base i x y s at is =
+    let saved : IsFar SuperOpening (spare_side base) i.next y s = subst (λ (part : Part). IsFar part (spare_side base) i.next y s) at is.far in
+    let cell : s (Super (spare_side base)) ≡ cell_in SuperOpening (super_bytes i.next.super) = is.cell ∙ ap (λ (part : Part). cell_in part (super_bytes i.next.super)) at in
+    search
 
 -- ---- a sync
 

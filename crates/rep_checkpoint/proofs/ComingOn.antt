@@ -1,5 +1,5 @@
 -- The write that comes next of a snapshot.
-use Rattle.std.proofs.Common.{◌≡◌, sym, ap, subst, ◌∙◌, ℕ, Result, OnOk, OnErr, IfErr}
+use Rattle.std.proofs.Common.{◌≡◌, ap, ◌∙◌, ℕ, Result, OnOk, OnErr, IfErr}
 use Rattle.rep_types.specs.declared.refusal.Refusal.{Refusal}
 use Rattle.rep_types.specs.declared.refusal.Refusal.TheVariants.{DiskFault}
 use Rattle.rep_types.specs.Order.{State}
@@ -7,7 +7,7 @@ use Rattle.rep_disk.specs.History.{History}
 use Rattle.rep_disk.specs.declared.disk.DiskFault.{DiskFault as Fault}
 use Rattle.rep_layout.specs.declared.super_body.SuperBody.{SuperBody}
 use Rattle.rep_layout.specs.declared.place.Layout.{Layout}
-use Rattle.rep_layout.specs.declared.place.Place.TheVariants.{Super, Log}
+use Rattle.rep_layout.specs.declared.place.Place.TheVariants.{Super}
 use Rattle.rep_layout.specs.Supers.{super_bytes}
 use Rattle.rep_cells.specs.States.{States, filling, opening, Moves}
 use Rattle.rep_cells.specs.Calls.{WritesOnly, WritesIn, StepsAt}
@@ -23,7 +23,7 @@ use Rattle.rep_checkpoint.specs.Calls.{next_place, next_step, next_offset, next_
 use Rattle.rep_checkpoint.specs.Coming.{Coming, IsDue, InstallationIs, gone}
 use Rattle.rep_checkpoint.specs.Installing.{InstallsNext}
 use Rattle.rep_checkpoint.proofs.Frames.{saved_as}
-use Rattle.rep_checkpoint.proofs.GoingOn.{super_base, window_base, all_flushed, no_log, ok_as, err_as, if_ok}
+use Rattle.rep_checkpoint.proofs.GoingOn.{super_base, window_base, all_flushed, writes_stage}
 
 -- it comes as far as its window, its pages and its superblock's cell do, beside a base that stays
 pub coming_as : {size : ℕ} {base : SuperBody} {next : Next} {x y : State} {s t : States} (part to : Part) → InstallationIs size base (record { next = next; part = part }) x y s
@@ -49,24 +49,6 @@ pub goes_next :
     → IsDue before.part → fault_of result ≡ answer → OnOk result (after ≡ gone before) → OnErr result (after ≡ before) → IfErr result (λ e. e ≡ DiskFault)
     → WritesOnly honest history (next_offset l base (Toward before.next before.part)) (next_bytes (Toward before.next before.part)) old new answer → WritesIn honest history l (next_place base (Toward before.next before.part)) old new answer
     → StepsAt honest history l (next_place base (Toward before.next before.part)) (next_step (Toward before.next before.part)) old new answer → InstallsNext honest history l base before after old new result
-goes_next {D} honest history l base before after old new answer result due fault done failed only written inside steps =
-    let stage = Toward before.next before.part in
-    let wrote = subst (λ (r : Result (Unit {0}) Fault). WritesOnly honest history (next_offset l base stage) (next_bytes stage) old new r) (sym fault) written in
-    let wrote_in = subst (λ (r : Result (Unit {0}) Fault). WritesIn honest history l (next_place base stage) old new r) (sym fault) inside in
-    let stepped = subst (λ (r : Result (Unit {0}) Fault). StepsAt honest history l (next_place base stage) (next_step stage) old new r) (sym fault) steps in
-    record {
-      done = done;
-      fault = failed;
-      written = λ h. record { done = ok_as result _ (wrote h).done; failed = err_as result _ only (wrote h).failed };
-      inside = λ h. ok_as result _ (wrote_in h);
-      steps = λ h size s x y assigns is.
-          let step = stepped h s assigns in
-          let then = goes size base before.next before.part x y s step.after due is step.moves in
-          record {
-            states = step.after;
-            elsewhere = λ n. step.moves.elsewhere (Log n) (no_log base stage n);
-            during_is = then;
-            after_is = if_ok result _ then;
-            reaches = record { ok = ok_as result _ step.reaches.ok; images = step.reaches.images; moments = step.reaches.moments };
-          };
-    }
+goes_next honest history l base before after old new answer result due fault done failed only written inside steps =
+    let w = writes_stage honest history l base (Toward before.next before.part) old new answer result fault only written inside steps in
+    record { done = done; fault = failed; written = w.written; inside = w.inside; steps = λ h size s x y assigns is. w.steps h s assigns _ (λ t moves. goes size base before.next before.part x y s t due is moves) }

@@ -18,7 +18,7 @@ use Rattle.rep_pages.specs.Pages.{IsPageBody}
 use Rattle.rep_pages.specs.Slots.{state_of_page, spare_slot}
 use Rattle.rep_steps.specs.Standings.{flush_refusal as flush_refusal_at}
 use Rattle.rep_image.specs.Bases.{IsPageOf}
-use Rattle.rep_checkpoint.specs.declared.stage.Part.TheVariants.{Flushing, Saving, Ready, SuperFilling, SuperFilled, SuperOpening}
+use Rattle.rep_checkpoint.specs.declared.stage.Part.TheVariants.{Flushing}
 use Rattle.rep_checkpoint.specs.declared.stage.Stage.{Stage}
 use Rattle.rep_checkpoint.specs.declared.stage.Stage.TheVariants.{Off, Toward, Retiring}
 use Rattle.rep_checkpoint.specs.Next.{Next, is_in}
@@ -57,18 +57,12 @@ pub record IsLeft (page : ℕ) (stage : Stage) : Type 0 where
   pub left : is_in next.left page ≡ true
 
 is_left : (page : ℕ) (stage : Stage) → flush_refusal_at (stage_in stage) page ≡ None → IsLeft page stage
-is_left page Off e = absurd cc
 is_left page (Toward next Flushing) e = record { next = next; stage_is = refl; left = by (is_in next.left page) e }
   where
     by : (b : Bool) → cond b None (Some NotDue) ≡ None → b ≡ true
     by true f = refl
     by false f = absurd cc
-is_left page (Toward next Saving) e = absurd cc
-is_left page (Toward next Ready) e = absurd cc
-is_left page (Toward next SuperFilling) e = absurd cc
-is_left page (Toward next SuperFilled) e = absurd cc
-is_left page (Toward next SuperOpening) e = absurd cc
-is_left page (Retiring written) e = absurd cc
+is_left page _ e = absurd cc
 
 pub left_of : (l : Layout) (c : Standing) (page : ℕ) → flush_refusal l c page ≡ None → IsLeft page c.stage
 left_of l c page e = is_left page c.stage (here l c _ e)

@@ -12,7 +12,7 @@ use Rattle.rep_layout.specs.declared.place.Side.TheVariants.{A, B}
 use Rattle.rep_layout.specs.declared.place.Slot.{Slot}
 use Rattle.rep_layout.specs.declared.place.Slot.TheVariants.{First, Second}
 use Rattle.rep_layout.specs.declared.place.Place.{Place}
-use Rattle.rep_layout.specs.declared.place.Place.TheVariants.{Super, Window, Log, Page}
+use Rattle.rep_layout.specs.declared.place.Place.TheVariants.{Super, Window, Page}
 use Rattle.rep_layout.specs.Places.{side_of, TurnsAreTaken}
 use Rattle.rep_layout.specs.Supers.{IsSuper, super_bytes}
 use Rattle.rep_layout.specs.Windows.{IsWindowBody}
@@ -30,20 +30,15 @@ use Rattle.rep_checkpoint.specs.States.{IsBase, IsFlushing, IsSaving, IsSaved, I
 abbrev pub side_in : Place → Side
 side_in (Super side) = side
 side_in (Window side) = side
-side_in (Log i) = A
-side_in (Page page slot) = A
+side_in place = A
 
 abbrev pub slot_in : Place → Slot
-slot_in (Super side) = First
-slot_in (Window side) = First
-slot_in (Log i) = First
 slot_in (Page page slot) = slot
+slot_in place = First
 
 abbrev pub page_number : Place → ℕ
-page_number (Super side) = 0
-page_number (Window side) = 0
-page_number (Log i) = i
 page_number (Page page slot) = page
+page_number place = 0
 
 pub other_side : (side : Side) → side ≢ other side
 other_side A e = absurd cc
@@ -149,16 +144,7 @@ pub record IsOpening (base : SuperBody) (next : Next) (y : State) (s : States) :
 
 -- a checkpoint's next base is one
 pub toward_opens : (base : SuperBody) (next : Next) (y : State) (s : States) → IsToward base next SuperOpening y s → IsOpening base next y s
-toward_opens base next y s h = record {
-  is_super = h.follows.is_super;
-  number = h.follows.number;
-  params = h.follows.params;
-  is_window = h.follows.is_window;
-  position = h.position;
-  entries = h.entries;
-  saved = h.far;
-  cell = h.cell;
-}
+toward_opens base next y s h = search
 
 -- the next base comes as far as its window, its pages and its superblock's cell do
 pub toward_as : {base : SuperBody} {next : Next} {y : State} {s t : States} (part to : Part) → IsToward base next part y s → IsFar to (spare_side base) next y t → t (Super (spare_side base)) ≡ cell_in to (super_bytes next.super) → IsToward base next to y t

@@ -12,7 +12,8 @@ use Rattle.rep_layout.specs.declared.place.Place.TheVariants.{Super, Window, Log
 use Rattle.rep_layout.specs.Supers.{super_bytes}
 use Rattle.rep_layout.specs.Windows.{window_bytes}
 use Rattle.rep_cells.specs.States.{States, State as StateOf, Pending, filling, opening, closing, Moves}
-use Rattle.rep_cells.specs.Calls.{WritesOnly, WritesIn, StepsAt}
+use Rattle.rep_cells.specs.Calls.{Writes, WritesOnly, WritesIn, StepsAt, Reaches}
+use Rattle.rep_cells.specs.Known.{Assigns}
 use Rattle.rep_log.specs.Moves.{fault_of}
 use Rattle.rep_steps.specs.Standings.{part_refusal}
 use Rattle.rep_checkpoint.specs.declared.stage.Part.TheVariants.{Flushing, Saving, Ready, SuperFilling, SuperFilled, SuperOpening}
@@ -22,7 +23,7 @@ use Rattle.rep_checkpoint.specs.Next.{Next, is_in, window_of}
 use Rattle.rep_checkpoint.specs.Standing.{Standing, spare_side, stage_in}
 use Rattle.rep_checkpoint.specs.Moves.{next_refusal_at, unless_other, next_refusal, gone_in, gone_on, is_layout}
 use Rattle.rep_checkpoint.specs.States.{CheckpointIs, IsBase, IsFlushing, IsSaving}
-use Rattle.rep_checkpoint.specs.Calls.{next_place, next_step, next_offset, next_bytes, GoesOn}
+use Rattle.rep_checkpoint.specs.Calls.{next_place, next_step, next_offset, next_bytes, StepsTo, GoesOn}
 use Rattle.rep_checkpoint.proofs.Frames.{super_apart, window_apart, PagesStay, base_as, written_as, saved_as, toward_as}
 
 -- ---- in the states
@@ -110,6 +111,13 @@ pub if_ok : {T E : Type 0} (result : Result T E) (P : Type 0) → P → OnOk res
 if_ok (Ok x) P h = h
 if_ok (Err e) P h = tt
 
+-- What the device answered a write is what is answered of it: that comes to the same, and is of these bytes alone.
+pub reaches_as : (l : Layout) (old new : History) (during after : States) (result : Result (Unit {0}) Refusal) → Reaches l old new during after (fault_of result) → Reaches l old new during after result
+reaches_as l old new during after result h = record { ok = ok_as result _ h.ok; images = h.images; moments = h.moments }
+
+pub writes_as : (at : ℕ) (bytes : List ℕ) (old new : History) (result : Result (Unit {0}) Refusal) → IfErr result (λ e. e ≡ DiskFault) → Writes at bytes old new (fault_of result) → Writes at bytes old new result
+writes_as at bytes old new result only h = record { done = ok_as result _ h.done; failed = err_as result _ only h.failed }
+
 -- the refusal that comes on these places
 pub here : (l : Layout) (c : Standing) (refusal : Option Refusal) → unless_other l c refusal ≡ None → refusal ≡ None
 here l c refusal e = by (is_layout l _) e
@@ -118,28 +126,41 @@ here l c refusal e = by (is_layout l _) e
     by true f = f
     by false f = absurd cc
 
+-- What the write that comes next did, as it is answered: it is of these bytes alone, in that place; and what stands in the states that
+-- it makes of those before it stands so during the call and after it.
+pub record WritesStage {D : Type 0} (honest : D → Type 0) (history : D → History) (l : Layout) (base : SuperBody) (stage : Stage) (old new : D) (result : Result (Unit {0}) Refusal) : Type 1 where
+  pub written : WritesOnly honest history (next_offset l base stage) (next_bytes stage) old new result
+  pub inside : WritesIn honest history l (next_place base stage) old new result
+  pub steps : honest old → (s : States) → Assigns l (history old) s → (Stands : States → Type 0) → ((t : States) → Moves s t (next_place base stage) (next_step stage) → Stands t) → StepsTo l (history old) (history new) s Stands Stands result
+
+pub writes_stage :
+    {D : Type 0} (honest : D → Type 0) (history : D → History) (l : Layout) (base : SuperBody) (stage : Stage) (old new : D) (answer : Result (Unit {0}) Fault) (result : Result (Unit {0}) Refusal) → fault_of result ≡ answer → IfErr result (λ e. e ≡ DiskFault)
+    → WritesOnly honest history (next_offset l base stage) (next_bytes stage) old new answer → WritesIn honest history l (next_place base stage) old new answer → StepsAt honest history l (next_place base stage) (next_step stage) old new answer
+    → WritesStage honest history l base stage old new result
+writes_stage honest history l base stage old new answer result fault only written inside steps =
+    let wrote = subst (λ (r : Result (Unit {0}) Fault). WritesOnly honest history (next_offset l base stage) (next_bytes stage) old new r) (sym fault) written in
+    let wrote_in = subst (λ (r : Result (Unit {0}) Fault). WritesIn honest history l (next_place base stage) old new r) (sym fault) inside in
+    let stepped = subst (λ (r : Result (Unit {0}) Fault). StepsAt honest history l (next_place base stage) (next_step stage) old new r) (sym fault) steps in
+    record {
+      written = λ h. writes_as (next_offset l base stage) (next_bytes stage) (history old) (history new) result only (wrote h);
+      inside = λ h. ok_as result _ (wrote_in h);
+      steps = λ h s assigns Stands stand.
+          let step = stepped h s assigns in
+          let stands = stand step.after step.moves in
+          record {
+            states = step.after;
+            elsewhere = λ i. step.moves.elsewhere (Log i) (no_log base stage i);
+            during_is = stands;
+            after_is = if_ok result _ stands;
+            reaches = reaches_as l (history old) (history new) step.after step.after result step.reaches;
+          };
+    }
+
 pub goes_on :
     {D : Type 0} (honest : D → Type 0) (history : D → History) (l : Layout) (c after : Standing) (old new : D) (answer : Result (Unit {0}) Fault) (result : Result (Unit {0}) Refusal)
     → next_refusal l c ≡ None → fault_of result ≡ answer → OnOk result (after ≡ gone_on c) → IfErr result (λ e. (e ≡ DiskFault) × (after ≡ c)) → IfErr result (λ e. e ≡ DiskFault)
     → WritesOnly honest history (next_offset l c.base c.stage) (next_bytes c.stage) old new answer → WritesIn honest history l (next_place c.base c.stage) old new answer → StepsAt honest history l (next_place c.base c.stage) (next_step c.stage) old new answer
     → GoesOn honest history l c after old new result
-goes_on {D} honest history l c after old new answer result due fault done failed only written inside steps =
-    let wrote = subst (λ (r : Result (Unit {0}) Fault). WritesOnly honest history (next_offset l c.base c.stage) (next_bytes c.stage) old new r) (sym fault) written in
-    let wrote_in = subst (λ (r : Result (Unit {0}) Fault). WritesIn honest history l (next_place c.base c.stage) old new r) (sym fault) inside in
-    let stepped = subst (λ (r : Result (Unit {0}) Fault). StepsAt honest history l (next_place c.base c.stage) (next_step c.stage) old new r) (sym fault) steps in
-    record {
-      done = done;
-      fault = failed;
-      written = λ h. record { done = ok_as result _ (wrote h).done; failed = err_as result _ only (wrote h).failed };
-      inside = λ h. ok_as result _ (wrote_in h);
-      steps = λ h size s x y assigns is.
-          let step = stepped h s assigns in
-          let then = gone size c.base c.stage x y s step.after (here l c _ due) is step.moves in
-          record {
-            states = step.after;
-            elsewhere = λ i. step.moves.elsewhere (Log i) (no_log c.base c.stage i);
-            during_is = then;
-            after_is = if_ok result _ then;
-            reaches = record { ok = ok_as result _ step.reaches.ok; images = step.reaches.images; moments = step.reaches.moments };
-          };
-    }
+goes_on honest history l c after old new answer result due fault done failed only written inside steps =
+    let w = writes_stage honest history l c.base c.stage old new answer result fault only written inside steps in
+    record { done = done; fault = failed; written = w.written; inside = w.inside; steps = λ h size s x y assigns is. w.steps h s assigns _ (λ t moves. gone size c.base c.stage x y s t (here l c _ due) is moves) }

@@ -33,7 +33,7 @@ use Rattle.rep_pool.specs.BasePages.{IsBadPage, HasPage, GivesPage, IsPooled, Go
 use Rattle.rep_pool.proofs.Pages.{is_page}
 use Rattle.rep_checkpoint.specs.Calls.{AreAt, WritesImage}
 use Rattle.rep_checkpoint.specs.Pages.{IsStable, AreRows, PutsPage, IsPageAt, MovesPage}
-use Rattle.rep_checkpoint.proofs.GoingOn.{ok_as, err_as}
+use Rattle.rep_checkpoint.proofs.GoingOn.{writes_as, reaches_as}
 use Rattle.rep_checkpoint.proofs.Spelled.{not_bad}
 
 -- ---- a page of the base
@@ -132,7 +132,7 @@ moved {D} told honest history l b kept position number old mid new pool read was
     let states = subst (λ n. StepsAt honest history l (Page n (spare_slot (state_of_page b n))) (writing puts.bytes) mid new (fault_of result)) number_is puts.states in
     let wrote : honest old → Writes (offset_of l (Page number (spare_slot (state_of_page b number)))) puts.bytes (history old) (history new) result = λ h.
     let w = subst (λ (k : History). Writes (offset_of l (Page number (spare_slot (state_of_page b number)))) puts.bytes k (history new) (fault_of result)) (same h) (written (stays h)) in
-    record { done = ok_as result _ w.done; failed = err_as result _ only w.failed } in
+    writes_as (offset_of l (Page number (spare_slot (state_of_page b number)))) puts.bytes (history old) (history new) result only w in
     record {
       written = λ h. record { bytes = puts.bytes; size = puts.size; writes = wrote h };
       puts = λ h s x y assigns have at.
@@ -141,7 +141,7 @@ moved {D} told honest history l b kept position number old mid new pool read was
             states = step.after;
             elsewhere = step.moves.elsewhere;
             there = all_ok result (puts.bytes, step.moves.there, page_at b kept position number x y was page puts.bytes is_it (read_rows told l (history old) b s x number super here assigns have was (has h)) at image puts.is_page);
-            reaches = record { ok = ok_as result _ step.reaches.ok; images = step.reaches.images; moments = step.reaches.moments };
+            reaches = reaches_as l (history old) (history new) step.after step.after result step.reaches;
           };
       whole = λ h s content assigns have. never_corrupt result only;
       spelled = λ h readable. record {

@@ -55,14 +55,18 @@ Begins kept before after next =
 
 -- ---- writing
 
--- A call: there are states in which each cell of the log is as it was. The checkpoint stands in them, and so does all that a stop
--- during the call leaves; where it succeeds, it then stands in them as it does after the call.
-pub record Steps {T E : Type 0} (size : ℕ) (l : Layout) (old new : History) (s : States) (during after : Standing) (x y : State) (result : Result T E) : Type 0 where
+-- A call: there are states in which each cell of the log is as it was. What stands in them during the call stands in all that a stop
+-- during it leaves; where it succeeds, they then are as they are after the call.
+pub record StepsTo {T E : Type 0} (l : Layout) (old new : History) (s : States) (During After : States → Type 0) (result : Result T E) : Type 0 where
   pub states : States
   pub elsewhere : (i : ℕ) → states (Log i) ≡ s (Log i)
-  pub during_is : CheckpointIs size during x y states
-  pub after_is : OnOk result (CheckpointIs size after x y states)
+  pub during_is : During states
+  pub after_is : OnOk result (After states)
   pub reaches : Reaches l old new states states result
+
+-- The checkpoint stands in them.
+abbrev pub Steps : {T E : Type 0} → ℕ → Layout → History → History → States → Standing → Standing → State → State → Result T E → Type 0
+Steps size l old new s during after x y result = StepsTo l old new s (CheckpointIs size during x y) (CheckpointIs size after x y) result
 
 -- the place of the write that comes next, what it makes of the place's state, where it is written, and its bytes
 abbrev pub next_place : SuperBody → Stage → Place

@@ -82,12 +82,9 @@ abbrev pub gone : Coming → Coming
 gone i = record i { part = next_part i.part }
 
 abbrev pub synced_part : Part → Part
-synced_part Flushing = Flushing
 synced_part Saving = Ready
-synced_part Ready = Ready
 synced_part SuperFilling = SuperFilled
-synced_part SuperFilled = SuperFilled
-synced_part SuperOpening = SuperOpening
+synced_part part = part
 
 abbrev pub settled : Coming → Coming
 settled i = record i { part = synced_part i.part }

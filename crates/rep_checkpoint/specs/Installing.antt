@@ -5,12 +5,12 @@ use Rattle.rep_types.specs.Windows.{fixed}
 use Rattle.rep_disk.specs.History.{History}
 use Rattle.rep_layout.specs.declared.super_body.SuperBody.{SuperBody}
 use Rattle.rep_layout.specs.declared.place.Layout.{Layout}
-use Rattle.rep_layout.specs.declared.place.Place.TheVariants.{Log, Page}
+use Rattle.rep_layout.specs.declared.place.Place.TheVariants.{Page}
 use Rattle.rep_layout.specs.Places.{layout_of, offset_of}
 use Rattle.rep_cells.specs.Readings.{Reading}
 use Rattle.rep_cells.specs.States.{States, Allowed, Syncs}
 use Rattle.rep_cells.specs.Known.{Assigns}
-use Rattle.rep_cells.specs.Calls.{WritesOnly, WritesIn, Reaches}
+use Rattle.rep_cells.specs.Calls.{WritesOnly, WritesIn}
 use Rattle.rep_pages.specs.Rows.{Rows}
 use Rattle.rep_pages.specs.Slots.{state_of_page, spare_slot}
 use Rattle.rep_checkpoint.specs.declared.stage.Part.TheVariants.{SuperOpening}
@@ -18,7 +18,7 @@ use Rattle.rep_checkpoint.specs.declared.stage.Stage.TheVariants.{Toward}
 use Rattle.rep_checkpoint.specs.Standing.{Standing}
 use Rattle.rep_checkpoint.specs.Moves.{found_at}
 use Rattle.rep_checkpoint.specs.States.{CheckpointIs}
-use Rattle.rep_checkpoint.specs.Calls.{next_place, next_offset, next_bytes, WritesPage}
+use Rattle.rep_checkpoint.specs.Calls.{next_place, next_offset, next_bytes, StepsTo, WritesPage}
 use Rattle.rep_checkpoint.specs.Laws.{HasBase}
 use Rattle.rep_checkpoint.specs.Coming.{Coming, InstallationIs, blank, placed, with_page, gone, settled}
 
@@ -29,14 +29,9 @@ abbrev pub BeginsToInstall : Standing → Coming → Type 0
 BeginsToInstall c i = (size : ℕ) (s : States) (x z : State) → CheckpointIs size c x z s
     → InstallationIs size c.base i x (blank i.next.super.position (fixed i.next.super.params.window i.next.super.position i.next.entries)) s
 
--- A call: there are states in which each cell of the log is as it was. The snapshot stands in them as it does during the call, and so
--- in all that a stop during it leaves; where it succeeds, it then stands in them as it does after it.
-pub record Installs {T E : Type 0} (size : ℕ) (l : Layout) (old new : History) (s : States) (base : SuperBody) (during after : Coming) (x y z : State) (result : Result T E) : Type 0 where
-  pub states : States
-  pub elsewhere : (n : ℕ) → states (Log n) ≡ s (Log n)
-  pub during_is : InstallationIs size base during x y states
-  pub after_is : OnOk result (InstallationIs size base after x z states)
-  pub reaches : Reaches l old new states states result
+-- A call, in whose states the snapshot stands as it does during it, and after it as it does then.
+abbrev pub Installs : {T E : Type 0} → ℕ → Layout → History → History → States → SuperBody → Coming → Coming → State → State → State → Result T E → Type 0
+Installs size l old new s base during after x y z result = StepsTo l old new s (InstallationIs size base during x y) (InstallationIs size base after x z) result
 
 -- The write that comes next: of exactly these bytes at this offset, in that place. The snapshot is as far as that where it succeeds, and
 -- else as far as it was, and the device failed.

@@ -101,11 +101,9 @@ position_in (Retiring written) = 0
 -- what comes next was written
 abbrev pub next_part : Part → Part
 next_part Flushing = Saving
-next_part Saving = Saving
 next_part Ready = SuperFilling
-next_part SuperFilling = SuperFilling
 next_part SuperFilled = SuperOpening
-next_part SuperOpening = SuperOpening
+next_part part = part
 
 abbrev pub gone_in : Stage → Stage
 gone_in Off = Off
@@ -132,14 +130,8 @@ after_sync c = synced_in c c.stage
 
 -- whether it makes the next base the base
 abbrev pub is_opening : Stage → Bool
-is_opening Off = false
-is_opening (Toward next Flushing) = false
-is_opening (Toward next Saving) = false
-is_opening (Toward next Ready) = false
-is_opening (Toward next SuperFilling) = false
-is_opening (Toward next SuperFilled) = false
 is_opening (Toward next SuperOpening) = true
-is_opening (Retiring written) = false
+is_opening stage = false
 
 -- the checkpoint that an opening finds: the other superblock has to be retired where it stands open too
 abbrev pub stage_found : Bool → Stage

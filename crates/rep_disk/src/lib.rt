@@ -5,6 +5,7 @@
 mod counting;
 mod disk;
 mod fault_once;
+mod faulty;
 mod file;
 mod fuse;
 mod held;
@@ -12,10 +13,11 @@ mod laws;
 mod memory;
 
 pub use disk::{Disk, DiskFault};
-pub use fault_once::FaultOnce;
+pub use fault_once::{FaultOnce, Once};
+pub use faulty::{Call, Faults, FaultyDisk};
 pub use file::FileDisk;
-pub use fuse::FuseDisk;
-pub use held::{HeldDisk, Hold};
+pub use fuse::{Fuse, FuseDisk};
+pub use held::{Held, HeldDisk, Hold};
 pub use laws::{
     images_after_a_call, images_of_a_moment, moments_of_calls, reads_as_an_image,
     reads_what_was_written,

@@ -1,7 +1,7 @@
 //! What a stop leaves of a cell on each step of its way, and each call once.
 
 use rep_cells::Cells;
-use rep_disk::{Disk, DiskFault, FaultOnce, Loss, MemDisk};
+use rep_disk::{Disk, DiskFault, FaultOnce, Loss, MemDisk, Once};
 use rep_layout::{LOG_BODY, Layout, PAGE_BODY, Place, Slot};
 use std::alloc::{AllocError, Global};
 use std::test::Fail;
@@ -129,7 +129,7 @@ fn a_stop_leaves_a_cell_as_its_step_says(rt: HostRuntime) -> Result<(), Fail> {
 /// Goes the way on a device that fails its fourth call: how many steps succeed, how often the device has failed, and
 /// whether the cell then reads as its body.
 fn go_with_a_fault(alloc: Global) -> Result<((usize, u64), Option<bool>), Fail> {
-    let mut cells = cells_on(FaultOnce::new(MemDisk::new(alloc, SIZE)?, 3))?;
+    let mut cells = cells_on(FaultOnce::new(MemDisk::new(alloc, SIZE)?, Once::after(3)))?;
     let found = (act_all(&mut cells, WAY), cells.disk().failures());
     Ok((found, has_body(&mut cells)))
 }

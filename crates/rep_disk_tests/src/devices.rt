@@ -1,6 +1,6 @@
 //! What a stop leaves, call by call, and which calls fail.
 
-use rep_disk::{Disk, DiskFault, FaultOnce, FileDisk, FuseDisk, Loss, MemDisk};
+use rep_disk::{Disk, DiskFault, FaultOnce, FileDisk, Fuse, FuseDisk, Loss, MemDisk, Once};
 use std::alloc::Global;
 use std::fs;
 use std::fs::OpenOptions;
@@ -107,7 +107,7 @@ fn ask<D: Disk>(disk: &mut D, step: Step) -> Result<(), DiskFault> {
 
 /// The device behind the calls of the case, and whether each of them failed that was to fail, and no other.
 fn asked(alloc: Global, case: Case) -> Result<(MemDisk, bool), Fail> {
-    let mut disk = FaultOnce::new(MemDisk::from_bytes(alloc, &FOUND)?, case.fault);
+    let mut disk = FaultOnce::new(MemDisk::from_bytes(alloc, &FOUND)?, Once::after(case.fault));
     let mut right = true;
     let mut number = 0u64;
     for step in case.steps {
@@ -188,7 +188,7 @@ fn fused(
     calls: u64,
     left: [u8; 4],
 ) -> Result<(([bool; 4], [u8; 2]), (u64, u64, bool), bool), Fail> {
-    let mut disk = FuseDisk::new(MemDisk::new(alloc, 4)?, calls);
+    let mut disk = FuseDisk::new(MemDisk::new(alloc, 4)?, Fuse::after(calls));
     let mut out = [5; 2];
     let answers = ask_four(&mut disk, &mut out);
     let inside = look_at(&disk, left);
@@ -230,7 +230,7 @@ fn ask_three<D: Disk>(disk: &mut D) -> [bool; 3] {
 /// Makes three calls on a device of one byte that fails the second: which of them succeed, how often it has failed, its
 /// size, and whether it reads as this byte inside.
 fn fault_once(alloc: Global, byte: u8) -> Result<([bool; 3], u64, usize, bool), Fail> {
-    let mut disk = FaultOnce::new(MemDisk::new(alloc, 1)?, 1);
+    let mut disk = FaultOnce::new(MemDisk::new(alloc, 1)?, Once::after(1));
     let answers = ask_three(&mut disk);
     let is_byte = disk.inner().bytes() == [byte].as_slice();
     Ok((answers, disk.failures(), disk.size(), is_byte))

@@ -17,13 +17,17 @@ use Rattle.rep_engine.proofs.Logs.{halted_after}
 abbrev pub inside : {D : Type 0} {g : _} → Cells D g → Checkpoint → Log → Kept → List Judged → Option Phase → Engine D
 inside cells checkpoint log kept block halted = record { disk = disk_of cells; layout = layout_of cells; checkpoint = checkpoint; log = log; kept = kept; block = block; halted = halted }
 
-pub none_of : {T : Type 0} (o : Option T) → false ≡ is_some o → o ≡ None
+none_of : {T : Type 0} (o : Option T) → false ≡ is_some o → o ≡ None
 none_of None e = refl
 none_of (Some x) e = absurd cc
 
 -- the engine before a call that was not refused for it runs
 pub runs_of : {D : Type 0} {within old : Engine D} → within ≡ old → false ≡ is_some within.halted → old.halted ≡ None
 runs_of {D} {within} is still = sym (ap (λ (e : Engine D). e.halted) is) ∙ none_of within.halted still
+
+-- and inside of such a call too
+pub runs_within : {D : Type 0} {within old : Engine D} → within ≡ old → old.halted ≡ None → within.halted ≡ None
+runs_within {D} is runs = ap (λ (e : Engine D). e.halted) is ∙ runs
 
 -- what is so anyway is so where it was done
 pub on_ok : {T : Type 0} (result : Result T Refusal) (P : Type 0) → P → OnOk result P

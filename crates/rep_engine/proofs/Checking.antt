@@ -51,7 +51,7 @@ use Rattle.rep_engine.specs.Checking.{HasBegun}
 use Rattle.rep_engine.proofs.Steps.{done_moves, fault_moves, refused_steps, hungry_steps, done_steps, fault_steps, halted_node}
 use Rattle.rep_engine.proofs.Going.{with_stage, stage_or_same}
 use Rattle.rep_engine.proofs.Logs.{rises_by}
-use Rattle.rep_engine.proofs.Standing.{same_front, fronts_of, nil_bytes, stands_at_stage}
+use Rattle.rep_engine.proofs.Standing.{places, long, same_front, fronts_of, nil_bytes, stands_at_stage}
 
 -- the next base of a stage
 abbrev pub next_in : Next → Stage → Next
@@ -311,7 +311,7 @@ module _ {D : Type 0} (honest : D → Type 0) (history : D → History) (size fa
   under : c.stage ≢ Off
   under = (next_due c.stage w.due).0
 
-  goes : GoesOn honest history old.layout c new.checkpoint old.disk new.disk result
+  pub goes : GoesOn honest history old.layout c new.checkpoint old.disk new.disk result
   goes = w.goes (here old.layout c (next_refusal_at (stage_of c)) w.engine.layout ∙ (next_due c.stage w.due).1)
 
   check_none : refusal_here was Check ≡ None
@@ -336,26 +336,20 @@ module _ {D : Type 0} (honest : D → Type 0) (history : D → History) (size fa
     there_on : Stands history n old
     there_on = holds.runs w.runs
 
-    abbrev l : Layout
-    l = layout_of c.base.params
-
-    abbrev long : ℕ
-    long = length (stable (history old.disk))
-
     abbrev m : Node
     m = moved n Check
 
-    moving : CheckpointSteps long l (history old.disk) (history new.disk) there_on.states (gone_on c) (gone_on c) n.base there_on.stands.goal result
+    moving : CheckpointSteps (long history old) (places old) (history old.disk) (history new.disk) there_on.states (gone_on c) (gone_on c) n.base there_on.stands.goal result
     moving =
-        let on : GoesOn honest history l c new.checkpoint old.disk new.disk result = subst (λ (k : Layout). GoesOn honest history k c new.checkpoint old.disk new.disk result) w.engine.layout goes in
-        on.steps holds.is_honest long there_on.states n.base there_on.stands.goal (subst (λ (k : Layout). Assigns k (history old.disk) there_on.states) w.engine.layout there_on.assigns) there_on.stands.checkpoint
+        let on : GoesOn honest history (places old) c new.checkpoint old.disk new.disk result = subst (λ (k : Layout). GoesOn honest history k c new.checkpoint old.disk new.disk result) w.engine.layout goes in
+        on.steps holds.is_honest (long history old) there_on.states n.base there_on.stands.goal (subst (λ (k : Layout). Assigns k (history old.disk) there_on.states) w.engine.layout there_on.assigns) there_on.stands.checkpoint
 
-    stands_gone : StandsAs m long (gone_on c) old.log there_on.blocks there_on.sealed moving.states
+    stands_gone : StandsAs m (long history old) (gone_on c) old.log there_on.blocks there_on.sealed moving.states
     stands_gone =
         let k = there_on.stands in
-        stands_at_stage n m.facts.stage long c (gone_in c.stage) old.log there_on.blocks there_on.sealed there_on.states moving.states k.goal k moving.during_is
+        stands_at_stage n m.facts.stage (long history old) c (gone_in c.stage) old.log there_on.blocks there_on.sealed there_on.states moving.states k.goal k moving.during_is
         (λ other part e. let before = gone_toward c.stage other part e in k.toward other before.0 before.1)
-        (apart l old.log (c.base.position + 1) there_on.blocks there_on.sealed there_on.states moving.states moving.elsewhere k.log_is)
+        (apart (places old) old.log (c.base.position + 1) there_on.blocks there_on.sealed there_on.states moving.states moving.elsewhere k.log_is)
 
     stopped_not : n.facts.stopped ≡ false
     stopped_not = ap (λ (t : Standing). t.stopped) holds.facts ∙ ap is_some w.runs
@@ -371,16 +365,16 @@ module _ {D : Type 0} (honest : D → Type 0) (history : D → History) (size fa
     steps_halt rises =
         fault_steps n Check (failures new.disk) stopped_not none_here (ap (λ stage. not (is_none_under_way stage)) (ap (λ (t : Standing). t.stage) holds.facts) ∙ device_by c.stage under) (subst (λ k. Rises k (failures new.disk)) (sym (ap (λ (t : Standing). t.failures) holds.facts)) rises)
 
-    long_stays : length (stable (history new.disk)) ≡ long
+    long_stays : length (stable (history new.disk)) ≡ (long history old)
     long_stays = sized new.disk (w.call.stays_honest holds.is_honest) ∙ w.call.same_size ∙ sym (sized old.disk holds.is_honest)
 
     images_gone : (image : List ℕ) → IsImage (history new.disk) image → IsFrontAt Means m image
-    images_gone = fronts_of law m (history new.disk) long (gone_on c) old.log there_on.blocks there_on.sealed moving.states (nodes n m Check Wrote holds.node steps_gone) stands_gone long_stays moving.reaches.images
+    images_gone = fronts_of law m (history new.disk) (long history old) (gone_on c) old.log there_on.blocks there_on.sealed moving.states (nodes n m Check Wrote holds.node steps_gone) stands_gone long_stays moving.reaches.images
 
     pub gone_leaves : LeavesOnly (history old.disk) (history new.disk) (IsFrontAt Means n)
     gone_leaves = leaves_weaker (history old.disk) (history new.disk) (λ image here. same_front m n image refl refl refl refl refl (images_gone image here)) moving.reaches.moments
 
-    gone_holds : Assigns l (history new.disk) moving.states → new.checkpoint ≡ gone_on c → failures new.disk ≡ failures old.disk → new.halted ≡ None → (m : Node) × Steps n Check Wrote m × Holds honest history failures m to
+    gone_holds : Assigns (places old) (history new.disk) moving.states → new.checkpoint ≡ gone_on c → failures new.disk ≡ failures old.disk → new.halted ≡ None → (m : Node) × Steps n Check Wrote m × Holds honest history failures m to
     gone_holds assigns same rose still = (
       m,
       steps_gone,

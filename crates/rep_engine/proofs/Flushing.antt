@@ -19,7 +19,6 @@ use Rattle.rep_layout.specs.declared.place.Layout.{Layout}
 use Rattle.rep_layout.specs.declared.rows.RowPlace.{RowPlace}
 use Rattle.rep_layout.specs.declared.super_body.SuperBody.{SuperBody}
 use Rattle.rep_layout.specs.Rows.{RowPlacesAreTold}
-use Rattle.rep_layout.specs.Places.{layout_of}
 use Rattle.rep_cells.specs.Known.{Assigns}
 use Rattle.rep_versions.specs.Versions.{Kept}
 use Rattle.rep_log.specs.declared.phase.Phase.{Phase}
@@ -50,7 +49,7 @@ use Rattle.rep_engine.specs.Reading.{halted_by}
 use Rattle.rep_engine.proofs.Steps.{refused_moves, done_moves, fault_moves, corrupt_moves, refused_steps, done_steps, fault_steps, halted_node}
 use Rattle.rep_engine.proofs.Refusing.{refused_after, checkpoint_stays, stays_stopped}
 use Rattle.rep_engine.proofs.Going.{stage_or_same}
-use Rattle.rep_engine.proofs.Standing.{same_front, fronts_of, stands_at_stage}
+use Rattle.rep_engine.proofs.Standing.{places, long, same_front, fronts_of, stands_at_stage}
 use Rattle.rep_engine.proofs.Checking.{here, next_in}
 
 -- its goal stays
@@ -73,14 +72,8 @@ engine_went honest history l c d log kept block page old disk result h is refuse
 
 -- only while pages are flushed
 flushing : (page : ℕ) (stage : Stage) → flush_refusal_at (stage_in stage) page ≡ None → (to : Next) × (stage ≡ Toward to Flushing)
-flushing page Off e = absurd cc
 flushing page (Toward to Flushing) e = (to, refl)
-flushing page (Toward to Saving) e = absurd cc
-flushing page (Toward to Ready) e = absurd cc
-flushing page (Toward to SuperFilling) e = absurd cc
-flushing page (Toward to SuperFilled) e = absurd cc
-flushing page (Toward to SuperOpening) e = absurd cc
-flushing page (Retiring written) e = absurd cc
+flushing page _ e = absurd cc
 
 -- the part of a stage
 abbrev part_in : Part → Stage → Part
@@ -223,16 +216,10 @@ module _ {D : Type 0} (honest : D → Type 0) (history : D → History) (size fa
       there : Stands history n old
       there = holds.runs h.runs
 
-      abbrev l : Layout
-      l = layout_of c.base.params
-
-      abbrev long : ℕ
-      long = length (stable (history old.disk))
-
       abbrev m : Node
       m = moved n (Flush page)
 
-      goes : Flushes honest history l old.kept page c d old.disk dk result
+      goes : Flushes honest history (places old) old.kept page c d old.disk dk result
       goes = subst (λ (k : Layout). Flushes honest history k old.kept page c d old.disk dk result) h.engine.layout (left_flushes result h none)
 
       toward_goal : (next : Next) × (c.stage ≡ Toward next Flushing)
@@ -249,20 +236,20 @@ module _ {D : Type 0} (honest : D → Type 0) (history : D → History) (size fa
           let position : n.base.position + led.past ≡ position_in c.stage = sym led.position ∙ sym (ap position_in toward_goal.1) in
           subst (λ (p : Setting). AreAt p.rows old.kept (position_in c.stage) n.base.content there.stands.goal.content) there.stands.setting (subst (λ i. AreAt n.facts.setting.rows old.kept i n.base.content there.stands.goal.content) position goal)
 
-      moving : CheckpointSteps long l (history old.disk) (history dk) there.states c (flushed page c) n.base there.stands.goal result
-      moving = goes.steps holds.is_honest long there.states n.base there.stands.goal (subst (λ (k : Layout). Assigns k (history old.disk) there.states) h.engine.layout there.assigns) there.stands.checkpoint are_at
+      moving : CheckpointSteps (long history old) (places old) (history old.disk) (history dk) there.states c (flushed page c) n.base there.stands.goal result
+      moving = goes.steps holds.is_honest (long history old) there.states n.base there.stands.goal (subst (λ (k : Layout). Assigns k (history old.disk) there.states) h.engine.layout there.assigns) there.stands.checkpoint are_at
 
       -- during the call, and where it failed, it stands as it did
-      stands_during : StandsAs n long c old.log there.blocks there.sealed moving.states
+      stands_during : StandsAs n (long history old) c old.log there.blocks there.sealed moving.states
       stands_during =
-          stands_at_stage n n.facts.stage long c c.stage old.log there.blocks there.sealed there.states moving.states there.stands.goal there.stands moving.during_is there.stands.toward
-          (apart l old.log (c.base.position + 1) there.blocks there.sealed there.states moving.states moving.elsewhere there.stands.log_is)
+          stands_at_stage n n.facts.stage (long history old) c c.stage old.log there.blocks there.sealed there.states moving.states there.stands.goal there.stands moving.during_is there.stands.toward
+          (apart (places old) old.log (c.base.position + 1) there.blocks there.sealed there.states moving.states moving.elsewhere there.stands.log_is)
 
-      long_stays : length (stable (history dk)) ≡ long
+      long_stays : length (stable (history dk)) ≡ (long history old)
       long_stays = sized dk (h.call.stays_honest holds.is_honest) ∙ h.call.same_size ∙ sym (sized old.disk holds.is_honest)
 
       images : (image : List ℕ) → IsImage (history dk) image → IsFrontAt Means n image
-      images = fronts_of law n (history dk) long c old.log there.blocks there.sealed moving.states holds.node stands_during long_stays moving.reaches.images
+      images = fronts_of law n (history dk) (long history old) c old.log there.blocks there.sealed moving.states holds.node stands_during long_stays moving.reaches.images
 
       left_leaves : LeavesOnly (history old.disk) (history dk) (IsFrontAt Means n)
       left_leaves = leaves_weaker (history old.disk) (history dk) images moving.reaches.moments
@@ -273,7 +260,7 @@ module _ {D : Type 0} (honest : D → Type 0) (history : D → History) (size fa
       halts : Rises (failures old.disk) (failures dk) → Steps n (Flush page) (Refused DiskFault) (halted_node (failures dk) n)
       halts rises = fault_steps n (Flush page) (failures dk) (stopped_not h.runs) (at_node ∙ none) refl (subst (λ k. Rises k (failures dk)) (sym (ap (λ (t : Standing). t.failures) holds.facts)) rises)
 
-      holds_done : CheckpointIs long (flushed page c) n.base there.stands.goal moving.states → Assigns l (history dk) moving.states → d ≡ flushed page c → failures dk ≡ failures old.disk → hl ≡ None
+      holds_done : CheckpointIs (long history old) (flushed page c) n.base there.stands.goal moving.states → Assigns (places old) (history dk) moving.states → d ≡ flushed page c → failures dk ≡ failures old.disk → hl ≡ None
           → (m : Node) × Steps n (Flush page) Wrote m × Holds honest history failures m to
       holds_done is assigns same rose still = (
         m,
@@ -289,7 +276,7 @@ module _ {D : Type 0} (honest : D → Type 0) (history : D → History) (size fa
             sealed = there.sealed;
             stands = subst (λ (k : Checkpoint). StandsAs m (length (stable (history dk))) k old.log there.blocks there.sealed moving.states) (sym same)
                 (subst (λ i. StandsAs m i (flushed page c) old.log there.blocks there.sealed moving.states) (sym long_stays)
-                (stands_at_stage n m.facts.stage long c (flushed_in page c.stage) old.log there.blocks there.sealed moving.states moving.states there.stands.goal stands_during is
+                (stands_at_stage n m.facts.stage (long history old) c (flushed_in page c.stage) old.log there.blocks there.sealed moving.states moving.states there.stands.goal stands_during is
                 (λ other part e.
                 let before = flushed_toward page c.stage other part e in
                 subst (λ b. IsLedTo n old.log there.blocks b there.stands.goal) (sym before.2) (there.stands.toward before.0 part before.1)) stands_during.log_is));

@@ -26,25 +26,7 @@ further base (Retiring written) up same on h = tt
 module _ (l : Layout) (c : Checkpoint) (log : Log) (kept : Kept) (block : List Judged) (h : IsEngine l c log kept block) where
   -- where its checkpoint is at another stage
   pub with_stage : (next : Stages) → IsCheckpoint (record c { stage = next }) → HasGoal c.base.position (durable_of log) log.start log.next (stage_in next) → HasItemsBehind (stage_in next) log → IsEngine l (record c { stage = next }) log kept block
-  with_stage next is goal behind = record {
-    checkpoint = is;
-    layout = h.layout;
-    cells = h.cells;
-    start = h.start;
-    behind = h.behind;
-    begun = h.begun;
-    room = h.room;
-    items = h.items;
-    goal = goal;
-    behind_goal = behind;
-    follow = h.follow;
-    fits = h.fits;
-    few = h.few;
-    whole = h.whole;
-    limit = h.limit;
-    undefined = h.undefined;
-    within = h.within;
-  }
+  with_stage next is goal behind = search
 
   -- where no block becomes durable
   pub with_log : (next : Log) → next.cells ≡ log.cells → next.start ≡ log.start → next.seqno ≡ log.seqno → next.next ≡ log.next → next.next + busy next.phase ≤ log.start + log.cells → IsWhole next.phase block → IsEngine l c next kept block

@@ -49,7 +49,7 @@ use Rattle.rep_engine.specs.Engines.{Engine, IsEngine, IsWhole, facts_of, durabl
 use Rattle.rep_engine.specs.Holding.{Holds}
 use Rattle.rep_engine.specs.Reading.{halted_by}
 use Rattle.rep_engine.specs.Installing.{CanBring, IsBeside, StandsBoth, HoldsBoth, HoldsEither, MeansEither, Goes, TakesPlace, IsTaken, snapshot_of, halted_node}
-use Rattle.rep_engine.proofs.Standing.{same_front, fronts_of, nil_bytes}
+use Rattle.rep_engine.proofs.Standing.{places, long, same_front, fronts_of, nil_bytes}
 use Rattle.rep_engine.proofs.Syncing.{within_pruned}
 use Rattle.rep_engine.proofs.Accepts.{length-effects}
 
@@ -125,22 +125,16 @@ rests log resting = sym (ap (synced_in log) resting)
 module _ {D : Type 0} (honest : D → Type 0) (history : D → History) (size failures : D → ℕ) (sized : (disk : D) → honest disk → length (stable (history disk)) ≡ size disk) (law : InstallationsLeaveTheOldOrTheNew) (beside : InstallationsStandBeside)
     (old : Engine D) (dk : D) (hl : Option Phase) (engine : IsEngine old.layout old.checkpoint old.log old.kept old.block) (runs : old.halted ≡ None)
     (n : Node) (y : State) (i : Coming) (holds : HoldsBoth honest history failures n y old i) where
-  abbrev l : Layout
-  l = layout_of old.checkpoint.base.params
-
-  abbrev long : ℕ
-  long = length (stable (history old.disk))
-
   abbrev to : Engine D
   to = record old { disk = dk; halted = hl }
 
   there : StandsBoth history n y old i
   there = holds.runs runs
 
-  assigns : Assigns l (history old.disk) there.states
+  assigns : Assigns (places old) (history old.disk) there.states
   assigns = subst (λ k. Assigns k (history old.disk) there.states) engine.layout there.assigns
 
-  long_stays : (answer : Result (Unit {0}) Refusal) → IsCall size failures honest old.disk dk (fault_of answer) → length (stable (history dk)) ≡ long
+  long_stays : (answer : Result (Unit {0}) Refusal) → IsCall size failures honest old.disk dk (fault_of answer) → length (stable (history dk)) ≡ (long history old)
   long_stays answer call = sized dk (call.stays_honest holds.is_honest) ∙ call.same_size ∙ sym (sized old.disk holds.is_honest)
 
   -- it stands beside the engine after a call that succeeded
@@ -155,9 +149,9 @@ module _ {D : Type 0} (honest : D → Type 0) (history : D → History) (size fa
   }
 
   module _ (result : Result (Unit {0}) Refusal) (call : IsCall size failures honest old.disk dk (fault_of result)) (during after : Coming) (z : State)
-      (did : Installs long l (history old.disk) (history dk) there.states old.checkpoint.base during after n.base y z result) (start : during.next.super.start ≡ i.next.super.start) where
-    stands_during : InstallsAs n long old.checkpoint during y old.log there.blocks there.sealed did.states
-    stands_during = beside.goes_on n long old.checkpoint i during y y old.log there.blocks there.sealed there.states did.states did.elsewhere start did.during_is there.installs
+      (did : Installs (long history old) (places old) (history old.disk) (history dk) there.states old.checkpoint.base during after n.base y z result) (start : during.next.super.start ≡ i.next.super.start) where
+    stands_during : InstallsAs n (long history old) old.checkpoint during y old.log there.blocks there.sealed did.states
+    stands_during = beside.goes_on n (long history old) old.checkpoint i during y y old.log there.blocks there.sealed there.states did.states did.elsewhere start did.during_is there.installs
 
     images : (image : List ℕ) → IsImage (history dk) image → IsFrontAt Means n image ⊎ ((during.part ≡ SuperOpening) × Means image (snapshot_of during.next.super y))
     images image here =
@@ -173,15 +167,15 @@ module _ {D : Type 0} (honest : D → Type 0) (history : D → History) (size fa
       sealed = there.sealed;
       installs =
           subst (λ k. InstallsAs n k old.checkpoint after z old.log there.blocks there.sealed did.states) (sym (long_stays result call))
-          (beside.goes_on n long old.checkpoint i after y z old.log there.blocks there.sealed there.states did.states did.elsewhere same (ok_of result ok did.after_is) there.installs);
+          (beside.goes_on n (long history old) old.checkpoint i after y z old.log there.blocks there.sealed there.states did.states did.elsewhere same (ok_of result ok did.after_is) there.installs);
       versions = there.versions;
       gates = there.gates;
     }
 
   -- the write that comes next
   next_did : (k : Coming) (result : Result (Unit {0}) Refusal) → InstallsNext honest history old.layout old.checkpoint.base i k old.disk dk result
-      → Installs long l (history old.disk) (history dk) there.states old.checkpoint.base (gone i) (gone i) n.base y y result
-  next_did k result w = (subst (λ m. InstallsNext honest history m old.checkpoint.base i k old.disk dk result) engine.layout w).steps holds.is_honest long there.states n.base y assigns there.installs.installation
+      → Installs (long history old) (places old) (history old.disk) (history dk) there.states old.checkpoint.base (gone i) (gone i) n.base y y result
+  next_did k result w = (subst (λ m. InstallsNext honest history m old.checkpoint.base i k old.disk dk result) engine.layout w).steps holds.is_honest (long history old) there.states n.base y assigns there.installs.installation
 
   pub next_goes : (k : Coming) (result : Result (Unit {0}) Refusal) → InstallsNext honest history old.layout old.checkpoint.base i k old.disk dk result → IsCall size failures honest old.disk dk (fault_of result) → hl ≡ halted_by old.log.phase result
       → Goes honest history failures n y old to i k result
@@ -204,8 +198,8 @@ module _ {D : Type 0} (honest : D → Type 0) (history : D → History) (size fa
 
   -- a page
   page_did : (k : Coming) (page : ℕ) (rows : _) (result : Result (Unit {0}) Refusal) → InstallsPage honest history old.layout old.checkpoint.base page rows i k old.disk dk result
-      → Installs long l (history old.disk) (history dk) there.states old.checkpoint.base i (placed old.checkpoint.base page i) n.base y (with_page old.checkpoint.base.params.rows page rows y) result
-  page_did k page rows result w = (subst (λ m. InstallsPage honest history m old.checkpoint.base page rows i k old.disk dk result) engine.layout w).steps holds.is_honest long there.states n.base y assigns there.installs.installation
+      → Installs (long history old) (places old) (history old.disk) (history dk) there.states old.checkpoint.base i (placed old.checkpoint.base page i) n.base y (with_page old.checkpoint.base.params.rows page rows y) result
+  page_did k page rows result w = (subst (λ m. InstallsPage honest history m old.checkpoint.base page rows i k old.disk dk result) engine.layout w).steps holds.is_honest (long history old) there.states n.base y assigns there.installs.installation
 
   module _ (k : Coming) (page : ℕ) (rows : _) (result : Result (Unit {0}) Refusal) (w : InstallsPage honest history old.layout old.checkpoint.base page rows i k old.disk dk result) (call : IsCall size failures honest old.disk dk (fault_of result)) (flushing : i.part ≡ Flushing) where
     page_fronts : (image : List ℕ) → IsImage (history dk) image → IsFrontAt Means n image
@@ -233,7 +227,7 @@ module _ {D : Type 0} (honest : D → Type 0) (history : D → History) (size fa
     })
 
   -- a sync
-  sync_did : (result : Result (Unit {0}) Refusal) → Settles honest history old.layout old.disk dk (fault_of result) → Settled l (history old.disk) (history dk) there.states (fault_of result)
+  sync_did : (result : Result (Unit {0}) Refusal) → Settles honest history old.layout old.disk dk (fault_of result) → Settled (places old) (history old.disk) (history dk) there.states (fault_of result)
   sync_did result settles = (subst (λ m. Settles honest history m old.disk dk (fault_of result)) engine.layout settles) holds.is_honest there.states assigns
 
   module _ (result : Result (Unit {0}) Refusal) (settles : Settles honest history old.layout old.disk dk (fault_of result)) (call : IsCall size failures honest old.disk dk (fault_of result)) where
@@ -257,7 +251,7 @@ module _ {D : Type 0} (honest : D → Type 0) (history : D → History) (size fa
           sealed = there.sealed;
           installs =
               subst (λ k. InstallsAs n k old.checkpoint (settled i) y old.log there.blocks there.sealed did.after) (sym (long_stays result call))
-              (make.goes_on n long old.checkpoint i y old.log old.log there.blocks there.sealed there.states did.after closed there.installs did.syncs (rests old.log resting) syncs);
+              (make.goes_on n (long history old) old.checkpoint i y old.log old.log there.blocks there.sealed there.states did.after closed there.installs did.syncs (rests old.log resting) syncs);
           versions = there.versions;
           gates = there.gates;
         })
@@ -274,15 +268,15 @@ module _ {D : Type 0} (honest : D → Type 0) (history : D → History) (size fa
     abbrev taken : Engine D
     taken = record old { disk = dk; checkpoint = found_at i.next.super true; log = next; kept = kept; halted = hl }
 
-    did_sync : Settled l (history old.disk) (history dk) there.states (fault_of result)
+    did_sync : Settled (places old) (history old.disk) (history dk) there.states (fault_of result)
     did_sync = sync_did result settles
 
     none_ahead : n.facts.ahead ≡ []
     none_ahead = ap (λ (s : Standing). s.ahead) holds.facts ∙ b.none
 
-    came : Arrives m long (found_at i.next.super true) next did_sync.after
+    came : Arrives m (long history old) (found_at i.next.super true) next did_sync.after
     came =
-        make.ends n long old.checkpoint i y old.log old.log next there.blocks there.sealed there.states did_sync.after opening holds.node none_ahead there.installs did_sync.syncs (rests old.log b.resting) syncs next_is restarts
+        make.ends n (long history old) old.checkpoint i y old.log old.log next there.blocks there.sealed there.states did_sync.after opening holds.node none_ahead there.installs did_sync.syncs (rests old.log b.resting) syncs next_is restarts
 
     params : i.next.super.params ≡ old.checkpoint.base.params
     params = b.coming.params
@@ -310,7 +304,7 @@ module _ {D : Type 0} (honest : D → Type 0) (history : D → History) (size fa
     stands_taken : StandsAs m (length (stable (history dk))) (found_at i.next.super true) next [] [] did_sync.after
     stands_taken = subst (λ k. StandsAs m k (found_at i.next.super true) next [] [] did_sync.after) (sym (long_stays result call)) came.stands
 
-    assigns_taken : Assigns l (history dk) did_sync.after
+    assigns_taken : Assigns (places old) (history dk) did_sync.after
     assigns_taken = ok_of (fault_of result) (ok_fault result ok) did_sync.reaches.ok
 
     pub taken_holds : Holds honest history failures m taken
@@ -327,8 +321,8 @@ module _ {D : Type 0} (honest : D → Type 0) (history : D → History) (size fa
         versions = versions;
         gates = λ j. there.gates j ∙ ap (λ (k : Log). stands_at k j) (sym next_is);
       };
-      images = fronts_of fronts m (history dk) long (found_at i.next.super true) next [] [] did_sync.after came.node came.stands (long_stays result call)
-          (λ image here. subst (λ (p : Setting). Allowed (layout_of p) did_sync.after (reading_of (layout_of p) image)) (sym params) (reads l (history dk) did_sync.after image assigns_taken here));
+      images = fronts_of fronts m (history dk) (long history old) (found_at i.next.super true) next [] [] did_sync.after came.node came.stands (long_stays result call)
+          (λ image here. subst (λ (p : Setting). Allowed (layout_of p) did_sync.after (reading_of (layout_of p) image)) (sym params) (reads (places old) (history dk) did_sync.after image assigns_taken here));
     }
 
 -- ---- the same of the engine that a call leaves

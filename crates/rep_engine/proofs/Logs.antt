@@ -11,7 +11,6 @@ use Rattle.rep_disk.specs.History.{History, stable, IsImage}
 use Rattle.rep_disk.specs.Moments.{LeavesOnly}
 use Rattle.rep_disk.specs.Leaving.{leaves_weaker}
 use Rattle.rep_layout.specs.declared.place.Layout.{Layout}
-use Rattle.rep_layout.specs.Places.{layout_of}
 use Rattle.rep_versions.specs.Following.{AreVersionsOf, effect_of}
 use Rattle.rep_cells.specs.Known.{Assigns}
 use Rattle.rep_log.specs.declared.phase.Phase.{Phase}
@@ -33,7 +32,7 @@ use Rattle.rep_engine.specs.Writing.{IsWrite, coming_in, WritesNext}
 use Rattle.rep_engine.specs.Holding.{Stands, Holds, wrote}
 use Rattle.rep_engine.proofs.Steps.{done_moves, halted_node, done_steps, fault_steps}
 use Rattle.rep_engine.proofs.Logging.{is_stale, at_phase, written_is, coming_is, is_write, engine_logged, facts_logged}
-use Rattle.rep_engine.proofs.Standing.{same_front, stands_on, nil_bytes, none_held, fronts_of}
+use Rattle.rep_engine.proofs.Standing.{places, same_front, stands_on, nil_bytes, none_held, fronts_of}
 
 module _ {D : Type 0} (honest : D → Type 0) (history : D → History) (size failures : D → ℕ) (sized : (disk : D) → honest disk → length (stable (history disk)) ≡ size disk)
     (old : Engine D) (n : Node) (engine : IsEngine old.layout old.checkpoint old.log old.kept old.block) (holds : Holds honest history failures n old) (runs : old.halted ≡ None) where
@@ -81,16 +80,13 @@ module _ {D : Type 0} (honest : D → Type 0) (history : D → History) (size fa
     pub log_is : new.log ≡ at_phase (logged (length old.block) (is_stale old.log) old.log.phase) old.log
     log_is = writes.stands ∙ written_is old.log (length old.block) due
 
-    abbrev l : Layout
-    l = layout_of old.checkpoint.base.params
-
     abbrev to : List Judged
     to = coming_in (due_of old.log) old.block there.sealed
 
     -- the log's cells move, and nothing else
-    pub steps : Log_steps l (history old.disk) (history new.disk) there.states new.log (old.checkpoint.base.position + 1) there.blocks to result
+    pub steps : Log_steps (places old) (history old.disk) (history new.disk) there.states new.log (old.checkpoint.base.position + 1) there.blocks to result
     steps =
-        let on : WritesNext honest history l (due_of old.log) old.block old.log new.log old.disk new.disk result = subst (λ k. WritesNext honest history k (due_of old.log) old.block old.log new.log old.disk new.disk result) engine.layout writes in
+        let on : WritesNext honest history (places old) (due_of old.log) old.block old.log new.log old.disk new.disk result = subst (λ k. WritesNext honest history k (due_of old.log) old.block old.log new.log old.disk new.disk result) engine.layout writes in
         on.steps holds.is_honest there.states (old.checkpoint.base.position + 1) there.blocks there.sealed (subst (λ k. Assigns k (history old.disk) there.states) engine.layout there.assigns) there.stands.log_is
 
     whole : IsWhole new.log.phase old.block
@@ -125,7 +121,7 @@ module _ {D : Type 0} (honest : D → Type 0) (history : D → History) (size fa
       log_leaves = leaves_weaker (history old.disk) (history new.disk) (λ image here. same_front (moved n to_log) n image refl refl refl refl refl (images image here)) steps.reaches.moments
 
       -- where it succeeds
-      pub log_holds : Assigns l (history new.disk) steps.states → new.halted ≡ None → failures new.disk ≡ failures old.disk → Holds honest history failures (moved n to_log) new
+      pub log_holds : Assigns (places old) (history new.disk) steps.states → new.halted ≡ None → failures new.disk ≡ failures old.disk → Holds honest history failures (moved n to_log) new
       log_holds assigns still rose = record {
         is_honest = call.stays_honest holds.is_honest;
         facts =

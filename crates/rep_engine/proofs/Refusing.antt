@@ -1,12 +1,18 @@
 -- What a refusal leaves of an engine.
 use Rattle.std.proofs.Common.{◌≡◌, ◌⊎◌, inl, inr, Option, None, Some, Result, Ok, Err, sym, ap, ◌∙◌, IfErr, OnErr}
+use Rattle.std.specs.Prelude.{IsErrAnd}
+use Rattle.std.proofs.lemmas.Result.{err_from_is_err_and}
 use Rattle.rep_types.specs.declared.refusal.Refusal.{Refusal}
-use Rattle.rep_types.specs.declared.refusal.Refusal.TheVariants.{DiskFault, Corrupt}
+use Rattle.rep_types.specs.declared.refusal.Refusal.TheVariants.{DiskFault, Corrupt, Stopped}
 use Rattle.rep_types.specs.declared.refusal.Part.TheVariants.{Pages}
 use Rattle.rep_log.specs.declared.phase.Phase.{Phase}
 use Rattle.rep_checkpoint.specs.Standing.{Standing as Checkpoint}
 use Rattle.rep_engine.specs.Engines.{Engine}
 use Rattle.rep_engine.specs.Reading.{halted_by}
+
+-- what a call answers that passes on that it is stopped
+pub passed_on : {T : Type 0} (result : Result T Refusal) (e : Refusal) → IsErrAnd result (λ y. y ≡ e) → e ≡ Stopped → result ≡ Err Stopped
+passed_on result e given is = let passed = err_from_is_err_and result given in passed.1 ∙ ap Err (passed.2 ∙ is)
 
 module _ {D T : Type 0} (old new : Engine D) where
   -- the device's fault stops it, and nothing else

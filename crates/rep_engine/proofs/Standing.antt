@@ -6,6 +6,7 @@ use Rattle.rep_types.specs.declared.judged.Judged.{Judged}
 use Rattle.rep_types.specs.Settings.{Setting}
 use Rattle.rep_types.specs.Order.{State}
 use Rattle.rep_disk.specs.History.{History, stable, IsImage}
+use Rattle.rep_layout.specs.declared.place.Layout.{Layout}
 use Rattle.rep_layout.specs.declared.place.Place.{Place}
 use Rattle.rep_layout.specs.declared.place.Place.TheVariants.{Log as in_log}
 use Rattle.rep_layout.specs.declared.super_body.SuperBody.{SuperBody}
@@ -29,7 +30,14 @@ use Rattle.rep_checkpoint.specs.Standing.{Standing as Checkpoint}
 use Rattle.rep_checkpoint.specs.States.{CheckpointIs}
 use Rattle.rep_checkpoint.specs.Laws.{TheLogIsApart}
 use Rattle.rep_checkpoint.specs.Nodes.{IsLedTo, StandsAs, NodesLeaveTheirFronts}
-use Rattle.rep_engine.specs.Engines.{IsWhole}
+use Rattle.rep_engine.specs.Engines.{Engine, IsWhole}
+
+-- where the places of an engine lie by its parameters, and how many bytes its device has
+abbrev pub places : {D : Type 0} → Engine D → Layout
+places e = layout_of e.checkpoint.base.params
+
+abbrev pub long : {D : Type 0} → (D → History) → Engine D → ℕ
+long history e = length (stable (history e.disk))
 
 -- ---- a front of one node is one of another with the same base and items
 
@@ -120,20 +128,9 @@ led_at_stage n stage log blocks b x led = record { past = led.past; position = l
 pub stands_at_stage : (n : Node) (stage : StageOf) (size : ℕ) (c : Checkpoint) (next : Stage) (log : Log) (blocks : List (List Judged)) (sealed : List Judged) (s t : States) (goal : State) → StandsAs n size c log blocks sealed s
     → CheckpointIs size (record c { stage = next }) n.base goal t → ((to : Next) (part : Part) → next ≡ Toward to part → IsLedTo n log blocks to.super goal) → LogIs (layout_of c.base.params) log (c.base.position + 1) blocks sealed t
     → StandsAs (at_stage stage n) size (record c { stage = next }) log blocks sealed t
-stands_at_stage n stage size c next log blocks sealed s t goal stands checkpoint toward is = record {
-  uuid = stands.uuid;
-  setting = stands.setting;
-  goal = goal;
-  checkpoint = checkpoint;
-  toward = λ to part e. led_at_stage n stage log blocks to.super goal (toward to part e);
-  start = stands.start;
-  log_is = is;
-  phase = stands.phase;
-  durable = stands.durable;
-  coming = stands.coming;
-  judged = stands.judged;
-  undefined = stands.undefined;
-}
+stands_at_stage n stage size c next log blocks sealed s t goal stands checkpoint toward is =
+    let led : (to : Next) (part : Part) → next ≡ Toward to part → IsLedTo (at_stage stage n) log blocks to.super goal = λ to part e. led_at_stage n stage log blocks to.super goal (toward to part e) in
+    search
 
 -- ---- without a cluster nothing is held
 

@@ -53,7 +53,7 @@ use Rattle.rep_engine.specs.Engines.{Engine, IsEngine, IsWhole, facts_of, phase_
 use Rattle.rep_engine.specs.Writing.{left_of, told_of, PrunesIf}
 use Rattle.rep_engine.specs.Holding.{Stands as Standing_so, Holds}
 use Rattle.rep_engine.proofs.Steps.{done_moves, done_steps, fault_steps, halted_node}
-use Rattle.rep_engine.proofs.Standing.{same_front, fronts_of}
+use Rattle.rep_engine.proofs.Standing.{places, same_front, fronts_of}
 use Rattle.rep_engine.proofs.Syncing.{facts_synced}
 
 -- ---- the versions
@@ -167,12 +167,9 @@ module _ {D : Type 0} (honest : D → Type 0) (history : D → History) (size fa
     there : Standing_so history n old
     there = holds.runs h.runs
 
-    abbrev l : Layout
-    l = layout_of old.checkpoint.base.params
-
-    settled : Settled l (history old.disk) (history new.disk) there.states answer
+    settled : Settled (places old) (history old.disk) (history new.disk) there.states answer
     settled =
-        let assigns : Assigns l (history old.disk) there.states = subst (λ k. Assigns k (history old.disk) there.states) h.engine.layout there.assigns in
+        let assigns : Assigns (places old) (history old.disk) there.states = subst (λ k. Assigns k (history old.disk) there.states) h.engine.layout there.assigns in
         (subst (λ k. Settles honest history k old.disk new.disk answer) h.engine.layout h.settles) holds.is_honest there.states assigns
 
     size_stays : length (stable (history new.disk)) ≡ length (stable (history old.disk))
@@ -271,6 +268,6 @@ module _ {D : Type 0} (honest : D → Type 0) (history : D → History) (size fa
           node = is_node;
           runs = λ still. there_after;
           images = fronts_of law after_it (history new.disk) (length (stable (history old.disk))) new.checkpoint new.log held.0 held.1 settled.after is_node held.2 size_stays
-              (λ image here. subst (λ (p : Setting). Allowed (layout_of p) settled.after (reading_of (layout_of p) image)) (sym on.params) (reads l (history new.disk) settled.after image (ok_of answer ok settled.reaches.ok) here));
+              (λ image here. subst (λ (p : Setting). Allowed (layout_of p) settled.after (reading_of (layout_of p) image)) (sym on.params) (reads (places old) (history new.disk) settled.after image (ok_of answer ok settled.reaches.ok) here));
         },
       )

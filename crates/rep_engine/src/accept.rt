@@ -132,9 +132,7 @@ impl<D: Disk> Engine<D> {
         versions_follow_the_items();
         fronts_are_determined();
         the_log_is_apart();
-        if self.halted.is_some() {
-            return Err(Refusal::Stopped);
-        }
+        self.running()?;
         let count = self.next_items(backlog);
         add_items(&mut self.versions, backlog, 0, count)?;
         add_replies(&mut self.replies, backlog, count);

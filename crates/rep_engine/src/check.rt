@@ -8,12 +8,14 @@ ghost use Rattle.rep_disk.specs.Moments.{LeavesOnly};
 ghost use Rattle.rep_log.specs.Moves.{fault_of};
 ghost use Rattle.rep_steps.specs.declared.event.Event.TheVariants.{Check as to_check};
 ghost use Rattle.rep_steps.specs.Moves.{Moves};
-ghost use Rattle.rep_steps.specs.Nodes.{Node, Steps, window_at};
+ghost use Rattle.rep_steps.specs.Nodes.{Node, Steps, NodesStayNodes, window_at};
 ghost use Rattle.rep_steps.specs.Images.{IsFrontAt};
 ghost use Rattle.rep_image.specs.Meanings.{Means};
 ghost use Rattle.rep_checkpoint.specs.declared.stage.Stage.TheVariants.{Off};
 ghost use Rattle.rep_checkpoint.specs.Moves.{next_refusal};
 ghost use Rattle.rep_checkpoint.specs.Calls.{IsRefused, GoesOn};
+ghost use Rattle.rep_checkpoint.specs.Laws.{TheCheckpointIsApart, TheStageIsTheFacts};
+ghost use Rattle.rep_checkpoint.specs.Nodes.{NodesLeaveTheirFronts, VersionsLeadToTheState};
 ghost use Rattle.rep_engine.specs.Engines.{facts_of, durable_of};
 ghost use Rattle.rep_engine.specs.Holding.{Holds};
 ghost use Rattle.rep_engine.specs.Reading.{halted_by};
@@ -29,6 +31,21 @@ use rep_disk::Disk;
 use rep_pool::pools_go_on;
 use rep_steps::{judging_goes_on, nodes_stay_nodes};
 use rep_types::Refusal;
+
+/// What the proofs of a checkpoint's steps rest on.
+pub(crate) fn checkpoints_go_on()
+    ensures nodes { NodesStayNodes }
+    ensures fronts { NodesLeaveTheirFronts }
+    ensures apart { TheCheckpointIsApart }
+    ensures facts { TheStageIsTheFacts }
+    ensures states { VersionsLeadToTheState }
+{
+    nodes_stay_nodes();
+    nodes_leave_their_fronts();
+    the_checkpoint_is_apart();
+    the_stage_is_the_facts();
+    versions_lead_to_the_state();
+}
 
 impl<D: Disk> Engine<D> {
     /// Begins a checkpoint to what is durable, with the certifier's window there.
@@ -104,15 +121,9 @@ impl<D: Disk> Engine<D> {
         ensures steps { (n : Node) → Holds D.honest D.history D.failures n self.old → window_of certifier.now.current (durable_of self.old.log) ≡ window_at n n.facts.durable → (m : Node) × Steps n to_check (checked result) m × Holds D.honest D.history D.failures m self.new }
         ensures leaves { (n : Node) → Holds D.honest D.history D.failures n self.old → LeavesOnly (D.history self.old.disk) (D.history self.new.disk) (IsFrontAt Means n) }
     {
-        nodes_stay_nodes();
-        nodes_leave_their_fronts();
-        the_checkpoint_is_apart();
-        the_stage_is_the_facts();
-        versions_lead_to_the_state();
+        checkpoints_go_on();
         judging_goes_on();
-        if self.halted.is_some() {
-            return Err(Refusal::Stopped);
-        }
+        self.running()?;
         match self.checkpoint.step_due() {
             Step::Begin => match self.begin(certifier) {
                 Ok(position) => Ok(Some(position)),

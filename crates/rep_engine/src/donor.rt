@@ -83,9 +83,7 @@ impl<D: Disk> Engine<D> {
     {
         images_read_as_allowed();
         turns_are_taken();
-        if self.halted.is_some() {
-            return Err(Refusal::Stopped);
-        }
+        self.running()?;
         let first = self.log.start();
         if index >= self.log.next() - first {
             return Ok(None);
@@ -120,9 +118,7 @@ impl<D: Disk> Engine<D> {
         // Whatever stands on an honest device: its bytes decide, where no write failed in the window's area.
         ensures spelled { D.honest self.old.disk → IsReadable self.old.layout (D.history self.old.disk) (in_window_area (side_of self.old.checkpoint.base.number)) → IsWindowAsSpelled (reading_of self.old.layout (seen (D.history self.old.disk))) self.old.checkpoint.base result in_window }
     {
-        if self.halted.is_some() {
-            return Err(Refusal::Stopped);
-        }
+        self.running()?;
         let base = self.checkpoint.base();
         let area = Place::Window(Side::of(base.number));
         if self.cells.read_area(area, room).is_err() {
@@ -159,9 +155,7 @@ impl<D: Disk> Engine<D> {
         ensures spelled { D.honest self.old.disk → IsBasePageAsSpelled (reading_of self.old.layout (seen (D.history self.old.disk))) self.old.checkpoint.base page result in_pages }
     {
         pages_are_told();
-        if self.halted.is_some() {
-            return Err(Refusal::Stopped);
-        }
+        self.running()?;
         let base = self.checkpoint.base();
         let PageState::In(_) = slot_of(base, page) else {
             return Ok(None);

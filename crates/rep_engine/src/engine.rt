@@ -1,7 +1,7 @@
 //! What an engine holds, and the steps that write.
 
 ghost use Rattle.std.specs.Prelude.{◌≡◌, ◌≢◌, ◌⊎◌, ◌+◌, ◌-◌, ◌<◌, ◌==◌, [], nat_le, if◌then◌else◌, true, false, length, map, is_some, Some, None, Err, IsErr, IfSome, IfErr, OnOk, OnErr, MatchOption};
-ghost use Rattle.rep_types.specs.declared.refusal.Refusal.TheVariants.{OutOfMemory, DiskFault, LogFull};
+ghost use Rattle.rep_types.specs.declared.refusal.Refusal.TheVariants.{OutOfMemory, DiskFault, LogFull, Stopped};
 ghost use Rattle.rep_types.specs.Replies.{reply_of};
 ghost use Rattle.rep_disk.specs.History.{Synced};
 ghost use Rattle.rep_disk.specs.Calls.{IsCall};
@@ -120,6 +120,19 @@ impl<D: Disk> Engine<D> {
         }
     }
 
+    /// Refuses with `Stopped` where the device has failed before.
+    pub(crate) fn running(&self) -> Result<(), Refusal>
+        ensures runs { OnOk result (self.now.halted ≡ None) }
+        ensures stopped { IfErr result (λ e. (e ≡ Stopped) × (is_some self.now.halted ≡ true)) }
+        // What holds of every engine.
+        ensures engine { IsEngine self.now.layout self.now.checkpoint self.now.log self.now.kept self.now.block }
+    {
+        if self.halted.is_some() {
+            return Err(Refusal::Stopped);
+        }
+        Ok(())
+    }
+
     /// Why the log's next block does not begin: its cell is live.
     pub(crate) fn live_refusal(&self) -> Option<Refusal>
         requires { self.now.log.phase ≡ Phase.Resting }
@@ -179,9 +192,7 @@ impl<D: Disk> Engine<D> {
         nodes_leave_their_fronts();
         the_log_is_apart();
         pools_go_on();
-        if self.halted.is_some() {
-            return Err(Refusal::Stopped);
-        }
+        self.running()?;
         if let Some(refusal) = self.log_refusal() {
             return Err(refusal);
         }
@@ -255,9 +266,7 @@ impl<D: Disk> Engine<D> {
         versions_follow_the_items();
         judging_goes_on();
         pools_go_on();
-        if self.halted.is_some() {
-            return Err(Refusal::Stopped);
-        }
+        self.running()?;
         if self.cells.sync().is_err() {
             self.halted = Some(self.log.phase());
             return Err(Refusal::DiskFault);

@@ -18,14 +18,10 @@ ghost use Rattle.rep_engine.specs.Engines.{facts_of};
 ghost use Rattle.rep_engine.specs.Holding.{Holds, wrote};
 ghost use Rattle.rep_engine.specs.Reading.{halted_by};
 
+use crate::check::checkpoints_go_on;
 use crate::engine::Engine;
-use rep_checkpoint::{
-    nodes_leave_their_fronts, the_checkpoint_is_apart, the_stage_is_the_facts,
-    versions_lead_to_the_state,
-};
 use rep_disk::Disk;
 use rep_layout::row_places_are_told;
-use rep_steps::nodes_stay_nodes;
 use rep_types::Refusal;
 
 impl<D: Disk> Engine<D> {
@@ -72,15 +68,9 @@ impl<D: Disk> Engine<D> {
         ensures unchanged { IfErr result (λ e. (e ≡ DiskFault) ⊎ (((e ≡ Corrupt Pages) × (self.new ≡ record (self.old) { disk = self.new.disk })) ⊎ (self.new ≡ self.old))) }
         ensures fault { IfErr result (λ e. e ≡ DiskFault → self.new ≡ record (self.old) { disk = self.new.disk; halted = Some self.old.log.phase }) }
     {
-        nodes_stay_nodes();
-        nodes_leave_their_fronts();
-        the_checkpoint_is_apart();
-        the_stage_is_the_facts();
-        versions_lead_to_the_state();
+        checkpoints_go_on();
         row_places_are_told();
-        if self.halted.is_some() {
-            return Err(Refusal::Stopped);
-        }
+        self.running()?;
         match u32::try_from(page) {
             Ok(page) => self.flush_page(page),
             Err(_) => Err(Refusal::NotDue),

@@ -300,11 +300,7 @@ impl<D: Disk> Installation<D> {
     {
         installations_stand_beside();
         installations_leave_the_old_or_the_new();
-        // For its clause: what holds of every engine.
-        self.engine.durable();
-        if self.engine.is_stopped() {
-            return Err(Refusal::Stopped);
-        }
+        self.engine.running()?;
         self.engine.install_page(&mut self.coming, page, rows)
     }
 

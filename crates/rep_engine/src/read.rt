@@ -94,9 +94,7 @@ impl<D: Disk> Engine<D> {
         versions_follow_the_items();
         versions_lead_to_the_state();
         the_bytes_tell_the_page();
-        if self.halted.is_some() {
-            return Err(Refusal::Stopped);
-        }
+        self.running()?;
         if let Some(refusal) = self.read_refusal(key, s) {
             return Err(refusal);
         }

@@ -1,7 +1,7 @@
 //! The device below a replica: a disk in memory that fails at one call, or from one call on, or shows other bytes than were written.
 
 use crate::damaged::{Damage, Damaged, Failing as Fuses};
-use rep_disk::{Disk, FaultOnce, FuseDisk, Loss, MemDisk};
+use rep_disk::{Disk, FaultOnce, Fuse, FuseDisk, Loss, MemDisk, Once};
 use rep_types::Refusal;
 use std::alloc::Global;
 
@@ -30,7 +30,7 @@ fn undamaged(inner: Fuses) -> Device {
 
 /// The disk, which serves every call.
 pub(crate) fn serving(disk: MemDisk) -> Device {
-    undamaged(FaultOnce::new(FuseDisk::new(disk, NEVER), NEVER))
+    undamaged(FaultOnce::new(FuseDisk::new(disk, Fuse::after(NEVER)), Once::after(NEVER)))
 }
 
 /// A new disk of so many bytes, each of which is this one.
@@ -53,8 +53,14 @@ pub(crate) fn bytes(device: &Device) -> &[u8] {
 pub(crate) fn armed(device: Device, failing: Failing) -> Device {
     let disk = memory(device);
     undamaged(match failing {
-        Failing::Once(call) => FaultOnce::new(FuseDisk::new(disk, NEVER), call),
-        Failing::FromThenOn(call) => FaultOnce::new(FuseDisk::new(disk, call), NEVER),
+        Failing::Once(call) => FaultOnce::new(
+            FuseDisk::new(disk, Fuse::after(NEVER)),
+            Once::after(call),
+        ),
+        Failing::FromThenOn(call) => FaultOnce::new(
+            FuseDisk::new(disk, Fuse::after(call)),
+            Once::after(NEVER),
+        ),
     })
 }
 

@@ -5,7 +5,7 @@ use crate::log_bench::{
     found_on, is_found, look_of, makes, refused_by, start_of, take_up,
 };
 use rep_cells::Cells;
-use rep_disk::{Disk, FaultOnce, FuseDisk, Loss, MemDisk};
+use rep_disk::{Disk, FaultOnce, Fuse, FuseDisk, Loss, MemDisk, Once};
 use rep_log::{Phase, Step};
 use rep_record::BlockBuilder;
 use rep_types::Refusal;
@@ -136,7 +136,7 @@ type Faulty = FaultOnce<MemDisk>;
 /// number 0.
 fn faulty_bench(alloc: Global, call: u64) -> Result<Bench<Faulty>, Fail> {
     let Bench { log, cells } = bench_of(alloc, 4)?;
-    let cells = take_up(FaultOnce::new(cells.into_disk(), call), LAYOUT)?;
+    let cells = take_up(FaultOnce::new(cells.into_disk(), Once::after(call)), LAYOUT)?;
     Ok(Bench { log, cells })
 }
 
@@ -267,7 +267,7 @@ fn scan_on<D: Disk + Drop>(alloc: Global, disk: D) -> Result<(Option<Refusal>, u
 fn scan_fused(alloc: Global, bytes: &[u8], reads: u64) -> Result<(Option<Refusal>, u64), Refusal> {
     scan_on(
         alloc,
-        FuseDisk::new(disk_of(alloc, bytes)?, reads.saturating_add(1)),
+        FuseDisk::new(disk_of(alloc, bytes)?, Fuse::after(reads.saturating_add(1))),
     )
 }
 
@@ -300,7 +300,10 @@ fn a_fault_of_each_read_ends_a_scan(rt: HostRuntime) -> Result<(), Fail> {
 
 /// The cells of a device of these bytes that fails its fifth call alone.
 fn faulty_cells(alloc: Global, bytes: &[u8]) -> Result<Cells<Faulty>, Refusal> {
-    take_up(FaultOnce::new(disk_of(alloc, bytes)?, 4), LAYOUT)
+    take_up(
+        FaultOnce::new(disk_of(alloc, bytes)?, Once::after(4)),
+        LAYOUT,
+    )
 }
 
 /// What a first scan of the bytes is refused by, how often the device has then failed, and the log that a second finds.

@@ -4,7 +4,7 @@ ghost use Rattle.std.specs.Prelude.{◌<◌};
 
 use arrayvec::ArrayVec;
 use rep_cells::{Cells, refusal_of};
-use rep_disk::{Disk, FuseDisk, MemDisk};
+use rep_disk::{Disk, Fuse, FuseDisk, MemDisk};
 use rep_layout::{Layout, PageState, Place, RowPlace, Slot, SuperBody};
 use rep_pages::Page;
 use rep_pool::Pool;
@@ -112,7 +112,7 @@ fn reader_on(alloc: Global, calls: u64) -> Result<Reader, Refusal> {
     let base = base()?;
     let mut cells = cells_on(MemDisk::new(alloc, SIZE)?, &base)?;
     write_pages(&mut cells, base.params.schema(), &versions(alloc)?)?;
-    let cells = cells_on(FuseDisk::new(cells.into_disk(), calls), &base)?;
+    let cells = cells_on(FuseDisk::new(cells.into_disk(), Fuse::after(calls)), &base)?;
     Ok(Reader {
         pool: Pool::new(alloc)?,
         cells,

@@ -159,17 +159,9 @@ module _ {D : Type 0} (honest : D → Type 0) (history : D → History) (failure
 
   -- once the superblock before it is retired, the node stands at the snapshot
   pub is_there : IsInstalled super y (record m { facts = record m.facts { stage = is_off_stage } })
-  is_there = record {
-    uuid = refl;
-    setting = setting_is;
-    base = refl;
-    none = refl;
-    position = position_is;
-    durable = refl;
-    ahead = ahead_none;
-    off = refl;
-    running = ap (λ (s : Standing). s.stopped) holds.engine.facts ∙ ap is_some runs;
-  }
+  is_there =
+      let running : m.facts.stopped ≡ false = ap (λ (s : Standing). s.stopped) holds.engine.facts ∙ ap is_some runs in
+      search (setting_is, position_is, ahead_none)
 
   -- what means a front of it means the snapshot
   pub means_it : (image : List ℕ) → IsFrontAt Means m image → Means image (snapshot_of super y)

@@ -30,15 +30,9 @@ pub record Bringing (D : Type 0) : Type 0 where
   pub after : Holdings
 
 -- as numbers
-abbrev pub Rest : Type 0
-Rest = Coming × (Holdings × Holdings)
-
-rest_code : Coded Rest
-rest_code = Prim.hlevel codes
-
 pub bringing_code : {D : Type 0} → Coded D → Coded (Bringing D)
 bringing_code {D} code =
-    code_by (Engine D × Rest) (coded× (engine_code code) rest_code)
+    code_by (Engine D × (Coming × (Holdings × Holdings))) (coded× (engine_code code) (Prim.hlevel codes))
     (λ b. (b.engine, (b.coming, (b.before, b.after))))
     (λ c. record { engine = c.0; coming = c.1.0; before = c.1.1.0; after = c.1.1.1 }) (λ _. refl)
 

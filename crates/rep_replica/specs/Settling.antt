@@ -71,11 +71,8 @@ IsDue s e a t = (due s ≡ Some e) × Moves s e a t
 -- a step of its own: no delivery, and no read
 abbrev pub IsOwn : Event → Type 0
 IsOwn (Deliver seqno w) = ⊥
-IsOwn Log = Unit {0}
-IsOwn Sync = Unit {0}
-IsOwn Check = Unit {0}
-IsOwn (Flush page) = Unit {0}
 IsOwn (Read key at) = ⊥
+IsOwn e = Unit {0}
 
 abbrev pub AreOwn : List Event → Type 0
 AreOwn [] = Unit {0}

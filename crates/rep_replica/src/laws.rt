@@ -4,7 +4,7 @@ ghost use Rattle.rep_replica.specs.Holding.{LeavesItsEnds};
 ghost use Rattle.rep_replica.specs.Running.{RunsAreJoined};
 ghost use Rattle.rep_replica.specs.Reading.{ReadsForgetNothing};
 ghost use Rattle.rep_replica.specs.Stopping.{StoppedReplicasHold};
-ghost use Rattle.rep_replica.specs.Lives.{LivesFollowTheOrder};
+ghost use Rattle.rep_replica.specs.Lives.{RunsFollowTheOrder, StopsLeaveWhatHolds, LivesFollowTheOrder};
 ghost use Rattle.rep_replica.specs.Episodes.{LivesWithSnapshotsFollowTheOrder};
 
 use crate::replica::Replica;
@@ -16,6 +16,25 @@ use rep_steps::{
     runs_answer_the_order, runs_come_to, steps_follow_the_order,
 };
 use rep_types::history_by_items;
+
+/// What a run of an order is, step by step.
+fn runs_follow_the_order()
+    ensures { RunsFollowTheOrder }
+{
+    nodes_hold_the_order();
+    steps_follow_the_order();
+    runs_come_to();
+    runs_answer_the_order();
+}
+
+/// What a stop leaves, and what is opened on that.
+fn stops_leave_what_holds<D: Disk>()
+    ensures { StopsLeaveWhatHolds D.honest D.history D.failures }
+{
+    images_mean_one_thing();
+    stopped_replicas_hold::<D>();
+    moments_of_calls();
+}
 
 /// A replica is opened on a device, runs events, and is stopped at any moment, within a call or between
 /// two; then it is opened on what the stop left, any number of times, whatever the device does meanwhile; and
@@ -30,13 +49,8 @@ use rep_types::history_by_items;
 pub fn lives_follow_the_order<D: Disk>()
     ensures { LivesFollowTheOrder D.honest D.history D.failures }
 {
-    images_mean_one_thing();
-    nodes_hold_the_order();
-    steps_follow_the_order();
-    runs_come_to();
-    runs_answer_the_order();
-    stopped_replicas_hold::<D>();
-    moments_of_calls();
+    runs_follow_the_order();
+    stops_leave_what_holds::<D>();
 }
 
 /// A replica is opened on a device, runs events, and is stopped at any moment, any number of times, as in
@@ -53,13 +67,8 @@ pub fn lives_follow_the_order<D: Disk>()
 pub fn lives_with_snapshots_follow_the_order<D: Disk>()
     ensures { LivesWithSnapshotsFollowTheOrder D.honest D.history D.failures }
 {
-    images_mean_one_thing();
-    nodes_hold_the_order();
-    steps_follow_the_order();
-    runs_come_to();
-    runs_answer_the_order();
-    stopped_replicas_hold::<D>();
-    moments_of_calls();
+    runs_follow_the_order();
+    stops_leave_what_holds::<D>();
     fronts_stand_for_the_order();
     history_by_items();
 }

@@ -1,7 +1,7 @@
 //! Formatting a disk that is too small, and one that nobody can be told of; and a disk that fails while it is opened.
 
 use crate::streams::{ShortWriter, with_room, wrote};
-use rep_disk::{Disk, FaultOnce, MemDisk};
+use rep_disk::{Disk, FaultOnce, MemDisk, Once};
 use rep_script::{format_text, opened, run_on_disk};
 use rep_types::{Params, Refusal};
 use std::alloc::Global;
@@ -69,7 +69,7 @@ fn a_disk_is_formatted_before_that_is_said(rt: HostRuntime) -> Result<(), Fail> 
 fn failing(alloc: Global) -> Result<FaultOnce<MemDisk>, Refusal> {
     let (disk, _, end) = formatted(alloc, 103_424, 100)?;
     end?;
-    Ok(FaultOnce::new(disk, 0))
+    Ok(FaultOnce::new(disk, Once::after(0)))
 }
 
 #[test]

@@ -57,17 +57,4 @@ judged_alike p S T (j ∷ js) at same h = (
 )
 
 pub judging_goes_on : JudgingGoesOn
-judging_goes_on = record {
-  judged_more = judged_more;
-  judged_front = first_judged;
-  judged_behind = later_judged;
-  judged_alike = judged_alike;
-  judged_seqnos = judged_seqnos;
-  reached_position = reached_position;
-  reached_more = reached_more;
-  reached_both = reached_both;
-  window_next = window_next;
-  kept_alike = kept_alike;
-  seqnos_drop = seqnos_drop;
-  seqnos_more = seqnos_more;
-}
+judging_goes_on = search (judged_more, first_judged, later_judged, judged_alike, judged_seqnos, reached_position, reached_more, reached_both, window_next, kept_alike, seqnos_drop, seqnos_more)

@@ -57,18 +57,7 @@ fits_logged fronts s stale (Opening k) e h none = absurd cc
 logs : FrontsAreDetermined → (s : Standing) (f : Found) → IsStanding s → log_refusal s s.phase ≡ None → IsStanding (after s Log f)
 logs fronts s f h none =
     let fits = fits_logged fronts s f.stale s.phase refl h none in
-    record {
-      allowed = h.allowed;
-      undefined = h.undefined;
-      based = h.based;
-      near = h.near;
-      limit = h.limit;
-      block = fits.block;
-      few = fits.few;
-      started = h.started;
-      room = fits.room;
-      goal = h.goal;
-    }
+    search
 
 -- ---- a sync
 
@@ -160,18 +149,7 @@ syncs s f h =
 -- how often the device failed, whether that stopped the replica, and how far a checkpoint has come decide nothing else
 pub stands_with : (failures : ℕ) (stopped : Bool) (stage : Stage) (s : Standing) → IsStanding s → HasGoal s.base s.durable s.start s.next stage
     → IsStanding (record s { failures = failures; stopped = stopped; stage = stage })
-stands_with failures stopped stage s h goal = record {
-  allowed = h.allowed;
-  undefined = h.undefined;
-  based = h.based;
-  near = h.near;
-  limit = h.limit;
-  block = h.block;
-  few = h.few;
-  started = h.started;
-  room = h.room;
-  goal = goal;
-}
+stands_with failures stopped stage s h goal = search
 
 goal_checked : (s : Standing) (left : List ℕ) (stage : Stage) → IsStanding s → check_refusal s stage ≡ None → HasGoal s.base s.durable s.start s.next stage → HasGoal s.base s.durable s.start s.next (checked s left stage)
 goal_checked s left Off h none g = record { above = grind (arith, nat_tests); within = omega arith; started = h.started; begun = omega arith }

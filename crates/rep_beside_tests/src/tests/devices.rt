@@ -3,7 +3,7 @@
 use super::reads::{check, new_node, write};
 use super::replicas::{Found, ROW, new_disk, opened};
 use super::running::Running;
-use rep_disk::{Disk, FuseDisk, MemDisk};
+use rep_disk::{Disk, Fuse, FuseDisk, MemDisk};
 use rep_types::Refusal;
 use std::alloc::Global;
 use std::process::Abort;
@@ -60,7 +60,7 @@ fn fails_in_a_read<R: Threads + Wait + Sync + Abort>(rt: &R, alloc: Global) -> R
     let mut halting: u64 = 0;
     for calls in 0..CALLS {
         let copy = MemDisk::from_bytes(alloc, disk.bytes())?;
-        if let Some(twice) = reads_twice(rt, alloc, FuseDisk::new(copy, calls))? {
+        if let Some(twice) = reads_twice(rt, alloc, FuseDisk::new(copy, Fuse::after(calls)))? {
             assert!(rt;
                 is_halting(twice) || is_answered(twice),
                 "behind {calls} calls"

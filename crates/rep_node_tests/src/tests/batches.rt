@@ -4,7 +4,7 @@ use super::paces::{AtOnce, Crossing, HoldsFirst, StopsAt, Writes};
 use super::replicas::{
     durable_after_crash, formatted, has_no_row, has_row, is_whole, new_disk, putting_each, served,
 };
-use rep_disk::{HeldDisk, MemDisk};
+use rep_disk::{Held, HeldDisk, MemDisk};
 use rep_node::{Batch, Point};
 use rep_replica::Replica;
 use rep_types::{Params, Refusal};
@@ -49,7 +49,7 @@ fn while_the_engine_writes<R: Threads + Wait + Sync>(
 ) -> Result<bool, Refusal> {
     let items = putting_each(alloc, 2)?;
     let crossing = Crossing::new();
-    let disk = HeldDisk::new(new_disk(alloc)?, Writes(&crossing));
+    let disk = HeldDisk::new(new_disk(alloc)?, Held::by(Writes(&crossing)));
     let (replica, batch) = served(rt, alloc, disk, items.as_slice(), 2, &crossing)?;
     Ok(is_whole(&replica, &batch, 2, 0))
 }

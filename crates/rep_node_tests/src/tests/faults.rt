@@ -2,7 +2,7 @@
 
 use super::paces::AtOnce;
 use super::replicas::{durable_after_crash, new_disk, putting_each, served};
-use rep_disk::{FaultOnce, FuseDisk, MemDisk};
+use rep_disk::{FaultOnce, Fuse, FuseDisk, MemDisk, Once};
 use rep_node::Batch;
 use rep_types::Refusal;
 use std::alloc::Global;
@@ -52,7 +52,7 @@ fn fails_once<R: Threads + Wait + Sync>(
     call: u64,
 ) -> Result<Ending, Refusal> {
     let items = putting_each(alloc, 2)?;
-    let disk = FaultOnce::new(new_disk(alloc)?, call);
+    let disk = FaultOnce::new(new_disk(alloc)?, Once::after(call));
     match served(rt, alloc, disk, items.as_slice(), 2, &AtOnce) {
         Ok((replica, batch)) => ended(alloc, &batch, replica.into_disk().into_inner()),
         Err(Refusal::DiskFault) => Ok(Ending::AtOpening),
@@ -67,7 +67,7 @@ fn fails_from<R: Threads + Wait + Sync>(
     calls: u64,
 ) -> Result<Ending, Refusal> {
     let items = putting_each(alloc, 2)?;
-    let disk = FuseDisk::new(new_disk(alloc)?, calls);
+    let disk = FuseDisk::new(new_disk(alloc)?, Fuse::after(calls));
     match served(rt, alloc, disk, items.as_slice(), 2, &AtOnce) {
         Ok((replica, batch)) => ended(alloc, &batch, replica.into_disk().into_inner()),
         Err(Refusal::DiskFault) => Ok(Ending::AtOpening),

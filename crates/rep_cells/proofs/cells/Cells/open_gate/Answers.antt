@@ -1,13 +1,5 @@
-use Rattle.rep_cells.proofs.Writing.{open_steps, gate_ends, gate_in, gate_writes}
+use Rattle.rep_cells.proofs.Writing.{open_steps}
 use Rattle.rep_cells.proofs.cells.Cells.open_gate.Goals as goal
 
-pub write_at-requires : goal.write_at-requires
-write_at-requires g c = gate_ends c.args.self.now.layout c.args.cell c.gate.result c.gate_sector.result 0xA5 (g.D.Disk.size c.args.self.now.disk) c.requires c.args.self.now.fits c.gate.ensures c.gate_sector.ensures
-
 pub returns-clause-states : goal.returns-clause-states
-returns-clause-states g c = λ honest s is. open_steps c.args.self.now.layout (g.D.Disk.history c.args.self.now.disk) (g.D.Disk.history c.write_at.new.self) s c.args.cell c.write_at.result is c.requires
-    (gate_writes c.args.self.now.layout c.args.cell c.gate.result c.gate_sector.result 0xA5 _ _ c.write_at.result c.gate.ensures c.gate_sector.ensures (record { done = c.write_at.ensures.written honest; failed = c.write_at.ensures.spoiled honest }))
-
-pub returns-clause-inside : goal.returns-clause-inside
-returns-clause-inside g c = λ honest.
-    gate_in c.args.self.now.layout c.args.cell c.gate.result c.gate_sector.result 0xA5 (g.D.Disk.history c.args.self.now.disk) (g.D.Disk.history c.write_at.new.self) c.write_at.result c.requires c.gate.ensures c.gate_sector.ensures (c.write_at.ensures.written honest)
+returns-clause-states g c = λ honest s is. open_steps c.args.self.now.layout (g.D.Disk.history c.args.self.now.disk) (g.D.Disk.history c.write_gate.new.self.disk) s c.args.cell c.write_gate.result is c.requires (c.write_gate.ensures.written honest)

@@ -17,7 +17,7 @@ use Rattle.rep_engine.proofs.engine.Engine.accept.Goals as goal
 
 -- ---- where a growth was refused
 
-same_versions : (g : _) (c : goal.After-from_residual g) → c.add_items.new.versions ≡ c.self.inside.versions
+same_versions : (g : _) (c : goal.After-from_residual-in_err-add_items g) → c.add_items.new.versions ≡ c.self.inside.versions
 same_versions g c =
     let h = c.self.invariant.0 in
     let come = subst (λ (e : Engine g.row.D.Denot). ComeNext (facts_of g.D.Disk.failures e) c.args.backlog.now) (sym c.self.view_is) c.requires in
@@ -34,7 +34,7 @@ on_err (Err e) P p = p
 
 pub returns-in_err-add_items-clause-unchanged : goal.returns-in_err-add_items-clause-unchanged
 returns-in_err-add_items-clause-unchanged g c =
-    on_err c.from_residual.result _ (
+    on_err c.from_residual-in_err-add_items.result _ (
       subst (λ (kept : Kept). (record { disk = disk_of c.self.inside.cells; layout = layout_of c.self.inside.cells; checkpoint = c.self.inside.checkpoint; log = c.self.inside.log; kept = kept; block = c.self.inside.block; halted = c.self.inside.halted }) ≡ c.args.self.now)
           (sym (same_versions g c)) c.self.view_is,
       refl,

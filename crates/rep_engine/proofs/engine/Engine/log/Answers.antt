@@ -16,7 +16,7 @@ use Rattle.rep_engine.specs.Writing.{written_in}
 use Rattle.rep_engine.specs.Holding.{Holds, wrote}
 use Rattle.rep_engine.proofs.Pools.{pooled_as, pooled_beside}
 use Rattle.rep_engine.proofs.Steps.{refused_log}
-use Rattle.rep_engine.proofs.Answering.{inside, none_of, runs_of, on_ok, halted_err, halted_ok}
+use Rattle.rep_engine.proofs.Answering.{inside, runs_within, on_ok, halted_err, halted_ok}
 use Rattle.rep_engine.proofs.Logs.{IsLogged, halted_after, logged_moves, logged_steps, logged_leaves, engine_then}
 use Rattle.rep_engine.proofs.engine.Engine.log.Goals as goal
 use Rattle.rep_engine.proofs.engine.Engine.log.Goals.{After-write_next-written}
@@ -24,7 +24,7 @@ use Rattle.rep_engine.proofs.engine.Engine.log.Goals.{After-write_next-written}
 pub returns-in-Some-clause-steps : goal.returns-in-Some-clause-steps
 returns-in-Some-clause-steps g c = λ n holds.
     let old : Engine g.row.D.Denot = c.args.self.now in
-    let runs : old.halted ≡ None = runs_of c.self.view_is c.if-is_some.ensures in
+    let runs : old.halted ≡ None = c.in_ok-running.ensures.runs in
     let some : log_refusal (facts_of g.D.Disk.failures old) old.log.phase ≡ Some c.in-Some.refusal = sym c.log_refusal.ensures ∙ c.in-Some.is in
     (n, refused_log g.D.Disk.honest g.D.Disk.history g.D.Disk.failures old n holds runs c.in-Some.refusal some, holds)
 
@@ -37,7 +37,7 @@ written : (g : _) (c : After-write_next-written g) (halted : Option Phase) → h
     → IsLogged g.D.Disk.honest g.D.Disk.history g.D.Disk.size g.D.Disk.failures (inside c.self.inside.cells c.self.inside.checkpoint c.self.inside.log c.self.inside.versions c.self.inside.block c.self.inside.halted) (after g c halted) c.write_next-written.result
 written g c halted is = record {
   engine = c.self.invariant.0;
-  runs = none_of c.self.inside.halted c.if-is_some.ensures;
+  runs = runs_within c.self.view_is c.in_ok-running.ensures.runs;
   none = subst (λ (e : Engine g.row.D.Denot). log_refusal (facts_of g.D.Disk.failures e) e.log.phase ≡ None) (sym c.self.view_is) (sym c.log_refusal.ensures ∙ c.in_default.is);
   call = c.write_next-written.ensures.call;
   writes = c.write_next-written.ensures.written;
@@ -77,7 +77,7 @@ returns-then-is_err-clause-leaves g c = λ n holds. leaves g (goal.at.returns-th
 pub invariant_of-self-else-is_err : goal.invariant_of-self-else-is_err
 invariant_of-self-else-is_err g c =
     let at = (goal.at.invariant_of-self-else-is_err g c).After-write_next-written in
-    let halted = none_of c.self.inside.halted c.if-is_some.ensures ∙ halted_ok c.write_next-written.result c.self.inside.log.phase c.if-is_err.ensures.value in (
+    let halted = runs_within c.self.view_is c.in_ok-running.ensures.runs ∙ halted_ok c.write_next-written.result c.self.inside.log.phase c.if-is_err.ensures.value in (
       subst (λ (l : Layout). IsEngine l c.self.inside.checkpoint c.write_next-written.new.log c.self.inside.versions c.self.inside.block) (sym c.write_next-written.ensures.layout)
           (engine_then g.D.Disk.honest g.D.Disk.history g.D.Disk.size g.D.Disk.failures _ _ c.write_next-written.result (written g at c.self.inside.halted halted)),
       c.self.invariant.1,
@@ -87,7 +87,7 @@ invariant_of-self-else-is_err g c =
     )
 
 done : (g : _) (c : goal.Else-is_err g) → c.self.inside.halted ≡ halted_after c.write_next-written.result c.self.inside.log.phase
-done g c = none_of c.self.inside.halted c.if-is_some.ensures ∙ halted_ok c.write_next-written.result c.self.inside.log.phase c.if-is_err.ensures.value
+done g c = runs_within c.self.view_is c.in_ok-running.ensures.runs ∙ halted_ok c.write_next-written.result c.self.inside.log.phase c.if-is_err.ensures.value
 
 pub returns-else-is_err-clause-moves : goal.returns-else-is_err-clause-moves
 returns-else-is_err-clause-moves g c =

@@ -3,45 +3,44 @@ use Rattle.rep_types.specs.declared.refusal.Refusal.TheVariants.{Stopped}
 use Rattle.rep_versions.specs.declared.versions.At.{At}
 use Rattle.rep_versions.specs.Versions.{IsAnswer, told}
 use Rattle.rep_engine.specs.Engines.{facts_of}
-use Rattle.rep_engine.proofs.Answering.{runs_of}
-use Rattle.rep_engine.proofs.Refusing.{fault_stops, refused_after}
+use Rattle.rep_engine.proofs.Refusing.{passed_on, fault_stops, refused_after}
 use Rattle.rep_engine.proofs.Spelled.{read_newest, read_below, read_refused, found_above, refused_elsewise, row_inside}
 use Rattle.rep_engine.proofs.Reading.{row_moves, row_steps, reads_moves, reads_steps}
 use Rattle.rep_engine.proofs.engine.Engine.read.Goals as goal
 
 pub returns-in-Found-clause-moves : goal.returns-in-Found-clause-moves
 returns-in-Found-clause-moves g c =
-    let runs = runs_of c.self.view_is c.if-is_some.ensures in
+    let runs = c.in_ok-running.ensures.runs in
     row_moves g.D.Disk.honest g.D.Disk.history g.D.Disk.size g.D.Disk.failures g.met.D.Disk.sized c.args.self.now c.args.key c.args.s runs (sym c.read_refusal.ensures ∙ c.in_default.is) (Some c.copied.result) c.args.self.now refl
 
 pub returns-in-Found-clause-steps : goal.returns-in-Found-clause-steps
 returns-in-Found-clause-steps g c = λ n holds.
-    let runs = runs_of c.self.view_is c.if-is_some.ensures in
+    let runs = c.in_ok-running.ensures.runs in
     let steps = row_steps g.D.Disk.honest g.D.Disk.history g.D.Disk.size g.D.Disk.failures g.met.D.Disk.sized c.args.self.now c.args.key c.args.s runs (sym c.read_refusal.ensures ∙ c.in_default.is) c.versions_follow_the_items.ensures c.versions_lead_to_the_state.ensures n holds
     c.version_of.result (Some c.copied.result) c.version_of.ensures (ap Some c.copied.ensures.same ∙ sym (ap (λ (a : At). told a (n.base.content c.args.key)) c.in-Found.is)) in
     (n, steps, holds)
 
 pub returns-in-Deleted-clause-moves : goal.returns-in-Deleted-clause-moves
 returns-in-Deleted-clause-moves g c =
-    let runs = runs_of c.self.view_is c.if-is_some.ensures in
+    let runs = c.in_ok-running.ensures.runs in
     row_moves g.D.Disk.honest g.D.Disk.history g.D.Disk.size g.D.Disk.failures g.met.D.Disk.sized c.args.self.now c.args.key c.args.s runs (sym c.read_refusal.ensures ∙ c.in_default.is) None c.args.self.now refl
 
 pub returns-in-Deleted-clause-steps : goal.returns-in-Deleted-clause-steps
 returns-in-Deleted-clause-steps g c = λ n holds.
-    let runs = runs_of c.self.view_is c.if-is_some.ensures in
+    let runs = c.in_ok-running.ensures.runs in
     let steps = row_steps g.D.Disk.honest g.D.Disk.history g.D.Disk.size g.D.Disk.failures g.met.D.Disk.sized c.args.self.now c.args.key c.args.s runs (sym c.read_refusal.ensures ∙ c.in_default.is) c.versions_follow_the_items.ensures c.versions_lead_to_the_state.ensures n holds
     c.version_of.result None c.version_of.ensures (sym (ap (λ (a : At). told a (n.base.content c.args.key)) c.in-Deleted.is)) in
     (n, steps, holds)
 
 pub returns-in-Below-clause-moves : goal.returns-in-Below-clause-moves
 returns-in-Below-clause-moves g c =
-    let runs = runs_of c.self.view_is c.if-is_some.ensures in
+    let runs = c.in_ok-running.ensures.runs in
     let read = c.read_base.ensures.read in
     reads_moves g.D.Disk.honest g.D.Disk.history g.D.Disk.size g.D.Disk.failures g.met.D.Disk.sized c.args.self.now c.args.key c.args.s runs (sym c.read_refusal.ensures ∙ c.in_default.is) c.read_base.result c.read_base.new.self read
 
 pub returns-in-Below-clause-steps : goal.returns-in-Below-clause-steps
 returns-in-Below-clause-steps g c = λ n holds.
-    let runs = runs_of c.self.view_is c.if-is_some.ensures in
+    let runs = c.in_ok-running.ensures.runs in
     let read = c.read_base.ensures.read in
     reads_steps g.D.Disk.honest g.D.Disk.history g.D.Disk.size g.D.Disk.failures g.met.D.Disk.sized c.args.self.now c.args.key c.args.s runs (sym c.read_refusal.ensures ∙ c.in_default.is) c.versions_follow_the_items.ensures c.versions_lead_to_the_state.ensures n holds
     c.nodes_stay_nodes.ensures c.version_of.result c.version_of.ensures (ap (λ (a : At). told a (n.base.content c.args.key)) c.in-Below.is) c.read_base.result c.read_base.new.self read
@@ -53,8 +52,8 @@ returns-in-Some-clause-spelled g c = λ honest readable.
     read_refused _ c.args.self.now.checkpoint.base c.args.self.now.kept c.args.key c.args.s c.in-Some.refusal
     (refused_elsewise (facts_of g.D.Disk.failures c.args.self.now) c.args.key c.args.s c.in-Some.refusal (sym c.read_refusal.ensures ∙ c.in-Some.is))
 
-pub returns-then-is_some-clause-spelled : goal.returns-then-is_some-clause-spelled
-returns-then-is_some-clause-spelled g c = λ honest readable. read_refused _ c.args.self.now.checkpoint.base c.args.self.now.kept c.args.key c.args.s Stopped (λ e. absurd cc)
+pub returns-in_err-running-clause-spelled : goal.returns-in_err-running-clause-spelled
+returns-in_err-running-clause-spelled g c = λ honest readable. rw (passed_on c.from_residual.result c.in_err-running.field-0.0 c.from_residual.ensures.1 c.in_err-running.ensures.stopped.0) (read_refused _ c.args.self.now.checkpoint.base c.args.self.now.kept c.args.key c.args.s Stopped (λ e. absurd cc))
 
 pub returns-in-Found-clause-spelled : goal.returns-in-Found-clause-spelled
 returns-in-Found-clause-spelled g c = λ honest readable.
@@ -82,7 +81,7 @@ returns-in-Below-clause-spelled g c = λ honest readable.
 
 pub returns-in-Below-clause-unchanged : goal.returns-in-Below-clause-unchanged
 returns-in-Below-clause-unchanged g c =
-    let runs = runs_of c.self.view_is c.if-is_some.ensures in
+    let runs = c.in_ok-running.ensures.runs in
     refused_after c.args.self.now c.read_base.new.self c.read_base.result runs c.read_base.ensures.read.after c.read_base.ensures.read.refused
 
 pub returns-in-Below-clause-fault : goal.returns-in-Below-clause-fault

@@ -19,7 +19,7 @@ use Rattle.rep_image.specs.Meanings.{Means}
 use Rattle.rep_engine.specs.Engines.{Engine, IsEngine, facts_of}
 use Rattle.rep_engine.specs.Holding.{Holds}
 use Rattle.rep_engine.proofs.Pools.{pooled_as, pooled_synced}
-use Rattle.rep_engine.proofs.Answering.{inside, none_of}
+use Rattle.rep_engine.proofs.Answering.{inside, runs_within}
 use Rattle.rep_engine.proofs.Syncs.{IsSynced, GoesOn, synced_moves, sync_leaves, sync_halts, sync_holds}
 use Rattle.rep_engine.proofs.engine.Engine.sync.Goals as goal
 
@@ -30,7 +30,7 @@ failed : (g : _) (c : goal.After-self-1 g) → IsSynced g.D.Disk.honest g.D.Disk
     (inside c.sync.new.self c.self.inside.checkpoint c.self.inside.log c.self.inside.versions c.self.inside.block (Some c.phase.result)) (Err DiskFault) c.sync.result
 failed g c = record {
   engine = c.self.invariant.0;
-  runs = none_of c.self.inside.halted c.if-is_some.ensures;
+  runs = runs_within c.self.view_is c.in_ok-running.ensures.runs;
   call = c.sync.ensures.call;
   settles = c.sync.ensures.states;
   layout = c.sync.ensures.layout;
@@ -41,6 +41,12 @@ returns-then-is_err-clause-steps g c = λ n holds.
     sync_halts g.D.Disk.honest g.D.Disk.history g.D.Disk.size g.D.Disk.failures g.met.D.Disk.sized c.the_stage_is_the_facts.ensures _ _ (Err DiskFault) c.sync.result (failed g c) n
     (subst (λ (e : Engine g.row.D.Denot). Holds g.D.Disk.honest g.D.Disk.history g.D.Disk.failures n e) (sym c.self.view_is) holds)
     c.nodes_stay_nodes.ensures (c.sync.ensures.call.cause (sym c.if-is_err.ensures.value)) (record { halted = ap Some c.phase.ensures; checkpoint = refl; log = refl; block = refl })
+
+pub returns-then-is_err-clause-leaves : goal.returns-then-is_err-clause-leaves
+returns-then-is_err-clause-leaves g c = λ n holds.
+    subst (λ (e : Engine g.row.D.Denot). LeavesOnly (g.D.Disk.history e.disk) (g.D.Disk.history (disk_of c.sync.new.self)) (IsFrontAt Means n)) c.self.view_is
+    (sync_leaves g.D.Disk.honest g.D.Disk.history g.D.Disk.size g.D.Disk.failures g.met.D.Disk.sized c.the_stage_is_the_facts.ensures _ _ (Err DiskFault) c.sync.result (failed g c) n
+    (subst (λ (e : Engine g.row.D.Denot). Holds g.D.Disk.honest g.D.Disk.history g.D.Disk.failures n e) (sym c.self.view_is) holds))
 
 -- ---- where it was done
 
@@ -60,7 +66,7 @@ done g c =
     let is = c.raise.ensures.after in
     let disk = ap (λ (e : Engine g.row.D.Denot). e.disk) is ∙ ap (λ (e : Engine g.row.D.Denot). e.disk) settled in record {
       engine = c.self.invariant.0;
-      runs = none_of c.self.inside.halted c.if-is_some.ensures;
+      runs = runs_within c.self.view_is c.in_ok-running.ensures.runs;
       call = subst (λ d. IsCall g.D.Disk.size g.D.Disk.failures g.D.Disk.honest (disk_of c.self.inside.cells) d c.sync.result) (sym disk) c.sync.ensures.call;
       settles = subst (λ d. Settles g.D.Disk.honest g.D.Disk.history (layout_of c.self.inside.cells) (disk_of c.self.inside.cells) d c.sync.result) (sym disk) c.sync.ensures.states;
       layout = ap (λ (e : Engine g.row.D.Denot). e.layout) is ∙ ap (λ (e : Engine g.row.D.Denot). e.layout) settled ∙ c.sync.ensures.layout;
@@ -74,7 +80,7 @@ on g c =
     let mid = c.settle-replies.new.self in
     let before : mid.checkpoint ≡ c.self.inside.checkpoint = ap (λ (e : Engine g.row.D.Denot). e.checkpoint) settled in
     let checkpoint : c.raise.new.self.checkpoint ≡ checkpoint_after mid.checkpoint = ap (λ (e : Engine g.row.D.Denot). e.checkpoint) is in record {
-      runs = ap (λ (e : Engine g.row.D.Denot). e.halted) is ∙ ap (λ (e : Engine g.row.D.Denot). e.halted) settled ∙ none_of c.self.inside.halted c.if-is_some.ensures;
+      runs = ap (λ (e : Engine g.row.D.Denot). e.halted) is ∙ ap (λ (e : Engine g.row.D.Denot). e.halted) settled ∙ runs_within c.self.view_is c.in_ok-running.ensures.runs;
       synced = mid.log;
       synced_is = ap (λ (e : Engine g.row.D.Denot). e.log) settled;
       syncs = c.settle-replies.ensures.log;

@@ -6,7 +6,6 @@ use Rattle.rep_image.specs.Meanings.{Means}
 use Rattle.rep_checkpoint.specs.Coming.{with_page}
 use Rattle.rep_engine.specs.Reading.{halted_by}
 use Rattle.rep_engine.specs.Installing.{Beside, HoldsBoth, halted_node}
-use Rattle.rep_engine.proofs.Answering.{none_of}
 use Rattle.rep_engine.proofs.Installing.{ok_by, err_by, err_of, page_to, page_stops, page_leaves}
 use Rattle.rep_engine.proofs.install.Installation.put_page.Goals as goal
 
@@ -14,7 +13,7 @@ pub returns-clause-holds : goal.returns-clause-holds
 returns-clause-holds g c = λ n y.
     subst (λ (b : Beside g.row.D.Denot). HoldsBoth g.D.Disk.honest g.D.Disk.history g.D.Disk.failures n y b.engine b.coming
     → OnOk c.install_page.result (HoldsBoth g.D.Disk.honest g.D.Disk.history g.D.Disk.failures n (with_page b.engine.checkpoint.base.params.rows c.args.page c.args.rows y) c.install_page.new.self c.install_page.new.coming)) c.self.view_is
-    (λ holds. ok_by c.install_page.result (page_to g.D.Disk.honest g.D.Disk.history g.D.Disk.size g.D.Disk.failures g.met.D.Disk.sized c.installations_leave_the_old_or_the_new.ensures c.installations_stand_beside.ensures c.self.inside.engine c.install_page.new.self c.install_page.ensures.rest c.durable.ensures.engine (none_of c.self.inside.engine.halted c.if-is_stopped.ensures)
+    (λ holds. ok_by c.install_page.result (page_to g.D.Disk.honest g.D.Disk.history g.D.Disk.size g.D.Disk.failures g.met.D.Disk.sized c.installations_leave_the_old_or_the_new.ensures c.installations_stand_beside.ensures c.self.inside.engine c.install_page.new.self c.install_page.ensures.rest c.running.ensures.engine c.in_ok-running.ensures.runs
     n y c.self.inside.coming holds c.install_page.result c.install_page.ensures.call c.install_page.ensures.halted c.install_page.new.coming c.args.page c.args.rows c.install_page.ensures.puts c.self.invariant.1))
 
 pub returns-clause-halts : goal.returns-clause-halts
@@ -22,7 +21,7 @@ returns-clause-halts g c = λ n y.
     subst (λ (b : Beside g.row.D.Denot). HoldsBoth g.D.Disk.honest g.D.Disk.history g.D.Disk.failures n y b.engine b.coming
     → IfErr c.install_page.result (λ e. e ≡ DiskFault → HoldsBoth g.D.Disk.honest g.D.Disk.history g.D.Disk.failures (halted_node (g.D.Disk.failures c.install_page.new.self.disk) n) y c.install_page.new.self c.install_page.new.coming)) c.self.view_is
     (λ holds. err_by c.install_page.result (λ e is fault.
-    page_stops g.D.Disk.honest g.D.Disk.history g.D.Disk.size g.D.Disk.failures g.met.D.Disk.sized c.installations_leave_the_old_or_the_new.ensures c.installations_stand_beside.ensures c.self.inside.engine c.install_page.new.self c.install_page.ensures.rest c.durable.ensures.engine (none_of c.self.inside.engine.halted c.if-is_stopped.ensures)
+    page_stops g.D.Disk.honest g.D.Disk.history g.D.Disk.size g.D.Disk.failures g.met.D.Disk.sized c.installations_leave_the_old_or_the_new.ensures c.installations_stand_beside.ensures c.self.inside.engine c.install_page.new.self c.install_page.ensures.rest c.running.ensures.engine c.in_ok-running.ensures.runs
     n y c.self.inside.coming holds c.install_page.result c.install_page.ensures.call c.install_page.ensures.halted c.install_page.new.coming c.args.page c.args.rows c.install_page.ensures.puts c.self.invariant.1
     (c.install_page.ensures.halted ∙ ap (halted_by c.self.inside.engine.log.phase) (is ∙ ap Err fault)) (err_of c.install_page.result e is c.install_page.ensures.puts.fault)))
 
@@ -30,5 +29,5 @@ pub returns-clause-leaves : goal.returns-clause-leaves
 returns-clause-leaves g c = λ n y.
     subst (λ (b : Beside g.row.D.Denot). HoldsBoth g.D.Disk.honest g.D.Disk.history g.D.Disk.failures n y b.engine b.coming
     → LeavesOnly (g.D.Disk.history b.engine.disk) (g.D.Disk.history c.install_page.new.self.disk) (IsFrontAt Means n)) c.self.view_is
-    (λ holds. page_leaves g.D.Disk.honest g.D.Disk.history g.D.Disk.size g.D.Disk.failures g.met.D.Disk.sized c.installations_leave_the_old_or_the_new.ensures c.installations_stand_beside.ensures c.self.inside.engine c.install_page.new.self.disk c.install_page.new.self.halted c.durable.ensures.engine (none_of c.self.inside.engine.halted c.if-is_stopped.ensures)
+    (λ holds. page_leaves g.D.Disk.honest g.D.Disk.history g.D.Disk.size g.D.Disk.failures g.met.D.Disk.sized c.installations_leave_the_old_or_the_new.ensures c.installations_stand_beside.ensures c.self.inside.engine c.install_page.new.self.disk c.install_page.new.self.halted c.running.ensures.engine c.in_ok-running.ensures.runs
     n y c.self.inside.coming holds c.install_page.new.coming c.args.page c.args.rows c.install_page.result c.install_page.ensures.puts c.install_page.ensures.call c.self.invariant.1)
