@@ -103,14 +103,19 @@ impl Counts {
 /// More calls than such a batch and the opening before it make of the disk.
 const CALLS: u64 = 60;
 
-/// A batch is served on a device of which each call fails in turn.
-fn fails_once_at_each<R: Threads + Wait + Sync + Abort>(
+/// A batch is served on a device of which each call fails in turn: that one alone, or all behind it too.
+fn fails_at_each<R: Threads + Wait + Sync + Abort>(
     rt: &R,
     alloc: Global,
+    all_behind: bool,
 ) -> Result<(), Refusal> {
     let mut counts = Counts { early: 0, whole: 0 };
     for call in 0..CALLS {
-        let ending = fails_once(rt, alloc, call)?;
+        let ending = if all_behind {
+            fails_from(rt, alloc, call)?
+        } else {
+            fails_once(rt, alloc, call)?
+        };
         assert!(rt; ending != Ending::Wrong, "at call {call}");
         counts = counts.with(ending);
     }
@@ -120,22 +125,10 @@ fn fails_once_at_each<R: Threads + Wait + Sync + Abort>(
 
 #[test]
 fn each_call_fails_once(rt: HostRuntime) -> Result<(), Fail> {
-    Ok(fails_once_at_each(&rt, rt.alloc())?)
-}
-
-/// A batch is served on a device that fails behind each number of calls.
-fn fails_from_each<R: Threads + Wait + Sync + Abort>(rt: &R, alloc: Global) -> Result<(), Refusal> {
-    let mut counts = Counts { early: 0, whole: 0 };
-    for calls in 0..CALLS {
-        let ending = fails_from(rt, alloc, calls)?;
-        assert!(rt; ending != Ending::Wrong, "behind {calls} calls");
-        counts = counts.with(ending);
-    }
-    assert!(rt; counts.early > 3 && counts.whole > 3);
-    Ok(())
+    Ok(fails_at_each(&rt, rt.alloc(), false)?)
 }
 
 #[test]
 fn each_call_and_all_behind_it_fail(rt: HostRuntime) -> Result<(), Fail> {
-    Ok(fails_from_each(&rt, rt.alloc())?)
+    Ok(fails_at_each(&rt, rt.alloc(), true)?)
 }
