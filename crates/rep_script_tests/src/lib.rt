@@ -4,12 +4,4 @@
 #![tactic(auto)]
 
 #[cfg(test)]
-mod formatting;
-#[cfg(test)]
-mod joining;
-#[cfg(test)]
-mod reading;
-#[cfg(test)]
-mod streams;
-#[cfg(test)]
-mod writing;
+mod tests;

@@ -1,6 +1,6 @@
 //! A transfer whose reader fails in mid-stream.
 
-use crate::streams::{Breaking, wrote};
+use super::streams::{Breaking, wrote};
 use rep_disk::MemDisk;
 use rep_replica::Replica;
 use rep_script::{format_text, join_text, opened};

@@ -1,6 +1,6 @@
 //! Texts whose reader fails or is interrupted in mid-stream, or gives them in parts.
 
-use crate::streams::{BrokenReader, Interrupted, wrote};
+use super::streams::{BrokenReader, Interrupted, wrote};
 use rep_script::{judge_text, read_saved, run_script};
 use rep_types::Refusal;
 use std::alloc::Global;

@@ -1,6 +1,6 @@
 //! Formatting a disk that is too small, and one that nobody can be told of; and a disk that fails while it is opened.
 
-use crate::streams::{ShortWriter, with_room, wrote};
+use super::streams::{ShortWriter, with_room, wrote};
 use rep_disk::{Disk, FaultOnce, MemDisk, Once};
 use rep_script::{format_text, opened, run_on_disk};
 use rep_types::{Params, Refusal};

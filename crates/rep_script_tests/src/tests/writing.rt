@@ -1,6 +1,6 @@
 //! Texts whose writer fails behind each number of bytes: it has taken a front of what is written otherwise.
 
-use crate::streams::{ShortWriter, took_a_front, with_room};
+use super::streams::{ShortWriter, took_a_front, with_room};
 use rep_disk::MemDisk;
 use rep_replica::Replica;
 use rep_script::{judge_text, on_new_disk, run_script, state_text};
