@@ -1,11 +1,11 @@
 //! Does what the lines of a text ask for: to the disk, and to a node on it.
 
 use crate::device::{
-    Device, armed, blank, bytes, changed, copied, crashed, cut, damaged, failures, written,
+    Device, armed, blank, bytes, copied, crashed, cut, damaged, failures, put, written,
 };
-use crate::donor::{Donor, lent};
+use crate::donor::{Donor, lend};
 use crate::join::joined;
-use crate::node::{Bench, kept, opened};
+use crate::node::{Bench, Left, kept, opened};
 use crate::order::{Change, DiskOrder, NodeOrder, Order, Sight, read_order};
 use crate::shown::{write_bytes, write_sum};
 use arrayvec::ArrayVec;
@@ -27,67 +27,73 @@ const UUID: [u8; 16] = [
 /// A line of a text.
 type Line = ArrayVec<u8, MAX_LINE>;
 
+/// Writes why it was refused, where it was.
+fn write_outcome<W: Write>(writer: &mut W, outcome: Result<(), Refusal>) -> Result<(), Refusal> {
+    match outcome {
+        Ok(()) => Ok(()),
+        Err(refusal) => write_refused(writer, refusal),
+    }
+}
+
 /// Formats the disk, as that of a node of no cluster where that is asked, and writes what came of it.
-fn formatted<D: Disk + Drop, W: Write>(
+fn formatted<D: Disk, W: Write>(
     disk: D,
     params: &Params,
     is_undefined: bool,
     writer: &mut W,
-) -> Result<D, Refusal> {
+) -> (D, Result<(), Refusal>) {
     let uuid = if is_undefined {
         None
     } else {
         Some(Uuid::from_bytes(UUID))
     };
     let (disk, outcome) = format_text(disk, params, uuid, writer);
-    if let Err(refusal) = outcome {
-        write_refused(writer, refusal)?;
-    }
-    Ok(disk)
+    (disk, write_outcome(writer, outcome))
 }
 
 /// Has these bytes stand at this place of the disk, and writes whether they fit.
-fn put<W: Write>(
+fn put_part<W: Write>(
     alloc: Global,
-    device: Device,
+    device: &mut Device,
     at: u64,
     part: &[u8],
     writer: &mut W,
-) -> Result<Device, Refusal> {
-    match changed(alloc, &device, at as usize, part)? {
-        Some(device) => {
-            write_line(writer, "put")?;
-            Ok(device)
-        }
-        None => {
-            write_line(writer, "outside")?;
-            Ok(device)
-        }
-    }
+) -> Result<(), Refusal> {
+    let fits = put(alloc, device, at as usize, part)?;
+    write_line(writer, if fits { "put" } else { "outside" })
+}
+
+/// Has these bytes be written at this place of the disk, and writes whether they were.
+fn write_part<W: Write>(
+    device: &mut Device,
+    at: u64,
+    part: &[u8],
+    writer: &mut W,
+) -> Result<(), Refusal> {
+    let served = written(device, at as usize, part);
+    write_line(writer, if served { "written" } else { "not written" })
 }
 
 /// Changes the bytes of the disk, and writes what came of it.
 fn change<W: Write>(
     alloc: Global,
-    mut device: Device,
+    device: &mut Device,
     change: Change,
     writer: &mut W,
-) -> Result<Device, Refusal> {
+) -> Result<(), Refusal> {
     match change {
         Change::Blank(size, byte) => {
             write_line(writer, "blank")?;
-            blank(alloc, size as usize, byte)
+            *device = blank(alloc, size as usize, byte)?;
+            Ok(())
         }
         Change::Cut(size) => {
             write_line(writer, "cut")?;
-            cut(alloc, &device, size as usize)
+            *device = cut(alloc, device, size as usize)?;
+            Ok(())
         }
-        Change::Put(at, part) => put(alloc, device, at, part.as_slice(), writer),
-        Change::Write(at, part) => {
-            let served = written(&mut device, at as usize, part.as_slice());
-            write_line(writer, if served { "written" } else { "not written" })?;
-            Ok(device)
-        }
+        Change::Put(at, part) => put_part(alloc, device, at, part.as_slice(), writer),
+        Change::Write(at, part) => write_part(device, at, part.as_slice(), writer),
     }
 }
 
@@ -103,30 +109,24 @@ fn show<W: Write>(device: &Device, sight: Sight, writer: &mut W) -> Result<(), R
 /// Does this to the disk, and writes what came of it.
 fn on_disk<W: Write>(
     alloc: Global,
-    device: Device,
+    mut device: Device,
     order: DiskOrder,
     writer: &mut W,
-) -> Result<Device, Refusal> {
+) -> (Device, Result<(), Refusal>) {
     match order {
-        DiskOrder::Change(order) => change(alloc, device, order, writer),
+        DiskOrder::Change(order) => {
+            let written = change(alloc, &mut device, order, writer);
+            (device, written)
+        }
         DiskOrder::Format(params, is_undefined) => {
             formatted(device, &params, is_undefined, writer)
         }
-        DiskOrder::Crash(loss) => {
-            write_line(writer, "crashed")?;
-            Ok(crashed(device, loss))
-        }
-        DiskOrder::Arm(failing) => {
-            write_line(writer, "armed")?;
-            Ok(armed(device, failing))
-        }
-        DiskOrder::Damage(damage) => {
-            write_line(writer, "damaged")?;
-            Ok(damaged(device, damage))
-        }
+        DiskOrder::Crash(loss) => (crashed(device, loss), write_line(writer, "crashed")),
+        DiskOrder::Arm(failing) => (armed(device, failing), write_line(writer, "armed")),
+        DiskOrder::Damage(damage) => (damaged(device, damage), write_line(writer, "damaged")),
         DiskOrder::Show(sight) => {
-            show(&device, sight, writer)?;
-            Ok(device)
+            let written = show(&device, sight, writer);
+            (device, written)
         }
     }
 }
@@ -137,7 +137,7 @@ fn on_node<W: Write>(
     node: Replica<Device>,
     order: NodeOrder,
     writer: &mut W,
-) -> Result<Bench<Device>, Refusal> {
+) -> Left<Device> {
     match order {
         NodeOrder::Script(Command::Stop(loss)) => {
             opened(alloc, crashed(node.into_disk(), loss), writer)
@@ -152,13 +152,10 @@ fn at_bench<W: Write>(
     bench: Bench<Device>,
     order: NodeOrder,
     writer: &mut W,
-) -> Result<Bench<Device>, Refusal> {
+) -> Left<Device> {
     match bench {
         Bench::Node(node) => on_node(alloc, node, order, writer),
-        bench => {
-            write_line(writer, "off")?;
-            Ok(bench)
-        }
+        bench => (bench, write_line(writer, "off")),
     }
 }
 
@@ -210,31 +207,31 @@ fn batch<R: Read, W: Write>(
     bench.batch(alloc, &events, writer)
 }
 
-/// Has a copy of the disk be the donor's from now on, and writes what came of it. A node on the disk is let go.
-fn lend<W: Write>(
+/// Has a copy of the disk be the donor's from now on, and writes what came of it.
+fn lend_copy<W: Write>(
     alloc: Global,
-    bench: Bench<Device>,
+    device: &Device,
     donor: &mut Option<Donor<Device>>,
     writer: &mut W,
-) -> Result<Bench<Device>, Refusal> {
-    let device = bench.into_disk();
-    *donor = lent(alloc, copied(alloc, &device)?, writer)?;
-    Ok(Bench::Disk(device))
+) -> Result<(), Refusal> {
+    let copy = copied(alloc, device)?;
+    lend(alloc, copy, donor, writer)
 }
 
 /// Has the disk and the donor's change places, where there is a donor, and writes what came of it. A node on the disk is let go.
-fn swap<W: Write>(
+fn swapped<D: Disk + Drop, W: Write>(
     alloc: Global,
-    bench: Bench<Device>,
-    donor: &mut Option<Donor<Device>>,
+    bench: Bench<D>,
+    donor: &mut Option<Donor<D>>,
     writer: &mut W,
-) -> Result<Bench<Device>, Refusal> {
-    let Some(before) = donor.take() else {
-        write_line(writer, "off")?;
-        return Ok(bench);
-    };
-    *donor = lent(alloc, bench.into_disk(), writer)?;
-    Ok(Bench::Disk(before.node.into_disk()))
+) -> Left<D> {
+    match donor.take() {
+        Some(before) => {
+            let written = lend(alloc, bench.into_disk(), donor, writer);
+            (Bench::Disk(before.node.into_disk()), written)
+        }
+        None => (bench, write_line(writer, "off")),
+    }
 }
 
 /// Does what a line asks for, and writes what came of it. Where there is no node, what asks for one is answered by `off`, and so it is
@@ -247,20 +244,24 @@ fn done<R: Read, W: Write>(
     text: &mut TextReader,
     reader: &mut R,
     writer: &mut W,
-) -> Result<Bench<Device>, Refusal> {
+) -> Left<Device> {
     match order {
         Order::Disk(order) => {
-            let device = on_disk(alloc, bench.into_disk(), order, writer)?;
-            Ok(Bench::Disk(device))
+            let (device, written) = on_disk(alloc, bench.into_disk(), order, writer);
+            (Bench::Disk(device), written)
         }
         Order::Open => opened(alloc, bench.into_disk(), writer),
         Order::Node(order) => at_bench(alloc, bench, order, writer),
-        Order::Lend => lend(alloc, bench, donor, writer),
-        Order::Swap => swap(alloc, bench, donor, writer),
+        Order::Lend => {
+            let device = bench.into_disk();
+            let written = lend_copy(alloc, &device, donor, writer);
+            (Bench::Disk(device), written)
+        }
+        Order::Swap => swapped(alloc, bench, donor, writer),
         Order::Join(order) => joined(alloc, bench, donor, order, writer),
         Order::Batch(count) => {
-            batch(alloc, &mut bench, text, reader, count, writer)?;
-            Ok(bench)
+            let written = batch(alloc, &mut bench, text, reader, count, writer);
+            (bench, written)
         }
     }
 }
@@ -279,41 +280,32 @@ fn next_order<R: Read>(text: &mut TextReader, reader: &mut R) -> Result<Option<O
     Ok(None)
 }
 
-/// Does what the next line asks for, if there is one, and writes what came of it. Says whether there was one.
-fn answer_next<R: Read, W: Write>(
-    alloc: Global,
-    bench: &mut Option<Bench<Device>>,
-    donor: &mut Option<Donor<Device>>,
-    text: &mut TextReader,
-    reader: &mut R,
-    writer: &mut W,
-) -> Result<bool, Refusal> {
-    let Some(order) = next_order(text, reader)? else {
-        return Ok(false);
-    };
-    let Some(before) = bench.take() else {
-        return Ok(false);
-    };
-    *bench = Some(done(alloc, before, donor, order, text, reader, writer)?);
-    Ok(true)
-}
-
 /// Does what each line of the text asks for, and writes what came of it.
 fn answer_all<R: Read, W: Write>(
     alloc: Global,
-    bench: &mut Option<Bench<Device>>,
+    mut bench: Bench<Device>,
     donor: &mut Option<Donor<Device>>,
     text: &mut TextReader,
     reader: &mut R,
     writer: &mut W,
-) -> Result<(), Refusal> {
+) -> Left<Device> {
     for _ in 0..u64::MAX {
-        if !answer_next(alloc, bench, donor, text, reader, writer)? {
-            break;
+        let order = match next_order(text, reader) {
+            Ok(Some(order)) => order,
+            Ok(None) => break,
+            Err(refusal) => return (bench, Err(refusal)),
+        };
+        let (after, written) = done(alloc, bench, donor, order, text, reader, writer);
+        bench = after;
+        if written.is_err() {
+            return (bench, written);
         }
     }
-    Ok(())
+    (bench, Ok(()))
 }
+
+/// Lets what there is go, and the donor. It is not told which disk is below them, so that a proof need not look into that.
+fn let_go<D: Disk + Drop>(_bench: Bench<D>, _donor: Option<Donor<D>>) {}
 
 /// Does what each line of the text asks for, on a disk that has no bytes at first, and writes what came of it.
 ///
@@ -324,7 +316,10 @@ pub(crate) fn run<R: Read, W: Write>(
     reader: &mut R,
     writer: &mut W,
 ) -> Result<(), Refusal> {
-    let mut bench = Some(Bench::Disk(blank(alloc, 0, 0)?));
+    let bench = Bench::Disk(blank(alloc, 0, 0)?);
+    let mut donor = None;
     let mut text = TextReader::new();
-    answer_all(alloc, &mut bench, &mut None, &mut text, reader, writer)
+    let (bench, answered) = answer_all(alloc, bench, &mut donor, &mut text, reader, writer);
+    let_go(bench, donor);
+    answered
 }

@@ -1,7 +1,7 @@
 //! How a node is brought up to date by a donor: what that writes for it goes through a list of bytes, which may come to harm on its way.
 
 use crate::donor::Donor;
-use crate::node::Bench;
+use crate::node::{Bench, Left};
 use crate::order::Harm;
 use crate::shown::write_sum;
 use rep_catchup::{donate, have, join};
@@ -11,6 +11,7 @@ use rep_script::{write_line, write_refused};
 use rep_types::Refusal;
 use std::alloc::Global;
 use std::io::Write;
+use uuid::Uuid;
 
 /// Has the donor write a transfer for the node, and writes what came of it, and which bytes were written.
 pub(crate) fn written_for<D: Disk, E: Disk, W: Write>(
@@ -44,21 +45,27 @@ pub(crate) fn spoilt<W: Write>(
     write_line(writer, format_args!("spoilt {size}"))
 }
 
+/// Writes what came of a transfer for a node of this cluster.
+fn write_joined<W: Write>(
+    writer: &mut W,
+    uuid: Uuid,
+    joined: Result<u64, Refusal>,
+) -> Result<(), Refusal> {
+    match joined {
+        Ok(last) => write_line(writer, format_args!("joined {uuid}:{last}")),
+        Err(refusal) => write_refused(writer, refusal),
+    }
+}
+
 /// Has the node take the transfer, and writes what came of it.
-pub(crate) fn taken<D: Disk + Drop, W: Write>(
+pub(crate) fn taken<D: Disk, W: Write>(
     alloc: Global,
     node: Replica<D>,
     transfer: &[u8],
     writer: &mut W,
-) -> Result<Bench<D>, Refusal> {
+) -> Left<D> {
     let mut transfer = transfer;
     let (node, joined) = join(alloc, node, &mut transfer);
-    match joined {
-        Ok(last) => {
-            let uuid = node.uuid();
-            write_line(writer, format_args!("joined {uuid}:{last}"))?;
-        }
-        Err(refusal) => write_refused(writer, refusal)?,
-    }
-    Ok(Bench::Node(node))
+    let written = write_joined(writer, node.uuid(), joined);
+    (Bench::Node(node), written)
 }

@@ -33,10 +33,14 @@ pub(crate) fn serving(disk: MemDisk) -> Device {
     undamaged(FaultOnce::new(FuseDisk::new(disk, Fuse::after(NEVER)), Once::after(NEVER)))
 }
 
+/// A disk with these bytes, all of them stable, which serves every call.
+fn holding(alloc: Global, bytes: &[u8]) -> Result<Device, Refusal> {
+    Ok(serving(MemDisk::from_bytes(alloc, bytes)?))
+}
+
 /// A new disk of so many bytes, each of which is this one.
 pub(crate) fn blank(alloc: Global, size: usize, byte: u8) -> Result<Device, Refusal> {
-    let bytes = vec![in alloc; byte; size]?;
-    Ok(serving(MemDisk::from_bytes(alloc, &bytes)?))
+    holding(alloc, &vec![in alloc; byte; size]?)
 }
 
 /// The disk in memory inside.
@@ -86,14 +90,13 @@ pub(crate) fn failures(device: &Device) -> u64 {
 
 /// A disk of its own with the bytes of this one, all of them stable, which serves every call.
 pub(crate) fn copied(alloc: Global, device: &Device) -> Result<Device, Refusal> {
-    Ok(serving(MemDisk::from_bytes(alloc, bytes(device))?))
+    holding(alloc, bytes(device))
 }
 
 /// A disk with the first so many bytes of this one, all of them stable.
 pub(crate) fn cut(alloc: Global, device: &Device, size: usize) -> Result<Device, Refusal> {
     let bytes = bytes(device);
-    let front = &bytes[..size.min(bytes.len())];
-    Ok(serving(MemDisk::from_bytes(alloc, front)?))
+    holding(alloc, &bytes[..size.min(bytes.len())])
 }
 
 /// Writes these bytes at this place, and says whether they fit and the device served.
@@ -105,17 +108,19 @@ pub(crate) fn written(device: &mut Device, at: usize, part: &[u8]) -> bool {
     device.write_at(at, part).is_ok()
 }
 
-/// A disk whose bytes are all stable, with these at this place; none where they do not fit.
-pub(crate) fn changed(
+/// Has these bytes stand at this place, and all bytes be stable, on a disk that serves every call. Says whether they fit; else the disk
+/// stays as it is.
+pub(crate) fn put(
     alloc: Global,
-    device: &Device,
+    device: &mut Device,
     at: usize,
     part: &[u8],
-) -> Result<Option<Device>, Refusal> {
+) -> Result<bool, Refusal> {
     let mut all = bytes(device).to_vec(alloc)?;
     if at > all.len() || part.len() > all.len() - at {
-        return Ok(None);
+        return Ok(false);
     }
     all[at..at + part.len()].copy_from_slice(part);
-    Ok(Some(serving(MemDisk::from_bytes(alloc, &all)?)))
+    *device = holding(alloc, &all)?;
+    Ok(true)
 }

@@ -29,26 +29,33 @@ pub(crate) struct Snapshot {
     pub(crate) window: Window,
 }
 
-/// Opens the disk as that of a donor, and writes what came of it.
-pub(crate) fn lent<D: Disk + Drop, W: Write>(
+/// Opens the disk as that of a donor, and writes what came of it. The donor, if there is one, comes beside whether that could be written.
+fn lent<D: Disk + Drop, W: Write>(
     alloc: Global,
     disk: D,
     writer: &mut W,
-) -> Result<Option<Donor<D>>, Refusal> {
+) -> (Option<Donor<D>>, Result<(), Refusal>) {
     match Replica::open(alloc, disk) {
         Ok(node) => {
             let (gtid, base) = (node.gtid(), node.base());
-            write_line(writer, format_args!("lent {gtid} base {base}"))?;
-            Ok(Some(Donor {
-                node,
-                transfer: Vec::new(alloc),
-            }))
+            let written = write_line(writer, format_args!("lent {gtid} base {base}"));
+            let transfer = Vec::new(alloc);
+            (Some(Donor { node, transfer }), written)
         }
-        Err((_, refusal)) => {
-            write_refused(writer, refusal)?;
-            Ok(None)
-        }
+        Err((_, refusal)) => (None, write_refused(writer, refusal)),
     }
+}
+
+/// Has the disk be that of the donor from now on, in the place of the donor before, and writes what came of it.
+pub(crate) fn lend<D: Disk + Drop, W: Write>(
+    alloc: Global,
+    disk: D,
+    donor: &mut Option<Donor<D>>,
+    writer: &mut W,
+) -> Result<(), Refusal> {
+    let (donor_on_it, written) = lent(alloc, disk, writer);
+    *donor = donor_on_it;
+    written
 }
 
 /// Adds the entries that a window still hands out.

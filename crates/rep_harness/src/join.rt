@@ -11,7 +11,7 @@ ghost use Rattle.rep_replica.specs.Settling.{is_quiet};
 
 use crate::catchup::{spoilt, taken, written_for};
 use crate::donor::{Donor, Snapshot, snapshot_of};
-use crate::node::Bench;
+use crate::node::{Bench, Left};
 use crate::order::JoinOrder;
 use arrayvec::ArrayVec;
 use rep_disk::Disk;
@@ -19,7 +19,7 @@ use rep_forms::put_bytes;
 use rep_pages::PageRows;
 use rep_replica::{Installation, Replica};
 use rep_script::{write_line, write_refused};
-use rep_types::{MAX_SEQNO, Params, Refusal};
+use rep_types::{Gtid, MAX_SEQNO, Params, Refusal};
 use std::alloc::Global;
 use std::io::Write;
 use uuid::Uuid;
@@ -72,12 +72,12 @@ fn is_for<D: Disk>(node: &Replica<D>, params: &Params, snapshot: &Snapshot) -> b
 }
 
 /// Begins to install the snapshot, which is for the node, and writes what came of it.
-fn begun<D: Disk + Drop, W: Write>(
+fn begun<D: Disk, W: Write>(
     alloc: Global,
     node: Replica<D>,
     snapshot: Snapshot,
     writer: &mut W,
-) -> Result<Bench<D>, Refusal>
+) -> Left<D>
     requires quiet { is_quiet (facts_of D.failures node) ≡ true }
     requires brings { CanBring node.engine.checkpoint.base (durable_of node.engine.log) snapshot.uuid snapshot.position snapshot.window }
 {
@@ -88,35 +88,26 @@ fn begun<D: Disk + Drop, W: Write>(
     } = snapshot;
     match node.install(alloc, uuid, position, window) {
         Ok(installation) => {
-            write_line(writer, format_args!("installing {position}"))?;
-            Ok(Bench::Coming(installation))
+            let written = write_line(writer, format_args!("installing {position}"));
+            (Bench::Coming(installation), written)
         }
-        Err((node, refusal)) => {
-            write_refused(writer, refusal)?;
-            Ok(Bench::Node(node))
-        }
+        Err((node, refusal)) => (Bench::Node(node), write_refused(writer, refusal)),
     }
 }
 
 /// Begins to install the donor's snapshot where it is for the node, and writes what came of it.
-fn bring<D: Disk + Drop, E: Disk, W: Write>(
+fn bring<D: Disk, E: Disk, W: Write>(
     alloc: Global,
     node: Replica<D>,
     donor: &mut Replica<E>,
     writer: &mut W,
-) -> Result<Bench<D>, Refusal> {
+) -> Left<D> {
     match snapshot_of(alloc, donor) {
         Ok(snapshot) if is_for(&node, donor.params(), &snapshot) => {
             begun(alloc, node, snapshot, writer)
         }
-        Ok(_) => {
-            write_line(writer, "not for this node")?;
-            Ok(Bench::Node(node))
-        }
-        Err(refusal) => {
-            write_refused(writer, refusal)?;
-            Ok(Bench::Node(node))
-        }
+        Ok(_) => (Bench::Node(node), write_line(writer, "not for this node")),
+        Err(refusal) => (Bench::Node(node), write_refused(writer, refusal)),
     }
 }
 
@@ -150,43 +141,43 @@ fn put_page_of<D: Disk, E: Disk, W: Write>(
     }
 }
 
-/// Lets the snapshot take its place, and writes what came of it.
-fn ended<D: Disk + Drop, W: Write>(
-    installation: Installation<D>,
+/// Writes what came of a snapshot, behind which the node is at this GTID.
+fn write_installed<W: Write>(
     writer: &mut W,
-) -> Result<Replica<D>, Refusal> {
-    let (node, outcome) = installation.end();
+    gtid: Gtid,
+    outcome: Result<(), Refusal>,
+) -> Result<(), Refusal> {
     match outcome {
-        Ok(()) => {
-            let gtid = node.gtid();
-            write_line(writer, format_args!("installed {gtid}"))?;
-        }
-        Err(refusal) => write_refused(writer, refusal)?,
+        Ok(()) => write_line(writer, format_args!("installed {gtid}")),
+        Err(refusal) => write_refused(writer, refusal),
     }
-    Ok(node)
+}
+
+/// Lets the snapshot take its place, and writes what came of it.
+fn ended<D: Disk, W: Write>(installation: Installation<D>, writer: &mut W) -> Left<D> {
+    let (node, outcome) = installation.end();
+    let written = write_installed(writer, node.gtid(), outcome);
+    (Bench::Node(node), written)
 }
 
 /// Does this to the snapshot that comes to a node, and writes what came of it.
-fn coming<D: Disk + Drop, E: Disk, W: Write>(
+fn coming<D: Disk, E: Disk, W: Write>(
     mut installation: Installation<D>,
     donor: &mut Replica<E>,
     order: JoinOrder,
     writer: &mut W,
-) -> Result<Bench<D>, Refusal> {
+) -> Left<D> {
     match order {
         JoinOrder::Page(page) => {
-            put_page_of(&mut installation, donor, page, writer)?;
-            Ok(Bench::Coming(installation))
+            let written = put_page_of(&mut installation, donor, page, writer);
+            (Bench::Coming(installation), written)
         }
-        JoinOrder::End => Ok(Bench::Node(ended(installation, writer)?)),
-        JoinOrder::GiveUp => {
-            write_line(writer, "as before")?;
-            Ok(Bench::Node(installation.give_up()))
-        }
-        _ => {
-            write_line(writer, "off")?;
-            Ok(Bench::Coming(installation))
-        }
+        JoinOrder::End => ended(installation, writer),
+        JoinOrder::GiveUp => (
+            Bench::Node(installation.give_up()),
+            write_line(writer, "as before"),
+        ),
+        _ => (Bench::Coming(installation), write_line(writer, "off")),
     }
 }
 
@@ -205,40 +196,37 @@ fn at_transfer<D: Disk, E: Disk, W: Write>(
 }
 
 /// Does this with the donor for a node to which no snapshot comes, and writes what came of it.
-fn at_joiner<D: Disk + Drop, E: Disk, W: Write>(
+fn at_joiner<D: Disk, E: Disk, W: Write>(
     alloc: Global,
     node: Replica<D>,
     donor: &mut Donor<E>,
     order: JoinOrder,
     writer: &mut W,
-) -> Result<Bench<D>, Refusal> {
+) -> Left<D> {
     match order {
         JoinOrder::Bring => bring(alloc, node, &mut donor.node, writer),
         JoinOrder::Join => taken(alloc, node, &donor.transfer, writer),
         order => {
-            at_transfer(&node, donor, order, writer)?;
-            Ok(Bench::Node(node))
+            let written = at_transfer(&node, donor, order, writer);
+            (Bench::Node(node), written)
         }
     }
 }
 
 /// Does this with the donor: what is done for a node where there is one, and what is done with a snapshot where one comes to it. Writes what
 /// came of it.
-pub(crate) fn joined<D: Disk + Drop, E: Disk, W: Write>(
+pub(crate) fn joined<D: Disk, E: Disk, W: Write>(
     alloc: Global,
     bench: Bench<D>,
     donor: &mut Option<Donor<E>>,
     order: JoinOrder,
     writer: &mut W,
-) -> Result<Bench<D>, Refusal> {
+) -> Left<D> {
     match (bench, donor) {
         (Bench::Node(node), Some(donor)) => at_joiner(alloc, node, donor, order, writer),
         (Bench::Coming(installation), Some(donor)) => {
             coming(installation, &mut donor.node, order, writer)
         }
-        (bench, _) => {
-            write_line(writer, "off")?;
-            Ok(bench)
-        }
+        (bench, _) => (bench, write_line(writer, "off")),
     }
 }

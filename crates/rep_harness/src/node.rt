@@ -19,21 +19,17 @@ pub(crate) enum Bench<D: Disk> {
     Coming(Installation<D>),
 }
 
+/// What there is behind an order, beside whether the order's answer could be written. So no way out lets what there is go.
+pub(crate) type Left<D> = (Bench<D>, Result<(), Refusal>);
+
 /// Opens the disk, and writes what came of it.
-pub(crate) fn opened<D: Disk + Drop, W: Write>(
-    alloc: Global,
-    disk: D,
-    writer: &mut W,
-) -> Result<Bench<D>, Refusal> {
+pub(crate) fn opened<D: Disk, W: Write>(alloc: Global, disk: D, writer: &mut W) -> Left<D> {
     match Replica::open(alloc, disk) {
         Ok(node) => {
-            write_open(writer, node.gtid())?;
-            Ok(Bench::Node(node))
+            let written = write_open(writer, node.gtid());
+            (Bench::Node(node), written)
         }
-        Err((disk, refusal)) => {
-            write_refused(writer, refusal)?;
-            Ok(Bench::Disk(disk))
-        }
+        Err((disk, refusal)) => (Bench::Disk(disk), write_refused(writer, refusal)),
     }
 }
 
@@ -101,15 +97,15 @@ fn at_node<D: Disk, W: Write>(
 }
 
 /// Does this to the node, which stays on its disk, and writes what came of it.
-pub(crate) fn kept<D: Disk + Drop, W: Write>(
+pub(crate) fn kept<D: Disk, W: Write>(
     alloc: Global,
     node: Replica<D>,
     order: NodeOrder,
     writer: &mut W,
-) -> Result<Bench<D>, Refusal> {
+) -> Left<D> {
     let mut node = parted(node, &order);
-    at_node(alloc, &mut node, order, writer)?;
-    Ok(Bench::Node(node))
+    let written = at_node(alloc, &mut node, order, writer);
+    (Bench::Node(node), written)
 }
 
 /// Writes the answer to an event that was run with others.
