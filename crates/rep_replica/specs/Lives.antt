@@ -9,23 +9,21 @@ use Rattle.rep_types.specs.Settings.{Setting}
 use Rattle.rep_types.specs.Order.{Order, history as history_of, read, state}
 use Rattle.rep_disk.specs.History.{History, seen}
 use Rattle.rep_disk.specs.Moments.{moment, ImageSince}
-use Rattle.rep_disk.specs.Laws.{MomentsOfCalls}
 use Rattle.rep_steps.specs.declared.event.Event.{Event}
 use Rattle.rep_steps.specs.declared.event.Event.TheVariants.{Read}
 use Rattle.rep_steps.specs.declared.answer.Answer.{Answer}
 use Rattle.rep_steps.specs.declared.answer.Answer.TheVariants.{Row}
 use Rattle.rep_steps.specs.Standings.{delivered}
 use Rattle.rep_steps.specs.Nodes.{Node, IsNode, Steps, state_at}
-use Rattle.rep_steps.specs.Orders.{IsOf, NodesHoldTheOrder, StepsFollowTheOrder}
-use Rattle.rep_steps.specs.Runs.{Runs, accepted_by, verdicts, acknowledged, ComesTo, AnswersOf, RunsComeTo, RunsAnswerTheOrder}
+use Rattle.rep_steps.specs.Orders.{IsOf}
+use Rattle.rep_steps.specs.Runs.{Runs, accepted_by, verdicts, acknowledged, ComesTo, AnswersOf}
 use Rattle.rep_steps.specs.Images.{IsFrontOf}
-use Rattle.rep_image.specs.Meanings.{Means, ImagesMeanOneThing}
+use Rattle.rep_image.specs.Meanings.{Means}
 use Rattle.rep_engine.specs.Engines.{gtid_of}
 use Rattle.rep_replica.specs.Replicas.{Replica, facts_of}
 use Rattle.rep_replica.specs.Holding.{Holds}
 use Rattle.rep_replica.specs.Running.{Ran}
 use Rattle.rep_replica.specs.Opening.{Opens}
-use Rattle.rep_replica.specs.Stopping.{StoppedReplicasHold}
 
 -- ---- what happens in a life
 
@@ -155,13 +153,3 @@ abbrev pub LivesFollowTheOrder : {D : Type 0} → (D → Type 0) → (D → Hist
 LivesFollowTheOrder {D} honest history failures =
     (uuid : List ℕ) (p : Setting) (O : Order) (d h : ℕ) (image : List ℕ) (lives : List (Life D)) → IsFrontOf Means uuid p (take h O) d image → Lives honest history failures image lives → AreFed failures O lives
     → LivesFollow honest history failures uuid p O d h [] lives
-
--- ---- what that rests on
-
--- of a run of an order
-abbrev pub RunsFollowTheOrder : Type 0
-RunsFollowTheOrder = NodesHoldTheOrder × StepsFollowTheOrder × RunsComeTo × RunsAnswerTheOrder
-
--- and of what a stop leaves
-abbrev pub StopsLeaveWhatHolds : {D : Type 0} → (D → Type 0) → (D → History) → (D → ℕ) → Type 0
-StopsLeaveWhatHolds honest history failures = ImagesMeanOneThing × StoppedReplicasHold honest history failures × MomentsOfCalls

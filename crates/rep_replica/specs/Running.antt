@@ -4,6 +4,8 @@ use Rattle.rep_disk.specs.History.{History}
 use Rattle.rep_steps.specs.declared.event.Event.{Event}
 use Rattle.rep_steps.specs.declared.answer.Answer.{Answer}
 use Rattle.rep_steps.specs.Nodes.{Node}
+use Rattle.rep_steps.specs.Orders.{NodesHoldTheOrder, StepsFollowTheOrder}
+use Rattle.rep_steps.specs.Runs.{RunsComeTo, RunsAnswerTheOrder}
 use Rattle.rep_steps.specs.Images.{RunsOn}
 use Rattle.rep_image.specs.Meanings.{Means}
 use Rattle.rep_replica.specs.Replicas.{Replica}
@@ -21,3 +23,7 @@ pub record RunsAreJoined {D : Type 0} (honest : D → Type 0) (history : D → H
   pub one_run : (old new : Replica D) (e : Event) (a : Answer) → IsStep honest history failures old e a new → Ran honest history failures old new (e ∷ []) (a ∷ [])
   pub both_runs : (first mid last : Replica D) (events : List Event) (answers : List Answer) (more : List Event) (told : List Answer) → Ran honest history failures first mid events answers → Ran honest history failures mid last more told
       → Ran honest history failures first last (events ++ more) (answers ++ told)
+
+-- What a run of an order is, step by step.
+abbrev pub RunsFollowTheOrder : Type 0
+RunsFollowTheOrder = NodesHoldTheOrder × StepsFollowTheOrder × RunsComeTo × RunsAnswerTheOrder

@@ -2,10 +2,11 @@
 use Rattle.std.specs.Prelude.{◌≡◌, ℕ, List}
 use Rattle.rep_types.specs.Order.{Order}
 use Rattle.rep_disk.specs.History.{History, IsImage}
+use Rattle.rep_disk.specs.Laws.{MomentsOfCalls}
 use Rattle.rep_steps.specs.Nodes.{Node, IsNode}
 use Rattle.rep_steps.specs.Orders.{IsOf}
 use Rattle.rep_steps.specs.Images.{IsFrontAt, IsFrontOf}
-use Rattle.rep_image.specs.Meanings.{Means}
+use Rattle.rep_image.specs.Meanings.{Means, ImagesMeanOneThing}
 use Rattle.rep_engine.specs.Holding.{Holds as EngineHolds}
 use Rattle.rep_replica.specs.Replicas.{Replica, facts_of}
 use Rattle.rep_replica.specs.Holding.{Holds}
@@ -28,3 +29,7 @@ pub record StoppedReplicasHold {D : Type 0} (honest : D → Type 0) (history : D
   pub of_engine : (n : Node) (r : Replica D) → EngineHolds honest history failures n r.engine → HoldsStopped honest history failures n r
   pub leaves : (L : Order) (n : Node) (r : Replica D) → HoldsStopped honest history failures n r → IsOf L n → (image : List ℕ) → IsImage (history r.engine.disk) image
       → IsFrontOf Means n.facts.uuid n.facts.setting L n.facts.durable image
+
+-- What a stop leaves, and what is opened on that.
+abbrev pub StopsLeaveWhatHolds : {D : Type 0} → (D → Type 0) → (D → History) → (D → ℕ) → Type 0
+StopsLeaveWhatHolds honest history failures = ImagesMeanOneThing × StoppedReplicasHold honest history failures × MomentsOfCalls

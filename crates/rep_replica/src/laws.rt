@@ -1,10 +1,10 @@
 //! Laws of replicas, each as the contract of a function that does nothing.
 
 ghost use Rattle.rep_replica.specs.Holding.{LeavesItsEnds};
-ghost use Rattle.rep_replica.specs.Running.{RunsAreJoined};
+ghost use Rattle.rep_replica.specs.Running.{RunsAreJoined, RunsFollowTheOrder};
 ghost use Rattle.rep_replica.specs.Reading.{ReadsForgetNothing};
-ghost use Rattle.rep_replica.specs.Stopping.{StoppedReplicasHold};
-ghost use Rattle.rep_replica.specs.Lives.{RunsFollowTheOrder, StopsLeaveWhatHolds, LivesFollowTheOrder};
+ghost use Rattle.rep_replica.specs.Stopping.{StoppedReplicasHold, StopsLeaveWhatHolds};
+ghost use Rattle.rep_replica.specs.Lives.{LivesFollowTheOrder};
 ghost use Rattle.rep_replica.specs.Episodes.{LivesWithSnapshotsFollowTheOrder};
 
 use crate::replica::Replica;
