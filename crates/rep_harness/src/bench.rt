@@ -131,21 +131,6 @@ fn on_disk<W: Write>(
     }
 }
 
-/// Does this to the node, and writes what came of it.
-fn on_node<W: Write>(
-    alloc: Global,
-    node: Replica<Device>,
-    order: NodeOrder,
-    writer: &mut W,
-) -> Left<Device> {
-    match order {
-        NodeOrder::Script(Command::Stop(loss)) => {
-            opened(alloc, crashed(node.into_disk(), loss), writer)
-        }
-        order => kept(alloc, node, order, writer),
-    }
-}
-
 /// Does this to the node, where there is one, and writes what came of it.
 fn at_bench<W: Write>(
     alloc: Global,
@@ -153,9 +138,15 @@ fn at_bench<W: Write>(
     order: NodeOrder,
     writer: &mut W,
 ) -> Left<Device> {
-    match bench {
-        Bench::Node(node) => on_node(alloc, node, order, writer),
-        bench => (bench, write_line(writer, "off")),
+    let node = match bench {
+        Bench::Node(node) => node,
+        bench => return (bench, write_line(writer, "off")),
+    };
+    match order {
+        NodeOrder::Script(Command::Stop(loss)) => {
+            opened(alloc, crashed(node.into_disk(), loss), writer)
+        }
+        order => kept(alloc, node, order, writer),
     }
 }
 

@@ -2,7 +2,7 @@
 
 use super::paces::AtOnce;
 use super::replicas::{durable_after_crash, new_disk, putting_each, served};
-use rep_disk::{FaultOnce, Fuse, FuseDisk, MemDisk, Once};
+use rep_disk::{Faults, FaultyDisk, Fuse, MemDisk, Once};
 use rep_node::Batch;
 use rep_types::Refusal;
 use std::alloc::Global;
@@ -45,29 +45,14 @@ fn ended(alloc: Global, batch: &Batch, disk: MemDisk) -> Result<Ending, Refusal>
     Ok(ending_of(batch, durable_after_crash(alloc, disk)?))
 }
 
-/// Serves a batch of two on a disk whose call of this number fails, from 0.
-fn fails_once<R: Threads + Wait + Sync>(
+/// Serves a batch of two on a disk with these faults.
+fn fails<R: Threads + Wait + Sync, F: Faults + Drop + Send>(
     rt: &R,
     alloc: Global,
-    call: u64,
+    faults: F,
 ) -> Result<Ending, Refusal> {
     let items = putting_each(alloc, 2)?;
-    let disk = FaultOnce::new(new_disk(alloc)?, Once::after(call));
-    match served(rt, alloc, disk, items.as_slice(), 2, &AtOnce) {
-        Ok((replica, batch)) => ended(alloc, &batch, replica.into_disk().into_inner()),
-        Err(Refusal::DiskFault) => Ok(Ending::AtOpening),
-        Err(_) => Ok(Ending::Wrong),
-    }
-}
-
-/// Serves a batch of two on a disk that fails behind so many calls.
-fn fails_from<R: Threads + Wait + Sync>(
-    rt: &R,
-    alloc: Global,
-    calls: u64,
-) -> Result<Ending, Refusal> {
-    let items = putting_each(alloc, 2)?;
-    let disk = FuseDisk::new(new_disk(alloc)?, Fuse::after(calls));
+    let disk = FaultyDisk::new(new_disk(alloc)?, faults);
     match served(rt, alloc, disk, items.as_slice(), 2, &AtOnce) {
         Ok((replica, batch)) => ended(alloc, &batch, replica.into_disk().into_inner()),
         Err(Refusal::DiskFault) => Ok(Ending::AtOpening),
@@ -112,9 +97,9 @@ fn fails_at_each<R: Threads + Wait + Sync + Abort>(
     let mut counts = Counts { early: 0, whole: 0 };
     for call in 0..CALLS {
         let ending = if all_behind {
-            fails_from(rt, alloc, call)?
+            fails(rt, alloc, Fuse::after(call))?
         } else {
-            fails_once(rt, alloc, call)?
+            fails(rt, alloc, Once::after(call))?
         };
         assert!(rt; ending != Ending::Wrong, "at call {call}");
         counts = counts.with(ending);
