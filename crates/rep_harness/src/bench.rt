@@ -3,7 +3,7 @@
 use crate::device::{
     Device, armed, blank, bytes, copied, crashed, cut, damaged, failures, put, written,
 };
-use crate::donor::{Donor, lend};
+use crate::donor::{Donor, lend, let_go};
 use crate::join::joined;
 use crate::node::{Bench, Left, kept, opened};
 use crate::order::{Change, DiskOrder, NodeOrder, Order, Sight, read_order};
@@ -219,7 +219,7 @@ fn swapped<D: Disk + Drop, W: Write>(
     match donor.take() {
         Some(before) => {
             let written = lend(alloc, bench.into_disk(), donor, writer);
-            (Bench::Disk(before.node.into_disk()), written)
+            (Bench::Disk(before.into_disk()), written)
         }
         None => (bench, write_line(writer, "off")),
     }
@@ -295,9 +295,6 @@ fn answer_all<R: Read, W: Write>(
     (bench, Ok(()))
 }
 
-/// Lets what there is go, and the donor. It is not told which disk is below them, so that a proof need not look into that.
-fn let_go<D: Disk + Drop>(_bench: Bench<D>, _donor: Option<Donor<D>>) {}
-
 /// Does what each line of the text asks for, on a disk that has no bytes at first, and writes what came of it.
 ///
 /// Refuses a line of no such form as `read_command` does, want of memory for a disk with `OutOfMemory`, and with
@@ -311,6 +308,7 @@ pub(crate) fn run<R: Read, W: Write>(
     let mut donor = None;
     let mut text = TextReader::new();
     let (bench, answered) = answer_all(alloc, bench, &mut donor, &mut text, reader, writer);
-    let_go(bench, donor);
+    drop(bench.into_disk());
+    let_go(donor);
     answered
 }

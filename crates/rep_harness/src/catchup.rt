@@ -13,6 +13,14 @@ use std::alloc::Global;
 use std::io::Write;
 use uuid::Uuid;
 
+/// Writes what came of a donation.
+fn write_donated<W: Write>(writer: &mut W, donated: Result<u64, Refusal>) -> Result<(), Refusal> {
+    match donated {
+        Ok(last) => write_line(writer, format_args!("donated {last}")),
+        Err(refusal) => write_refused(writer, refusal),
+    }
+}
+
 /// Has the donor write a transfer for the node, and writes what came of it, and which bytes were written.
 pub(crate) fn written_for<D: Disk, E: Disk, W: Write>(
     node: &Replica<D>,
@@ -20,10 +28,8 @@ pub(crate) fn written_for<D: Disk, E: Disk, W: Write>(
     writer: &mut W,
 ) -> Result<(), Refusal> {
     donor.transfer.clear();
-    match donate(&mut donor.node, &have(node), &mut donor.transfer) {
-        Ok(last) => write_line(writer, format_args!("donated {last}"))?,
-        Err(refusal) => write_refused(writer, refusal)?,
-    }
+    let donated = donate(&mut donor.node, &have(node), &mut donor.transfer);
+    write_donated(writer, donated)?;
     write_sum(writer, &donor.transfer)
 }
 

@@ -12,13 +12,24 @@ use rep_types::{Entry, Refusal, Window};
 use std::alloc::Global;
 use std::io::Write;
 use std::marker::Model;
+use std::mem::replace;
 use uuid::Uuid;
 
-/// A donor, and the transfer that it wrote last.
-#[derive(Drop)]
+/// A donor, and the transfer that it wrote last. It can't be dropped, as a `Bench` can't.
 pub(crate) struct Donor<D: Disk> {
     pub(crate) node: Replica<D>,
     pub(crate) transfer: Vec<u8>,
+}
+
+impl<D: Disk> Donor<D> {
+    /// The disk, of a donor that is let go.
+    pub(crate) fn into_disk(self) -> D {
+        let Donor {
+            node,
+            transfer: _transfer,
+        } = self;
+        node.into_disk()
+    }
 }
 
 /// What a donor tells of its base: the cluster, the position, and the window there.
@@ -53,9 +64,16 @@ pub(crate) fn lend<D: Disk + Drop, W: Write>(
     donor: &mut Option<Donor<D>>,
     writer: &mut W,
 ) -> Result<(), Refusal> {
-    let (donor_on_it, written) = lent(alloc, disk, writer);
-    *donor = donor_on_it;
+    let (lent, written) = lent(alloc, disk, writer);
+    let_go(replace(donor, lent));
     written
+}
+
+/// Lets the donor go, where there is one, and its disk.
+pub(crate) fn let_go<D: Disk + Drop>(donor: Option<Donor<D>>) {
+    if let Some(donor) = donor {
+        drop(donor.into_disk());
+    }
 }
 
 /// Adds the entries that a window still hands out.

@@ -12,14 +12,16 @@ use std::alloc::Global;
 use std::io::Write;
 
 /// What there is: a disk, a node on one, or a node to which a snapshot comes.
-#[derive(Drop)]
+///
+/// It can't be dropped: what is there is let go by `into_disk` alone, which is proved at little cost where each way out of a function that
+/// drops a node is proved at much.
 pub(crate) enum Bench<D: Disk> {
     Disk(D),
     Node(Replica<D>),
     Coming(Installation<D>),
 }
 
-/// What there is behind an order, beside whether the order's answer could be written. So no way out lets what there is go.
+/// What there is behind an order, beside whether the order's answer could be written.
 pub(crate) type Left<D> = (Bench<D>, Result<(), Refusal>);
 
 /// Opens the disk, and writes what came of it.

@@ -147,6 +147,13 @@ fn bytes_in(word: &[u8]) -> Option<Part> {
     Some(bytes)
 }
 
+/// A place, and the bytes for it.
+fn read_part(words: &mut Words) -> Option<(u64, Part)> {
+    let at = next_number(words)?;
+    let part = bytes_in(words.next_word()?)?;
+    Some((at, part))
+}
+
 /// Which calls fail: `once n`, or `from n` on.
 fn read_failing(words: &mut Words) -> Option<Failing> {
     if words.skip(b"once") {
@@ -161,8 +168,7 @@ fn read_failing(words: &mut Words) -> Option<Failing> {
 /// Behind how many calls which bytes are read at which place: `n`, the place, the bytes.
 fn read_damage(words: &mut Words) -> Option<Damage> {
     let calls = next_number(words)?;
-    let at = next_number(words)?;
-    let part = bytes_in(words.next_word()?)?;
+    let (at, part) = read_part(words)?;
     Some(Damage { calls, at, part })
 }
 
@@ -173,11 +179,11 @@ fn read_change(words: &mut Words) -> Option<Change> {
         let byte = u8::try_from(next_number(words)?).ok()?;
         Some(Change::Blank(size, byte))
     } else if words.skip(b"put") {
-        let at = next_number(words)?;
-        Some(Change::Put(at, bytes_in(words.next_word()?)?))
+        let (at, part) = read_part(words)?;
+        Some(Change::Put(at, part))
     } else if words.skip(b"write") {
-        let at = next_number(words)?;
-        Some(Change::Write(at, bytes_in(words.next_word()?)?))
+        let (at, part) = read_part(words)?;
+        Some(Change::Write(at, part))
     } else if words.skip(b"cut") {
         Some(Change::Cut(next_number(words)?))
     } else {

@@ -7,6 +7,7 @@ use rep_record::put_all;
 use rep_replica::Replica;
 use rep_script::write_line;
 use rep_types::{Entry, Refusal};
+use std::fmt::Display;
 use std::io::Write;
 
 /// The most bytes of a disk that a line shows.
@@ -15,18 +16,19 @@ const MAX_SHOWN: usize = 512;
 /// A line of bytes.
 type Line = ArrayVec<u8, 1100>;
 
+/// The first of the words where it is so, and else the other.
+fn word(is_so: bool, yes: &'static str, no: &'static str) -> &'static str {
+    if is_so { yes } else { no }
+}
+
 /// Writes what the node says of itself: how many items were delivered, are durable, and are in the base, whether it is quiet, and
 /// whether it is stopped.
 pub(crate) fn write_node<D: Disk, W: Write>(
     writer: &mut W,
     node: &Replica<D>,
 ) -> Result<(), Refusal> {
-    let quiet = if node.is_quiet() { "quiet" } else { "busy" };
-    let stopped = if node.is_stopped() {
-        "stopped"
-    } else {
-        "running"
-    };
+    let quiet = word(node.is_quiet(), "quiet", "busy");
+    let stopped = word(node.is_stopped(), "stopped", "running");
     let (delivered, durable, base) = (node.delivered(), node.durable(), node.base());
     write_line(
         writer,
@@ -54,6 +56,19 @@ pub(crate) fn write_window<W: Write>(writer: &mut W, window: &[Entry]) -> Result
     Ok(())
 }
 
+/// Puts the text at the end of the line, which has room for it.
+fn put<D: Display + Drop>(line: &mut Line, text: D) -> Result<(), Refusal> {
+    line.write_fmt(text).map_err(|_| Refusal::StreamFault)
+}
+
+/// Puts the bytes at the end of the line, two digits each, and ends it.
+fn put_bytes(line: &mut Line, bytes: &[u8]) -> Result<(), Refusal> {
+    for byte in bytes {
+        put(line, format_args!("{byte:02x}"))?;
+    }
+    put(line, "\n")
+}
+
 /// Writes so many bytes of the disk from this place on, at most 512, two digits each.
 pub(crate) fn write_bytes<W: Write>(
     writer: &mut W,
@@ -62,12 +77,9 @@ pub(crate) fn write_bytes<W: Write>(
     count: usize,
 ) -> Result<(), Refusal> {
     let shown = bytes(device).get(at..).unwrap_or_default();
+    let count = count.min(MAX_SHOWN).min(shown.len());
     let mut line = Line::new();
-    for byte in shown.iter().take(count.min(MAX_SHOWN)) {
-        let text = format_args!("{byte:02x}");
-        line.write_fmt(text).map_err(|_| Refusal::StreamFault)?;
-    }
-    line.write_fmt("\n").map_err(|_| Refusal::StreamFault)?;
+    put_bytes(&mut line, &shown[..count])?;
     put_all(writer, line.as_slice())
 }
 
