@@ -4,21 +4,24 @@
 mod items;
 mod readers;
 mod serving;
+mod words;
+
+ghost use Rattle.std.specs.Prelude.{◌<◌, ◌≤◌};
 
 use anyhow::{Context, Result, bail};
 use items::{batch, params};
+use readers::Watchers;
 use rep_disk::FileDisk;
 use rep_layout::need;
-use serving::{Outcome, new_replica, serve_beside};
-use std::env;
+use rep_types::WriteSet;
+use serving::{Outcome, serve_on};
+use std::env::{Args, args};
 use std::fs::{File, Files};
 use std::rt::Env;
 use std::sync::Wait;
 use std::thread::Threads;
 use std::time::{Clock, Duration};
-
-/// The most workers, and the most readers.
-const MOST: usize = 64;
+use words::{Counts, read_counts, wants_rates};
 
 /// How many that are in a second where there are so many in this time.
 fn rate(count: u64, took: Duration) -> u128 {
@@ -26,16 +29,69 @@ fn rate(count: u64, took: Duration) -> u128 {
 }
 
 /// Prints how many items are durable and how many look-ups had an answer that is not right, and the rates where these are wanted.
-fn report<R: Print>(rt: &R, came: Outcome, has_rates: bool) -> Result<()> {
+fn report<R: Print>(rt: &R, durable: u64, came: Outcome, has_rates: bool) -> Result<()> {
     let wrong = came.tally.wrong;
-    rt.println(format_args!("{} durable, {wrong} wrong", came.durable))?;
+    rt.println(format_args!("{durable} durable, {wrong} wrong"))?;
     if has_rates {
-        let took = came.took().context("the clock can't be read")?;
-        let served = rate(came.durable, took);
+        let took = came.took.context("the clock can't be read")?;
+        let served = rate(durable, took);
         let looked = rate(came.tally.peeks, took);
         rt.println(format_args!("{served} items a second, {looked} peeks a second"))?;
     }
     Ok(())
+}
+
+/// Serves the items on a new file at the path, with readers beside.
+fn serve_in_file<R: Files<File = File> + AllocGlobal + Clock + Threads + Wait + Sync>(
+    rt: &R,
+    path: &str,
+    items: &[WriteSet],
+    counts: Counts,
+    watchers: &mut Watchers,
+) -> Result<(u64, Outcome)>
+    requires { (0 < counts.workers) × (counts.workers ≤ 64) × (counts.readers ≤ 64) }
+{
+    let disk = FileDisk::create(rt, path, need(&params()?) as usize)?;
+    let (workers, readers) = (counts.workers, counts.readers);
+    let came = serve_on(rt, rt.alloc(), disk, items, workers, readers, watchers)?;
+    Ok(came)
+}
+
+/// Serves a batch on a new file at the path, with readers beside.
+fn serve<R: Files<File = File> + AllocGlobal + Clock + Threads + Wait + Sync>(
+    rt: &R,
+    path: &str,
+    counts: Counts,
+) -> Result<(u64, Outcome)>
+    requires { (0 < counts.workers) × (counts.workers ≤ 64) × (counts.readers ≤ 64) }
+{
+    let items = batch(rt.alloc(), counts.items, counts.workers)?;
+    let mut watchers = Watchers::with_room(rt.alloc(), counts.readers)?;
+    serve_in_file(rt, path, &items, counts, &mut watchers)
+}
+
+/// Refuses a batch that ended before all of it was durable, and one that fewer readers than these looked at.
+fn check(came: Outcome, readers: usize) -> Result<()> {
+    if let Some(refusal) = came.end {
+        return Err(refusal.into());
+    }
+    if came.tally.readers < readers {
+        bail!("there are threads for {} readers alone", came.tally.readers);
+    }
+    Ok(())
+}
+
+/// Does what the words behind the path ask for.
+fn run_words<R: Files<File = File> + Print + AllocGlobal + Clock + Threads + Wait + Sync>(
+    rt: &R,
+    path: &str,
+    words: &mut Args,
+) -> Result<()> {
+    let counts = read_counts(words)?;
+    let has_rates = wants_rates(words);
+    let (durable, came) = serve(rt, path, counts)?;
+    check(came, counts.readers)?;
+    report(rt, durable, came, has_rates)
 }
 
 /// The words of the command line are the path of the new file, the number of workers, from 1 to 64, the number of readers, from 0 to 64, and
@@ -44,45 +100,10 @@ fn report<R: Print>(rt: &R, came: Outcome, has_rates: bool) -> Result<()> {
 fn run<R: Env + Files<File = File> + Print + AllocGlobal + Clock + Threads + Wait + Sync>(
     rt: &R,
 ) -> Result<()> {
-    let alloc = rt.alloc();
-    let mut words = env::args(rt)?.skip(1);
+    let mut words = args(rt)?;
+    let _program = words.next();
     let path = words.next().context("no path of a new file")?;
-    let workers = words
-        .next()
-        .context("no number of workers")?
-        .parse::<usize>()?;
-    let readers = words
-        .next()
-        .context("no number of readers")?
-        .parse::<usize>()?;
-    let count = words
-        .next()
-        .context("no number of items")?
-        .parse::<usize>()?;
-    let has_rates = match words.next() {
-        Some(word) => word.as_str() == "rates",
-        None => false,
-    };
-    if workers == 0 || workers > MOST || readers > MOST {
-        bail!("there are 1 to {MOST} workers, and at most {MOST} readers");
-    }
-    let items = batch(alloc, count, workers)?;
-    let disk = FileDisk::create(rt, &path, need(&params()?) as usize)?;
-    let came = serve_beside(
-        rt,
-        alloc,
-        new_replica(alloc, disk)?,
-        &items,
-        workers,
-        readers,
-    )?;
-    if let Some(refusal) = came.end {
-        return Err(refusal.into());
-    }
-    if came.tally.readers < readers {
-        bail!("there are threads for {} readers alone", came.tally.readers);
-    }
-    report(rt, came, has_rates)
+    run_words(rt, &path, &mut words)
 }
 
 fn main(rt: HostRuntime) -> Result<()> {

@@ -2,6 +2,7 @@
 
 use crate::items::{is_right, row_of};
 use rep_node::NodeReader;
+use rep_types::Refusal;
 use std::alloc::{AllocError, Global};
 use std::sync::Arc;
 use std::sync::atomic::{AtomicBool, Ordering};
@@ -12,13 +13,13 @@ const LOOKS: u64 = 64;
 
 /// Whether the batch is over, which readers look at.
 #[derive(Drop)]
-pub(crate) struct Over {
+struct Over {
     told: Arc<AtomicBool>,
 }
 
 impl Over {
     /// It is not over yet.
-    pub(crate) fn not_yet(alloc: Global) -> Result<Over, AllocError> {
+    fn not_yet(alloc: Global) -> Result<Over, AllocError> {
         Ok(Over {
             told: Arc::new(alloc, AtomicBool::new(false))?,
         })
@@ -31,7 +32,7 @@ impl Over {
     }
 
     /// Tells the readers that it is over.
-    pub(crate) fn tell(&self) {
+    fn tell(&self) {
         self.told.store(true, Ordering::SeqCst);
     }
 
@@ -112,31 +113,40 @@ fn started<R: Threads>(rt: &R, reader: NodeReader, over: &Over) -> Option<JoinHa
     spawn(rt, move || watch(reader, &over)).ok()
 }
 
-/// Starts so many of the readers in threads of their own, as far as there are threads and room for their handles.
-pub(crate) fn start_all<R: Threads>(
-    rt: &R,
-    readers: Vec<NodeReader>,
-    count: usize,
-    over: &Over,
-    room: Vec<JoinHandle<Tally>>,
-) -> Vec<JoinHandle<Tally>> {
-    let mut threads = room;
-    for reader in readers.into_iter().take(count) {
-        let Some(thread) = started(rt, reader, over) else {
-            break;
-        };
-        if threads.push(thread).is_err() {
-            break;
-        }
-    }
-    threads
+/// The readers that look rows up in threads of their own until the batch is over.
+#[derive(Drop)]
+pub(crate) struct Watchers {
+    over: Over,
+    threads: Vec<JoinHandle<Tally>>,
 }
 
-/// Waits for the readers to end, and says what they all found.
-pub(crate) fn joined<R: Threads>(rt: &R, threads: Vec<JoinHandle<Tally>>) -> Tally {
-    let mut all = Tally::nothing();
-    for thread in threads {
-        all = all.with(thread.join(rt));
+impl Watchers {
+    /// No reader yet, with room for so many.
+    pub(crate) fn with_room(alloc: Global, readers: usize) -> Result<Watchers, Refusal> {
+        let over = Over::not_yet(alloc)?;
+        let threads = Vec::with_capacity(alloc, readers)?;
+        Ok(Watchers { over, threads })
     }
-    all
+
+    /// Starts so many of the readers, as far as there are threads and room for their handles.
+    pub(crate) fn start<R: Threads>(&mut self, rt: &R, readers: Vec<NodeReader>, count: usize) {
+        for reader in readers.into_iter().take(count) {
+            let Some(thread) = started(rt, reader, &self.over) else {
+                break;
+            };
+            if self.threads.push(thread).is_err() {
+                break;
+            }
+        }
+    }
+
+    /// Tells the readers that the batch is over, waits for them to end, and says what they all found.
+    pub(crate) fn end<R: Threads>(&mut self, rt: &R) -> Tally {
+        self.over.tell();
+        let mut all = Tally::nothing();
+        for thread in self.threads.drain(..) {
+            all = all.with(thread.join(rt));
+        }
+        all
+    }
 }

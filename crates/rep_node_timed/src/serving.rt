@@ -1,20 +1,22 @@
 //! A node that serves the batch, with readers beside.
 
-ghost use Rattle.std.specs.Prelude.{◌≡◌, ◌<◌, ◌≤◌, true, IsFalse};
+ghost use Rattle.std.specs.Prelude.{◌≡◌, ◌<◌, ◌≤◌, true, IfOk, IsFalse, OnOk};
 ghost use Rattle.uuid.specs.Parts.{is_nil_bytes};
 ghost use Rattle.rep_replica.specs.Replicas.{facts_of};
 ghost use Rattle.rep_replica.specs.Settling.{is_quiet};
+ghost use Rattle.rep_ordered.specs.Views.{HasAll};
+ghost use Rattle.rep_node.specs.Seats.{PassedOrStopped};
 
 use crate::items::params;
-use crate::readers::{Over, Tally, joined, start_all};
+use crate::readers::{Tally, Watchers};
 use rep_disk::Disk;
-use rep_node::{Node, Pace, Point};
+use rep_node::{Node, NodeReader, Pace, Point, Seat};
 use rep_recover::format_disk;
 use rep_replica::Replica;
 use rep_types::{Refusal, WriteSet};
 use std::alloc::Global;
 use std::sync::Wait;
-use std::thread::{JoinHandle, Threads};
+use std::thread::Threads;
 use std::time::{Clock, Duration, Instant};
 use uuid::Uuid;
 
@@ -30,26 +32,21 @@ impl Pace for AtOnce {
 /// What came of the batch, and of the look-ups beside it.
 #[derive(Clone, Copy)]
 pub(crate) struct Outcome {
-    /// How many items are durable.
-    pub(crate) durable: u64,
     /// Why the batch ended before all of it was durable, if it did.
     pub(crate) end: Option<Refusal>,
     /// What the readers found.
     pub(crate) tally: Tally,
-    /// When the batch began and when it ended, where the clock told.
-    began: Option<Instant>,
-    ended: Option<Instant>,
+    /// How long the batch took, where the clock told.
+    pub(crate) took: Option<Duration>,
 }
 
-impl Outcome {
-    /// How long the batch took, where the clock told.
-    pub(crate) fn took(&self) -> Option<Duration> {
-        Some(self.ended?.duration_since(self.began?))
-    }
+/// How long it is between two moments.
+fn between(began: Option<Instant>, ended: Option<Instant>) -> Option<Duration> {
+    Some(ended?.duration_since(began?))
 }
 
 /// The replica on a disk that is formatted first.
-pub(crate) fn new_replica<D: Disk + Drop>(alloc: Global, disk: D) -> Result<Replica<D>, Refusal> {
+fn new_replica<D: Disk + Drop>(alloc: Global, disk: D) -> Result<Replica<D>, Refusal> {
     let (disk, formatted) = format_disk(disk, &params()?, Some(Uuid::from_bytes([0x11; 16])));
     formatted?;
     match Replica::open(alloc, disk) {
@@ -58,8 +55,74 @@ pub(crate) fn new_replica<D: Disk + Drop>(alloc: Global, disk: D) -> Result<Repl
     }
 }
 
+/// Brings the replica to where it has nothing left to do.
+///
+/// Refuses as `Replica::settle` does, and with `Undefined` where the replica belongs to no cluster.
+fn settle<D: Disk>(replica: &mut Replica<D>) -> Result<(), Refusal>
+    ensures quiet { OnOk result (is_quiet (facts_of D.failures replica.new) ≡ true) }
+    ensures defined { OnOk result (IsFalse (is_nil_bytes replica.new.engine.checkpoint.base.uuid)) }
+{
+    replica.settle()?;
+    if replica.uuid().is_nil() {
+        return Err(Refusal::Undefined);
+    }
+    Ok(())
+}
+
+/// A node with its first seat and its readers.
+type Started<D> = (Node<D>, Seat<D>, Vec<NodeReader>);
+
+/// Starts a node, with so many readers, from a replica that has nothing left to do and belongs to a cluster.
+///
+/// Refuses as `Node::start` does.
+fn started<R: Wait, D: Disk + Drop>(
+    rt: &R,
+    alloc: Global,
+    replica: Replica<D>,
+    readers: usize,
+) -> Result<Started<D>, Refusal>
+    requires quiet { is_quiet (facts_of D.failures replica) ≡ true }
+    requires defined { IsFalse (is_nil_bytes replica.engine.checkpoint.base.uuid) }
+    requires readers { (0 < readers) × (readers ≤ 64) }
+    ensures lock { IfOk result (λ made. made.1.lock ≡ made.0) }
+    ensures all { IfOk result (λ made. HasAll made.1.view) }
+    ensures passed { IfOk result (λ made. PassedOrStopped made.1.view) }
+{
+    match Node::start(alloc, rt, replica, readers) {
+        Ok(made) => Ok(made),
+        Err((_, refusal)) => Err(refusal),
+    }
+}
+
+/// Serves the batch at the node, with the watchers beside.
+fn serve_watched<R: Clock + Threads + Wait + Sync, D: Disk + Send>(
+    rt: &R,
+    alloc: Global,
+    node: &Node<D>,
+    seat: &mut Seat<D>,
+    items: &[WriteSet],
+    workers: usize,
+    watchers: &mut Watchers,
+) -> Outcome
+    requires lock { seat.old.lock ≡ node.now }
+    requires passed { PassedOrStopped seat.old.view }
+    requires workers { (0 < workers) × (workers ≤ 64) }
+    ensures lock { seat.new.lock ≡ seat.old.lock }
+    ensures all { HasAll seat.old.view → HasAll seat.new.view }
+    ensures passed { PassedOrStopped seat.new.view }
+{
+    let began = Instant::now(rt).ok();
+    let batch = node.serve(rt, alloc, seat, items, workers, &AtOnce);
+    let ended = Instant::now(rt).ok();
+    Outcome {
+        end: batch.end,
+        tally: watchers.end(rt),
+        took: between(began, ended),
+    }
+}
+
 /// Serves the batch at a node that is started from a replica which has nothing left to do and belongs to a cluster, with so many readers
-/// beside, for the handles of which there is room.
+/// beside. It says how many items are durable then.
 fn serve_settled<R: Clock + Threads + Wait + Sync, D: Disk + Drop + Send>(
     rt: &R,
     alloc: Global,
@@ -67,53 +130,36 @@ fn serve_settled<R: Clock + Threads + Wait + Sync, D: Disk + Drop + Send>(
     items: &[WriteSet],
     workers: usize,
     readers: usize,
-    over: &Over,
-    room: Vec<JoinHandle<Tally>>,
-) -> Result<Outcome, Refusal>
+    watchers: &mut Watchers,
+) -> Result<(u64, Outcome), Refusal>
     requires quiet { is_quiet (facts_of D.failures replica) ≡ true }
     requires defined { IsFalse (is_nil_bytes replica.engine.checkpoint.base.uuid) }
     requires workers { (0 < workers) × (workers ≤ 64) }
     requires readers { readers ≤ 64 }
 {
-    let (node, mut seat, watching) = match Node::start(alloc, rt, replica, readers.max(1)) {
-        Ok(made) => made,
-        Err((_, refusal)) => return Err(refusal),
-    };
-    let threads = start_all(rt, watching, readers, over, room);
-    let began = Instant::now(rt).ok();
-    let batch = node.serve(rt, alloc, &mut seat, items, workers, &AtOnce);
-    let ended = Instant::now(rt).ok();
-    over.tell();
-    let tally = joined(rt, threads);
-    let replica = node.close(rt, seat);
-    Ok(Outcome {
-        durable: replica.durable(),
-        end: batch.end,
-        tally,
-        began,
-        ended,
-    })
+    let (node, mut seat, watching) = started(rt, alloc, replica, readers.max(1))?;
+    watchers.start(rt, watching, readers);
+    let came = serve_watched(rt, alloc, &node, &mut seat, items, workers, watchers);
+    Ok((node.close(rt, seat).durable(), came))
 }
 
-/// Serves the batch at a node that is started from the replica, by so many workers, 1 to 64, with so many readers beside, at most 64.
+/// Serves the batch at a node on a disk that is formatted first, by so many workers, 1 to 64, with so many readers beside, at most 64. It
+/// says how many items are durable then.
 ///
-/// Refuses as `Replica::settle` and `Node::start` do, and with `Undefined` where the replica belongs to no cluster.
-pub(crate) fn serve_beside<R: Clock + Threads + Wait + Sync, D: Disk + Drop + Send>(
+/// Refuses as `format_disk`, `Replica::open`, `Replica::settle` and `Node::start` do.
+pub(crate) fn serve_on<R: Clock + Threads + Wait + Sync, D: Disk + Drop + Send>(
     rt: &R,
     alloc: Global,
-    mut replica: Replica<D>,
+    disk: D,
     items: &[WriteSet],
     workers: usize,
     readers: usize,
-) -> Result<Outcome, Refusal>
+    watchers: &mut Watchers,
+) -> Result<(u64, Outcome), Refusal>
     requires workers { (0 < workers) × (workers ≤ 64) }
     requires readers { readers ≤ 64 }
 {
-    let over = Over::not_yet(alloc)?;
-    let room = Vec::with_capacity(alloc, readers)?;
-    replica.settle()?;
-    if replica.uuid().is_nil() {
-        return Err(Refusal::Undefined);
-    }
-    serve_settled(rt, alloc, replica, items, workers, readers, &over, room)
+    let mut replica = new_replica(alloc, disk)?;
+    settle(&mut replica)?;
+    serve_settled(rt, alloc, replica, items, workers, readers, watchers)
 }

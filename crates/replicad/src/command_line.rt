@@ -4,11 +4,38 @@ use crate::format_options::{FormatOptions, options_of};
 use crate::serve_options::Workers;
 use clap::error::ErrorKind;
 use clap::{Arg, ArgAction, ArgMatches, Command, Error};
-use rep_types::Refusal;
+use rep_types::{Params, Refusal};
 use std::alloc::{AllocError, Global};
+use uuid::Uuid;
 
 /// The status of a usage fault.
 pub(crate) const USAGE: u8 = 2;
+
+/// An argument of a subcommand, which takes one value.
+#[derive(Clone, Copy)]
+enum Argument {
+    /// The disk, which must be there: what it is.
+    Disk(&'static str),
+    /// An option that must be there: its name, what stands for its value in a usage, and what it is.
+    Needed(&'static str, &'static str, &'static str),
+    /// An option that need not be there.
+    Free(&'static str, &'static str, &'static str),
+}
+
+impl Argument {
+    /// The argument, for the parser.
+    fn parsed<'a>(self, alloc: Global) -> Arg<'a> {
+        match self {
+            Argument::Disk(help) => Arg::new(alloc, "disk")
+                .value_name("DISK")
+                .required(true)
+                .action(ArgAction::Set)
+                .help(help),
+            Argument::Needed(name, value, help) => option(alloc, name, value, help).required(true),
+            Argument::Free(name, value, help) => option(alloc, name, value, help),
+        }
+    }
+}
 
 /// An option that takes one value.
 fn option<'a>(alloc: Global, name: &'a str, value: &'a str, help: &'a str) -> Arg<'a> {
@@ -19,127 +46,149 @@ fn option<'a>(alloc: Global, name: &'a str, value: &'a str, help: &'a str) -> Ar
         .help(help)
 }
 
-/// The subcommand that judges an order.
-fn judge_command<'a>(alloc: Global) -> Command<'a> {
-    Command::new(alloc, "judge").about(
-        "Judge an order text from standard input: one verdict line for each item",
-    )
+/// A subcommand: its name, what it does, and its arguments.
+struct Subcommand {
+    name: &'static str,
+    about: &'static str,
+    arguments: &'static [Argument],
 }
 
-/// The argument that names a disk.
-fn disk_argument<'a>(alloc: Global, help: &'a str) -> Arg<'a> {
-    Arg::new(alloc, "disk")
-        .value_name("DISK")
-        .required(true)
-        .action(ArgAction::Set)
-        .help(help)
+/// Judges an order.
+const JUDGE: &Subcommand = &Subcommand {
+    name: "judge",
+    about: "Judge an order text from standard input: one verdict line for each item",
+    arguments: &[],
+};
+
+/// Makes a disk.
+const FORMAT: &Subcommand = &Subcommand {
+    name: "format",
+    about: "Make a file and format it as the disk of a new node",
+    arguments: &[
+        Argument::Disk("The file to make; nothing may be there yet"),
+        Argument::Needed("window", "W", "Seqnos of the window, 1 to 256"),
+        Argument::Needed("cells", "N", "Cells of the log, 4 to 1024"),
+        Argument::Needed("rows", "R,R,..", "Rows of each table"),
+        Argument::Free(
+            "uuid",
+            "U",
+            "State UUID; without one the node belongs to no cluster yet",
+        ),
+    ],
+};
+
+/// Runs a script.
+const RUN: &Subcommand = &Subcommand {
+    name: "run",
+    about: "Run a script from standard input on a replica on a new disk in memory, or on a file",
+    arguments: &[Argument::Free("disk", "FILE", "The disk to run on")],
+};
+
+/// Prints the state of a disk.
+const STATE: &Subcommand = &Subcommand {
+    name: "state",
+    about: "Print the saved state of a disk: its cluster and its position",
+    arguments: &[
+        Argument::Disk("The disk of the node"),
+        Argument::Free("saved", "FILE", "A saved state of the same cluster"),
+        Argument::Free("have", "FILE", "Where to write what the node has"),
+    ],
+};
+
+/// Writes a transfer for a joiner.
+const DONATE: &Subcommand = &Subcommand {
+    name: "donate",
+    about: "Write for a node that joins what it lacks",
+    arguments: &[
+        Argument::Disk("The disk of the donor"),
+        Argument::Needed("have", "FILE", "What the joiner has"),
+        Argument::Needed("out", "FILE", "Where to write the transfer"),
+    ],
+};
+
+/// Takes a transfer.
+const JOIN: &Subcommand = &Subcommand {
+    name: "join",
+    about: "Bring a node up to date by a transfer of another one",
+    arguments: &[
+        Argument::Disk("The disk of the joiner"),
+        Argument::Needed("from", "FILE", "The transfer"),
+    ],
+};
+
+/// Serves a batch of items.
+const SERVE: &Subcommand = &Subcommand {
+    name: "serve",
+    about: "Hand in the items of a text from standard input, together, to a node of several threads",
+    arguments: &[
+        Argument::Disk("The disk of the node"),
+        Argument::Free(
+            "workers",
+            Workers::VALUE_NAME,
+            "Threads that hand items in, 1 to 64; 2 without it",
+        ),
+    ],
+};
+
+/// The subcommands, in the order in which the help names them.
+const SUBCOMMANDS: &[&Subcommand] = &[JUDGE, FORMAT, RUN, STATE, DONATE, JOIN, SERVE];
+
+/// The subcommand for the parser.
+fn parsed<'a>(alloc: Global, subcommand: &Subcommand) -> Result<Command<'a>, AllocError> {
+    let mut command = Command::new(alloc, subcommand.name).about(subcommand.about);
+    for argument in subcommand.arguments {
+        command = command.arg(argument.parsed(alloc))?;
+    }
+    Ok(command)
 }
 
-/// The subcommand that makes a disk.
-fn format_command<'a>(alloc: Global) -> Result<Command<'a>, AllocError> {
-    let disk = disk_argument(alloc, "The file to make; nothing may be there yet");
-    let window = option(alloc, "window", "W", "Seqnos of the window, 1 to 256");
-    let cells = option(alloc, "cells", "N", "Cells of the log, 4 to 1024");
-    let rows = option(alloc, "rows", "R,R,..", "Rows of each table");
-    let uuid = option(
-        alloc,
-        "uuid",
-        "U",
-        "State UUID; without one the node belongs to no cluster yet",
-    );
-    Command::new(alloc, "format")
-        .about("Make a file and format it as the disk of a new node")
-        .arg(disk)?
-        .arg(window.required(true))?
-        .arg(cells.required(true))?
-        .arg(rows.required(true))?
-        .arg(uuid)
-}
-
-/// The subcommand that runs a script.
-fn run_command<'a>(alloc: Global) -> Result<Command<'a>, AllocError> {
-    let disk = option(alloc, "disk", "FILE", "The disk to run on");
-    Command::new(alloc, "run")
-        .about(
-            "Run a script from standard input on a replica on a new disk in memory, or on a file",
-        )
-        .arg(disk)
-}
-
-/// The subcommand that prints the state of a disk.
-fn state_command<'a>(alloc: Global) -> Result<Command<'a>, AllocError> {
-    let disk = disk_argument(alloc, "The disk of the node");
-    let saved = option(alloc, "saved", "FILE", "A saved state of the same cluster");
-    let have = option(alloc, "have", "FILE", "Where to write what the node has");
-    Command::new(alloc, "state")
-        .about("Print the saved state of a disk: its cluster and its position")
-        .arg(disk)?
-        .arg(saved)?
-        .arg(have)
-}
-
-/// The subcommand that writes a transfer for a joiner.
-fn donate_command<'a>(alloc: Global) -> Result<Command<'a>, AllocError> {
-    let disk = disk_argument(alloc, "The disk of the donor");
-    let have = option(alloc, "have", "FILE", "What the joiner has");
-    let out = option(alloc, "out", "FILE", "Where to write the transfer");
-    Command::new(alloc, "donate")
-        .about("Write for a node that joins what it lacks")
-        .arg(disk)?
-        .arg(have.required(true))?
-        .arg(out.required(true))
-}
-
-/// The subcommand that takes a transfer.
-fn join_command<'a>(alloc: Global) -> Result<Command<'a>, AllocError> {
-    let disk = disk_argument(alloc, "The disk of the joiner");
-    let from = option(alloc, "from", "FILE", "The transfer");
-    Command::new(alloc, "join")
-        .about("Bring a node up to date by a transfer of another one")
-        .arg(disk)?
-        .arg(from.required(true))
-}
-
-/// The subcommand that serves a batch of items.
-fn serve_command<'a>(alloc: Global) -> Result<Command<'a>, AllocError> {
-    let disk = disk_argument(alloc, "The disk of the node");
-    let workers = option(
-        alloc,
-        "workers",
-        Workers::VALUE_NAME,
-        "Threads that hand items in, 1 to 64; 2 without it",
-    );
-    Command::new(alloc, "serve")
-        .about(
-            "Hand in the items of a text from standard input, together, to a node of several threads",
-        )
-        .arg(disk)?
-        .arg(workers)
-}
-
-/// The command line that the program understands: one level of subcommands.
-fn command<'a>(alloc: Global) -> Result<Command<'a>, AllocError> {
+/// The program without its subcommands.
+fn program<'a>(alloc: Global) -> Command<'a> {
     Command::new(alloc, "replicad")
         .version("0.1.0")
         .about("One node of a multi-master database")
         .subcommand_required(true)
-        .subcommand(judge_command(alloc))?
-        .subcommand(format_command(alloc)?)?
-        .subcommand(run_command(alloc)?)?
-        .subcommand(state_command(alloc)?)?
-        .subcommand(donate_command(alloc)?)?
-        .subcommand(join_command(alloc)?)?
-        .subcommand(serve_command(alloc)?)
+}
+
+/// The command line that the program understands: one level of subcommands.
+fn command<'a>(alloc: Global) -> Result<Command<'a>, AllocError> {
+    let mut command = program(alloc);
+    for subcommand in SUBCOMMANDS {
+        command = command.subcommand(parsed(alloc, subcommand)?)?;
+    }
+    Ok(command)
 }
 
 /// What the words of a command line ask for.
+#[derive(Drop)]
 pub(crate) enum Task<'a> {
     /// Judge an order text.
     Judge,
-    /// Make the file at this path a disk.
-    Format(&'a str, FormatOptions),
-    /// Run a script, on the disk at this path where there is one.
-    Run(Option<&'a str>),
+    /// Run a script on a new disk in memory.
+    Run,
+    /// What is done on files.
+    OnFiles(FileTask<'a>),
+    /// Nothing more: the text was printed, and the program ends with this status.
+    Printed(u8),
+}
+
+impl Task<'_> {
+    /// The status to end with once it is done.
+    pub(crate) fn status(&self) -> u8 {
+        match self {
+            Task::Printed(status) => *status,
+            _ => 0,
+        }
+    }
+}
+
+/// What the words of a command line ask for that names files.
+#[derive(Drop)]
+pub(crate) enum FileTask<'a> {
+    /// Make the file at this path a disk with these parameters and this state UUID.
+    Format(&'a str, Params, Option<Uuid>),
+    /// Run a script on the disk at this path.
+    Run(&'a str),
     /// Print the state of the disk at this path, beside the saved state in a file where there is one, and write what the node
     /// has to a file where one is named.
     State(&'a str, Option<&'a str>, Option<&'a str>),
@@ -149,8 +198,6 @@ pub(crate) enum Task<'a> {
     Join(&'a str, &'a str),
     /// Serve the items of a text, by so many workers, on the disk at this path.
     Serve(&'a str, Workers),
-    /// Nothing more: the text was printed, and the program ends with this status.
-    Printed(u8),
 }
 
 /// Prints help, the version or a usage fault.
@@ -170,22 +217,32 @@ fn value_of<'a>(matches: &ArgMatches<'a>, name: &str) -> &'a str {
     }
 }
 
-/// Prints that the value of this option of a subcommand is not of its form.
-fn printed_wrong<'a, R: Print + Eprint>(
-    rt: &R,
+/// The fault of a value of this option of a subcommand that is not of its form.
+fn wrong_value(
     alloc: Global,
-    mut command: Command<'_>,
+    subcommand: &Subcommand,
     (name, value_name, form): (&str, &str, &str),
     value: &str,
-) -> Result<Task<'a>, Refusal> {
+) -> Result<Error, AllocError> {
     let message = format!(in alloc;
         "invalid value '{value}' for '--{name} <{value_name}>': it is not {form}"
     )?;
-    let error = command.error(ErrorKind::ValueValidation, &message)?;
-    printed(rt, &error)
+    let bin_name = format!(in alloc; "replicad {}", subcommand.name)?;
+    let mut command = parsed(alloc, subcommand)?.bin_name(&bin_name)?;
+    command.error(ErrorKind::ValueValidation, &message)
+}
+
+/// The task that makes the file at this path a disk as the options say.
+///
+/// Refuses with `BadParams` parameters outside the limits.
+fn format_on<'a>(path: &'a str, options: &FormatOptions) -> Result<Task<'a>, Refusal> {
+    let params = options.params()?;
+    Ok(Task::OnFiles(FileTask::Format(path, params, options.uuid())))
 }
 
 /// The task of `format` with these words behind it.
+///
+/// Refuses with `BadParams` parameters outside the limits.
 fn format_task<'a, R: Print + Eprint>(
     rt: &R,
     alloc: Global,
@@ -195,30 +252,38 @@ fn format_task<'a, R: Print + Eprint>(
     let cells = value_of(matches, "cells");
     let rows = value_of(matches, "rows");
     match options_of(window, cells, rows, matches.get_str("uuid")) {
-        Ok(options) => Ok(Task::Format(value_of(matches, "disk"), options)),
+        Ok(options) => format_on(value_of(matches, "disk"), &options),
         Err(option) => {
-            let command = format_command(alloc)?.bin_name("replicad format")?;
             let said = (option.name(), option.value_name(), option.form());
-            printed_wrong(rt, alloc, command, said, value_of(matches, option.name()))
+            let value = value_of(matches, option.name());
+            printed(rt, &wrong_value(alloc, FORMAT, said, value)?)
         }
     }
 }
 
+/// The task of `run` with these words behind it.
+fn run_task<'a>(matches: &ArgMatches<'a>) -> Task<'a> {
+    match matches.get_str("disk") {
+        Some(disk) => Task::OnFiles(FileTask::Run(disk)),
+        None => Task::Run,
+    }
+}
+
 /// The task of `state` with these words behind it.
-fn state_task<'a>(matches: &ArgMatches<'a>) -> Task<'a> {
+fn state_task<'a>(matches: &ArgMatches<'a>) -> FileTask<'a> {
     let saved = matches.get_str("saved");
-    Task::State(value_of(matches, "disk"), saved, matches.get_str("have"))
+    FileTask::State(value_of(matches, "disk"), saved, matches.get_str("have"))
 }
 
 /// The task of `donate` with these words behind it.
-fn donate_task<'a>(matches: &ArgMatches<'a>) -> Task<'a> {
+fn donate_task<'a>(matches: &ArgMatches<'a>) -> FileTask<'a> {
     let have = value_of(matches, "have");
-    Task::Donate(value_of(matches, "disk"), have, value_of(matches, "out"))
+    FileTask::Donate(value_of(matches, "disk"), have, value_of(matches, "out"))
 }
 
 /// The task of `join` with these words behind it.
-fn join_task<'a>(matches: &ArgMatches<'a>) -> Task<'a> {
-    Task::Join(value_of(matches, "disk"), value_of(matches, "from"))
+fn join_task<'a>(matches: &ArgMatches<'a>) -> FileTask<'a> {
+    FileTask::Join(value_of(matches, "disk"), value_of(matches, "from"))
 }
 
 /// The task of `serve` with these words behind it.
@@ -229,32 +294,44 @@ fn serve_task<'a, R: Print + Eprint>(
 ) -> Result<Task<'a>, Refusal> {
     let disk = value_of(matches, "disk");
     let Some(value) = matches.get_str("workers") else {
-        return Ok(Task::Serve(disk, Workers::two()));
+        return Ok(Task::OnFiles(FileTask::Serve(disk, Workers::two())));
     };
-    let Some(workers) = Workers::of(value) else {
-        let command = serve_command(alloc)?.bin_name("replicad serve")?;
-        let said = ("workers", Workers::VALUE_NAME, Workers::FORM);
-        return printed_wrong(rt, alloc, command, said, value);
-    };
-    Ok(Task::Serve(disk, workers))
+    match Workers::of(value) {
+        Some(workers) => Ok(Task::OnFiles(FileTask::Serve(disk, workers))),
+        None => {
+            let said = ("workers", Workers::VALUE_NAME, Workers::FORM);
+            printed(rt, &wrong_value(alloc, SERVE, said, value)?)
+        }
+    }
+}
+
+/// The task of the subcommand that the words name.
+fn named_task<'a, R: Print + Eprint>(
+    rt: &R,
+    alloc: Global,
+    matches: &ArgMatches<'a>,
+) -> Result<Task<'a>, Refusal> {
+    match matches.subcommand() {
+        Some(("format", matches)) => format_task(rt, alloc, matches),
+        Some(("run", matches)) => Ok(run_task(matches)),
+        Some(("state", matches)) => Ok(Task::OnFiles(state_task(matches))),
+        Some(("donate", matches)) => Ok(Task::OnFiles(donate_task(matches))),
+        Some(("join", matches)) => Ok(Task::OnFiles(join_task(matches))),
+        Some(("serve", matches)) => serve_task(rt, alloc, matches),
+        _ => Ok(Task::Judge),
+    }
 }
 
 /// Reads the words of the command line. Help, the version and usage faults are printed here.
+///
+/// Refuses with `BadParams` parameters of `format` outside the limits.
 pub(crate) fn task_of<'a, R: Print + Eprint>(
     rt: &R,
     alloc: Global,
     words: &'a [String],
 ) -> Result<Task<'a>, Refusal> {
     match command(alloc)?.try_get_matches_from(words) {
-        Ok(matches) => match matches.subcommand() {
-            Some(("format", matches)) => format_task(rt, alloc, matches),
-            Some(("run", matches)) => Ok(Task::Run(matches.get_str("disk"))),
-            Some(("state", matches)) => Ok(state_task(matches)),
-            Some(("donate", matches)) => Ok(donate_task(matches)),
-            Some(("join", matches)) => Ok(join_task(matches)),
-            Some(("serve", matches)) => serve_task(rt, alloc, matches),
-            _ => Ok(Task::Judge),
-        },
+        Ok(matches) => named_task(rt, alloc, &matches),
         Err(error) => printed(rt, &error),
     }
 }
