@@ -225,8 +225,8 @@ fn swapped<D: Disk + Drop, W: Write>(
     }
 }
 
-/// Does what a line asks for, and writes what came of it. Where there is no node, what asks for one is answered by `off`, and so it is
-/// while a snapshot comes to the node.
+/// Does what a line asks for, and writes what came of it. What asks for the disk lets a node on it go. Where there is no node, what asks
+/// for one is answered by `off`, and so it is while a snapshot comes to the node.
 fn done<R: Read, W: Write>(
     alloc: Global,
     mut bench: Bench<Device>,

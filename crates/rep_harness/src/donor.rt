@@ -15,7 +15,7 @@ use std::marker::Model;
 use std::mem::replace;
 use uuid::Uuid;
 
-/// A donor, and the transfer that it wrote last. It can't be dropped, as a `Bench` can't.
+/// A donor, and the transfer that it wrote last. It has no `Drop`, as a `Bench` has none: `into_disk` lets it go.
 pub(crate) struct Donor<D: Disk> {
     pub(crate) node: Replica<D>,
     pub(crate) transfer: Vec<u8>,
@@ -40,7 +40,7 @@ pub(crate) struct Snapshot {
     pub(crate) window: Window,
 }
 
-/// Opens the disk as that of a donor, and writes what came of it. The donor, if there is one, comes beside whether that could be written.
+/// Opens the disk as that of a donor, and writes what came of it. The donor, where there is one, comes beside whether that was written.
 fn lent<D: Disk + Drop, W: Write>(
     alloc: Global,
     disk: D,
@@ -57,7 +57,7 @@ fn lent<D: Disk + Drop, W: Write>(
     }
 }
 
-/// Has the disk be that of the donor from now on, in the place of the donor before, and writes what came of it.
+/// Has the disk be that of the donor from now on, and writes what came of it. The donor before is let go.
 pub(crate) fn lend<D: Disk + Drop, W: Write>(
     alloc: Global,
     disk: D,

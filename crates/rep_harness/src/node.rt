@@ -13,15 +13,14 @@ use std::io::Write;
 
 /// What there is: a disk, a node on one, or a node to which a snapshot comes.
 ///
-/// It can't be dropped: what is there is let go by `into_disk` alone, which is proved at little cost where each way out of a function that
-/// drops a node is proved at much.
+/// It has no `Drop`, since each way out of a function that could drop a node is dear to prove: `into_disk` alone lets go what is there.
 pub(crate) enum Bench<D: Disk> {
     Disk(D),
     Node(Replica<D>),
     Coming(Installation<D>),
 }
 
-/// What there is behind an order, beside whether the order's answer could be written.
+/// What there is behind an order, beside whether the order's answer could be written: a `?` would have to let go what there is.
 pub(crate) type Left<D> = (Bench<D>, Result<(), Refusal>);
 
 /// Opens the disk, and writes what came of it.
