@@ -54,14 +54,27 @@ fn is_closed(rt: &impl Abort, session: &mut Session, rows: &mut Rows) {
     assert!(rt; ended(session) == Err(Refusal::Closed));
 }
 
+/// Reads the row 1, puts `b` under the row 2, and ends; then the transaction is closed.
+fn writes_and_ends(rt: &impl Abort, session: &mut Session, rows: &mut Rows) -> Result<(), Fail> {
+    finds(rt, session, rows, (ROW, Some(b'a')))?;
+    put_in(session, OTHER, b"b")?;
+    is_written(rt, ended(session))?;
+    is_closed(rt, session, rows);
+    Ok(())
+}
+
 #[test]
 fn a_transaction_is_closed_once_it_has_ended(rt: HostRuntime) -> Result<(), Fail> {
     let mut rows = with_a_row(&rt)?;
     let mut session = begun(&mut rows);
-    finds(&rt, &mut session, &mut rows, (ROW, Some(b'a')))?;
-    put_in(&mut session, OTHER, b"b")?;
-    is_written(&rt, ended(&mut session))?;
-    is_closed(&rt, &mut session, &mut rows);
+    writes_and_ends(&rt, &mut session, &mut rows)
+}
+
+/// Reads the row 1, and ends with nothing to deliver; then the transaction is closed.
+fn reads_and_ends(rt: &impl Abort, session: &mut Session, rows: &mut Rows) -> Result<(), Fail> {
+    finds(rt, session, rows, (ROW, Some(b'a')))?;
+    assert!(rt; ended(session) == Ok(Finished::ReadOnly));
+    is_closed(rt, session, rows);
     Ok(())
 }
 
@@ -69,10 +82,7 @@ fn a_transaction_is_closed_once_it_has_ended(rt: HostRuntime) -> Result<(), Fail
 fn a_transaction_that_only_reads_has_nothing_to_deliver(rt: HostRuntime) -> Result<(), Fail> {
     let mut rows = with_a_row(&rt)?;
     let mut session = begun(&mut rows);
-    finds(&rt, &mut session, &mut rows, (ROW, Some(b'a')))?;
-    assert!(rt; ended(&mut session) == Ok(Finished::ReadOnly));
-    is_closed(&rt, &mut session, &mut rows);
-    Ok(())
+    reads_and_ends(&rt, &mut session, &mut rows)
 }
 
 /// Reads as many keys as may be, one of them again, and one more.
@@ -85,15 +95,23 @@ fn reads_too_many(rt: &impl Abort, session: &mut Session, rows: &mut Rows) -> Re
     finds(rt, session, rows, (row(MOST), None))
 }
 
+/// Reads one key more than may be. What it writes it still finds.
+fn reads_what_it_wrote(
+    rt: &impl Abort,
+    session: &mut Session,
+    rows: &mut Rows,
+) -> Result<(), Fail> {
+    reads_too_many(rt, session, rows)?;
+    put_in(session, row(0), b"c")?;
+    finds(rt, session, rows, (row(0), Some(b'c')))?;
+    Ok(())
+}
+
 #[test]
 fn a_17th_key_is_not_read(rt: HostRuntime) -> Result<(), Fail> {
     let mut rows = with_a_row(&rt)?;
     let mut session = begun(&mut rows);
-    reads_too_many(&rt, &mut session, &mut rows)?;
-    // What it wrote it still finds.
-    put_in(&mut session, row(0), b"c")?;
-    finds(&rt, &mut session, &mut rows, (row(0), Some(b'c')))?;
-    Ok(())
+    reads_what_it_wrote(&rt, &mut session, &mut rows)
 }
 
 /// Writes as many keys as may be, some of them again, and one more.
@@ -108,8 +126,10 @@ fn writes_too_many(rt: &impl Abort, session: &mut Session) -> Result<(), Refusal
     Ok(())
 }
 
-/// Compares what is left under a row that was deleted and one that was put again, and how many rows the transaction writes.
-fn has_written(rt: &impl Abort, session: &mut Session, rows: &mut Rows) -> Result<(), Fail> {
+/// Writes one key more than may be. Compares what is left under a row that was deleted and one that was put again, and how many rows the
+/// transaction writes.
+fn writes_the_most(rt: &impl Abort, session: &mut Session, rows: &mut Rows) -> Result<(), Fail> {
+    writes_too_many(rt, session)?;
     finds(rt, session, rows, (ROW, None))?;
     finds(rt, session, rows, (row(MOST), Some(b'd')))?;
     let item = written(ended(session))?;
@@ -121,6 +141,5 @@ fn has_written(rt: &impl Abort, session: &mut Session, rows: &mut Rows) -> Resul
 fn a_17th_key_is_not_written(rt: HostRuntime) -> Result<(), Fail> {
     let mut rows = with_a_row(&rt)?;
     let mut session = begun(&mut rows);
-    writes_too_many(&rt, &mut session)?;
-    has_written(&rt, &mut session, &mut rows)
+    writes_the_most(&rt, &mut session, &mut rows)
 }
