@@ -128,11 +128,11 @@ impl<D: Disk> Engine<D> {
         ensures unchanged { OnErr result ((self.new ≡ self.old) × (backlog.new ≡ backlog.old)) }
         ensures holds { IfOk result (λ count. (n : Node) → Holds D.honest D.history D.failures n self.old → AreJudgedFrom n.facts.setting (reached n.facts.setting n.base n.items) (take count backlog.old) → Holds D.honest D.history D.failures (with_items (take count backlog.old) n) self.new) }
     {
+        self.running()?;
         add_is_taken_back();
         versions_follow_the_items();
         fronts_are_determined();
         the_log_is_apart();
-        self.running()?;
         let count = self.next_items(backlog);
         add_items(&mut self.versions, backlog, 0, count)?;
         add_replies(&mut self.replies, backlog, count);

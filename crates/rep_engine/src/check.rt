@@ -121,9 +121,9 @@ impl<D: Disk> Engine<D> {
         ensures steps { (n : Node) → Holds D.honest D.history D.failures n self.old → window_of certifier.now.current (durable_of self.old.log) ≡ window_at n n.facts.durable → (m : Node) × Steps n to_check (checked result) m × Holds D.honest D.history D.failures m self.new }
         ensures leaves { (n : Node) → Holds D.honest D.history D.failures n self.old → LeavesOnly (D.history self.old.disk) (D.history self.new.disk) (IsFrontAt Means n) }
     {
+        self.running()?;
         checkpoints_go_on();
         judging_goes_on();
-        self.running()?;
         match self.checkpoint.step_due() {
             Step::Begin => match self.begin(certifier) {
                 Ok(position) => Ok(Some(position)),

@@ -81,9 +81,9 @@ impl<D: Disk> Engine<D> {
         // Whatever stands on an honest device: its bytes decide, where no write failed in the block's cell.
         ensures spelled { D.honest self.old.disk → IsReadable self.old.layout (D.history self.old.disk) (log_of self.old.layout (self.old.log.start + index)) → IsBlockAsSpelled (reading_of self.old.layout (seen (D.history self.old.disk))) self.old.layout (self.old.log.start + index) result in_log }
     {
+        self.running()?;
         images_read_as_allowed();
         turns_are_taken();
-        self.running()?;
         let first = self.log.start();
         if index >= self.log.next() - first {
             return Ok(None);
@@ -154,8 +154,8 @@ impl<D: Disk> Engine<D> {
         // Whatever stands on an honest device: its bytes decide.
         ensures spelled { D.honest self.old.disk → IsBasePageAsSpelled (reading_of self.old.layout (seen (D.history self.old.disk))) self.old.checkpoint.base page result in_pages }
     {
-        pages_are_told();
         self.running()?;
+        pages_are_told();
         let base = self.checkpoint.base();
         let PageState::In(_) = slot_of(base, page) else {
             return Ok(None);

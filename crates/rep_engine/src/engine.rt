@@ -188,11 +188,11 @@ impl<D: Disk> Engine<D> {
         ensures log { OnOk result (self.new.log ≡ written_in (due_of self.old.log) (length self.old.block) self.old.log) }
         ensures leaves { (n : Node) → Holds D.honest D.history D.failures n self.old → LeavesOnly (D.history self.old.disk) (D.history self.new.disk) (IsFrontAt Means n) }
     {
+        self.running()?;
         nodes_stay_nodes();
         nodes_leave_their_fronts();
         the_log_is_apart();
         pools_go_on();
-        self.running()?;
         if let Some(refusal) = self.log_refusal() {
             return Err(refusal);
         }
@@ -257,6 +257,7 @@ impl<D: Disk> Engine<D> {
         ensures steps { (n : Node) → Holds D.honest D.history D.failures n self.old → (m : Node) × Steps n to_sync (synced result) m × Holds D.honest D.history D.failures m self.new }
         ensures leaves { (n : Node) → Holds D.honest D.history D.failures n self.old → LeavesOnly (D.history self.old.disk) (D.history self.new.disk) (IsFrontAt Means n) }
     {
+        self.running()?;
         nodes_stay_nodes();
         images_read_as_allowed();
         nodes_leave_their_fronts();
@@ -266,7 +267,6 @@ impl<D: Disk> Engine<D> {
         versions_follow_the_items();
         judging_goes_on();
         pools_go_on();
-        self.running()?;
         if self.cells.sync().is_err() {
             self.halted = Some(self.log.phase());
             return Err(Refusal::DiskFault);

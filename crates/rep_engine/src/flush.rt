@@ -68,9 +68,9 @@ impl<D: Disk> Engine<D> {
         ensures unchanged { IfErr result (λ e. (e ≡ DiskFault) ⊎ (((e ≡ Corrupt Pages) × (self.new ≡ record (self.old) { disk = self.new.disk })) ⊎ (self.new ≡ self.old))) }
         ensures fault { IfErr result (λ e. e ≡ DiskFault → self.new ≡ record (self.old) { disk = self.new.disk; halted = Some self.old.log.phase }) }
     {
+        self.running()?;
         checkpoints_go_on();
         row_places_are_told();
-        self.running()?;
         match u32::try_from(page) {
             Ok(page) => self.flush_page(page),
             Err(_) => Err(Refusal::NotDue),

@@ -298,9 +298,9 @@ impl<D: Disk> Installation<D> {
         ensures halts { (n : Node) → (y : State) → HoldsBoth D.honest D.history D.failures n y self.old.engine self.old.coming → IfErr result (λ e. e ≡ DiskFault → HoldsBoth D.honest D.history D.failures (halted_node (D.failures self.new.engine.disk) n) y self.new.engine self.new.coming) }
         ensures leaves { (n : Node) → (y : State) → HoldsBoth D.honest D.history D.failures n y self.old.engine self.old.coming → LeavesOnly (D.history self.old.engine.disk) (D.history self.new.engine.disk) (IsFrontAt Means n) }
     {
+        self.engine.running()?;
         installations_stand_beside();
         installations_leave_the_old_or_the_new();
-        self.engine.running()?;
         self.engine.install_page(&mut self.coming, page, rows)
     }
 

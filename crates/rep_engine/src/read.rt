@@ -90,11 +90,11 @@ impl<D: Disk> Engine<D> {
         ensures unchanged { IfErr result (λ e. (e ≡ DiskFault) ⊎ (((e ≡ Corrupt Pages) × (self.new ≡ record (self.old) { disk = self.new.disk })) ⊎ (self.new ≡ self.old))) }
         ensures fault { IfErr result (λ e. e ≡ DiskFault → self.new ≡ record (self.old) { disk = self.new.disk; halted = Some self.old.log.phase }) }
     {
+        self.running()?;
         nodes_stay_nodes();
         versions_follow_the_items();
         versions_lead_to_the_state();
         the_bytes_tell_the_page();
-        self.running()?;
         if let Some(refusal) = self.read_refusal(key, s) {
             return Err(refusal);
         }
