@@ -16,19 +16,18 @@ const MAX_SHOWN: usize = 512;
 /// A line of bytes.
 type Line = ArrayVec<u8, 1100>;
 
-/// The first of the words where it is so, and else the other.
-fn word(is_so: bool, yes: &'static str, no: &'static str) -> &'static str {
-    if is_so { yes } else { no }
-}
-
 /// Writes what the node says of itself: how many items were delivered, are durable, and are in the base, whether it is quiet, and
 /// whether it is stopped.
 pub(crate) fn write_node<D: Disk, W: Write>(
     writer: &mut W,
     node: &Replica<D>,
 ) -> Result<(), Refusal> {
-    let quiet = word(node.is_quiet(), "quiet", "busy");
-    let stopped = word(node.is_stopped(), "stopped", "running");
+    let quiet = if node.is_quiet() { "quiet" } else { "busy" };
+    let stopped = if node.is_stopped() {
+        "stopped"
+    } else {
+        "running"
+    };
     let (delivered, durable, base) = (node.delivered(), node.durable(), node.base());
     write_line(
         writer,
@@ -62,7 +61,7 @@ fn put<D: Display + Drop>(line: &mut Line, text: D) -> Result<(), Refusal> {
 }
 
 /// Puts the bytes at the end of the line, two digits each, and ends it.
-fn put_bytes(line: &mut Line, bytes: &[u8]) -> Result<(), Refusal> {
+fn put_digits(line: &mut Line, bytes: &[u8]) -> Result<(), Refusal> {
     for byte in bytes {
         put(line, format_args!("{byte:02x}"))?;
     }
@@ -79,7 +78,7 @@ pub(crate) fn write_bytes<W: Write>(
     let shown = bytes(device).get(at..).unwrap_or_default();
     let count = count.min(MAX_SHOWN).min(shown.len());
     let mut line = Line::new();
-    put_bytes(&mut line, &shown[..count])?;
+    put_digits(&mut line, &shown[..count])?;
     put_all(writer, line.as_slice())
 }
 
