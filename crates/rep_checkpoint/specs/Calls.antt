@@ -55,8 +55,8 @@ Begins kept before after next =
 
 -- ---- writing
 
--- A call: there are states in which each cell of the log is as it was. What stands in them during the call stands in all that a stop
--- during it leaves; where it succeeds, they then are as they are after the call.
+-- A call: there are states in which each cell of the log is as it was, and all that a stop during the call leaves is of these states. They
+-- are as the call has them meanwhile; where it succeeds, they are as it has them afterwards, and the device is in them.
 pub record StepsTo {T E : Type 0} (l : Layout) (old new : History) (s : States) (During After : States → Type 0) (result : Result T E) : Type 0 where
   pub states : States
   pub elsewhere : (i : ℕ) → states (Log i) ≡ s (Log i)

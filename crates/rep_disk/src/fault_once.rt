@@ -1,6 +1,5 @@
 //! A disk that fails one call.
 ghost use Rattle.std.specs.Prelude.{◌≡◌, Some};
-ghost use Rattle.rep_disk.specs.declared.faulty.Call.{Call as Calls};
 ghost use Rattle.rep_disk.specs.Fuses.{CountsDown};
 
 use crate::faulty::{Call, Faults, FaultyDisk};

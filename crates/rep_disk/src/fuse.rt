@@ -1,6 +1,5 @@
 //! A disk that fails from some call on.
 ghost use Rattle.std.specs.Prelude.{◌≡◌};
-ghost use Rattle.rep_disk.specs.declared.faulty.Call.{Call as Calls};
 ghost use Rattle.rep_disk.specs.Fuses.{BurnsDown};
 
 use crate::faulty::{Call, Faults, FaultyDisk};

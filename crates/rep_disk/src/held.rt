@@ -1,6 +1,5 @@
 //! A disk whose writes somebody holds back.
 ghost use Rattle.std.specs.Prelude.{◌≡◌};
-ghost use Rattle.rep_disk.specs.declared.faulty.Call.{Call as Calls};
 ghost use Rattle.rep_disk.specs.Fuses.{HoldsBack};
 
 use crate::faulty::{Call, Faults, FaultyDisk};

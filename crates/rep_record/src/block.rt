@@ -1,7 +1,7 @@
 //! Blocks of records while they are gathered.
 
 ghost use Rattle.std.specs.Prelude.{◌≡◌, ◌≤◌, ◌==◌, ◌<◌, ◌^◌, ◌++◌, ◌∷◌, ◌↔◌, [], length, if◌then◌else◌, IsSome, IfSome};
-ghost use Rattle.rep_record.specs.Blocks.{has_room, is_next, first_seqno, run_bytes, IsBlock, block_bytes, filled_by};
+ghost use Rattle.rep_record.specs.Blocks.{has_room, first_seqno, run_bytes, IsBlock, block_bytes, filled_by};
 
 use crate::block_reader::Head;
 use crate::limits::{BLOCK, MAX_BLOCK, MAX_RECORDS};

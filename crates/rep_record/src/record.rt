@@ -7,14 +7,14 @@ ghost use Rattle.rep_types.specs.declared.item.Item.TheVariants.{WriteSet as OfW
 ghost use Rattle.rep_types.specs.Transactions.{IsWithinLimits};
 ghost use Rattle.rep_forms.specs.Keys.{KeyFits};
 ghost use Rattle.rep_forms.specs.Writes.{WriteFits};
-ghost use Rattle.rep_record.specs.Records.{IsSpelled, IsRecord, spelled, IsFront, RecordsAreTold, is_verdict_at, is_placed, conflict_seqno, verdict_bytes, label_bytes, list_bytes, body_bytes, record_bytes, label_fields, verdict_of, verdict_fields, list_fields, record_form};
+ghost use Rattle.rep_record.specs.Records.{IsSpelled, IsRecord, spelled, IsFront, RecordsAreTold, is_verdict_at, is_placed, conflict_seqno, verdict_bytes, label_bytes, list_bytes, record_bytes, label_fields, verdict_of, verdict_fields, list_fields, record_form};
 
 use crate::limits::MAX_RECORD;
 use crate::room::write_set_len;
 use arrayvec::ArrayVec;
 use rep_forms::{
-    Exact, Form, put_bytes, put_run, put_u8, put_u16, put_u64, read_front, read_run, read_u8,
-    read_u16, read_u64, spellings_are_told, strip_front,
+    Exact, Form, put_run, put_u8, put_u16, put_u64, read_front, read_run, read_u8, read_u16,
+    read_u64, spellings_are_told, strip_front,
 };
 use rep_types::{
     Item, Judged, Key, MAX_READS, MAX_SEQNO, MAX_WRITES, Refusal, Verdict, Write, WriteSet,
