@@ -12,7 +12,7 @@ pub(crate) const TABLES: u8 = 4;
 pub(crate) const MAX_KEYS: u32 = 16;
 
 /// What an order is drawn from.
-#[derive(Debug, Drop)]
+#[derive(Drop)]
 pub(crate) struct Shape {
     /// How many seqnos the window spans.
     pub(crate) window: u32,
@@ -35,7 +35,7 @@ impl Shape {
 }
 
 /// Draws numbers and items (a linear congruential generator, with the multiplier of Knuth's MMIX).
-#[derive(Debug, Drop)]
+#[derive(Clone, Copy)]
 pub(crate) struct Draws {
     state: u64,
 }

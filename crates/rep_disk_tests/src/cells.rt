@@ -1,10 +1,9 @@
-//! What a stop leaves of a cell on each step of its way, and each call once.
+//! What a stop or a fault leaves of a cell on each step of its way, and each call once.
 
 use rep_cells::Cells;
 use rep_disk::{Disk, DiskFault, FaultOnce, Loss, MemDisk, Once};
 use rep_layout::{LOG_BODY, Layout, PAGE_BODY, Place, Slot};
-use std::alloc::{AllocError, Global};
-use std::test::Fail;
+use std::alloc::Global;
 
 /// Four cells of the log and two pages: 103,424 bytes.
 const LAYOUT: Layout = Layout { cells: 4, pages: 2 };
@@ -28,14 +27,33 @@ enum Step {
 /// The way of a cell.
 const WAY: &[Step] = &[Step::Fill, Step::Sync, Step::Open, Step::Sync, Step::Close];
 
-/// What the cell reads as after a stop behind each of those steps: whether it is its body, with
-/// what is pending kept, dropped and torn.
-const LEFT: &[[bool; 3]] = &[
-    [false, false, false],
-    [false, false, false],
-    [true, false, false],
-    [true, true, true],
-    [false, true, false],
+/// What comes of steps: how many succeed, how often the device has failed, and whether the cell then reads as its body.
+type Gone = (usize, u64, Option<bool>);
+
+/// So many steps of the way, on a device that fails the call of this number; what comes of them; and whether the cell reads as its
+/// body after a stop with this loss.
+type Trial = (usize, u64, Gone, Loss, Option<bool>);
+
+const NO_FAULT: u64 = u64::MAX;
+
+// The way has five calls. Where the fourth fails, the fifth is never made.
+const TRIALS: &[Trial] = &[
+    (1, NO_FAULT, (1, 0, Some(false)), Loss::Keep, Some(false)),
+    (1, NO_FAULT, (1, 0, Some(false)), Loss::Drop, Some(false)),
+    (1, NO_FAULT, (1, 0, Some(false)), Loss::Junk, Some(false)),
+    (2, NO_FAULT, (2, 0, Some(false)), Loss::Keep, Some(false)),
+    (2, NO_FAULT, (2, 0, Some(false)), Loss::Drop, Some(false)),
+    (2, NO_FAULT, (2, 0, Some(false)), Loss::Junk, Some(false)),
+    (3, NO_FAULT, (3, 0, Some(true)), Loss::Keep, Some(true)),
+    (3, NO_FAULT, (3, 0, Some(true)), Loss::Drop, Some(false)),
+    (3, NO_FAULT, (3, 0, Some(true)), Loss::Junk, Some(false)),
+    (4, NO_FAULT, (4, 0, Some(true)), Loss::Keep, Some(true)),
+    (4, NO_FAULT, (4, 0, Some(true)), Loss::Drop, Some(true)),
+    (4, NO_FAULT, (4, 0, Some(true)), Loss::Junk, Some(true)),
+    (5, NO_FAULT, (5, 0, Some(false)), Loss::Keep, Some(false)),
+    (5, NO_FAULT, (5, 0, Some(false)), Loss::Drop, Some(true)),
+    (5, NO_FAULT, (5, 0, Some(false)), Loss::Junk, Some(false)),
+    (5, 3, (3, 1, Some(true)), Loss::Keep, Some(true)),
 ];
 
 /// A step, on a device that has the cell.
@@ -86,60 +104,59 @@ fn has_body<D: Disk>(cells: &mut Cells<D>) -> Option<bool> {
     }
 }
 
-/// The cells of a device that is large enough.
-fn cells_on<D: Disk + Drop>(disk: D) -> Result<Cells<D>, Fail> {
+/// The cells of a device, where it is large enough.
+fn cells_on<D: Disk + Drop>(disk: D) -> Option<Cells<D>> {
     match Cells::new(disk, LAYOUT) {
-        Ok(cells) => Ok(cells),
-        Err(_) => Err(Fail::new("too small")),
+        Ok(cells) => Some(cells),
+        Err(_) => None,
     }
 }
 
-/// The device behind so many steps of the way, and a stop.
-fn stopped(alloc: Global, steps: usize, loss: Loss) -> Result<MemDisk, Fail> {
-    let way = WAY.get(..steps).ok_or("no such step")?;
-    let mut cells = cells_on(MemDisk::new(alloc, SIZE)?)?;
-    if act_all(&mut cells, way) != steps {
-        return Err(Fail::new("a step failed"));
+/// A new device.
+fn new_disk(alloc: Global) -> Option<MemDisk> {
+    match MemDisk::new(alloc, SIZE) {
+        Ok(disk) => Some(disk),
+        Err(_) => None,
     }
-    let mut disk = cells.into_disk();
+}
+
+/// Makes so many steps of the way.
+fn gone(cells: &mut Cells<FaultOnce<MemDisk>>, steps: usize) -> Gone {
+    let count = act_all(cells, WAY.get(..steps).unwrap_or(&[]));
+    let failures = cells.disk().failures();
+    (count, failures, has_body(cells))
+}
+
+/// Whether the cell reads as its body, once what is pending is synced.
+fn has_synced_body(cells: &mut Cells<MemDisk>) -> Option<bool> {
+    if cells.sync().is_err() {
+        return None;
+    }
+    has_body(cells)
+}
+
+/// Whether the cell reads as its body on the device as the stop leaves it.
+fn left(mut disk: MemDisk, loss: Loss) -> Option<bool> {
     disk.crash(loss);
-    Ok(disk)
+    let mut cells = cells_on(disk)?;
+    has_synced_body(&mut cells)
 }
 
-/// Whether the cell reads as its body after a stop behind so many steps, and a sync.
-fn stop(alloc: Global, steps: usize, loss: Loss) -> Result<bool, Fail> {
-    let mut cells = cells_on(stopped(alloc, steps, loss)?)?;
-    cells.sync()?;
-    Ok(has_body(&mut cells).ok_or("another body, or a fault")?)
+/// What comes of so many steps on a new device that fails the call of this number, and of a stop behind them.
+fn tried(alloc: Global, steps: usize, fault: u64, loss: Loss) -> Option<(Gone, Option<bool>)> {
+    let disk = FaultOnce::new(new_disk(alloc)?, Once::after(fault));
+    let mut cells = cells_on(disk)?;
+    let gone = gone(&mut cells, steps);
+    Some((gone, left(cells.into_disk().into_inner(), loss)))
 }
 
 #[test]
-fn a_stop_leaves_a_cell_as_its_step_says(rt: HostRuntime) -> Result<(), Fail> {
-    for (steps, left) in (1..6usize).zip(LEFT) {
-        let found = [
-            stop(rt.alloc(), steps, Loss::Keep)?,
-            stop(rt.alloc(), steps, Loss::Drop)?,
-            stop(rt.alloc(), steps, Loss::Junk)?,
-        ];
-        assert_eq!(rt; (steps, found), (steps, *left));
+fn a_stop_or_a_fault_leaves_a_cell_as_its_step_says(rt: HostRuntime) {
+    for trial in TRIALS {
+        let (steps, fault, gone, loss, left) = *trial;
+        let found = tried(rt.alloc(), steps, fault, loss);
+        assert_eq!(rt; (steps, loss, found), (steps, loss, Some((gone, left))));
     }
-    Ok(())
-}
-
-/// Goes the way on a device that fails its fourth call: how many steps succeed, how often the device has failed, and
-/// whether the cell then reads as its body.
-fn go_with_a_fault(alloc: Global) -> Result<((usize, u64), Option<bool>), Fail> {
-    let mut cells = cells_on(FaultOnce::new(MemDisk::new(alloc, SIZE)?, Once::after(3)))?;
-    let found = (act_all(&mut cells, WAY), cells.disk().failures());
-    Ok((found, has_body(&mut cells)))
-}
-
-// The way has five calls; the fourth fails, and the fifth is never made.
-#[test]
-fn a_fault_is_answered_and_other_places_stay(rt: HostRuntime) -> Result<(), Fail> {
-    let found = go_with_a_fault(rt.alloc())?;
-    assert_eq!(rt; found, ((3, 1), Some(true)));
-    Ok(())
 }
 
 /// The last area of the layout, with which the device ends.
@@ -166,37 +183,43 @@ fn write_all(cells: &mut Cells<MemDisk>, byte: u8) -> bool {
 
 /// Writes the last area of blank cells: whether it reads as zeros before, whether it is written, whether it then reads as
 /// what was written, and the last byte of the device.
-fn write_last(alloc: Global) -> Result<(Option<bool>, bool, Option<bool>, Option<u8>), Fail> {
-    let mut cells = cells_on(MemDisk::new(alloc, SIZE)?)?;
-    let before = reads_as(&mut cells, 0);
-    let is_written = write_all(&mut cells, 7);
-    let after = reads_as(&mut cells, 7);
-    Ok((
+fn write_last(cells: &mut Cells<MemDisk>) -> (Option<bool>, bool, Option<bool>, Option<u8>) {
+    let before = reads_as(cells, 0);
+    let is_written = write_all(cells, 7);
+    let after = reads_as(cells, 7);
+    (
         before,
         is_written,
         after,
         cells.disk().bytes().last().copied(),
-    ))
+    )
+}
+
+/// The same of new cells.
+fn write_last_of_new(alloc: Global) -> Option<(Option<bool>, bool, Option<bool>, Option<u8>)> {
+    let mut cells = cells_on(new_disk(alloc)?)?;
+    Some(write_last(&mut cells))
 }
 
 #[test]
-fn areas_read_as_they_were_written(rt: HostRuntime) -> Result<(), Fail> {
-    let found = write_last(rt.alloc())?;
-    assert_eq!(rt; found, (Some(true), true, Some(true), Some(7)));
-    Ok(())
+fn areas_read_as_they_were_written(rt: HostRuntime) {
+    let found = write_last_of_new(rt.alloc());
+    assert_eq!(rt; found, Some((Some(true), true, Some(true), Some(7))));
 }
 
 /// The size of the device that comes back where cells are made on one of so many bytes; None where they are made.
-fn size_that_comes_back(alloc: Global, size: usize) -> Result<Option<usize>, AllocError> {
-    match Cells::new(MemDisk::new(alloc, size)?, LAYOUT) {
-        Ok(_) => Ok(None),
-        Err(disk) => Ok(Some(disk.size())),
+fn size_that_comes_back(alloc: Global, size: usize) -> Option<usize> {
+    match MemDisk::new(alloc, size) {
+        Ok(disk) => match Cells::new(disk, LAYOUT) {
+            Ok(_) => None,
+            Err(disk) => Some(disk.size()),
+        },
+        Err(_) => None,
     }
 }
 
 #[test]
-fn a_device_that_is_too_small_comes_back(rt: HostRuntime) -> Result<(), Fail> {
-    let size = size_that_comes_back(rt.alloc(), SIZE - 1)?;
+fn a_device_that_is_too_small_comes_back(rt: HostRuntime) {
+    let size = size_that_comes_back(rt.alloc(), SIZE - 1);
     assert_eq!(rt; size, Some(SIZE - 1));
-    Ok(())
 }

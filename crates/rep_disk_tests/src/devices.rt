@@ -17,8 +17,6 @@ enum Step {
     Sync,
 }
 
-const LOSSES: &[Loss] = &[Loss::Keep, Loss::Drop, Loss::Junk];
-
 /// Calls on the bytes `FOUND`, of which the one of the number `fault` fails, and what each loss
 /// leaves then.
 #[derive(Clone, Copy)]
@@ -105,56 +103,53 @@ fn ask<D: Disk>(disk: &mut D, step: Step) -> Result<(), DiskFault> {
     }
 }
 
-/// The device behind the calls of the case, and whether each of them failed that was to fail, and no other.
-fn asked(alloc: Global, case: Case) -> Result<(MemDisk, bool), Fail> {
-    let mut disk = FaultOnce::new(MemDisk::from_bytes(alloc, &FOUND)?, Once::after(case.fault));
+/// Makes the calls of the case, and says whether each of them failed that was to fail, and no other.
+fn asks(disk: &mut FaultOnce<MemDisk>, case: Case) -> bool {
     let mut right = true;
     let mut number = 0u64;
     for step in case.steps {
-        right = right && ask(&mut disk, *step).is_err() == (number == case.fault);
+        right = right && ask(disk, *step).is_err() == (number == case.fault);
         number = number.saturating_add(1);
     }
-    Ok((disk.into_inner(), right))
+    right
 }
 
 /// Whether a stop leaves these bytes, and all of them stable.
-fn leaves(disk: &mut MemDisk, loss: Loss, left: [u8; 4]) -> (bool, bool) {
+fn leaves(disk: &mut MemDisk, loss: Loss, left: [u8; 4]) -> bool {
     disk.crash(loss);
     let at_once = disk.bytes() == left.as_slice();
     disk.crash(Loss::Drop);
-    (at_once, disk.bytes() == left.as_slice())
+    at_once && disk.bytes() == left.as_slice()
 }
 
 /// Whether the calls of the case fail that are to fail, and whether a stop behind them leaves these bytes, and all of them
-/// stable.
-fn stopped(
-    alloc: Global,
-    case: Case,
-    loss: Loss,
-    left: [u8; 4],
-) -> Result<(bool, (bool, bool)), Fail> {
-    let (mut disk, right) = asked(alloc, case)?;
-    Ok((right, leaves(&mut disk, loss, left)))
+/// stable; None where there is no memory for the device.
+fn stopped(alloc: Global, case: Case, loss: Loss, left: [u8; 4]) -> Option<(bool, bool)> {
+    let Ok(disk) = MemDisk::from_bytes(alloc, &FOUND) else {
+        return None;
+    };
+    let mut disk = FaultOnce::new(disk, Once::after(case.fault));
+    let right = asks(&mut disk, case);
+    let mut disk = disk.into_inner();
+    Some((right, leaves(&mut disk, loss, left)))
 }
 
 /// Compares what each loss leaves behind the calls of the case.
-fn stop_each(rt: &(impl Abort + AllocGlobal), case: Case) -> Result<(), Fail> {
-    for (loss, left) in LOSSES.iter().zip(case.left) {
-        let found = stopped(rt.alloc(), case, *loss, left)?;
-        assert_eq!(rt;
-            (case.name, *loss, found),
-            (case.name, *loss, (true, (true, true)))
-        );
-    }
-    Ok(())
+fn stop_each(rt: &(impl Abort + AllocGlobal), case: Case) {
+    let [kept, dropped, torn] = case.left;
+    let found = [
+        stopped(rt.alloc(), case, Loss::Keep, kept),
+        stopped(rt.alloc(), case, Loss::Drop, dropped),
+        stopped(rt.alloc(), case, Loss::Junk, torn),
+    ];
+    assert_eq!(rt; (case.name, found), (case.name, [Some((true, true)); 3]));
 }
 
 #[test]
-fn a_stop_leaves_what_the_loss_says(rt: HostRuntime) -> Result<(), Fail> {
+fn a_stop_leaves_what_the_loss_says(rt: HostRuntime) {
     for case in CASES {
-        stop_each(&rt, *case)?;
+        stop_each(&rt, *case);
     }
-    Ok(())
 }
 
 /// Fills these bytes from the offset 2 on.
@@ -181,19 +176,21 @@ fn look_at(disk: &FuseDisk<MemDisk>, left: [u8; 4]) -> (u64, u64, bool) {
     )
 }
 
-/// Makes four calls on a device that passes so many of them: which of them succeed, and what was read; how often the
-/// device has failed, and the one inside it, and whether that reads as these bytes, as which it also comes back.
-fn fused(
-    alloc: Global,
-    calls: u64,
-    left: [u8; 4],
-) -> Result<(([bool; 4], [u8; 2]), (u64, u64, bool), bool), Fail> {
-    let mut disk = FuseDisk::new(MemDisk::new(alloc, 4)?, Fuse::after(calls));
+/// Which of four calls succeed, and what was read; how often the device has failed, and the one inside it, and whether that reads as
+/// some bytes, as which it also comes back.
+type Fused = (([bool; 4], [u8; 2]), (u64, u64, bool), bool);
+
+/// Makes four calls on a device that passes so many of them, and is to read as these bytes inside; None where there is no memory for it.
+fn fused(alloc: Global, calls: u64, left: [u8; 4]) -> Option<Fused> {
+    let Ok(disk) = MemDisk::new(alloc, 4) else {
+        return None;
+    };
+    let mut disk = FuseDisk::new(disk, Fuse::after(calls));
     let mut out = [5; 2];
     let answers = ask_four(&mut disk, &mut out);
     let inside = look_at(&disk, left);
     let comes_back = disk.into_inner().bytes() == left.as_slice();
-    Ok(((answers, out), inside, comes_back))
+    Some(((answers, out), inside, comes_back))
 }
 
 /// By the number of the calls that pass: which of four calls succeed, what was read, and what is left inside.
@@ -205,17 +202,13 @@ const FUSES: &[(u64, [bool; 4], [u8; 2], [u8; 4])] = &[
 ];
 
 #[test]
-fn a_fuse_passes_its_calls_and_no_more(rt: HostRuntime) -> Result<(), Fail> {
+fn a_fuse_passes_its_calls_and_no_more(rt: HostRuntime) {
     for (calls, succeed, read, left) in FUSES {
-        let (answers, inside, comes_back) = fused(rt.alloc(), *calls, *left)?;
-        assert_eq!(rt; (*calls, answers), (*calls, (*succeed, *read)));
+        let found = fused(rt.alloc(), *calls, *left);
         let failures = 4u64.saturating_sub(*calls);
-        assert_eq!(rt;
-            (*calls, inside, comes_back),
-            (*calls, (failures, 0, true), true)
-        );
+        let wanted = ((*succeed, *read), (failures, 0, true), true);
+        assert_eq!(rt; (*calls, found), (*calls, Some(wanted)));
     }
-    Ok(())
 }
 
 /// Writes a byte and syncs twice: which of these calls succeed.
@@ -227,20 +220,26 @@ fn ask_three<D: Disk>(disk: &mut D) -> [bool; 3] {
     ]
 }
 
-/// Makes three calls on a device of one byte that fails the second: which of them succeed, how often it has failed, its
-/// size, and whether it reads as this byte inside.
-fn fault_once(alloc: Global, byte: u8) -> Result<([bool; 3], u64, usize, bool), Fail> {
-    let mut disk = FaultOnce::new(MemDisk::new(alloc, 1)?, Once::after(1));
-    let answers = ask_three(&mut disk);
+/// Makes three calls on such a device: which of them succeed, how often it has failed, its size, and whether it reads as this byte
+/// inside.
+fn ask_faulty(disk: &mut FaultOnce<MemDisk>, byte: u8) -> ([bool; 3], u64, usize, bool) {
+    let answers = ask_three(disk);
     let is_byte = disk.inner().bytes() == [byte].as_slice();
-    Ok((answers, disk.failures(), disk.size(), is_byte))
+    (answers, disk.failures(), disk.size(), is_byte)
+}
+
+/// The same on a device of one byte that fails the second call; None where there is no memory for it.
+fn fault_once(alloc: Global, byte: u8) -> Option<([bool; 3], u64, usize, bool)> {
+    let Ok(disk) = MemDisk::new(alloc, 1) else {
+        return None;
+    };
+    Some(ask_faulty(&mut FaultOnce::new(disk, Once::after(1)), byte))
 }
 
 #[test]
-fn one_fault_comes_once(rt: HostRuntime) -> Result<(), Fail> {
-    let found = fault_once(rt.alloc(), 9)?;
-    assert_eq!(rt; found, ([true, false, true], 1, 1, true));
-    Ok(())
+fn one_fault_comes_once(rt: HostRuntime) {
+    let found = fault_once(rt.alloc(), 9);
+    assert_eq!(rt; found, Some(([true, false, true], 1, 1, true)));
 }
 
 /// A path for a file of this process.
@@ -278,21 +277,29 @@ fn read_file(rt: &HostRuntime, path: &str) -> Result<(usize, bool, [u8; 4]), Fai
     Ok((disk.size(), is_read, out))
 }
 
+/// Cuts the file to two bytes.
+fn cut_file(rt: &HostRuntime, path: &str) -> Result<(), Fail> {
+    OpenOptions::new().write(true).open(rt, path)?.set_len(2)?;
+    Ok(())
+}
+
+/// Reads two bytes and one: which of these are read, and how often the disk has failed.
+fn read_two_and_one<D: Disk>(disk: &mut D) -> ([bool; 2], u64) {
+    let answers = [read(disk, 1, &mut [5; 2]), read(disk, 1, &mut [5; 1])];
+    (answers, disk.failures())
+}
+
 /// Cuts the file to two bytes behind the disk's back, and reads two bytes and one: which of these are read, how often the
 /// disk has failed, and the length of the file.
-fn read_cut(rt: &HostRuntime, path: &str) -> Result<([bool; 2], u64, u64), Fail> {
+fn read_cut(rt: &HostRuntime, path: &str) -> Result<(([bool; 2], u64), u64), Fail> {
     let mut disk = FileDisk::open(rt, path)?;
-    OpenOptions::new().write(true).open(rt, path)?.set_len(2)?;
-    let answers = [
-        read(&mut disk, 1, &mut [5; 2]),
-        read(&mut disk, 1, &mut [5; 1]),
-    ];
-    let failures = disk.failures();
-    Ok((answers, failures, disk.into_file().metadata()?.len()))
+    cut_file(rt, path)?;
+    let found = read_two_and_one(&mut disk);
+    Ok((found, disk.into_file().metadata()?.len()))
 }
 
 /// What was written to a file, read from it, and read once it was cut.
-type Kept = ([bool; 3], (usize, bool, [u8; 4]), ([bool; 2], u64, u64));
+type Kept = ([bool; 3], (usize, bool, [u8; 4]), (([bool; 2], u64), u64));
 
 /// Makes a file at this path, writes to it, reads it, cuts it, reads it again, and removes it.
 fn keep_at(rt: &HostRuntime, path: &str) -> Result<Kept, Fail> {
@@ -311,9 +318,8 @@ fn keep(rt: &HostRuntime) -> Result<Kept, Fail> {
 
 #[test]
 fn a_file_keeps_what_was_written(rt: HostRuntime) -> Result<(), Fail> {
-    let (written, read, cut) = keep(&rt)?;
-    assert_eq!(rt; written, [true; 3]);
-    assert_eq!(rt; read, (4, true, [0, 7, 8, 0]));
-    assert_eq!(rt; cut, ([false, true], 1, 2));
+    let wanted = ([true; 3], (4, true, [0, 7, 8, 0]), (([false, true], 1), 2));
+    let kept = keep(&rt)?;
+    assert_eq!(rt; kept, wanted);
     Ok(())
 }

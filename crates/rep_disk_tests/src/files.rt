@@ -128,7 +128,9 @@ const ONE_SYNC: [Asked; 7] = [
 
 /// The number of the file's call that fails, which of a write, two syncs and a read then succeed, and
 /// what the file is asked for.
-const CASES: [(usize, [bool; 4], [Asked; 7]); 5] = [
+type Case = (usize, [bool; 4], [Asked; 7]);
+
+const CASES: [Case; 5] = [
     (NO_FAULT, [true, true, true, true], ALL),
     // A piece of the write is refused.
     (1, [false, true, true, true], ALL),
@@ -172,9 +174,11 @@ fn count_failed(answers: [bool; 4]) -> u64 {
 /// Which of the calls succeed, whether as many failures were counted as failed, and what the file was asked for.
 type Answer = ([bool; 4], bool, [Asked; 7]);
 
-/// Makes the calls on a file that fails its call of this number. Gives also the bytes that were read, and those of the
-/// file.
-fn ask_noted(fault: usize) -> Result<(Answer, ([u8; 4], [u8; SIZE])), Fail> {
+/// The bytes that were read, and those of the file.
+type Bytes = ([u8; 4], [u8; SIZE]);
+
+/// Makes the calls on a file that fails its call of this number.
+fn ask_noted(fault: usize) -> Result<(Answer, Bytes), Fail> {
     let mut disk = noted_disk(fault)?;
     let mut out = [5; 4];
     let answers = ask_four(&mut disk, &mut out);
@@ -184,16 +188,17 @@ fn ask_noted(fault: usize) -> Result<(Answer, ([u8; 4], [u8; SIZE])), Fail> {
     Ok(((answers, is_counted, file.asked.get()), (out, bytes)))
 }
 
-/// Compares what the file is asked for, and the bytes where no call fails: they are those that were written.
-fn is_asked(
-    rt: &impl Abort,
-    (fault, succeed, asked): (usize, [bool; 4], [Asked; 7]),
-) -> Result<(), Fail> {
+/// The bytes where no call fails: they are those that were written.
+const WRITTEN: Bytes = ([0, 7, 8, 9], [0, 0, 0, 7, 8, 9, 0, 0]);
+
+/// Compares what the file is asked for, and the bytes where no call fails.
+fn is_asked(rt: &impl Abort, (fault, succeed, asked): Case) -> Result<(), Fail> {
     let (found, bytes) = ask_noted(fault)?;
-    assert_eq!(rt; (fault, found), (fault, (succeed, true, asked)));
-    if fault == NO_FAULT {
-        assert_eq!(rt; bytes, ([0, 7, 8, 9], [0, 0, 0, 7, 8, 9, 0, 0]));
-    }
+    let is_written = fault != NO_FAULT || bytes == WRITTEN;
+    assert_eq!(rt;
+        (fault, found, is_written),
+        (fault, (succeed, true, asked), true)
+    );
     Ok(())
 }
 

@@ -1,11 +1,12 @@
 -- The steps of a checkpoint, of an engine that stands for a node.
 use Rattle.std.proofs.Common.{◌≡◌, ◌≢◌, ◌⊎◌, inl, inr, IfSome, ℕ, ◌+◌, ◌-◌, ◌<◌, true, false, List, [], ◌∷◌, length, take, Option, None, Some, Result, Ok, Err, refl, sym, ap, subst, ◌∙◌, arith}
-use Rattle.std.specs.Prelude.{is_some, nat_le, if◌then◌else◌, not}
+use Rattle.std.specs.Prelude.{is_some, nat_le, if◌then◌else◌, not, IfErr}
+use Rattle.std.specs.Result.{result_and}
 use Rattle.std.proofs.lemmas.Bool.Decides.{nat_tests}
 use Rattle.std.proofs.lemmas.List.{take_all, length-take-le}
 use Rattle.rep_types.specs.declared.judged.Judged.{Judged}
 use Rattle.rep_types.specs.declared.refusal.Refusal.{Refusal}
-use Rattle.rep_types.specs.declared.refusal.Refusal.TheVariants.{OutOfMemory, DiskFault, NotDue}
+use Rattle.rep_types.specs.declared.refusal.Refusal.TheVariants.{OutOfMemory, DiskFault, NotDue, Stopped}
 use Rattle.rep_types.specs.declared.verdict.Verdict.TheVariants.{Commit}
 use Rattle.rep_types.specs.Entries.{Entry}
 use Rattle.rep_types.specs.Windows.{Window as WindowOf, fixed}
@@ -14,11 +15,12 @@ use Rattle.rep_types.specs.Order.{State}
 use Rattle.rep_disk.specs.History.{History, stable, IsImage}
 use Rattle.rep_disk.specs.Calls.{IsCall, Rises}
 use Rattle.rep_disk.specs.Moments.{LeavesOnly}
-use Rattle.rep_disk.specs.Leaving.{leaves_weaker}
+use Rattle.rep_disk.specs.Leaving.{leaves_none, leaves_weaker}
 use Rattle.rep_layout.specs.declared.place.Layout.{Layout}
 use Rattle.rep_layout.specs.Places.{layout_of}
 use Rattle.rep_cert.specs.Holdings.{Holding, window_of}
 use Rattle.rep_cells.specs.Known.{Assigns}
+use Rattle.rep_log.specs.declared.phase.Phase.{Phase}
 use Rattle.rep_log.specs.Standing.{Standing as Log}
 use Rattle.rep_log.specs.Tail.{records_of}
 use Rattle.rep_log.specs.Moves.{fault_of}
@@ -34,21 +36,24 @@ use Rattle.rep_image.specs.Meanings.{Means}
 use Rattle.rep_versions.specs.Versions.{ArePages}
 use Rattle.rep_checkpoint.specs.declared.stage.Part.{Part}
 use Rattle.rep_checkpoint.specs.declared.stage.Part.TheVariants.{Flushing, Saving, Ready, SuperFilling, SuperFilled, SuperOpening}
-use Rattle.rep_checkpoint.specs.declared.stage.Step.TheVariants.{Begin, Next as GoOn}
+use Rattle.rep_checkpoint.specs.declared.stage.Step.{Step}
+use Rattle.rep_checkpoint.specs.declared.stage.Step.TheVariants.{Begin, Next as GoOn, Flush, Sync as AwaitsSync}
 use Rattle.rep_checkpoint.specs.declared.stage.Stage.{Stage}
 use Rattle.rep_checkpoint.specs.declared.stage.Stage.TheVariants.{Off, Toward, Retiring}
 use Rattle.rep_checkpoint.specs.Next.{Next}
 use Rattle.rep_checkpoint.specs.Standing.{Standing as Checkpoint, stage_in, stage_of, due_in, flush_due, IsCheckpoint}
 use Rattle.rep_checkpoint.specs.Moves.{begun, next_of, gone_in, gone_on, is_layout, unless_other, next_refusal, next_refusal_at, CanBegin}
 use Rattle.rep_checkpoint.specs.Windows.{IsWindowAt, WindowsGoOn}
-use Rattle.rep_checkpoint.specs.Calls.{Begins, IsRefused, GoesOn, AreAt, AreBehind, Steps as CheckpointSteps}
+use Rattle.rep_checkpoint.specs.Calls.{Begins as BeginsAt, IsRefused, GoesOn, AreAt, AreBehind, Steps as CheckpointSteps}
 use Rattle.rep_checkpoint.specs.Laws.{TheStageIsTheFacts, TheCheckpointIsApart}
 use Rattle.rep_checkpoint.specs.Nodes.{IsLedTo, StandsAs, LeadsTo, VersionsLeadToTheState, NodesLeaveTheirFronts}
 use Rattle.rep_engine.specs.Engines.{Engine, IsEngine, HasItemsBehind, facts_of, durable_of}
 use Rattle.rep_engine.specs.Holding.{Stands, Holds, wrote}
 use Rattle.rep_engine.specs.Reading.{halted_by}
-use Rattle.rep_engine.specs.Checking.{HasBegun}
-use Rattle.rep_engine.proofs.Steps.{done_moves, fault_moves, refused_steps, hungry_steps, done_steps, fault_steps, halted_node}
+use Rattle.rep_engine.specs.Checking.{Begins, HasBegun, HoldsWindow, WentOn, checked}
+use Rattle.rep_engine.proofs.Steps.{done_moves, fault_moves, refused_moves, stopped_moves, hungry_moves, stopped_steps, refused_steps, hungry_steps, done_steps, fault_steps, halted_node}
+use Rattle.rep_engine.proofs.Asking.{none_asked}
+use Rattle.rep_engine.proofs.Refusing.{stays_stopped}
 use Rattle.rep_engine.proofs.Going.{with_stage, stage_or_same}
 use Rattle.rep_engine.proofs.Logs.{rises_by}
 use Rattle.rep_engine.proofs.Standing.{places, long, same_front, fronts_of, nil_bytes, stands_at_stage}
@@ -62,7 +67,7 @@ next_in none (Retiring written) = none
 -- ---- a checkpoint begins
 
 -- what is so of an engine stays so
-pub engine_begun : (l : Layout) (c : Checkpoint) (log : Log) (kept : _) (block : List Judged) (position : ℕ) (entries : _) (left : List ℕ) → IsEngine l c log kept block → IsCheckpoint (begun c position log.next entries left) → position ≡ durable_of log → c.base.position < position
+engine_begun : (l : Layout) (c : Checkpoint) (log : Log) (kept : _) (block : List Judged) (position : ℕ) (entries : _) (left : List ℕ) → IsEngine l c log kept block → IsCheckpoint (begun c position log.next entries left) → position ≡ durable_of log → c.base.position < position
     → IsEngine l (begun c position log.next entries left) log kept block
 engine_begun l c log kept block position entries left h is at later =
     with_stage l c log kept block h (Toward (next_of c.base position log.next entries left) Flushing) is (record { above = later; within = omega (arith, at); started = h.begun; begun = omega arith }) (omega (arith, at, h.behind))
@@ -78,6 +83,32 @@ can_begin law l c log kept block v h off later below window = record {
   defined = λ nil. let none = h.undefined (nil_bytes c.base.uuid nil) in omega (arith, none.0, later);
   is_window = law.body c.base.params (c.base.number + 1) (durable_of log) v (omega (arith, h.checkpoint.is_super.number, h.checkpoint.is_super.position)) (omega (arith, h.limit)) window;
 }
+
+-- whatever it comes to
+pub engine_tried : (h : Holding) (l : Layout) (c d : Checkpoint) (log : Log) (kept : _) (block : List Judged) (result : Result (Option ℕ) Refusal) → IsEngine l c log kept block → IsCheckpoint d → Begins h log kept c d result → IsEngine l d log kept block
+engine_tried h l c d log kept block (Ok answer) is there b =
+    subst (λ (k : Checkpoint). IsEngine l k log kept block) (sym b.begun.checkpoint) (engine_begun l c log kept block (durable_of log) (window_of h (durable_of log)).entries b.begun.left is (subst IsCheckpoint b.begun.checkpoint there) refl b.begun.later)
+engine_tried h l c d log kept block (Err e) is there b = subst (λ (k : Checkpoint). IsEngine l k log kept block) (sym b.refused.0) is
+
+pub base_tried : (h : Holding) (c d : Checkpoint) (log : Log) (kept : _) (result : Result (Option ℕ) Refusal) → Begins h log kept c d result → d.base ≡ c.base
+base_tried h c d log kept (Ok answer) b = ap (λ (k : Checkpoint). k.base) b.begun.checkpoint
+base_tried h c d log kept (Err e) b = ap (λ (k : Checkpoint). k.base) b.refused.0
+
+-- and what began, where the caller has the position, the start and the entries
+pub begun_so : (h : Holding) (log : Log) (kept : _) (c d : Checkpoint) (position start : ℕ) (entries : List Entry) → position ≡ durable_of log → start ≡ log.next → entries ≡ (window_of h position).entries → c.base.position < position
+    → (left : List ℕ) × ArePages kept c.base.params.rows c.base.position position left × (d ≡ begun c position start entries left) × BeginsAt kept c d (next_of c.base position start entries left) → HasBegun h log kept c d (Some position)
+begun_so h log kept c d position start entries at on same later done =
+    let left : List ℕ = done.0 in
+    let there : entries ≡ (window_of h (durable_of log)).entries = same ∙ ap (λ i. (window_of h i).entries) at in
+    record {
+      says = ap Some at;
+      later = omega (arith, later, at);
+      left = left;
+      pages = subst (λ i. ArePages kept c.base.params.rows c.base.position i left) at done.1;
+      checkpoint = done.2 ∙ ap (λ i. begun c i start entries left) at ∙ ap (λ i. begun c (durable_of log) i entries left) on ∙ ap (λ (es : List Entry). begun c (durable_of log) log.next es left) there;
+      begins = subst (λ (es : List Entry). BeginsAt kept c d (next_of c.base (durable_of log) log.next es left)) there
+          (subst (λ i. BeginsAt kept c d (next_of c.base (durable_of log) i entries left)) on (subst (λ i. BeginsAt kept c d (next_of c.base i start entries left)) at done.3));
+    }
 
 module _ {D : Type 0} (failures : D → ℕ) (old : Engine D) (entries : List Entry) (left : List ℕ) (runs : old.halted ≡ None) (off : old.checkpoint.stage ≡ Off) (later : old.checkpoint.base.position < durable_of old.log) where
   abbrev next : Next
@@ -104,14 +135,14 @@ module _ {D : Type 0} (failures : D → ℕ) (old : Engine D) (entries : List En
   facts_begun f same = ap (λ (ls : List ℕ). record s { stage = checked_at s ls is_off }) (sym same) ∙ ap (λ (stage : StageOf). record s { stage = checked_at s f.left stage }) (sym at_rest)
 
   -- on any device
-  pub begun_moves : Moves s Check (Began (durable_of old.log)) (facts_of failures new)
+  begun_moves : Moves s Check (Began (durable_of old.log)) (facts_of failures new)
   begun_moves =
       let f : Found = record { verdict = Commit; stale = false; left = left; row = None } in
       subst (λ (a : Answer). Moves s Check a (facts_of failures new)) (ap (check_answer s) at_rest) (done_moves s Check f (facts_of failures new) (ap is_some runs) not_refused (facts_begun f refl))
 
   -- at a node
   module _ (honest : D → Type 0) (history : D → History) (nodes : NodesStayNodes) (lead : VersionsLeadToTheState) (goes : JudgingGoesOn) (n : Node) (holds : Holds honest history failures n old) (window : fixed old.checkpoint.base.params.window (durable_of old.log) entries ≡ window_at n n.facts.durable)
-      (pages : ArePages old.kept old.checkpoint.base.params.rows old.checkpoint.base.position (durable_of old.log) left) (begins : Begins old.kept old.checkpoint d next) where
+      (pages : ArePages old.kept old.checkpoint.base.params.rows old.checkpoint.base.position (durable_of old.log) left) (begins : BeginsAt old.kept old.checkpoint d next) where
     there : Stands history n old
     there = holds.runs runs
 
@@ -175,7 +206,7 @@ module _ {D : Type 0} (failures : D → ℕ) (old : Engine D) (entries : List En
         (subst (λ (p : Setting). AreAt p.rows old.kept (durable_of old.log) n.base.content goal.content) there.stands.setting (subst (λ i. AreAt n.facts.setting.rows old.kept i n.base.content goal.content) at leads.rows)))
         (λ other part e. subst (λ (k : Next). IsLedTo n old.log there.blocks k.super goal) (ap (next_in next) e) led) there.stands.log_is
 
-    pub begun_holds : (m : Node) × Steps n Check (Began (durable_of old.log)) m × Holds honest history failures m new
+    begun_holds : (m : Node) × Steps n Check (Began (durable_of old.log)) m × Holds honest history failures m new
     begun_holds = (
       moved n Check,
       steps,
@@ -275,7 +306,7 @@ pub here : (l : Layout) (c : Checkpoint) (o : Option Refusal) → l ≡ layout_o
 here l c o same = ap (λ b. if b then o else Some NotDue) (ap (is_layout l) (sym same) ∙ own_layout l)
 
 -- What a checkpoint that goes on did, on any device.
-pub record IsGone {D : Type 0} (honest : D → Type 0) (history : D → History) (size failures : D → ℕ) (old new : Engine D) (result : Result (Unit {0}) Refusal) : Type 0 where
+record IsGone {D : Type 0} (honest : D → Type 0) (history : D → History) (size failures : D → ℕ) (old new : Engine D) (result : Result (Unit {0}) Refusal) : Type 0 where
   pub engine : IsEngine old.layout old.checkpoint old.log old.kept old.block
   pub runs : old.halted ≡ None
   pub due : GoOn ≡ due_in old.checkpoint.stage
@@ -284,18 +315,19 @@ pub record IsGone {D : Type 0} (honest : D → Type 0) (history : D → History)
   pub halted : new.halted ≡ halted_by old.log.phase result
   pub goes : next_refusal old.layout old.checkpoint ≡ None → GoesOn honest history old.layout old.checkpoint new.checkpoint old.disk new.disk result
 
-pub gone : {D : Type 0} {honest : D → Type 0} {history : D → History} {size failures : D → ℕ} {within old new : Engine D} {result : Result (Unit {0}) Refusal} → within ≡ old → IsEngine within.layout within.checkpoint within.log within.kept within.block → old.halted ≡ None
-    → GoOn ≡ due_in within.checkpoint.stage → new ≡ record old { disk = new.disk; checkpoint = new.checkpoint; halted = new.halted } → IsCall size failures honest old.disk new.disk (fault_of result) → new.halted ≡ halted_by old.log.phase result
-    → (next_refusal old.layout old.checkpoint ≡ None → GoesOn honest history old.layout old.checkpoint new.checkpoint old.disk new.disk result) → IsGone honest history size failures old new result
-gone {D} is engine runs due rest call halted goes = record {
-  engine = subst (λ (e : Engine D). IsEngine e.layout e.checkpoint e.log e.kept e.block) is engine;
-  runs = runs;
-  due = subst (λ (e : Engine D). GoOn ≡ due_in e.checkpoint.stage) is due;
-  rest = rest;
-  call = call;
-  halted = halted;
-  goes = goes;
-}
+gone : {D : Type 0} {honest : D → Type 0} {history : D → History} {size failures : D → ℕ} {within old new : Engine D} {result : Result (Unit {0}) Refusal} → within ≡ old → IsEngine within.layout within.checkpoint within.log within.kept within.block → old.halted ≡ None
+    → GoOn ≡ due_in within.checkpoint.stage → WentOn size failures honest history old new result → IsGone honest history size failures old new result
+gone {D} {old} {new} {result} is engine runs due w =
+    let still : new.halted ≡ halted_by old.log.phase result = ap (λ (e : Engine D). e.halted) w.rest in
+    record {
+      engine = subst (λ (e : Engine D). IsEngine e.layout e.checkpoint e.log e.kept e.block) is engine;
+      runs = runs;
+      due = subst (λ (e : Engine D). GoOn ≡ due_in e.checkpoint.stage) is due;
+      rest = w.rest ∙ ap (λ (o : Option Phase). record old { disk = new.disk; checkpoint = new.checkpoint; halted = o }) (sym still);
+      call = w.call;
+      halted = still;
+      goes = w.goes;
+    }
 
 module _ {D : Type 0} (honest : D → Type 0) (history : D → History) (size failures : D → ℕ) (sized : (disk : D) → honest disk → length (stable (history disk)) ≡ size disk) (laws : TheStageIsTheFacts)
     (old new : Engine D) (result : Result (Unit {0}) Refusal) (w : IsGone honest history size failures old new result) where
@@ -311,7 +343,7 @@ module _ {D : Type 0} (honest : D → Type 0) (history : D → History) (size fa
   under : c.stage ≢ Off
   under = (next_due c.stage w.due).0
 
-  pub goes : GoesOn honest history old.layout c new.checkpoint old.disk new.disk result
+  goes : GoesOn honest history old.layout c new.checkpoint old.disk new.disk result
   goes = w.goes (here old.layout c (next_refusal_at (stage_of c)) w.engine.layout ∙ (next_due c.stage w.due).1)
 
   check_none : refusal_here was Check ≡ None
@@ -371,7 +403,7 @@ module _ {D : Type 0} (honest : D → Type 0) (history : D → History) (size fa
     images_gone : (image : List ℕ) → IsImage (history new.disk) image → IsFrontAt Means m image
     images_gone = fronts_of law m (history new.disk) (long history old) (gone_on c) old.log there_on.blocks there_on.sealed moving.states (nodes n m Check Wrote holds.node steps_gone) stands_gone long_stays moving.reaches.images
 
-    pub gone_leaves : LeavesOnly (history old.disk) (history new.disk) (IsFrontAt Means n)
+    gone_leaves : LeavesOnly (history old.disk) (history new.disk) (IsFrontAt Means n)
     gone_leaves = leaves_weaker (history old.disk) (history new.disk) (λ image here. same_front m n image refl refl refl refl refl (images_gone image here)) moving.reaches.moments
 
     gone_holds : Assigns (places old) (history new.disk) moving.states → new.checkpoint ≡ gone_on c → failures new.disk ≡ failures old.disk → new.halted ≡ None → (m : Node) × Steps n Check Wrote m × Holds honest history failures m to
@@ -409,7 +441,7 @@ module _ {D : Type 0} (honest : D → Type 0) (history : D → History) (size fa
     )
 
 -- what it answers and where it leads, by how it came out
-pub check_moves : {D : Type 0} (honest : D → Type 0) (history : D → History) (size failures : D → ℕ) (sized : (disk : D) → honest disk → length (stable (history disk)) ≡ size disk) (laws : TheStageIsTheFacts) (old new : Engine D) (result : Result (Unit {0}) Refusal)
+check_moves : {D : Type 0} (honest : D → Type 0) (history : D → History) (size failures : D → ℕ) (sized : (disk : D) → honest disk → length (stable (history disk)) ≡ size disk) (laws : TheStageIsTheFacts) (old new : Engine D) (result : Result (Unit {0}) Refusal)
     → IsGone honest history size failures old new result → Moves (facts_of failures old) Check (wrote result) (facts_of failures new)
 check_moves honest history size failures sized laws old new (Ok x) w =
     subst (λ e. Moves (facts_of failures old) Check Wrote (facts_of failures e)) (sym w.rest)
@@ -420,7 +452,7 @@ check_moves honest history size failures sized laws old new (Err e) w =
     (subst (λ e. Moves (facts_of failures old) Check (Refused DiskFault) (facts_of failures e)) (sym w.rest)
     (gone_fault honest history size failures sized laws old new (Err e) w fault.1 (rises_by (Unit {0}) e fault.0 w.call) (w.halted ∙ ap (λ (r : Refusal). halted_by {T = Unit {0}} old.log.phase (Err r)) fault.0)))
 
-pub check_holds : {D : Type 0} (honest : D → Type 0) (history : D → History) (size failures : D → ℕ) (sized : (disk : D) → honest disk → length (stable (history disk)) ≡ size disk) (laws : TheStageIsTheFacts) (old new : Engine D) (result : Result (Unit {0}) Refusal)
+check_holds : {D : Type 0} (honest : D → Type 0) (history : D → History) (size failures : D → ℕ) (sized : (disk : D) → honest disk → length (stable (history disk)) ≡ size disk) (laws : TheStageIsTheFacts) (old new : Engine D) (result : Result (Unit {0}) Refusal)
     → IsGone honest history size failures old new result → (n : Node) → Holds honest history failures n old → NodesStayNodes → NodesLeaveTheirFronts → TheCheckpointIsApart → (m : Node) × Steps n Check (wrote result) m × Holds honest history failures m new
 check_holds honest history size failures sized laws old new (Ok x) w n holds nodes law apart =
     let on = moving honest history size failures sized laws old new (Ok x) w n holds nodes law apart in
@@ -434,43 +466,29 @@ check_holds honest history size failures sized laws old new (Err e) w n holds no
 
 -- ---- how a beginning comes out
 
-module _ {D : Type 0} (failures : D → ℕ) (old after_it : Engine D) (h : Holding) (position : ℕ) (runs : old.halted ≡ None) (off : old.checkpoint.stage ≡ Off) (rest : after_it ≡ record old { checkpoint = after_it.checkpoint })
-    (b : HasBegun h old after_it position) where
-  abbrev at_durable : ℕ
-  at_durable = durable_of old.log
-
-  abbrev window_there : WindowOf
-  window_there = window_of h at_durable
-
+module _ {D : Type 0} (failures : D → ℕ) (old after_it : Engine D) (h : Holding) (answer : Option ℕ) (runs : old.halted ≡ None) (off : old.checkpoint.stage ≡ Off) (rest : after_it ≡ record old { checkpoint = after_it.checkpoint })
+    (b : HasBegun h old.log old.kept old.checkpoint after_it.checkpoint answer) where
   abbrev entries_there : List Entry
-  entries_there = window_there.entries
+  entries_there = (window_of h (durable_of old.log)).entries
 
-  above : old.checkpoint.base.position < at_durable
-  above = omega (arith, b.later, b.position_is)
+  becomes : after_it ≡ record old { checkpoint = begun old.checkpoint (durable_of old.log) old.log.next entries_there b.left }
+  becomes = rest ∙ ap (λ (k : Checkpoint). record old { checkpoint = k }) b.checkpoint
 
-  begun_is : after_it.checkpoint ≡ begun old.checkpoint at_durable old.log.next entries_there b.left
-  begun_is = b.checkpoint ∙ ap (λ i. begun old.checkpoint i old.log.next (window_of h i).entries b.left) b.position_is
-
-  becomes : after_it ≡ record old { checkpoint = begun old.checkpoint at_durable old.log.next entries_there b.left }
-  becomes = rest ∙ ap (λ (k : Checkpoint). record old { checkpoint = k }) begun_is
-
-  pub began_moves : Moves (facts_of failures old) Check (Began position) (facts_of failures after_it)
+  began_moves : Moves (facts_of failures old) Check (checked (Ok answer)) (facts_of failures after_it)
   began_moves =
-      subst (λ (e : Engine D). Moves (facts_of failures old) Check (Began position) (facts_of failures e)) (sym becomes)
-      (subst (λ i. Moves (facts_of failures old) Check (Began i) (facts_of failures (record old { checkpoint = begun old.checkpoint at_durable old.log.next entries_there b.left }))) (sym b.position_is) (begun_moves failures old entries_there b.left runs off above))
+      subst (λ (e : Engine D). Moves (facts_of failures old) Check (checked (Ok answer)) (facts_of failures e)) (sym becomes)
+      (subst (λ (o : Option ℕ). Moves (facts_of failures old) Check (checked (Ok o)) (facts_of failures (record old { checkpoint = begun old.checkpoint (durable_of old.log) old.log.next entries_there b.left }))) (sym b.says) (begun_moves failures old entries_there b.left runs off b.later))
 
-  pub began_holds : (honest : D → Type 0) (history : D → History) → NodesStayNodes → VersionsLeadToTheState → JudgingGoesOn → (n : Node) → Holds honest history failures n old → window_there ≡ fixed old.checkpoint.base.params.window at_durable entries_there → window_there ≡ window_at n n.facts.durable
-      → (m : Node) × Steps n Check (Began position) m × Holds honest history failures m after_it
+  began_holds : (honest : D → Type 0) (history : D → History) → NodesStayNodes → VersionsLeadToTheState → JudgingGoesOn → (n : Node) → Holds honest history failures n old → window_of h (durable_of old.log) ≡ fixed old.checkpoint.base.params.window (durable_of old.log) entries_there
+      → window_of h (durable_of old.log) ≡ window_at n n.facts.durable → (m : Node) × Steps n Check (checked (Ok answer)) m × Holds honest history failures m after_it
   began_holds honest history nodes lead goes n holds is_fixed window =
-      let pages : ArePages old.kept old.checkpoint.base.params.rows old.checkpoint.base.position at_durable b.left = subst (λ i. ArePages old.kept old.checkpoint.base.params.rows old.checkpoint.base.position i b.left) b.position_is b.pages in
-      let begins : Begins old.kept old.checkpoint (begun old.checkpoint at_durable old.log.next entries_there b.left) (next_of old.checkpoint.base at_durable old.log.next entries_there b.left) =
-      subst (λ i. Begins old.kept old.checkpoint (begun old.checkpoint i old.log.next (window_of h i).entries b.left) (next_of old.checkpoint.base i old.log.next (window_of h i).entries b.left)) b.position_is
-      (subst (λ (k : Checkpoint). Begins old.kept old.checkpoint k (next_of old.checkpoint.base position old.log.next (window_of h position).entries b.left)) b.checkpoint b.begins) in
-      let came = begun_holds failures old entries_there b.left runs off above honest history nodes lead goes n holds (sym is_fixed ∙ window) pages begins in
-      (came.0, subst (λ i. Steps n Check (Began i) came.0) (sym b.position_is) came.1, subst (λ (e : Engine D). Holds honest history failures came.0 e) (sym becomes) came.2)
+      let begins : BeginsAt old.kept old.checkpoint (begun old.checkpoint (durable_of old.log) old.log.next entries_there b.left) (next_of old.checkpoint.base (durable_of old.log) old.log.next entries_there b.left) =
+      subst (λ (k : Checkpoint). BeginsAt old.kept old.checkpoint k (next_of old.checkpoint.base (durable_of old.log) old.log.next entries_there b.left)) b.checkpoint b.begins in
+      let came = begun_holds failures old entries_there b.left runs off b.later honest history nodes lead goes n holds (sym is_fixed ∙ window) b.pages begins in
+      (came.0, subst (λ (o : Option ℕ). Steps n Check (checked (Ok o)) came.0) (sym b.says) came.1, subst (λ (e : Engine D). Holds honest history failures came.0 e) (sym becomes) came.2)
 
 -- where it is refused
-pub begin_refused : {D : Type 0} (honest : D → Type 0) (history : D → History) (failures : D → ℕ) (old : Engine D) (n : Node) → Holds honest history failures n old → old.halted ≡ None → old.checkpoint.stage ≡ Off → (r : Refusal)
+begin_refused : {D : Type 0} (honest : D → Type 0) (history : D → History) (failures : D → ℕ) (old : Engine D) (n : Node) → Holds honest history failures n old → old.halted ≡ None → old.checkpoint.stage ≡ Off → (r : Refusal)
     → ((r ≡ NotDue) × (nat_le (durable_of old.log) old.checkpoint.base.position ≡ true)) ⊎ ((r ≡ OutOfMemory) × (nat_le (durable_of old.log) old.checkpoint.base.position ≡ false)) → Steps n Check (Refused r) n
 begin_refused honest history failures old n holds runs off r why =
     let stopped_not : n.facts.stopped ≡ false = ap (λ (t : Standing). t.stopped) holds.facts ∙ ap is_some runs in
@@ -498,9 +516,104 @@ waiting (Toward to SuperOpening) not_begin not_next = ((λ off. absurd cc), refl
 waiting (Retiring false) not_begin not_next = absurd (not_next refl)
 waiting (Retiring true) not_begin not_next = ((λ off. absurd cc), refl)
 
-pub waits_steps : {D : Type 0} (honest : D → Type 0) (history : D → History) (failures : D → ℕ) (laws : TheStageIsTheFacts) (old : Engine D) (n : Node) → Holds honest history failures n old → old.halted ≡ None
+waits_steps : {D : Type 0} (honest : D → Type 0) (history : D → History) (failures : D → ℕ) (laws : TheStageIsTheFacts) (old : Engine D) (n : Node) → Holds honest history failures n old → old.halted ≡ None
     → ((due_in old.checkpoint.stage ≡ Begin) → ⊥) → ((due_in old.checkpoint.stage ≡ GoOn) → ⊥) → Steps n Check (Refused NotDue) n
 waits_steps honest history failures laws old n holds runs not_begin not_next =
     let due = waiting old.checkpoint.stage not_begin not_next in
     refused_steps n Check NotDue (ap (λ (t : Standing). t.stopped) holds.facts ∙ ap is_some runs)
     (ap (λ (t : Standing). refusal_here t Check) holds.facts ∙ sym (laws.refused (facts_of failures old) old.checkpoint due.0) ∙ due.1)
+
+-- ---- what a check comes to, as its caller reads it
+
+pub record IsChecked {D : Type 0} (honest : D → Type 0) (history : D → History) (size failures : D → ℕ) (h : Holding) (old new : Engine D) (result : Result (Option ℕ) Refusal) : Type 0 where
+  pub call : IsCall size failures honest old.disk new.disk (fault_of result)
+  pub rest : new ≡ record old { disk = new.disk; checkpoint = new.checkpoint; halted = new.halted }
+  pub params : new.checkpoint.base.params ≡ old.checkpoint.base.params
+  pub unchanged : IfErr result (λ e. (e ≡ DiskFault) ⊎ (new ≡ old))
+  pub fault : IfErr result (λ e. e ≡ DiskFault → new ≡ record old { disk = new.disk; halted = Some old.log.phase })
+  pub moves : Moves (facts_of failures old) Check (checked result) (facts_of failures new)
+  pub steps : (n : Node) → Holds honest history failures n old → window_of h (durable_of old.log) ≡ window_at n n.facts.durable → (m : Node) × Steps n Check (checked result) m × Holds honest history failures m new
+  pub leaves : (n : Node) → Holds honest history failures n old → LeavesOnly (history old.disk) (history new.disk) (IsFrontAt Means n)
+
+module _ {D : Type 0} (honest : D → Type 0) (history : D → History) (size failures : D → ℕ) (h : Holding) where
+  -- refused, with nothing done
+  stays : (old : Engine D) (r : Refusal) → fault_of {T = Option ℕ} (Err r) ≡ Ok tt → r ≢ DiskFault → Moves (facts_of failures old) Check (Refused r) (facts_of failures old) → ((n : Node) → Holds honest history failures n old → Steps n Check (Refused r) n) → IsChecked honest history size failures h old old (Err r)
+  stays old r quiet other moves steps = record {
+    call = subst (IsCall size failures honest old.disk old.disk) (sym quiet) (none_asked size failures honest old.disk);
+    rest = refl;
+    params = refl;
+    unchanged = inr refl;
+    fault = λ e. absurd (other e);
+    moves = moves;
+    steps = λ n holds window. (n, steps n holds, holds);
+    leaves = λ n holds. leaves_none _ _ refl;
+  }
+
+  -- where the device has failed before
+  pub stopped_checked : (old : Engine D) → is_some old.halted ≡ true → IsChecked honest history size failures h old old (Err Stopped)
+  stopped_checked old stopped = stays old Stopped refl (λ e. absurd cc) (stopped_moves (facts_of failures old) Check stopped) (λ n holds. stopped_steps n Check (ap (λ (t : Standing). t.stopped) holds.facts ∙ stopped))
+
+  -- where it waits
+  pub waits_checked : TheStageIsTheFacts → (old : Engine D) → old.halted ≡ None → (due : Step) → due ≡ due_in old.checkpoint.stage → ((page : ℕ) × due ≡ Flush page) ⊎ (due ≡ AwaitsSync) → IsChecked honest history size failures h old old (Err NotDue)
+  waits_checked laws old runs due at wait =
+      let not_begin : (due_in old.checkpoint.stage ≡ Begin) → ⊥ = λ e. elim wait [
+        | inl flush ↦ (let never = sym flush.1 ∙ at ∙ e in absurd cc)
+        | inr sync ↦ (let never = sym sync ∙ at ∙ e in absurd cc)
+      ] in
+      let not_next : (due_in old.checkpoint.stage ≡ GoOn) → ⊥ = λ e. elim wait [
+        | inl flush ↦ (let never = sym flush.1 ∙ at ∙ e in absurd cc)
+        | inr sync ↦ (let never = sym sync ∙ at ∙ e in absurd cc)
+      ] in
+      let none = waiting old.checkpoint.stage not_begin not_next in
+      stays old NotDue refl (λ e. absurd cc) (refused_moves (facts_of failures old) Check NotDue (ap is_some runs) (sym (laws.refused (facts_of failures old) old.checkpoint none.0) ∙ none.1)) (λ n holds. waits_steps honest history failures laws old n holds runs not_begin not_next)
+
+  -- where it begins
+  pub begins_checked : NodesStayNodes → VersionsLeadToTheState → JudgingGoesOn → (old new : Engine D) → old.halted ≡ None → old.checkpoint.stage ≡ Off → HoldsWindow old.checkpoint.base.params (durable_of old.log) h → new ≡ record old { checkpoint = new.checkpoint } → (result : Result (Option ℕ) Refusal)
+      → Begins h old.log old.kept old.checkpoint new.checkpoint result → IsChecked honest history size failures h old new result
+  begins_checked nodes lead goes old new runs off window rest (Ok answer) b = record {
+    call = subst (λ (e : Engine D). IsCall {T = Unit {0}} size failures honest old.disk e.disk (Ok tt)) (sym rest) (none_asked size failures honest old.disk);
+    rest = subst (λ (e : Engine D). e ≡ record old { disk = e.disk; checkpoint = e.checkpoint; halted = e.halted }) (sym rest) refl;
+    params = ap (λ (k : Checkpoint). k.base.params) b.begun.checkpoint;
+    unchanged = tt;
+    fault = tt;
+    moves = began_moves failures old new h answer runs off rest b.begun;
+    steps = λ n holds there. began_holds failures old new h answer runs off rest b.begun honest history nodes lead goes n holds window.window.is_fixed there;
+    leaves = λ n holds. leaves_none _ _ (ap (λ (e : Engine D). history e.disk) rest);
+  }
+  begins_checked nodes lead goes old new runs off window rest (Err e) b =
+      subst (λ (k : Engine D). IsChecked honest history size failures h old k (Err e)) (sym (rest ∙ ap (λ (k : Checkpoint). record old { checkpoint = k }) b.refused.0)) (by b.refused.1)
+    where
+      by : ((e ≡ NotDue) × (nat_le (durable_of old.log) old.checkpoint.base.position ≡ true)) ⊎ ((e ≡ OutOfMemory) × (nat_le (durable_of old.log) old.checkpoint.base.position ≡ false)) → IsChecked honest history size failures h old old (Err e)
+      by (inl not) = subst (λ (r : Refusal). IsChecked honest history size failures h old old (Err r)) (sym not.0)
+          (stays old NotDue refl (λ e. absurd cc) (refused_moves (facts_of failures old) Check NotDue (ap is_some runs) (ap (check_refusal (facts_of failures old)) (ap stage_in off) ∙ ap (λ b. if b then Some NotDue else None) not.1))
+          (λ n holds. begin_refused honest history failures old n holds runs off NotDue (inl (refl, not.1))))
+      by (inr out) = subst (λ (r : Refusal). IsChecked honest history size failures h old old (Err r)) (sym out.0)
+          (stays old OutOfMemory refl (λ e. absurd cc) (hungry_moves (facts_of failures old) Check (ap is_some runs) (ap (check_refusal (facts_of failures old)) (ap stage_in off) ∙ ap (λ b. if b then Some NotDue else None) out.1) (ap is_none_under_way (ap stage_in off)))
+          (λ n holds. begin_refused honest history failures old n holds runs off OutOfMemory (inr (refl, out.1))))
+
+  -- where it goes on
+  pub goes_checked : NodesStayNodes → NodesLeaveTheirFronts → TheCheckpointIsApart → TheStageIsTheFacts → ((disk : D) → honest disk → length (stable (history disk)) ≡ size disk) → {within old new : Engine D} → within ≡ old → IsEngine within.layout within.checkpoint within.log within.kept within.block → old.halted ≡ None
+      → GoOn ≡ due_in within.checkpoint.stage → (result : Result (Unit {0}) Refusal) → WentOn size failures honest history old new result → IsChecked honest history size failures h old new (result_and result (Ok None))
+  goes_checked nodes law apart laws sized {within} {old} {new} is engine runs due (Ok x) did =
+      let w = gone is engine runs due did in record {
+        call = w.call;
+        rest = w.rest;
+        params = ap (λ (k : Checkpoint). k.base.params) (goes honest history size failures sized laws old new (Ok x) w).done;
+        unchanged = tt;
+        fault = tt;
+        moves = check_moves honest history size failures sized laws old new (Ok x) w;
+        steps = λ n holds window. check_holds honest history size failures sized laws old new (Ok x) w n holds nodes law apart;
+        leaves = λ n holds. gone_leaves honest history size failures sized laws old new (Ok x) w n holds nodes law apart;
+      }
+  goes_checked nodes law apart laws sized {within} {old} {new} is engine runs due (Err e) did =
+      let w = gone is engine runs due did in
+      let fault = (goes honest history size failures sized laws old new (Err e) w).fault in record {
+        call = w.call;
+        rest = w.rest;
+        params = ap (λ (k : Checkpoint). k.base.params) fault.1;
+        unchanged = inl fault.0;
+        fault = stays_stopped {T = Option ℕ} old new (Err e) w.rest w.halted fault.1;
+        moves = check_moves honest history size failures sized laws old new (Err e) w;
+        steps = λ n holds window. check_holds honest history size failures sized laws old new (Err e) w n holds nodes law apart;
+        leaves = λ n holds. gone_leaves honest history size failures sized laws old new (Err e) w n holds nodes law apart;
+      }

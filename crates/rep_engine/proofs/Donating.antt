@@ -1,5 +1,6 @@
 -- What a donor reads of an engine that stands for a node: the blocks behind the base.
-use Rattle.std.proofs.Common.{◌≡◌, ℕ, zero, suc, ◌+◌, ◌-◌, ◌<◌, List, [], ◌∷◌, length, take, get_or, Option, None, Some, Result, Ok, Err, refl, sym, ap, subst, ◌∙◌, arith, IfOk}
+use Rattle.std.proofs.Common.{◌≡◌, ℕ, zero, suc, ◌+◌, ◌-◌, ◌<◌, List, [], ◌∷◌, length, take, get_or, Option, None, Some, Result, Ok, Err, refl, sym, ap, subst, ◌∙◌, arith, IfOk, true, false}
+use Rattle.std.specs.Prelude.{nat_lt, ◌≤◌}
 use Rattle.std.proofs.lemmas.List.{take_all}
 use Rattle.std.proofs.lemmas.Bool.Decides.{nat_tests}
 use Rattle.rep_types.specs.declared.judged.Judged.{Judged}
@@ -24,6 +25,13 @@ use Rattle.rep_steps.specs.Nodes.{Node}
 use Rattle.rep_engine.specs.Engines.{Engine, IsEngine}
 use Rattle.rep_engine.specs.Holding.{Stands, Holds}
 use Rattle.rep_engine.specs.Donating.{IsTail, TheTailIsTold, IsTailBlock, IsBlockAsSpelled}
+
+-- how the index is told
+pub is_past : (index count : ℕ) → count ≤ index → false ≡ nat_lt index count
+is_past index count past = sym (grind (arith, nat_tests, past))
+
+pub is_within : (index count : ℕ) → index < count → true ≡ nat_lt index count
+is_within index count below = sym (grind (arith, nat_tests, below))
 
 -- Two lists of blocks that stand in one image are one, if they are equally long; and what is stable is an image.
 pub tail_told : BlocksAreTold → TheTailIsTold

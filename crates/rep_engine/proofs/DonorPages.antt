@@ -1,12 +1,14 @@
 -- What a donor reads of an engine that stands for a node: the base, its window and its pages.
-use Rattle.std.proofs.Common.{◌≡◌, ℕ, List, Option, None, Some, Result, Ok, Err, inl, inr, refl, sym, ap, subst, ◌∙◌, IfOk, IsOk}
+use Rattle.std.proofs.Common.{◌≡◌, ◌≢◌, ◌⊎◌, ℕ, List, Option, None, Some, Result, Ok, Err, inl, inr, refl, sym, ap, subst, ◌∙◌, IfOk, IfErr, IfSome, IsOk}
 use Rattle.rep_types.specs.declared.refusal.Refusal.{Refusal}
-use Rattle.rep_types.specs.declared.refusal.Refusal.TheVariants.{Corrupt}
+use Rattle.rep_types.specs.declared.refusal.Refusal.TheVariants.{Corrupt, DiskFault}
 use Rattle.rep_types.specs.declared.refusal.Part.TheVariants.{Window as in_window, Pages as in_pages}
 use Rattle.rep_types.specs.declared.key.Key.{Key}
 use Rattle.rep_types.specs.Entries.{Entry}
 use Rattle.rep_disk.specs.History.{History, seen}
-use Rattle.rep_layout.specs.declared.page_state.PageState.TheVariants.{In}
+use Rattle.rep_disk.specs.Calls.{IsCall}
+use Rattle.rep_layout.specs.declared.page_state.PageState.TheVariants.{In, Nowhere}
+use Rattle.rep_layout.specs.declared.place.Layout.{Layout}
 use Rattle.rep_layout.specs.declared.place.Place.{Place}
 use Rattle.rep_layout.specs.declared.place.Place.TheVariants.{Window}
 use Rattle.rep_layout.specs.declared.place.Slot.{Slot}
@@ -20,11 +22,15 @@ use Rattle.rep_pages.specs.declared.page.Page.{Page as PageBody}
 use Rattle.rep_pages.specs.Pages.{IsPage, PagesAreTold}
 use Rattle.rep_pages.specs.Slots.{state_of_page}
 use Rattle.rep_pool.specs.BasePages.{HasPage, IsPageAsSpelled}
+use Rattle.rep_log.specs.declared.phase.Phase.{Phase}
+use Rattle.rep_log.specs.Moves.{fault_of}
 use Rattle.rep_steps.specs.Nodes.{Node}
 use Rattle.rep_checkpoint.proofs.Reading.{read_rows, never_bad}
 use Rattle.rep_engine.specs.Engines.{Engine, IsEngine}
 use Rattle.rep_engine.specs.Holding.{Stands, Holds}
-use Rattle.rep_engine.specs.Donating.{IsBasePage, IsWindowAsSpelled, IsBasePageAsSpelled}
+use Rattle.rep_engine.specs.Reading.{halted_by}
+use Rattle.rep_engine.specs.Donating.{Asks, IsBasePage, HasNoRow, IsWindowAsSpelled, IsBasePageAsSpelled}
+use Rattle.rep_engine.proofs.Asking.{holds_read, asks_by}
 
 -- What is so of what was read is so where it was.
 pub if_read : {T E P : Type 0} (result : Result T E) → IsOk result → IfOk result (λ _. P) → P
@@ -58,7 +64,7 @@ module _ {D : Type 0} (honest : D → Type 0) (history : D → History) (failure
 
   -- What is read of a page is the base's, and it is never corrupt.
   module _ (told : PagesAreTold) (number : ℕ) (b : SuperBody) (b_is : b ≡ within.checkpoint.base) where
-    pub page_read : (page : PageBody) → page.number ≡ number → IsPageAsSpelled (reading_of within.layout (seen (history within.disk))) b number (Ok page) → IsBasePage old.checkpoint.base n.base.content number page
+    page_read : (page : PageBody) → page.number ≡ number → IsPageAsSpelled (reading_of within.layout (seen (history within.disk))) b number (Ok page) → IsBasePage old.checkpoint.base n.base.content number page
     page_read page number_is spelled =
         let here = subst (λ (x : SuperBody). IsPageAsSpelled (reading_of within.layout (seen (history within.disk))) x number (Ok page)) b_is spelled in
         subst (λ (e : Engine D). IsBasePage e.checkpoint.base n.base.content number page) is (record {
@@ -67,7 +73,7 @@ module _ {D : Type 0} (honest : D → Type 0) (history : D → History) (failure
           rows = read_rows told within.layout (history within.disk) within.checkpoint.base there.states n.base.content number engine.checkpoint.is_super engine.layout there.assigns there.stands.checkpoint.base.content page here.page;
         })
 
-    pub page_whole : IsPageAsSpelled (reading_of within.layout (seen (history within.disk))) b number (Err (Corrupt in_pages)) → ⊥
+    page_whole : IsPageAsSpelled (reading_of within.layout (seen (history within.disk))) b number (Err (Corrupt in_pages)) → ⊥
     page_whole spelled =
         let here = subst (λ (x : SuperBody). IsPageAsSpelled (reading_of within.layout (seen (history within.disk))) x number (Err (Corrupt in_pages))) b_is spelled in
         never_bad told within.layout (history within.disk) within.checkpoint.base there.states n.base.content number engine.checkpoint.is_super engine.layout there.assigns there.stands.checkpoint.base.content (here.corrupt refl)
@@ -108,10 +114,10 @@ module _ {D : Type 0} (honest : D → Type 0) (history : D → History) (within 
         subst (λ (e : Engine D). IsBasePageAsSpelled (reading_of e.layout (seen (history e.disk))) e.checkpoint.base number result in_pages) is
         (subst (λ (x : SuperBody). IsBasePageAsSpelled (reading_of within.layout (seen (history within.disk))) x number result in_pages) b_is here)
 
-    pub page_given : (page : PageBody) → IsPageAsSpelled (reading_of within.layout (seen (history within.disk))) b number (Ok page) → IsBasePageAsSpelled (reading_of old.layout (seen (history old.disk))) old.checkpoint.base number (Ok (Some page)) in_pages
+    page_given : (page : PageBody) → IsPageAsSpelled (reading_of within.layout (seen (history within.disk))) b number (Ok page) → IsBasePageAsSpelled (reading_of old.layout (seen (history old.disk))) old.checkpoint.base number (Ok (Some page)) in_pages
     page_given page spelled = moved (Ok (Some page)) (record { given = spelled.page; corrupt = λ gave. absurd cc })
 
-    pub page_refused : (e : Refusal) → IsPageAsSpelled (reading_of within.layout (seen (history within.disk))) b number (Err e) → IsBasePageAsSpelled (reading_of old.layout (seen (history old.disk))) old.checkpoint.base number (Err e) in_pages
+    page_refused : (e : Refusal) → IsPageAsSpelled (reading_of within.layout (seen (history within.disk))) b number (Err e) → IsBasePageAsSpelled (reading_of old.layout (seen (history old.disk))) old.checkpoint.base number (Err e) in_pages
     page_refused e spelled = moved (Err e) (record { given = tt; corrupt = λ gave. (let same : e ≡ Corrupt in_pages = cc in spelled.corrupt (ap Err same)) })
 
 -- nothing was read, and another refusal is answered
@@ -120,3 +126,55 @@ page_elsewise r b number e other = record { given = tt; corrupt = λ gave. (let 
 
 pub window_elsewise : (r : Reading) (b : SuperBody) (e : Refusal) → (e ≡ Corrupt in_window → ⊥) → IsWindowAsSpelled r b (Err e) in_window
 window_elsewise r b e other = record { given = tt; corrupt = λ gave. (let same : e ≡ Corrupt in_window = cc in absurd (other same)) }
+
+-- ---- a page of the base, as the caller reads what came of it
+
+abbrev pub optional : {T E : Type 0} → Result T E → Result (Option T) E
+optional (Ok x) = Ok (Some x)
+optional (Err e) = Err e
+
+pub record GivesPage {D : Type 0} (size failures : D → ℕ) (honest : D → Type 0) (history : D → History) (old new : Engine D) (number : ℕ) (result : Result (Option PageBody) Refusal) : Type 0 where
+  pub asks : Asks size failures honest history in_pages old new result
+  pub none : IfOk result (λ found. (found ≡ None → state_of_page old.checkpoint.base number ≡ Nowhere) × (state_of_page old.checkpoint.base number ≡ Nowhere → found ≡ None))
+  pub holds : (n : Node) → Holds honest history failures n old → result ≢ Err DiskFault → Holds honest history failures n new
+  pub page : (n : Node) → Holds honest history failures n old → IfOk result (λ found. IfSome found (IsBasePage old.checkpoint.base n.base.content number))
+  pub absent : (n : Node) → Holds honest history failures n old → old.halted ≡ None → state_of_page old.checkpoint.base number ≡ Nowhere → HasNoRow old.checkpoint.base n.base.content number
+  pub whole : (n : Node) → Holds honest history failures n old → result ≢ Err (Corrupt in_pages)
+  pub spelled : honest old.disk → IsBasePageAsSpelled (reading_of old.layout (seen (history old.disk))) old.checkpoint.base number result in_pages
+
+module _ {D : Type 0} (size failures : D → ℕ) (honest : D → Type 0) (history : D → History) (within old : Engine D) (is : within ≡ old) (engine : IsEngine within.layout within.checkpoint within.log within.kept within.block) (runs : within.halted ≡ None)
+    (told : PagesAreTold) (number : ℕ) (b : SuperBody) (b_is : b ≡ within.checkpoint.base) (slot : Slot) (there : In slot ≡ state_of_page b number) (disk : D) (l : Layout) (layout : l ≡ within.layout) (same : honest within.disk → history disk ≡ history within.disk) (halted : Option Phase) where
+  abbrev new : Engine D
+  new = record within { disk = disk; layout = l; halted = halted }
+
+  never : state_of_page old.checkpoint.base number ≡ Nowhere → ⊥
+  never nowhere = let e : In slot ≡ Nowhere = there ∙ ap (λ (x : SuperBody). state_of_page x number) (b_is ∙ ap (λ (e : Engine D). e.checkpoint.base) is) ∙ nowhere in absurd cc
+
+  stays : IsCall {T = Unit {0}} size failures honest within.disk disk (Ok tt) → halted ≡ None → (n : Node) → Holds honest history failures n old → Holds honest history failures n new
+  stays call on n holds =
+      subst (λ (o : Option Phase). Holds honest history failures n (record within { disk = disk; layout = l; halted = o })) (runs ∙ sym on)
+      (holds_read {T = Unit {0}} size failures honest history within old disk l (Ok tt) is runs layout call refl same n holds)
+
+  pub page_comes : (outcome : Result PageBody Refusal) → IsCall size failures honest within.disk disk (fault_of outcome) → halted ≡ halted_by within.log.phase outcome → IfErr outcome (λ e. (e ≡ DiskFault) ⊎ (e ≡ Corrupt in_pages)) → IfOk outcome (λ page. page.number ≡ number)
+      → (honest old.disk → IsPageAsSpelled (reading_of within.layout (seen (history within.disk))) b number outcome) → GivesPage size failures honest history old new number (optional outcome)
+  page_comes (Ok page) call by refused number_is spelled = record {
+    asks = asks_by size failures honest history in_pages within old disk l halted (Ok (Some page)) is runs layout call same by tt;
+    none = ((λ none. absurd cc), λ nowhere. absurd (never nowhere));
+    holds = λ n holds other. stays call by n holds;
+    page = λ n holds. page_read honest history failures within old is engine runs n holds told number b b_is page number_is (spelled holds.is_honest);
+    absent = λ n holds on nowhere. absurd (never nowhere);
+    whole = λ n holds corrupt. absurd cc;
+    spelled = λ honest_is. page_given honest history within old is number b b_is page (spelled honest_is);
+  }
+  page_comes (Err e) call by refused number_is spelled = record {
+    asks = asks_by {T = Option PageBody} size failures honest history in_pages within old disk l halted (Err e) is runs layout call same by refused;
+    none = tt;
+    holds = λ n holds other. elim refused [
+      | inl fault ↦ absurd (other (ap Err fault))
+      | inr corrupt ↦ stays (subst (λ (r : Refusal). IsCall {T = Unit {0}} size failures honest within.disk disk (fault_of {T = PageBody} (Err r))) corrupt call) (by ∙ ap (λ (r : Refusal). halted_by {T = PageBody} within.log.phase (Err r)) corrupt) n holds
+    ];
+    page = λ n holds. tt;
+    absent = λ n holds on nowhere. absurd (never nowhere);
+    whole = λ n holds corrupt. (let same_one : e ≡ Corrupt in_pages = cc in page_whole honest history failures within old is engine runs n holds told number b b_is (subst (λ (r : Refusal). IsPageAsSpelled (reading_of within.layout (seen (history within.disk))) b number (Err r)) same_one (spelled holds.is_honest)));
+    spelled = λ honest_is. page_refused honest history within old is number b b_is e (spelled honest_is);
+  }

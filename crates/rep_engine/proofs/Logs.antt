@@ -1,10 +1,9 @@
 -- A log step of an engine that stands for a node.
-use Rattle.std.proofs.Common.{◌≡◌, ℕ, ◌+◌, ◌%◌, false, List, [], length, take, map, append-nil, Option, None, Some, Result, Ok, Err, refl, sym, ap, subst, ◌∙◌}
+use Rattle.std.proofs.Common.{◌≡◌, ◌≢◌, ◌⊎◌, inl, ℕ, ◌+◌, ◌%◌, false, List, [], length, take, map, append-nil, Option, None, Some, Result, Ok, Err, IfErr, OnOk, refl, sym, ap, subst, ◌∙◌}
 use Rattle.std.specs.Prelude.{is_some}
-use Rattle.std.specs.Result.{is_err}
 use Rattle.rep_types.specs.declared.judged.Judged.{Judged}
 use Rattle.rep_types.specs.declared.refusal.Refusal.{Refusal}
-use Rattle.rep_types.specs.declared.refusal.Refusal.TheVariants.{DiskFault}
+use Rattle.rep_types.specs.declared.refusal.Refusal.TheVariants.{DiskFault, OutOfMemory}
 use Rattle.rep_record.specs.Fronts.{fitting}
 use Rattle.rep_disk.specs.Calls.{IsCall, Rises}
 use Rattle.rep_disk.specs.History.{History, stable, IsImage}
@@ -28,9 +27,10 @@ use Rattle.rep_checkpoint.specs.Standing.{Standing as Checkpoint}
 use Rattle.rep_checkpoint.specs.Laws.{TheLogIsApart}
 use Rattle.rep_checkpoint.specs.Nodes.{StandsAs, NodesLeaveTheirFronts}
 use Rattle.rep_engine.specs.Engines.{Engine, IsEngine, IsWhole, facts_of, phase_at}
-use Rattle.rep_engine.specs.Writing.{IsWrite, coming_in, WritesNext}
+use Rattle.rep_engine.specs.Writing.{IsWrite, coming_in, written_in, WritesNext}
 use Rattle.rep_engine.specs.Holding.{Stands, Holds, wrote}
-use Rattle.rep_engine.proofs.Steps.{done_moves, halted_node, done_steps, fault_steps}
+use Rattle.rep_engine.specs.Reading.{halted_by}
+use Rattle.rep_engine.proofs.Steps.{done_moves, fault_moves, halted_node, done_steps, fault_steps}
 use Rattle.rep_engine.proofs.Logging.{is_stale, at_phase, written_is, coming_is, is_write, engine_logged, facts_logged}
 use Rattle.rep_engine.proofs.Standing.{places, same_front, stands_on, nil_bytes, none_held, fronts_of}
 
@@ -154,11 +154,6 @@ module _ {D : Type 0} (honest : D → Type 0) (history : D → History) (size fa
 
 -- ---- how a log step comes out
 
--- the phase in which the device stopped the engine, if it did
-abbrev pub halted_after : {T : Type 0} → Result T Refusal → Phase → Option Phase
-halted_after (Ok x) phase = None
-halted_after (Err e) phase = Some phase
-
 -- A log step that was due.
 pub record IsLogged {D : Type 0} (honest : D → Type 0) (history : D → History) (size failures : D → ℕ) (old new : Engine D) (result : Result (Unit {0}) Refusal) : Type 0 where
   pub engine : IsEngine old.layout old.checkpoint old.log old.kept old.block
@@ -170,22 +165,28 @@ pub record IsLogged {D : Type 0} (honest : D → Type 0) (history : D → Histor
   pub same_checkpoint : new.checkpoint ≡ old.checkpoint
   pub same_kept : new.kept ≡ old.kept
   pub same_block : new.block ≡ old.block
-  pub halted : new.halted ≡ halted_after result old.log.phase
+  pub halted : new.halted ≡ halted_by old.log.phase result
 
 pub rises_by : (T : Type 0) {D : Type 0} {honest : D → Type 0} {size failures : D → ℕ} {old new : D} (e : Refusal) → e ≡ DiskFault → IsCall size failures honest old new (fault_of {T = T} (Err e)) → Rises (failures old) (failures new)
 rises_by T {D} {honest} {size} {failures} {old} {new} e is call =
     (subst (λ (f : Refusal). IsCall size failures honest old new (fault_of {T = T} (Err f))) is call).cause refl
 
 module _ {D : Type 0} (honest : D → Type 0) (history : D → History) (size failures : D → ℕ) (old new : Engine D) where
-  pub logged_moves : (result : Result (Unit {0}) Refusal) → false ≡ is_err result → IsLogged honest history size failures old new result → Moves (facts_of failures old) to_log (wrote result) (facts_of failures new)
-  logged_moves (Err e) ok h = absurd cc
-  logged_moves (Ok x) ok h =
+  halted_so : (e : Refusal) → IsLogged honest history size failures old new (Err e) → new.halted ≡ Some old.log.phase
+  halted_so e h = h.halted ∙ ap (λ (r : Refusal). halted_by {T = Unit {0}} old.log.phase (Err r)) h.writes.fault
+
+  logged_moves : (result : Result (Unit {0}) Refusal) → IsLogged honest history size failures old new result → Moves (facts_of failures old) to_log (wrote result) (facts_of failures new)
+  logged_moves (Err e) h =
+      let log_is : new.log ≡ at_phase (logged (length old.block) (is_stale old.log) old.log.phase) old.log = h.writes.stands ∙ written_is old.log (length old.block) (is_write failures old h.engine h.none) in
+      subst (λ (r : Refusal). Moves (facts_of failures old) to_log (Refused r) (facts_of failures new)) (sym h.writes.fault)
+      (fault_moves (facts_of failures old) to_log (facts_of failures new) (ap is_some h.runs) (rw h.runs h.none) refl (rises_by (Unit {0}) e h.writes.fault h.call) (rw (halted_so e h) (rw h.same_checkpoint ((rw h.same_block (rw log_is (rw h.runs refl)))))))
+  logged_moves (Ok x) h =
       let stale = is_stale old.log in
       let due : IsWrite (due_of old.log) = is_write failures old h.engine h.none in
       done_moves (facts_of failures old) to_log (record { verdict = Commit; stale = stale; left = []; row = None }) (facts_of failures new) (ap is_some h.runs) (rw h.runs h.none)
       (facts_logged failures old new (record { verdict = Commit; stale = stale; left = []; row = None }) h.runs h.halted h.engine.fits (h.call.no_cause refl) h.same_checkpoint h.same_block (h.writes.stands ∙ written_is old.log (length old.block) due))
 
-  pub logged_steps : ((disk : D) → honest disk → length (stable (history disk)) ≡ size disk) → NodesStayNodes → NodesLeaveTheirFronts → TheLogIsApart → (result : Result (Unit {0}) Refusal) → IsLogged honest history size failures old new result
+  logged_steps : ((disk : D) → honest disk → length (stable (history disk)) ≡ size disk) → NodesStayNodes → NodesLeaveTheirFronts → TheLogIsApart → (result : Result (Unit {0}) Refusal) → IsLogged honest history size failures old new result
       → (n : Node) → Holds honest history failures n old → (m : Node) × Steps n to_log (wrote result) m × Holds honest history failures m new
   logged_steps sized nodes law apart (Ok x) h n holds =
       let go = steps honest history size failures sized old n h.engine holds h.runs h.none new (Ok x) h.call h.writes h.layout h.same_checkpoint h.same_kept h.same_block in (
@@ -197,10 +198,10 @@ module _ {D : Type 0} (honest : D → Type 0) (history : D → History) (size fa
       let rises : Rises (failures old.disk) (failures new.disk) = rises_by (Unit {0}) e h.writes.fault h.call in (
         halted_node (failures new.disk) n,
         subst (λ (f : Refusal). Steps n to_log (Refused f) (halted_node (failures new.disk) n)) (sym h.writes.fault) (steps_fault honest history size failures sized old n h.engine holds h.runs h.none (failures new.disk) rises),
-        log_halts honest history size failures sized old n h.engine holds h.runs h.none new (Err e) h.call h.writes h.layout h.same_checkpoint h.same_kept h.same_block nodes law apart rises h.halted,
+        log_halts honest history size failures sized old n h.engine holds h.runs h.none new (Err e) h.call h.writes h.layout h.same_checkpoint h.same_kept h.same_block nodes law apart rises (halted_so e h),
       )
 
-  pub logged_leaves : ((disk : D) → honest disk → length (stable (history disk)) ≡ size disk) → NodesStayNodes → NodesLeaveTheirFronts → TheLogIsApart → (result : Result (Unit {0}) Refusal) → IsLogged honest history size failures old new result
+  logged_leaves : ((disk : D) → honest disk → length (stable (history disk)) ≡ size disk) → NodesStayNodes → NodesLeaveTheirFronts → TheLogIsApart → (result : Result (Unit {0}) Refusal) → IsLogged honest history size failures old new result
       → (n : Node) → Holds honest history failures n old → LeavesOnly (history old.disk) (history new.disk) (IsFrontAt Means n)
   logged_leaves sized nodes law apart result h n holds =
       log_leaves honest history size failures sized old n h.engine holds h.runs h.none new result h.call h.writes h.layout h.same_checkpoint h.same_kept h.same_block nodes law apart
@@ -210,3 +211,44 @@ module _ {D : Type 0} (honest : D → Type 0) (history : D → History) (size fa
   engine_then result h =
       let due : IsWrite (due_of old.log) = is_write failures old h.engine h.none in
       subst (λ (log : Log). IsEngine old.layout old.checkpoint log old.kept old.block) (sym (h.writes.stands ∙ written_is old.log (length old.block) due)) (engine_logged failures old h.engine (is_stale old.log) h.none)
+
+-- ---- what came of it, as the caller reads it
+
+pub record Logged {D : Type 0} (honest : D → Type 0) (history : D → History) (size failures : D → ℕ) (old new : Engine D) (result : Result (Unit {0}) Refusal) : Type 0 where
+  pub call : IsCall size failures honest old.disk new.disk (fault_of result)
+  pub moves : Moves (facts_of failures old) to_log (wrote result) (facts_of failures new)
+  pub steps : (n : Node) → Holds honest history failures n old → (m : Node) × Steps n to_log (wrote result) m × Holds honest history failures m new
+  pub rest : new ≡ record old { disk = new.disk; log = new.log; halted = new.halted }
+  pub unchanged : IfErr result (λ e. (e ≡ DiskFault) ⊎ (new ≡ old))
+  pub fault : IfErr result (λ e. e ≡ DiskFault → new ≡ record old { disk = new.disk; log = written_in (due_of old.log) (length old.block) old.log; halted = Some old.log.phase })
+  pub memory : IfErr result (λ e. e ≢ OutOfMemory)
+  pub log : OnOk result (new.log ≡ written_in (due_of old.log) (length old.block) old.log)
+  pub leaves : (n : Node) → Holds honest history failures n old → LeavesOnly (history old.disk) (history new.disk) (IsFrontAt Means n)
+
+module _ {D : Type 0} (honest : D → Type 0) (history : D → History) (size failures : D → ℕ) (old new : Engine D) (sized : (disk : D) → honest disk → length (stable (history disk)) ≡ size disk) (nodes : NodesStayNodes) (law : NodesLeaveTheirFronts) (apart : TheLogIsApart)
+    (rest : new ≡ record old { disk = new.disk; log = new.log; halted = new.halted }) where
+  pub it_logged : (result : Result (Unit {0}) Refusal) → IsLogged honest history size failures old new result → Logged honest history size failures old new result
+  it_logged (Ok x) h = record {
+    call = h.call;
+    moves = logged_moves honest history size failures old new (Ok x) h;
+    steps = logged_steps honest history size failures old new sized nodes law apart (Ok x) h;
+    rest = rest;
+    unchanged = tt;
+    fault = tt;
+    memory = tt;
+    log = h.writes.stands;
+    leaves = logged_leaves honest history size failures old new sized nodes law apart (Ok x) h;
+  }
+  it_logged (Err e) h = record {
+    call = h.call;
+    moves = logged_moves honest history size failures old new (Err e) h;
+    steps = logged_steps honest history size failures old new sized nodes law apart (Err e) h;
+    rest = rest;
+    unchanged = inl h.writes.fault;
+    fault = λ same.
+        rest ∙ ap (λ (k : Log). record old { disk = new.disk; log = k; halted = new.halted }) h.writes.stands
+        ∙ ap (λ (o : Option Phase). record old { disk = new.disk; log = written_in (due_of old.log) (length old.block) old.log; halted = o }) (halted_so honest history size failures old new e h);
+    memory = λ out. let never : DiskFault ≡ OutOfMemory = sym h.writes.fault ∙ out in absurd cc;
+    log = tt;
+    leaves = logged_leaves honest history size failures old new sized nodes law apart (Err e) h;
+  }

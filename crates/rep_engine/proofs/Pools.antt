@@ -24,6 +24,10 @@ pub pooled_as : {D : Type 0} (honest : D → Type 0) (history : D → History) (
 pooled_as honest history l k b c disk pages places same pooled =
     subst (λ (x : Layout). IsPooled honest history c.params.rows x disk pages) (sym places) (subst (λ (p : Setting). IsPooled honest history p.rows l disk pages) (sym same) pooled)
 
+-- behind a read
+pub pooled_read : {D : Type 0} (honest : D → Type 0) (history : D → History) (rows : List ℕ) (l : Layout) (old new : D) (pages : Pooled) → (honest new → honest old) → (honest old → history new ≡ history old) → IsPooled honest history rows l old pages → IsPooled honest history rows l new pages
+pooled_read honest history rows l old new pages was same pooled = λ h. subst (λ (past : History). Agrees rows l past pages) (sym (same (was h))) (pooled (was h))
+
 -- behind a write in a place that is no page's
 pub pooled_beside :
     {D T E : Type 0} → PoolsGoOn → (honest : D → Type 0) (history : D → History) (rows : List ℕ) (l : Layout) (place : Place) (old new : D) (pages : Pooled) (result : Result T E)

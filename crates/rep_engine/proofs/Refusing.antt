@@ -1,5 +1,5 @@
 -- What a refusal leaves of an engine.
-use Rattle.std.proofs.Common.{◌≡◌, ◌⊎◌, inl, inr, Option, None, Some, Result, Ok, Err, sym, ap, ◌∙◌, IfErr, OnErr}
+use Rattle.std.proofs.Common.{◌≡◌, ◌≢◌, ◌⊎◌, inl, inr, Option, None, Some, Result, Ok, Err, sym, ap, ◌∙◌, refl, IfErr, OnErr, IsOk}
 use Rattle.std.specs.Prelude.{IsErrAnd}
 use Rattle.std.proofs.lemmas.Result.{err_from_is_err_and}
 use Rattle.rep_types.specs.declared.refusal.Refusal.{Refusal}
@@ -13,6 +13,15 @@ use Rattle.rep_engine.specs.Reading.{halted_by}
 -- what a call answers that passes on that it is stopped
 pub passed_on : {T : Type 0} (result : Result T Refusal) (e : Refusal) → IsErrAnd result (λ y. y ≡ e) → e ≡ Stopped → result ≡ Err Stopped
 passed_on result e given is = let passed = err_from_is_err_and result given in passed.1 ∙ ap Err (passed.2 ∙ is)
+
+-- the device didn't fail where a call left the engine running
+pub not_failed : {T : Type 0} (phase : Phase) (result : Result T Refusal) → halted_by phase result ≡ None → result ≢ Err DiskFault
+not_failed phase result on fault = let never : Some phase ≡ None = sym (ap (halted_by phase) fault) ∙ on in absurd cc
+
+-- and where nothing but that is refused, it was done
+pub done_or_failed : {T : Type 0} (result : Result T Refusal) → IfErr result (λ e. e ≡ DiskFault) → result ≢ Err DiskFault → IsOk result
+done_or_failed (Ok x) refused other = refl
+done_or_failed (Err e) refused other = absurd (other (ap Err refused))
 
 module _ {D T : Type 0} (old new : Engine D) where
   -- the device's fault stops it, and nothing else

@@ -40,6 +40,9 @@ refused_moves s e r runs some = by_some _ _ (refusal s e) r (same_refusal s e ru
 pub done_moves : (s : Standing) (e : Event) (f : Found) (t : Standing) → s.stopped ≡ false → refusal_here s e ≡ None → t ≡ after s e f → Moves s e (answer s e f) t
 done_moves s e f t runs none is = by_none _ _ (refusal s e) (same_refusal s e runs ∙ none) (inl (f, refl, is))
 
+pub hungry_moves : (s : Standing) (e : Event) → s.stopped ≡ false → refusal_here s e ≡ None → IsTrue (takes_memory s e) → Moves s e (Refused OutOfMemory) s
+hungry_moves s e runs none takes = by_none _ _ (refusal s e) (same_refusal s e runs ∙ none) (inr (inl (inl (takes, refl, refl))))
+
 -- the facts of what the device stopped
 abbrev pub halted_at : ℕ → Standing → Standing
 halted_at failures s = record s { failures = failures; stopped = true }

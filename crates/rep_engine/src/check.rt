@@ -1,8 +1,8 @@
 //! The steps of a checkpoint: its beginning, its pages, and the writes behind them.
 
-ghost use Rattle.std.specs.Prelude.{◌≡◌, ◌⊎◌, nat_le, true, false, None, Some, IfOk, IfErr, IfSome, OnErr};
-ghost use Rattle.rep_types.specs.declared.refusal.Refusal.TheVariants.{NotDue, DiskFault, OutOfMemory};
-ghost use Rattle.rep_cert.specs.Holdings.{window_of};
+ghost use Rattle.std.specs.Prelude.{◌≡◌, ◌⊎◌, ◌<◌, None, Some, IfErr};
+ghost use Rattle.rep_types.specs.declared.refusal.Refusal.TheVariants.{DiskFault};
+ghost use Rattle.rep_cert.specs.Holdings.{IsAskable, window_of};
 ghost use Rattle.rep_disk.specs.Calls.{IsCall};
 ghost use Rattle.rep_disk.specs.Moments.{LeavesOnly};
 ghost use Rattle.rep_log.specs.Moves.{fault_of};
@@ -12,25 +12,26 @@ ghost use Rattle.rep_steps.specs.Nodes.{Node, Steps, NodesStayNodes, window_at};
 ghost use Rattle.rep_steps.specs.Images.{IsFrontAt};
 ghost use Rattle.rep_image.specs.Meanings.{Means};
 ghost use Rattle.rep_checkpoint.specs.declared.stage.Stage.TheVariants.{Off};
-ghost use Rattle.rep_checkpoint.specs.Moves.{next_refusal};
-ghost use Rattle.rep_checkpoint.specs.Calls.{IsRefused, GoesOn};
+ghost use Rattle.rep_checkpoint.specs.Moves.{CanBegin};
 ghost use Rattle.rep_checkpoint.specs.Laws.{TheCheckpointIsApart, TheStageIsTheFacts};
 ghost use Rattle.rep_checkpoint.specs.Nodes.{NodesLeaveTheirFronts, VersionsLeadToTheState};
 ghost use Rattle.rep_engine.specs.Engines.{facts_of, durable_of};
 ghost use Rattle.rep_engine.specs.Holding.{Holds};
-ghost use Rattle.rep_engine.specs.Reading.{halted_by};
-ghost use Rattle.rep_engine.specs.Checking.{HoldsWindow, HasBegun, checked};
+ghost use Rattle.rep_engine.specs.Checking.{HoldsWindow, Begins, WentOn, checked};
 
-use crate::engine::Engine;
+use crate::engine::{Engine, halted_by};
 use rep_cert::Certifier;
 use rep_checkpoint::{
-    Step, nodes_leave_their_fronts, the_checkpoint_is_apart, the_stage_is_the_facts,
-    versions_lead_to_the_state,
+    Checkpoint, Step, nodes_leave_their_fronts, the_checkpoint_is_apart, the_stage_is_the_facts,
+    versions_lead_to_the_state, windows_go_on,
 };
 use rep_disk::Disk;
+use rep_log::Log;
 use rep_pool::pools_go_on;
 use rep_steps::{judging_goes_on, nodes_stay_nodes};
 use rep_types::Refusal;
+use rep_versions::Versions;
+use std::alloc::Global;
 
 /// What the proofs of a checkpoint's steps rest on.
 pub(crate) fn checkpoints_go_on()
@@ -47,55 +48,61 @@ pub(crate) fn checkpoints_go_on()
     versions_lead_to_the_state();
 }
 
+/// Begins a checkpoint to what is durable, with the certifier's window there, and says its position.
+///
+/// Refuses with `NotDue` where the base stands there, and else with `OutOfMemory`.
+fn begin_at_durable(
+    alloc: Global,
+    checkpoint: &mut Checkpoint,
+    log: &Log,
+    versions: &Versions,
+    certifier: &Certifier,
+) -> Result<Option<u64>, Refusal>
+    requires askable { IsAskable certifier.now.current (durable_of log.now) }
+    requires begins { checkpoint.old.base.position < durable_of log.now → log.now.next < log.now.seqno → CanBegin checkpoint.old (durable_of log.now) log.now.next (window_of certifier.now.current (durable_of log.now)).entries }
+    ensures { Begins certifier.now.current log.now versions.now checkpoint.old checkpoint.new result }
+{
+    let position = log.durable();
+    if position <= checkpoint.base().position {
+        return Err(Refusal::NotDue);
+    }
+    let window = certifier.window_at(alloc, position)?;
+    let start = log.next();
+    checkpoint.begin(alloc, position, start, window.into_entries(), versions)?;
+    Ok(Some(position))
+}
+
 impl<D: Disk> Engine<D> {
-    /// Begins a checkpoint to what is durable, with the certifier's window there.
-    ///
-    /// Refuses with `NotDue` where the base stands there, and else with `OutOfMemory`.
-    fn begin(&mut self, certifier: &Certifier) -> Result<u64, Refusal>
+    /// Begins a checkpoint to what is durable, and says its position.
+    fn begin(&mut self, certifier: &Certifier) -> Result<Option<u64>, Refusal>
         requires off { self.old.checkpoint.stage ≡ Off }
         requires window { HoldsWindow self.old.checkpoint.base.params (durable_of self.old.log) certifier.now.current }
         ensures rest { self.new ≡ record (self.old) { checkpoint = self.new.checkpoint } }
-        ensures begun { IfOk result (λ position. HasBegun certifier.now.current self.old self.new position) }
-        ensures refused { IfErr result (λ e. (self.new ≡ self.old) × (((e ≡ NotDue) × (nat_le (durable_of self.old.log) self.old.checkpoint.base.position ≡ true)) ⊎ ((e ≡ OutOfMemory) × (nat_le (durable_of self.old.log) self.old.checkpoint.base.position ≡ false)))) }
+        ensures begins { Begins certifier.now.current self.old.log self.old.kept self.old.checkpoint self.new.checkpoint result }
     {
-        let position = self.log.durable();
-        if position <= self.checkpoint.base().position {
-            return Err(Refusal::NotDue);
-        }
-        let window = certifier.window_at(self.alloc, position)?;
-        let start = self.log.next();
-        let begun = self.checkpoint.begin(
+        windows_go_on();
+        let outcome = begin_at_durable(
             self.alloc,
-            position,
-            start,
-            window.into_entries(),
+            &mut self.checkpoint,
+            &self.log,
             &self.versions,
+            certifier,
         );
         // For its clause: what holds of every checkpoint.
         self.checkpoint.base();
-        if let Err(refusal) = begun {
-            return Err(refusal);
-        }
-        Ok(position)
+        outcome
     }
 
     /// Takes a checkpoint that is under way on by its next write. Where the device fails, the engine is stopped.
     fn go_on(&mut self) -> Result<(), Refusal>
         requires { self.old.halted ≡ None }
-        ensures call { IsCall D.size D.failures D.honest self.old.disk self.new.disk (fault_of result) }
-        ensures rest { self.new ≡ record (self.old) { disk = self.new.disk; checkpoint = self.new.checkpoint; halted = self.new.halted } }
-        ensures halted { self.new.halted ≡ halted_by self.old.log.phase result }
-        ensures refused { IfSome (next_refusal self.old.layout self.old.checkpoint) (λ e. IsRefused e self.old.checkpoint self.new.checkpoint self.old.disk self.new.disk result) }
-        ensures goes { next_refusal self.old.layout self.old.checkpoint ≡ None → GoesOn D.honest D.history self.old.layout self.old.checkpoint self.new.checkpoint self.old.disk self.new.disk result }
-        ensures unchanged { OnErr result (self.new.checkpoint ≡ self.old.checkpoint) }
+        ensures { WentOn D.size D.failures D.honest D.history self.old self.new result }
     {
         pools_go_on();
         let outcome = self.checkpoint.next(&mut self.cells);
         // For its clause: what holds of every checkpoint.
         self.checkpoint.base();
-        if outcome == Err(Refusal::DiskFault) {
-            self.halted = Some(self.log.phase());
-        }
+        self.halted = halted_by(self.log.phase(), &outcome);
         outcome
     }
 
@@ -125,16 +132,9 @@ impl<D: Disk> Engine<D> {
         checkpoints_go_on();
         judging_goes_on();
         match self.checkpoint.step_due() {
-            Step::Begin => match self.begin(certifier) {
-                Ok(position) => Ok(Some(position)),
-                Err(refusal) => Err(refusal),
-            },
-            Step::Next => match self.go_on() {
-                Ok(()) => Ok(None),
-                Err(refusal) => Err(refusal),
-            },
-            Step::Flush(_) => Err(Refusal::NotDue),
-            Step::Sync => Err(Refusal::NotDue),
+            Step::Begin => self.begin(certifier),
+            Step::Next => self.go_on().and(Ok(None)),
+            Step::Flush(_) | Step::Sync => Err(Refusal::NotDue),
         }
     }
 }

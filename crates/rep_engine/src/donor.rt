@@ -18,7 +18,7 @@ ghost use Rattle.rep_steps.specs.Nodes.{Node};
 ghost use Rattle.rep_engine.specs.Holding.{Holds};
 ghost use Rattle.rep_engine.specs.Donating.{Asks, IsTailBlock, IsBlockAsSpelled, IsBasePage, HasNoRow, IsWindowAsSpelled, IsBasePageAsSpelled};
 
-use crate::engine::Engine;
+use crate::engine::{Engine, halted_by};
 use rep_cells::images_read_as_allowed;
 use rep_disk::Disk;
 use rep_layout::{
@@ -160,14 +160,11 @@ impl<D: Disk> Engine<D> {
         let PageState::In(_) = slot_of(base, page) else {
             return Ok(None);
         };
-        match self.pool.take_page(&mut self.cells, base, page) {
+        let outcome = self.pool.take_page(&mut self.cells, base, page);
+        self.halted = halted_by(self.log.phase(), &outcome);
+        match outcome {
             Ok(page) => Ok(Some(page)),
-            Err(refusal) => {
-                if refusal == Refusal::DiskFault {
-                    self.halted = Some(self.log.phase());
-                }
-                Err(refusal)
-            }
+            Err(refusal) => Err(refusal),
         }
     }
 }

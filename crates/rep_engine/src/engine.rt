@@ -22,6 +22,7 @@ ghost use Rattle.rep_checkpoint.specs.Standing.{due_in};
 ghost use Rattle.rep_pool.specs.BasePages.{IsPooled};
 ghost use Rattle.rep_engine.specs.Writing.{written_in, left_of, told_of, PrunesIf};
 ghost use Rattle.rep_engine.specs.Holding.{Holds, wrote, synced};
+ghost use Rattle.rep_engine.specs.Reading.{halted_by};
 
 use crate::write::write_next;
 use rep_cells::{Cells, images_read_as_allowed};
@@ -46,6 +47,16 @@ fn prune_if(versions: &mut Versions, rose: bool, position: u64)
 {
     if rose {
         versions.prune(position);
+    }
+}
+
+/// Where the device stopped the engine, if it failed in the call that came out so.
+pub(crate) fn halted_by<T>(phase: Phase, outcome: &Result<T, Refusal>) -> Option<Phase>
+    ensures { result ≡ halted_by phase outcome.now }
+{
+    match outcome {
+        Err(Refusal::DiskFault) => Some(phase),
+        _ => None,
     }
 }
 
@@ -198,9 +209,7 @@ impl<D: Disk> Engine<D> {
         }
         let before = self.log.phase();
         let written = write_next(&mut self.log, &mut self.cells, &self.block);
-        if written.is_err() {
-            self.halted = Some(before);
-        }
+        self.halted = halted_by(before, &written);
         written
     }
 

@@ -19,7 +19,7 @@ ghost use Rattle.rep_engine.specs.Holding.{Holds, wrote};
 ghost use Rattle.rep_engine.specs.Reading.{halted_by};
 
 use crate::check::checkpoints_go_on;
-use crate::engine::Engine;
+use crate::engine::{Engine, halted_by};
 use rep_disk::Disk;
 use rep_layout::row_places_are_told;
 use rep_types::Refusal;
@@ -40,9 +40,7 @@ impl<D: Disk> Engine<D> {
             .flush(&mut self.cells, &mut self.pool, &self.versions, page);
         // For its clause: what holds of every checkpoint.
         self.checkpoint.base();
-        if outcome == Err(Refusal::DiskFault) {
-            self.halted = Some(self.log.phase());
-        }
+        self.halted = halted_by(self.log.phase(), &outcome);
         outcome
     }
 

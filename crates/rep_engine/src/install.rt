@@ -20,7 +20,7 @@ ghost use Rattle.rep_engine.specs.Holding.{Holds};
 ghost use Rattle.rep_engine.specs.Reading.{halted_by};
 ghost use Rattle.rep_engine.specs.Installing.{CanBring, IsBeside, HoldsBoth, Goes, TakesPlace, IsTaken, halted_node};
 
-use crate::engine::Engine;
+use crate::engine::{Engine, halted_by};
 use rep_cells::{images_read_as_allowed, refusal_of};
 use rep_checkpoint::{
     Installation as Coming, installations_can_be_dropped, installations_leave_the_old_or_the_new,
@@ -120,9 +120,7 @@ impl<D: Disk> Engine<D> {
             page,
             rows,
         );
-        if outcome.is_err() {
-            self.halted = Some(self.log.phase());
-        }
+        self.halted = halted_by(self.log.phase(), &outcome);
         outcome
     }
 
@@ -140,9 +138,7 @@ impl<D: Disk> Engine<D> {
     {
         pools_go_on();
         let outcome = coming.next(&mut self.cells, self.checkpoint.base());
-        if outcome.is_err() {
-            self.halted = Some(self.log.phase());
-        }
+        self.halted = halted_by(self.log.phase(), &outcome);
         outcome
     }
 

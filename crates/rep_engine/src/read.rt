@@ -19,7 +19,7 @@ ghost use Rattle.rep_pool.specs.BasePages.{IsPageReadable};
 ghost use Rattle.rep_engine.specs.Reading.{ReadsRow, ReadsAt};
 ghost use Rattle.rep_engine.specs.Engines.{facts_of};
 
-use crate::engine::Engine;
+use crate::engine::{Engine, halted_by};
 use crate::write::base_row;
 use rep_checkpoint::{the_bytes_tell_the_page, versions_lead_to_the_state};
 use rep_disk::Disk;
@@ -60,9 +60,7 @@ impl<D: Disk> Engine<D> {
         ensures read { ReadsRow D.size D.failures D.honest D.history key self.old self.new result }
     {
         let row = base_row(&mut self.cells, &mut self.pool, self.checkpoint.base(), key);
-        if row == Err(Refusal::DiskFault) {
-            self.halted = Some(self.log.phase());
-        }
+        self.halted = halted_by(self.log.phase(), &row);
         row
     }
 

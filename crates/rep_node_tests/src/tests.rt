@@ -1,6 +1,11 @@
-//! A batch is handed in by several workers, with a keeper beside.
+//! A batch is handed in by several workers, with a keeper beside; or items are handed in one by one by the one seat of a node, and rows
+//! are read between them.
 
 mod batches;
+mod devices;
 mod faults;
 mod paces;
+mod reads;
 mod replicas;
+mod running;
+mod steps;

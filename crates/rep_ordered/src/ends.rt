@@ -1,6 +1,6 @@
 //! How a lock is made, and how it is closed.
 
-ghost use Rattle.std.specs.Prelude.{◌≡◌, ◌+◌, ◌-◌, ◌*◌, ◌≤◌, [], ◌∷◌, length, map, replicate, Some, IfOk, IfErr, IfSome, IsSome, vec_capacity};
+ghost use Rattle.std.specs.Prelude.{◌≡◌, ◌+◌, ◌-◌, ◌*◌, ◌<◌, ◌≤◌, [], ◌∷◌, length, map, replicate, Some, IfOk, IfErr, IfSome, IsSome, vec_capacity};
 ghost use Rattle.rep_ordered.specs.Views.{Every, opened};
 ghost use Rattle.rep_ordered.specs.Rule.{first_of};
 ghost use Rattle.rep_ordered.specs.Ends.{AllCover, AllMeet, AllName, Closed};
@@ -82,6 +82,23 @@ fn unwrap<V>(slots: &mut Vec<Option<V>>, values: &mut Vec<V>)
     values.reverse();
 }
 
+/// Hands the values back that were in slots.
+fn handed_back<V>(
+    room: Room<Option<V>>,
+    mut slots: Vec<Option<V>>,
+    mut values: Vec<V>,
+) -> Refused<V>
+    requires empty { values.items ≡ [] }
+    requires room { length slots.items ≤ vec_capacity values }
+    requires full { Every IsSome slots.items }
+    ensures { map Some result.values.items ≡ slots.items }
+{
+    room.into_list().destroy_empty();
+    unwrap(&mut slots, &mut values);
+    slots.destroy_empty();
+    Refused { values }
+}
+
 /// What a lock is told that is made of these values, at this position.
 fn opening_at<V>(values: &Vec<V>, position: u64, durable: u64) -> Opening<V>
     requires { (durable ≤ position) × (position ≤ MAX_SEQNO) }
@@ -118,7 +135,7 @@ impl<V: Keeps<E>, E> OrderedLock<V, E> {
     /// `close` needs as well.
     pub fn new(
         alloc: Global,
-        mut values: Vec<V>,
+        values: Vec<V>,
         position: u64,
         durable: u64,
     ) -> Result<(OrderedLock<V, E>, Seat<V, E>), Refused<V>>
@@ -132,28 +149,44 @@ impl<V: Keeps<E>, E> OrderedLock<V, E> {
         ensures refused { IfErr result (λ refusal. refusal.values.items ≡ values.items) }
     {
         let opening = opening_at(&values, position, durable);
-        let Some(
-            Space {
-                words,
-                mut slots,
-                room,
-            },
-        ) = reserved(alloc, values.len(), opening.start, durable)
-        else {
-            return Err(Refused { values });
-        };
+        match reserved(alloc, values.len(), opening.start, durable) {
+            Some(space) => OrderedLock::open(alloc, &opening, space, values),
+            None => Err(Refused { values }),
+        }
+    }
+
+    /// The same in this space, for values that the lock is told of by this opening.
+    fn open(
+        alloc: Global,
+        opening: &Opening<V>,
+        space: Space<V>,
+        mut values: Vec<V>,
+    ) -> Result<(OrderedLock<V, E>, Seat<V, E>), Refused<V>>
+        requires numbers { (opening.now.durable < opening.now.start) × (opening.now.start + opening.now.whole ≡ MAX_SEQNO + 1) }
+        requires first { first_of opening.now ≡ values.items }
+        requires legal { V.legal values.items [] }
+        requires names { AllName V.common_of values.items }
+        requires covered { AllCover V.durable_of V.common_of values.items }
+        requires values { AllMeet (V.legal values.items) (V.at_home values.items) V.durable_of V.common_of opening.now.start opening.now.durable values.items }
+        requires words { space.words.items ≡ opening.now.start ∷ opening.now.durable ∷ replicate (length values.items) (4 * opening.now.start) }
+        requires slots { (space.slots.items ≡ []) × (length values.items ≤ vec_capacity space.slots) }
+        requires room { length values.items ≤ space.room }
+        ensures stations { IfOk result (λ made. stations_of made.0 ≡ length values.items) }
+        ensures seat { IfOk result (λ made. made.1 ≡ seat_of made.0 (opened V.durable_of V.common_of opening.now.start opening.now.whole values.items opening.now.durable)) }
+        ensures refused { IfErr result (λ refusal. refusal.values.items ≡ values.items) }
+    {
+        let Space {
+            words,
+            mut slots,
+            room,
+        } = space;
         wrap(&mut values, &mut slots);
-        match Table::new(alloc, words.as_slice(), slots, &opening) {
+        match Table::new(alloc, words.as_slice(), slots, opening) {
             Ok((table, seat)) => {
                 values.destroy_empty();
                 Ok((OrderedLock { table, room }, Seat { seat }))
             }
-            Err(atomic_table::Refused { mut slots }) => {
-                room.into_list().destroy_empty();
-                unwrap(&mut slots, &mut values);
-                slots.destroy_empty();
-                Err(Refused { values })
-            }
+            Err(refused) => Err(handed_back(room, refused.slots, values)),
         }
     }
 

@@ -1,6 +1,6 @@
 //! The second word: the durable number and the halt.
 
-ghost use Rattle.std.specs.Prelude.{◌≡◌, ◌+◌, ◌≤◌, ◌↔◌, IsTrue, length, min};
+ghost use Rattle.std.specs.Prelude.{◌≡◌, ◌+◌, ◌^◌, ◌≤◌, ◌↔◌, IsTrue, length, min};
 ghost use Rattle.rep_ordered.specs.Views.{Later, Sees};
 
 use crate::lock::OrderedLock;
@@ -73,7 +73,6 @@ impl<V: Keeps<E>, E> OrderedLock<V, E> {
     /// station may leave it, or give it up.
     ///
     /// It takes no memory and does not wait.
-    #[tactic(auto, using(crate::proofs::Places::place_later, crate::proofs::Places::place_sees))]
     pub fn halt(&self, seat: &mut Seat<V, E>)
         requires { seat.old.lock ≡ self.now }
         ensures lock { seat.new.lock ≡ seat.old.lock }
@@ -81,6 +80,19 @@ impl<V: Keeps<E>, E> OrderedLock<V, E> {
         ensures sees { Sees (V.legal seat.old.view.first) seat.new.view }
         ensures halted { seat.new.view.halted ≡ 1 }
     {
-        self.table.shared.fetch_or::<Halt>(&mut seat.seat, 1, HALT);
+        self.add_bit(seat, HALT);
+    }
+
+    /// Puts the bit of the halt into the word.
+    #[tactic(auto, using(crate::proofs::Places::place_later, crate::proofs::Places::place_sees))]
+    fn add_bit(&self, seat: &mut Seat<V, E>, bit: u64)
+        requires lock { seat.old.lock ≡ self.now }
+        requires bit { bit ≡ 2 ^ 63 }
+        ensures lock { seat.new.lock ≡ seat.old.lock }
+        ensures later { Later seat.old.view seat.new.view }
+        ensures sees { Sees (V.legal seat.old.view.first) seat.new.view }
+        ensures halted { seat.new.view.halted ≡ 1 }
+    {
+        self.table.shared.fetch_or::<Halt>(&mut seat.seat, 1, bit);
     }
 }

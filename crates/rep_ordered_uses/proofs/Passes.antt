@@ -1,18 +1,20 @@
 -- Lists of tickets, one ticket later.
-use Rattle.std.proofs.Common.{◌≡◌, ℕ, zero, suc, ◌+◌, ◌-◌, ◌*◌, ◌/◌, ◌^◌, ◌<◌, ◌≤◌, max, eqb, List, [], ◌∷◌, ◌++◌, length, get_or, take, sym, refl, ap, ◌∙◌, subst, arith, length-append, mul-le-mul_right, if◌then◌else◌}
+use Rattle.std.proofs.Common.{◌≡◌, ℕ, zero, suc, ◌+◌, ◌-◌, ◌*◌, ◌/◌, ◌^◌, ◌<◌, ◌≤◌, max, eqb, eqb-true, eq-eqb, ne_eqb, Bool, true, false, List, [], ◌∷◌, ◌++◌, length, get_or, take, sym, refl, ap, ◌∙◌, subst, arith, length-append, mul-le-mul_right, if◌then◌else◌}
 use Rattle.std.specs.Prelude.{slice_get, Option, None, Some, Result, Ok, Err, OnOk, IsSomeAnd, All}
 use Rattle.std.proofs.lemmas.Option.{same_Some, slice_get-get_or}
 use Rattle.rep_ordered_uses.specs.declared.notes.Note.{Note}
 use Rattle.rep_ordered.specs.Ends.{Closed}
 use Rattle.std.specs.Result.{result_and}
 use Rattle.std.proofs.Math.Nat.{add-mul}
-use Rattle.rep_ordered.specs.declared.view.Reached.{Reached}
+use Rattle.rep_ordered.specs.declared.view.Hold.{Hold}
 use Rattle.rep_ordered.specs.declared.view.View.{View}
 use Rattle.rep_ordered.specs.Counts.{times}
-use Rattle.rep_ordered.specs.Views.{StartsWith, held_at, reached_at, reach}
-use Rattle.rep_ordered.specs.GoingLaws.{append_nil, passed_more, passed_joined}
+use Rattle.rep_ordered.specs.Views.{StartsWith, except, floor_at, held_at, hold, names, reached_at, word_at}
+use Rattle.rep_ordered.specs.Going.{Goes, Went}
+use Rattle.rep_ordered.specs.Steps.{Entered}
+use Rattle.rep_ordered.specs.GoingLaws.{append_nil, except_top, goes_entered, goes_on, passed_more, passed_joined}
 use Rattle.rep_ordered.specs.Beginnings.{whole_front}
-use Rattle.rep_ordered_uses.specs.Passing.{Anything, HavePassed, numbers, AllDone}
+use Rattle.rep_ordered_uses.specs.Passing.{Anything, HavePassed, Inside, numbers, AllDone}
 
 pub length-numbers : (first n : ℕ) → length (numbers first n) ≡ n
 length-numbers first zero = refl
@@ -27,33 +29,58 @@ numbers_more : (start t : ℕ) (tickets : List ℕ) → start + length tickets �
 numbers_more start t tickets count all = let long : suc (length tickets) ≡ length (tickets ++ t ∷ []) = omega (arith, length-append tickets (t ∷ [])) in
     ap (λ l. l ++ t ∷ []) all ∙ (numbers_snoc start (length tickets) t count ∙ ap (numbers start) long)
 
-pub next_first : (start t : ℕ) (seen tickets : List ℕ) → HavePassed start t seen tickets → start + length seen ≡ t → HavePassed start (t + 1) (seen ++ t ∷ []) (tickets ++ t ∷ [])
-next_first start t seen tickets h place = let count = h.count in let same = whole_front seen tickets h.front (omega arith) in record {
-  count = omega (arith, length-append tickets (t ∷ []));
-  all = numbers_more start t tickets h.count h.all;
-  front = ([], ap (λ l. l ++ t ∷ []) (sym same) ∙ sym (append_nil (tickets ++ t ∷ [])));
-}
-
-pub next_second : (start t : ℕ) (before seen old tickets : List ℕ) → HavePassed start t before old → start + length before ≡ t → StartsWith seen (before ++ t ∷ []) → HavePassed start t seen tickets → HavePassed start (t + 1) seen (tickets ++ t ∷ [])
-next_second start t before seen old tickets g place begins h = let count = h.count in let old_count = g.count in let same = whole_front before old g.front (omega arith) in
-    let lengths : length tickets ≡ length old = omega arith in
-    let is : tickets ≡ before = h.all ∙ (ap (numbers start) lengths ∙ (sym g.all ∙ same)) in record {
-      count = omega (arith, length-append tickets (t ∷ []));
-      all = numbers_more start t tickets h.count h.all;
-      front = (begins.0, begins.1 ∙ ap (λ l. (l ++ t ∷ []) ++ begins.0) (sym is));
+-- a ticket passed the station next, where the history begins with all tickets up to it
+pub next_passed : (start t : ℕ) (seen later tickets : List ℕ) → HavePassed start t seen tickets → StartsWith later (numbers start (t + 1 - start)) → HavePassed start (t + 1) later (tickets ++ t ∷ [])
+next_passed start t seen later tickets h begins = let count = h.count in let longer = length-append tickets (t ∷ []) in
+    let long : length (tickets ++ t ∷ []) ≡ t + 1 - start = omega arith in let all = numbers_more start t tickets h.count h.all in record {
+      count = omega arith;
+      all = all;
+      front = (begins.0, begins.1 ∙ ap (λ l. l ++ begins.0) (sym (all ∙ ap (numbers start) long)));
     }
 
+-- it did so as it joined the history
+pub begins_joined : (start t : ℕ) (seen tickets : List ℕ) → HavePassed start t seen tickets → start + length seen ≡ t → StartsWith (seen ++ t ∷ []) (numbers start (t + 1 - start))
+begins_joined start t seen tickets h place = let count = h.count in let longer = length-append tickets (t ∷ []) in let same = whole_front seen tickets h.front (omega arith) in
+    let long : length (tickets ++ t ∷ []) ≡ t + 1 - start = omega arith in
+    ([], ap (λ l. l ++ t ∷ []) (sym same) ∙ (numbers_more start t tickets h.count h.all ∙ (ap (numbers start) long ∙ sym (append_nil (numbers start (t + 1 - start))))))
+
+-- a station that is held at a word is held
+pub word_held : (j n : ℕ) (held : List Hold) → word_at j held ≡ n + 1 → 0 < held_at j held
+word_held j n [] is = absurd (omega arith)
+word_held j n (h ∷ hs) is = go (eqb j h.station) refl (word_held j n hs)
+  where
+    go : (b : Bool) → eqb j h.station ≡ b → (word_at j hs ≡ n + 1 → 0 < held_at j hs) → 0 < held_at j (h ∷ hs)
+    go true e behind = let same : j ≡ h.station = eqb-true j h.station e in omega arith
+    go false e behind = let below = behind (subst (λ b. (if b then h.word else word_at j hs) ≡ n + 1) e is) in omega arith
+
+floor_on_top : (j w d : ℕ) (hs : List Hold) → floor_at j (hold j w d ∷ hs) ≡ d
+floor_on_top j w d hs = subst (λ b. (if b then d else floor_at j hs) ≡ d) (sym (eq-eqb j j refl)) refl
+
+module _ {V : Type 0} (law : List ℕ → Type 0) (at_home : ℕ → ℕ → ℕ → List ℕ → ℕ → V → Type 0) where
+  -- who entered a station by a ticket is inside with it
+  pub inside_entered : (j t : ℕ) (v w : View V ℕ) (x : V) → Entered law at_home (λ _. 0) (λ _. 0) j t 1 v w x → Inside j t w
+  inside_entered j t v w x e = record {
+    word = e.word;
+    floor = ap (λ (z : View V ℕ). floor_at j z.held) e.view ∙ floor_on_top j (4 * t + 1) 0 v.held;
+    common = λ some_name. ap (λ (z : View V ℕ). z.common) e.view ∙ ap (λ b. if b then v.common else 0) (ne_eqb (names j) 0 (λ none. absurd (omega arith)));
+  }
+
+  -- who entered a station and left it holds none again
+  pub went_inside : (j t : ℕ) (v w u : View V ℕ) (x : V) → Entered law at_home (λ _. 0) (λ _. 0) j t 1 v w x → v.held ≡ [] → Goes w u → u.held ≡ except j w.held → Went v u
+  went_inside j t v w u x e free goes held = record {
+    goes = goes_on v w u (goes_entered law at_home (λ _. 0) (λ _. 0) j t 1 v w x e) goes;
+    free = held ∙ (ap (λ (z : View V ℕ). except j z.held) e.view ∙ (except_top j (4 * t + 1) 0 v.held ∙ free));
+  }
+
 -- the number drawn has passed both stations, and so have those before it
-all_done : {V : Type 0} (v w : View V ℕ) (t : ℕ) → w.own ≡ v.own ++ t ∷ [] → t < reached_at 0 w.reached → t < reached_at 1 w.reached → reached_at 0 v.reached ≤ reached_at 0 w.reached → reached_at 1 v.reached ≤ reached_at 1 w.reached → AllDone v → AllDone w
+pub all_done : {V : Type 0} (v w : View V ℕ) (t : ℕ) → w.own ≡ v.own ++ t ∷ [] → t < reached_at 0 w.reached → t < reached_at 1 w.reached → reached_at 0 v.reached ≤ reached_at 0 w.reached → reached_at 1 v.reached ≤ reached_at 1 w.reached → AllDone v → AllDone w
 all_done v w t own here there up_here up_there old x drawn = (passed_more 0 v w t up_here own here (λ y d. (old y d).0) x drawn, passed_more 1 v w t up_there own there (λ y d. (old y d).1) x drawn)
 
--- the number drawn has left the first station, and then passed the second
-pub done_more : {V : Type 0} (v w : View V ℕ) (t : ℕ) → w.own ≡ v.own ++ t ∷ [] → w.reached ≡ reach 1 (t + 1) ∷ reach 1 t ∷ reach 0 (t + 1) ∷ reach 0 t ∷ v.reached → AllDone v → AllDone w
-done_more v w t own reached old = let here = ap (reached_at 0) reached in let there = ap (reached_at 1) reached in all_done v w t own (omega arith) (omega arith) (omega arith) (omega arith) old
-
--- it was inside both at once, and left the first one first
-pub done_coupled : {V : Type 0} (v w : View V ℕ) (t : ℕ) → w.own ≡ v.own ++ t ∷ [] → w.reached ≡ reach 1 (t + 1) ∷ reach 0 (t + 1) ∷ reach 1 t ∷ reach 0 t ∷ v.reached → AllDone v → AllDone w
-done_coupled v w t own reached old = let here = ap (reached_at 0) reached in let there = ap (reached_at 1) reached in all_done v w t own (omega arith) (omega arith) (omega arith) (omega arith) old
+-- the number drawn has passed both stations, where the seat went on with it twice
+pub done_twice : {V : Type 0} (v u w l : View V ℕ) (t : ℕ) → u.own ≡ v.own ++ t ∷ [] → u.reached ≡ v.reached → w.own ≡ u.own → l.own ≡ w.own → Went u w → Went w l → t < reached_at 0 w.reached → t < reached_at 1 l.reached → AllDone v → AllDone l
+done_twice v u w l t drawn reached same same_then first second here there old = let start = ap (reached_at 0) reached in let start_there = ap (reached_at 1) reached in
+    let up = first.goes.reached 0 in let up_there = first.goes.reached 1 in let on = second.goes.reached 0 in let on_there = second.goes.reached 1 in
+    all_done v l t (same_then ∙ (same ∙ drawn)) (omega arith) (omega arith) (omega arith) (omega arith) old
 
 -- the notes that a lock is closed with whose seat holds no station
 pub closed_marks : (v : View Note ℕ) (values : List (Option Note)) → Closed Anything (λ _ _ _ _ _ note. note.mark ≤ 100) (λ note. note.mark) (λ _. 2 ^ 60) v values → v.held ≡ [] → All (λ found. IsSomeAnd found (λ note. note.mark ≤ 100)) values
@@ -64,6 +91,10 @@ no_more start n m before after first second g place h same = let a = g.count in 
 
 pub parts : (threads count : ℕ) → (threads - threads / 2) * count + threads / 2 * count ≡ threads * count
 parts threads count = let half : ℕ = threads / 2 in let rest : ℕ = threads - half in let whole : rest + half ≡ threads = omega arith in sym (add-mul rest half count) ∙ ap (λ (z : ℕ). z * count) whole
+
+pub ok_then : {A E : Type 0} {P Q : Type 0} (r : Result A E) → OnOk r P → (P → Q) → OnOk r Q
+ok_then (Ok a) p f = f p
+ok_then (Err e) p f = tt
 
 pub ok_both : {A B E : Type 0} {P Q R : Type 0} (r : Result A E) (s : Result B E) → OnOk r P → OnOk s Q → (P → Q → R) → OnOk (result_and r s) R
 ok_both (Ok a) (Ok b) p q f = f p q

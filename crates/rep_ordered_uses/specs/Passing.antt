@@ -1,9 +1,9 @@
 -- Tickets that pass two stations: what lies at home there, and what a seat has done.
-use Rattle.std.specs.Prelude.{◌≡◌, ℕ, ◌+◌, ◌<◌, List, [], ◌∷◌, length}
+use Rattle.std.specs.Prelude.{◌≡◌, ℕ, ◌+◌, ◌*◌, ◌<◌, List, [], ◌∷◌, length}
 use Rattle.std.proofs.Common.{zero, suc}
 use Rattle.rep_ordered.specs.declared.view.View.{View}
 use Rattle.rep_ordered.specs.Counts.{times}
-use Rattle.rep_ordered.specs.Views.{StartsWith, reached_at}
+use Rattle.rep_ordered.specs.Views.{StartsWith, floor_at, names, reached_at, word_at}
 
 -- so many numbers, from the first on
 abbrev pub numbers : ℕ → ℕ → List ℕ
@@ -15,6 +15,12 @@ pub record HavePassed (start number : ℕ) (history tickets : List ℕ) : Type 0
   pub count : start + length tickets ≡ number
   pub all : tickets ≡ numbers start (length tickets)
   pub front : StartsWith history tickets
+
+-- the seat is inside the station with this ticket, and no durable number is named there
+pub record Inside {V : Type 0} (station ticket : ℕ) (v : View V ℕ) : Type 0 where
+  pub word : word_at station v.held ≡ 4 * ticket + 1
+  pub floor : floor_at station v.held ≡ 0
+  pub common : 0 < names station → v.common ≡ 0
 
 -- every history is lawful
 abbrev pub Anything : List ℕ → Type 0

@@ -1,13 +1,15 @@
 //! Threads that hold both stations at once, and leave first the one that they entered first.
 
-ghost use Rattle.std.specs.Prelude.{◌≡◌, ◌+◌, ◌<◌, ◌≤◌, [], length, IfOk, IfErr, OnOk, ◌⊎◌};
+ghost use Rattle.std.specs.Prelude.{◌≡◌, ◌+◌, ◌*◌, ◌<◌, ◌≤◌, [], ◌∷◌, length, IfOk, IfErr, OnOk, ◌⊎◌};
 ghost use Rattle.std.specs.Thread.{IsSync};
+ghost use Rattle.rep_ordered.specs.Views.{hold, reached_at};
 ghost use Rattle.rep_ordered.specs.Seats.{stations_of};
 ghost use Rattle.rep_ordered.specs.Going.{Went};
-ghost use Rattle.rep_ordered_uses.specs.Passing.{AllDone};
+ghost use Rattle.rep_ordered_uses.specs.Passing.{AllDone, HavePassed};
 
 use crate::passed::Passed;
 use crate::passing::{Way, lock_of_lists, pass_all, passed_counts};
+use crate::station::add_and_leave;
 use rep_ordered::{OrderedLock, Seat};
 use rep_types::{MAX_SEQNO, Refusal};
 use std::alloc::Global;
@@ -33,28 +35,41 @@ pub fn pass_coupled<const START: u64, R: Wait>(
     ensures refused { IfErr result (λ refusal. (refusal ≡ Refusal.Stopped) ⊎ (refusal ≡ Refusal.OutOfMemory)) }
 {
     let ticket = lock.claim(seat);
-    let mut first = lock.enter(rt, seat, 0, ticket)?;
-    let mut second = match lock.enter(rt, seat, 1, ticket) {
-        Ok(second) => second,
+    let first = lock.enter(rt, seat, 0, ticket)?;
+    match lock.enter(rt, seat, 1, ticket) {
+        Ok(second) => leave_both(lock, seat, ticket, first, second),
         Err(refusal) => {
             lock.give_up(seat, 0, first);
-            return Err(refusal);
+            Err(refusal)
         }
-    };
-    if first.tickets.push(ticket).is_err() {
-        lock.halt(seat);
-        lock.give_up(seat, 0, first);
-        lock.give_up(seat, 1, second);
-        return Err(Refusal::OutOfMemory);
     }
-    lock.leave(seat, 0, first, &Some(ticket));
-    if second.tickets.push(ticket).is_err() {
-        lock.halt(seat);
+}
+
+/// Adds the ticket to those that passed each station, and leaves first the one that was entered first.
+fn leave_both<const START: u64>(
+    lock: &OrderedLock<Passed<START>, u64>,
+    seat: &mut Seat<Passed<START>, u64>,
+    ticket: u64,
+    first: Passed<START>,
+    second: Passed<START>,
+) -> Result<(), Refusal>
+    requires lock { seat.old.lock ≡ lock.now }
+    requires held { seat.old.view.held ≡ hold 1 (4 * ticket + 1) 0 ∷ hold 0 (4 * ticket + 1) 0 ∷ [] }
+    requires common { seat.old.view.common ≡ 0 }
+    requires place { START + length seat.old.view.seen ≡ ticket }
+    requires first { HavePassed START ticket seat.old.view.seen first.tickets.items }
+    requires second { HavePassed START ticket seat.old.view.seen second.tickets.items }
+    ensures lock { seat.new.lock ≡ seat.old.lock }
+    ensures went { Went seat.old.view seat.new.view }
+    ensures own { seat.new.view.own ≡ seat.old.view.own }
+    ensures reached { OnOk result ((ticket < reached_at 0 seat.new.view.reached) × (ticket < reached_at 1 seat.new.view.reached)) }
+    ensures refused { IfErr result (λ refusal. refusal ≡ Refusal.OutOfMemory) }
+{
+    if let Err(refusal) = add_and_leave(lock, seat, 0, ticket, first, &Some(ticket)) {
         lock.give_up(seat, 1, second);
-        return Err(Refusal::OutOfMemory);
+        return Err(refusal);
     }
-    lock.leave(seat, 1, second, &None);
-    Ok(())
+    add_and_leave(lock, seat, 1, ticket, second, &None)
 }
 
 /// Counts so many times what has passed both stations, and says what it counted last.

@@ -6,6 +6,7 @@ mod coupled;
 mod notes;
 mod passed;
 mod passing;
+mod station;
 mod three;
 
 pub use coupled::{count_often, counts_beside, pass_coupled};

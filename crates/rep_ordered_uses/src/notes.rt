@@ -1,6 +1,6 @@
 //! Notes at home in two stations, for runs that end by a halt.
 
-ghost use Rattle.std.specs.Prelude.{◌≡◌, ◌<◌, ◌≤◌, [], length, IfOk, IfErr, IfSome, IsSomeAnd, IsTrue, IsFalse, All, ◌⊎◌};
+ghost use Rattle.std.specs.Prelude.{◌≡◌, ◌+◌, ◌<◌, ◌≤◌, [], length, IfOk, IfErr, IfSome, IsSomeAnd, IsTrue, IsFalse, All, ◌⊎◌};
 ghost use Rattle.rep_ordered.specs.Counts.{times};
 ghost use Rattle.rep_ordered.specs.Views.{Holds, except};
 ghost use Rattle.rep_ordered.specs.Seats.{stations_of};
@@ -108,24 +108,45 @@ pub fn halted_run<R: Threads + Wait + Sync>(
     ensures refused { IfErr result (λ refusal. (refusal ≡ Refusal.Stopped) ⊎ (refusal ≡ Refusal.OutOfMemory)) }
 {
     let (lock, mut holder) = lock_of_notes(alloc, 5)?;
-    let mut waiter = lock.split(&mut holder, 10);
+    let waiter = lock.split(&mut holder, 10);
+    let (holder, refusal) = halt_beside(rt, &lock, holder, waiter)?;
+    Ok((refusal, lock.close(holder)))
+}
+
+/// One seat enters station 0, and halts the lock in a thread of its own, while the other waits for that
+/// station in another: the one with all numbers of both, and what the other was told.
+fn halt_beside<R: Threads + Wait + Sync>(
+    rt: &R,
+    lock: &OrderedLock<Note, u64>,
+    mut holder: Seat<Note, u64>,
+    mut waiter: Seat<Note, u64>,
+) -> Result<(Seat<Note, u64>, Option<Refusal>), Refusal>
+    requires lock { (holder.lock ≡ lock.now) × (waiter.lock ≡ lock.now) × (stations_of lock.now ≡ 2) }
+    requires free { (holder.view.held ≡ []) × (waiter.view.held ≡ []) }
+    requires allowance { (0 < holder.view.allowance) × (0 < waiter.view.allowance) }
+    ensures lock { IfOk result (λ run. run.0.lock ≡ holder.lock) }
+    ensures free { IfOk result (λ run. run.0.view.held ≡ []) }
+    ensures all { IfOk result (λ run. run.0.view.allowance + length run.0.view.own ≡ (holder.view.allowance + length holder.view.own) + (waiter.view.allowance + length waiter.view.own)) }
+    ensures whole { IfOk result (λ run. run.0.view.whole ≡ holder.view.whole) }
+    ensures told { IfOk result (λ run. IfSome run.1 (λ refusal. refusal ≡ Refusal.Stopped)) }
+    ensures refused { IfErr result (λ refusal. refusal ≡ Refusal.Stopped) }
+{
     let first = lock.claim(&mut holder);
     let second = lock.claim(&mut waiter);
     let note = lock.enter(rt, &mut holder, 0, first)?;
-    let shared = &lock;
     let (mut holder, (waiter, refusal)) = join(
         rt,
         move || -> Seat<Note, u64>
-            requires { (holder.lock ≡ shared.now) × Holds holder.view 0 × (except 0 holder.view.held ≡ []) × (note.mark ≤ 100) }
+            requires { (holder.lock ≡ lock.now) × Holds holder.view 0 × (except 0 holder.view.held ≡ []) × (note.mark ≤ 100) }
             ensures { (result.lock ≡ holder.lock) × Went holder.view result.view }
-        { halt_and_give_up(shared, holder, note) },
+        { halt_and_give_up(lock, holder, note) },
         move || -> (Seat<Note, u64>, Option<Refusal>)
-            requires { (waiter.lock ≡ shared.now) × (stations_of shared.now ≡ 2) × (0 < times second waiter.view.own) × (waiter.view.held ≡ []) }
+            requires { (waiter.lock ≡ lock.now) × (stations_of lock.now ≡ 2) × (0 < times second waiter.view.own) × (waiter.view.held ≡ []) }
             ensures { (result.0.lock ≡ waiter.lock) × Went waiter.view result.0.view × IfSome result.1 (λ refusal. refusal ≡ Refusal.Stopped) }
-        { wait_for_turn(rt, shared, waiter, second) },
+        { wait_for_turn(rt, lock, waiter, second) },
     );
     lock.join(&mut holder, waiter);
-    Ok((refusal, lock.close(holder)))
+    Ok((holder, refusal))
 }
 
 /// What the front says after the durable number was raised to 7, then to 5, and after a halt.
@@ -136,14 +157,29 @@ pub fn raised_run<R: Wait>(rt: &R, alloc: Global) -> Result<(Front, Front, Front
     ensures refused { IfErr result (λ refusal. (refusal ≡ Refusal.Stopped) ⊎ (refusal ≡ Refusal.OutOfMemory)) }
 {
     let (lock, mut seat) = lock_of_notes(alloc, 5)?;
-    let mut note = lock.side_enter(rt, &mut seat, 1)?;
+    raise_twice(rt, &lock, &mut seat)
+}
+
+/// Raises the durable number to 7, then to 5, halts the lock, and says what the front is after each.
+fn raise_twice<R: Wait>(
+    rt: &R,
+    lock: &OrderedLock<Note, u64>,
+    seat: &mut Seat<Note, u64>,
+) -> Result<(Front, Front, Front), Refusal>
+    requires lock { (seat.old.lock ≡ lock.now) × (stations_of lock.now ≡ 2) }
+    requires free { seat.old.view.held ≡ [] }
+    ensures raised { IfOk result (λ fronts. IsFalse fronts.0.halted → 7 ≤ fronts.0.durable) }
+    ensures kept { IfOk result (λ fronts. (fronts.0.durable ≤ fronts.1.durable) × (fronts.1.durable ≤ fronts.2.durable)) }
+    ensures halted { IfOk result (λ fronts. IsTrue fronts.2.halted) }
+    ensures refused { IfErr result (λ refusal. refusal ≡ Refusal.Stopped) }
+{
+    let mut note = lock.side_enter(rt, seat, 1)?;
     note.mark = note.mark.max(7);
-    lock.side_leave(&mut seat, 1, note);
-    lock.raise(&mut seat, 7);
-    let raised = lock.front(&mut seat);
-    lock.raise(&mut seat, 5);
-    let kept = lock.front(&mut seat);
-    lock.halt(&mut seat);
-    let halted = lock.front(&mut seat);
-    Ok((raised, kept, halted))
+    lock.side_leave(seat, 1, note);
+    lock.raise(seat, 7);
+    let raised = lock.front(seat);
+    lock.raise(seat, 5);
+    let kept = lock.front(seat);
+    lock.halt(seat);
+    Ok((raised, kept, lock.front(seat)))
 }

@@ -9,6 +9,7 @@ ghost use Rattle.rep_ordered_uses.specs.Passing.{AllDone, numbers};
 
 use crate::coupled::pass_coupled;
 use crate::passed::Passed;
+use crate::station::pass_station;
 use rep_ordered::{OrderedLock, Seat};
 use rep_types::{MAX_SEQNO, Refusal};
 use std::alloc::Global;
@@ -34,21 +35,8 @@ pub fn pass_one<const START: u64, R: Wait>(
     ensures refused { IfErr result (λ refusal. (refusal ≡ Refusal.Stopped) ⊎ (refusal ≡ Refusal.OutOfMemory)) }
 {
     let ticket = lock.claim(seat);
-    let mut first = lock.enter(rt, seat, 0, ticket)?;
-    if first.tickets.push(ticket).is_err() {
-        lock.halt(seat);
-        lock.give_up(seat, 0, first);
-        return Err(Refusal::OutOfMemory);
-    }
-    lock.leave(seat, 0, first, &Some(ticket));
-    let mut second = lock.enter(rt, seat, 1, ticket)?;
-    if second.tickets.push(ticket).is_err() {
-        lock.halt(seat);
-        lock.give_up(seat, 1, second);
-        return Err(Refusal::OutOfMemory);
-    }
-    lock.leave(seat, 1, second, &None);
-    Ok(())
+    pass_station(rt, lock, seat, 0, ticket, &Some(ticket))?;
+    pass_station(rt, lock, seat, 1, ticket, &None)
 }
 
 /// How a ticket passes both stations: it leaves the first before it enters the second, or after.

@@ -2,7 +2,8 @@
 //! taken over.
 
 ghost use Rattle.std.specs.Prelude.{◌≡◌, ◌+◌, ◌<◌, ◌≤◌, [], length, IfOk, IfErr};
-ghost use Rattle.rep_ordered.specs.Seats.{stations_of};
+ghost use Rattle.rep_ordered.specs.Counts.{times};
+ghost use Rattle.rep_ordered.specs.Seats.{IsFree, stations_of};
 ghost use Rattle.rep_ordered.specs.Going.{Went};
 
 use rep_ordered::{Keeps, OrderedLock, Seat};
@@ -81,6 +82,24 @@ pub fn wait_one<R: Wait>(
     let ticket = lock.claim(seat);
     let first = lock.enter(rt, seat, 0, ticket)?;
     lock.leave(seat, 0, first, &Some(ticket));
+    queue_one(rt, lock, ticket, seat)
+}
+
+/// Passes station 2 with a ticket, and lets one more wait there.
+fn queue_one<R: Wait>(
+    rt: &R,
+    lock: &OrderedLock<Part, u64>,
+    ticket: u64,
+    seat: &mut Seat<Part, u64>,
+) -> Result<(), Refusal>
+    requires free { IsFree lock.now 3 seat.old }
+    requires ticket { 0 < times ticket seat.old.view.own }
+    ensures lock { seat.new.lock ≡ seat.old.lock }
+    ensures went { Went seat.old.view seat.new.view }
+    ensures own { seat.new.view.own ≡ seat.old.view.own }
+    ensures common { seat.old.view.common ≤ seat.new.view.common }
+    ensures stopped { IfErr result (λ refusal. (refusal ≡ Refusal.Stopped) × (seat.new.view.halted ≡ 1)) }
+{
     let mut queue = lock.enter(rt, seat, 2, ticket)?;
     queue.waiting += 1;
     lock.leave(seat, 2, queue, &None);

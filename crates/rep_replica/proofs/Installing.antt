@@ -223,6 +223,12 @@ module _ {D : Type 0} (failures : D → ℕ) (b : Bringing D) (e : Engine D) (ta
         running = ap (λ (t : Standing). t.stopped) alone ∙ ap is_some running_there;
       }
 
+pub lands_there :
+    {D : Type 0} (failures : D → ℕ) (b : Bringing D) (e : Engine D) → IsTaken b.coming b.engine e → IsBeside b.engine.checkpoint b.engine.log b.engine.block b.coming → b.engine.halted ≡ None → (certifier : Holdings) (new : Replica D) (result : Result (Unit {0}) Refusal)
+    → OnOk result (facts_of failures new ≡ record (facts_of failures (record { engine = e; backlog = []; certifier = certifier; stopped = false })) { stage = is_off_stage }) → IfErr result (λ r. (r ≡ DiskFault) × ((facts_of failures new).stopped ≡ true)) → Lands failures b new result
+lands_there failures b e taken beside runs certifier new (Ok x) done fault = record { done = is_at failures b e taken beside runs (facts_of failures new) certifier done; fault = tt }
+lands_there failures b e taken beside runs certifier new (Err r) done fault = record { done = tt; fault = fault }
+
 -- ---- what is so of replicas
 
 pub none_come : (s : Standing) (h : Holding) → delivered s ≤ MAX_SEQNO → h.delivered ≡ delivered s → GoOn s [] h
@@ -237,6 +243,14 @@ on_err (Err e) h = h
 pub halts_on : {A B : Type 0} (result : Result (Unit {0}) Refusal) → IfErr result (λ e. e ≡ DiskFault → A) → (A → B) → IfErr result (λ e. e ≡ DiskFault → B)
 halts_on (Ok x) h f = tt
 halts_on (Err e) h f = λ fault. f (h fault)
+
+pub done_on : {A B : Type 0} (result : Result (Unit {0}) Refusal) → OnOk result A → (A → B) → OnOk result B
+done_on (Ok x) h f = f h
+done_on (Err e) h f = tt
+
+pub some_on : {T A B : Type 0} (o : Option T) → IfSome o (λ _. A) → (A → B) → IfSome o (λ _. B)
+some_on None h f = tt
+some_on (Some x) h f = f h
 
 pub same_ok : {A B : Type 0} {a b : A} → ◌≡◌ {A = Result A B} (Ok a) (Ok b) → a ≡ b
 same_ok e = cc

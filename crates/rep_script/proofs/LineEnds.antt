@@ -7,8 +7,7 @@ use Rattle.rep_types.specs.declared.refusal.Refusal.TheVariants.{StreamFault}
 use Rattle.rep_types.specs.declared.verdict.Verdict.{Verdict}
 use Rattle.rep_types.specs.Order.{verdict}
 use Rattle.rep_record.specs.Texts.{verdict_line}
-use Rattle.rep_plain.specs.Delivered.{Delivered}
-use Rattle.rep_script.specs.Judging.{JudgesLine, next_verdict_line}
+use Rattle.rep_script.specs.Judging.{Delivered, JudgesLine, next_verdict_line}
 
 -- the item was delivered, and its verdict line was written as far as the writer took it
 pub judges_item : (old new : Delivered) (c : Option (Result Item Refusal)) (i : Item) (seqno : ℕ) (v : Verdict) (result : Result (Unit {0}) Refusal) (before after : Option (List ℕ)) →

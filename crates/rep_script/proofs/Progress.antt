@@ -13,13 +13,14 @@ use Rattle.rep_types.specs.declared.refusal.Refusal.TheVariants.{OutOfMemory, St
 use Rattle.rep_types.specs.Settings.{Setting}
 use Rattle.rep_types.specs.Order.{Order, history}
 use Rattle.rep_types.proofs.Histories.{take_history, history_push_judged}
-use Rattle.rep_plain.specs.Delivered.{Delivered}
+use Rattle.rep_cert.specs.Holdings.{Holding}
+use Rattle.rep_cert.specs.Following.{Follows}
 use Rattle.rep_record.specs.Lines.{Unread, ahead, NextLine}
 use Rattle.rep_record.specs.Reading.{order_line}
-use Rattle.rep_script.specs.Judging.{Reading, reading_of, items_ahead, with_line, content, line_of, verdict_lines, judged_text, next_verdict_line, Ends, EndsBy, JudgesLine, ReadsParams, refused, text_ahead, reading}
+use Rattle.rep_script.specs.Judging.{Delivered, Reading, JudgesNext, reading_of, items_ahead, with_line, content, line_of, verdict_lines, judged_text, next_verdict_line, Ends, EndsBy, JudgesLine, ReadsParams, refused, text_ahead, reading}
 use Rattle.rep_script.specs.ScriptLines.{script_line}
 use Rattle.rep_script.specs.Answering.{Answered}
-use Rattle.rep_script.proofs.Answering.{answered_on, answered_cut, answered_more, answered_all, answered_front}
+use Rattle.rep_script.proofs.Answering.{nothing_answered, answered_on, answered_cut, answered_more, answered_all, answered_front}
 use Rattle.rep_script.proofs.Stepping.{said_end, said_refused, said_step}
 
 -- the items of an order, and then those of a text
@@ -31,6 +32,18 @@ pub record HasJudged (text : List ℕ) (first : Unread) (p : Setting) (node : De
   pub setting : node.setting ≡ p
   pub items : IsSomeAnd left (λ rest. items_ahead first text ≡ with_front node.order (items_ahead u rest))
   pub written : Answered before after waiting (verdict_lines (history node.setting node.order))
+
+-- It is so of the items that a certifier follows.
+abbrev pub HasCertified : List ℕ → Unread → Setting → Holding → Unread → Option (List ℕ) → Option (List ℕ) → Option (List ℕ) → List ℕ → Type 0
+HasCertified text first p holds u left before after waiting =
+    (L : Order) × Follows holds L × HasJudged text first p (record { setting = holds.setting; order = L }) u left before after waiting
+
+-- at the start nothing is judged
+pub judged_none : (start before : Option (List ℕ)) (u : Unread) (holds : Holding) (waiting : List ℕ) → Follows holds [] → waiting ≡ [] →
+    IfSome start (λ text. HasCertified text u holds.setting holds u start before before waiting)
+judged_none None before u holds waiting follows idle = tt
+judged_none (Some text) before u holds waiting follows idle =
+    ([], follows, record { setting = refl; items = refl; written = subst (λ w. Answered before before w []) (sym idle) (nothing_answered before) })
 
 -- the first items of a longer order have the same history
 pub take_longer : (p : Setting) (L M : Order) → take (length L) (history p (L ++ M)) ≡ history p L
@@ -64,11 +77,6 @@ ends_at_fault r IsAnswered refusal fault written =
       | StreamFault ↦ λ _. (length (judged_text r), rw (take_all (length (judged_text r)) (judged_text r) (omega arith)) written)
       | _ ↦ λ e. (e, written)
     ] fault
-
--- want of memory after some items
-pub ends_out_of_memory : (p : Setting) (L M : Order) (fault : Option Refusal) (IsAnswered : List ℕ → Type 0) → IsAnswered (verdict_lines (history p L)) →
-    EndsBy (reading_of p (L ++ M, fault)) IsAnswered (Err OutOfMemory)
-ends_out_of_memory p L M fault IsAnswered written = (length L, rw (take_longer p L M) written)
 
 -- a stream that fails after some items, of whose lines a front is written
 pub ends_stream_fault : (p : Setting) (L M : Order) (fault : Option Refusal) (n : ℕ) (IsAnswered : List ℕ → Type 0) → IsAnswered (take n (verdict_lines (history p L))) →
@@ -112,23 +120,23 @@ refused_ends text (Some known) left' first u new p node refusal line before mid 
       | _ ↦ λ never _. absurd never
     ] next sent
 
-pub judged_refused : (start left left' : Option (List ℕ)) (first u new : Unread) (p : Setting) (node : Delivered) (refusal : Refusal) (line : List ℕ) (before mid after : Option (List ℕ)) (waiting rest : List ℕ) →
-    IfSome start (λ text. HasJudged text first p node u (ahead u left) before mid waiting) → IfSome left (λ known. NextLine (u.pending ++ known) u (Err refusal) new left' line) →
+pub judged_refused : (start left left' : Option (List ℕ)) (first u new : Unread) (p : Setting) (holds : Holding) (refusal : Refusal) (line : List ℕ) (before mid after : Option (List ℕ)) (waiting rest : List ℕ) →
+    IfSome start (λ text. HasCertified text first p holds u (ahead u left) before mid waiting) → IfSome left (λ known. NextLine (u.pending ++ known) u (Err refusal) new left' line) →
     ((k : ℕ) × Answered mid after rest (take k waiting)) → ((refusal ≡ StreamFault) ⊎ Answered mid after rest waiting) →
     IfSome start (λ text. EndsBy (reading_of p (items_ahead first text)) (Answered before after rest) (Err refusal))
-judged_refused None left left' first u new p node refusal line before mid after waiting rest h next cut sent = tt
-judged_refused (Some text) left left' first u new p node refusal line before mid after waiting rest h next cut sent =
-    refused_ends text left left' first u new p node refusal line before mid after waiting rest h next cut sent
+judged_refused None left left' first u new p holds refusal line before mid after waiting rest h next cut sent = tt
+judged_refused (Some text) left left' first u new p holds refusal line before mid after waiting rest (L, _, h) next cut sent =
+    refused_ends text left left' first u new p (record { setting = holds.setting; order = L }) refusal line before mid after waiting rest h next cut sent
 
 -- the end of the text ends the judging
-pub judged_all : (start left left' : Option (List ℕ)) (first u new : Unread) (p : Setting) (node : Delivered) (line : List ℕ) (before mid after : Option (List ℕ)) (waiting rest : List ℕ) →
-    IfSome start (λ text. HasJudged text first p node u (ahead u left) before mid waiting) → IfSome left (λ known. NextLine (u.pending ++ known) u (Ok false) new left' line) →
+pub judged_all : (start left left' : Option (List ℕ)) (first u new : Unread) (p : Setting) (holds : Holding) (line : List ℕ) (before mid after : Option (List ℕ)) (waiting rest : List ℕ) →
+    IfSome start (λ text. HasCertified text first p holds u (ahead u left) before mid waiting) → IfSome left (λ known. NextLine (u.pending ++ known) u (Ok false) new left' line) →
     Answered mid after rest waiting → IfSome start (λ text. EndsBy (reading_of p (items_ahead first text)) (Answered before after rest) (Ok tt))
-judged_all None left left' first u new p node line before mid after waiting rest h next sent = tt
-judged_all (Some text) None left' first u new p node line before mid after waiting rest h next sent = absurd h.items
-judged_all (Some text) (Some known) left' first u new p node line before mid after waiting rest h next sent =
+judged_all None left left' first u new p holds line before mid after waiting rest h next sent = tt
+judged_all (Some text) None left' first u new p holds line before mid after waiting rest (L, _, h) next sent = absurd h.items
+judged_all (Some text) (Some known) left' first u new p holds line before mid after waiting rest (L, _, h) next sent =
     rw (h.items, next.none, said_end order_line u, ← h.setting)
-    (refl, rw append-nil (answered_on before mid after waiting rest (verdict_lines (history node.setting node.order)) h.written sent))
+    (refl, rw append-nil (answered_on before mid after waiting rest (verdict_lines (history holds.setting L)) h.written sent))
 
 -- what one line leads to, by what it says
 judged_content : (text : List ℕ) (left' : Option (List ℕ)) (rest : List ℕ) (first new : Unread) (p : Setting) (node node' : Delivered) (c : Option (Result Item Refusal)) (before after : Option (List ℕ)) (waiting more : List ℕ) →
@@ -149,17 +157,22 @@ judged_content text left' rest first new p node node' (Some (Ok i)) before after
 }
 
 -- one more line was judged
-pub judged_more : (start left left' : Option (List ℕ)) (first u new : Unread) (p : Setting) (node node' : Delivered) (line : List ℕ) (before mid after : Option (List ℕ)) (waiting rest more : List ℕ) →
-    IfSome start (λ text. HasJudged text first p node u (ahead u left) before mid waiting) →
+pub judged_more : (start left left' : Option (List ℕ)) (first u new : Unread) (p : Setting) (holds holds' : Holding) (line : List ℕ) (before mid after : Option (List ℕ)) (waiting rest more : List ℕ) →
+    IfSome start (λ text. HasCertified text first p holds u (ahead u left) before mid waiting) →
     IfSome left (λ known. NextLine (u.pending ++ known) u (Ok true) new left' line) → new.number ≡ u.number + 1 → Answered mid after rest waiting →
-    JudgesLine node (content order_line new.number line) (Ok tt) node' (Some rest) (Some more) →
-    IfSome start (λ text. HasJudged text first p node' new (ahead new left') before after more)
-judged_more None left left' first u new p node node' line before mid after waiting rest more h next numbered sent judges = tt
-judged_more (Some text) None left' first u new p node node' line before mid after waiting rest more h next numbered sent judges = absurd h.items
-judged_more (Some text) (Some known) left' first u new p node node' line before mid after waiting rest more h next numbered sent judges =
-    judged_content text left' next.rest first new p node node' (content order_line new.number line) before after rest more h.setting
-    (h.items ∙ ap (with_front node.order) (said_step order_line (u.pending ++ known) u new left' line next numbered)) next.ahead_is
-    (answered_on before mid after waiting rest (verdict_lines (history node.setting node.order)) h.written sent) judges
+    ((L : Order) → Follows holds L → JudgesNext holds L (content order_line new.number line) (Ok tt) holds' (Some rest) (Some more)) →
+    IfSome start (λ text. HasCertified text first p holds' new (ahead new left') before after more)
+judged_more None left left' first u new p holds holds' line before mid after waiting rest more h next numbered sent judges = tt
+judged_more (Some text) None left' first u new p holds holds' line before mid after waiting rest more (L, _, h) next numbered sent judges = absurd h.items
+judged_more (Some text) (Some known) left' first u new p holds holds' line before mid after waiting rest more (L, follows, h) next numbered sent judges =
+    let node : Delivered = record { setting = holds.setting; order = L } in
+    let judged = judges L follows in (
+      judged.0,
+      judged.1,
+      judged_content text left' next.rest first new p node (record { setting = holds'.setting; order = judged.0 }) (content order_line new.number line) before after rest more h.setting
+          (h.items ∙ ap (with_front L) (said_step order_line (u.pending ++ known) u new left' line next numbered)) next.ahead_is
+          (answered_on before mid after waiting rest (verdict_lines (history holds.setting L)) h.written sent) judged.2,
+    )
 
 -- how a line ends the judging, by what it says
 line_ends : (text : List ℕ) (later : Order × Option Refusal) (first : Unread) (node node' : Delivered) (c : Option (Result Item Refusal)) (refusal : Refusal) (before after : Option (List ℕ)) (waiting more : List ℕ) →
@@ -174,25 +187,26 @@ line_ends text later first node node' (Some (Err e)) refusal before after waitin
     (rw append-nil (rw append-nil at (answered_more before after waiting more [] (verdict_lines (history node.setting node.order)) written kept))))
 line_ends text later first node node' (Some (Ok i)) refusal before after waiting more items written judges =
     subst (λ found. EndsBy (reading_of node.setting found) (Answered before after more) (Err refusal)) (sym items) (elim refusal as (λ e. JudgesLine node (Some (Ok i)) (Err e) node' (Some waiting) (Some more) → EndsBy (reading_of node.setting (with_front node.order (i ∷ later.0, later.1))) (Answered before after more) (Err e)) [
-      | OutOfMemory ↦ λ kept. ends_out_of_memory node.setting node.order (i ∷ later.0) later.1 (Answered before after more)
-          (rw append-nil at (answered_more before after waiting more [] (verdict_lines (history node.setting node.order)) written kept))
       | StreamFault ↦ λ cut. ends_within_line node.setting node.order i later.0 later.1 cut.0 (Answered before after more)
           (answered_more before after waiting more (take cut.0 (next_verdict_line node i)) (verdict_lines (history node.setting node.order)) written cut.1)
       | _ ↦ λ never. absurd never
     ] judges)
 
 -- a line that is refused, or that could not be judged or answered, ends the judging
-pub judged_line_ends : (start left left' : Option (List ℕ)) (first u new : Unread) (p : Setting) (node node' : Delivered) (refusal : Refusal) (line : List ℕ) (before mid after : Option (List ℕ)) (waiting rest more : List ℕ) →
-    IfSome start (λ text. HasJudged text first p node u (ahead u left) before mid waiting) →
+pub judged_line_ends : (start left left' : Option (List ℕ)) (first u new : Unread) (p : Setting) (holds holds' : Holding) (refusal : Refusal) (line : List ℕ) (before mid after : Option (List ℕ)) (waiting rest more : List ℕ) →
+    IfSome start (λ text. HasCertified text first p holds u (ahead u left) before mid waiting) →
     IfSome left (λ known. NextLine (u.pending ++ known) u (Ok true) new left' line) → new.number ≡ u.number + 1 → Answered mid after rest waiting →
-    JudgesLine node (content order_line new.number line) (Err refusal) node' (Some rest) (Some more) →
+    ((L : Order) → Follows holds L → JudgesNext holds L (content order_line new.number line) (Err refusal) holds' (Some rest) (Some more)) →
     IfSome start (λ text. EndsBy (reading_of p (items_ahead first text)) (Answered before after more) (Err refusal))
-judged_line_ends None left left' first u new p node node' refusal line before mid after waiting rest more h next numbered sent judges = tt
-judged_line_ends (Some text) None left' first u new p node node' refusal line before mid after waiting rest more h next numbered sent judges = absurd h.items
-judged_line_ends (Some text) (Some known) left' first u new p node node' refusal line before mid after waiting rest more h next numbered sent judges =
-    subst (λ s. EndsBy (reading_of s (items_ahead first text)) (Answered before after more) (Err refusal)) h.setting (line_ends text (items_ahead new next.rest) first node node' (content order_line new.number line) refusal before after rest more
-    (h.items ∙ ap (with_front node.order) (said_step order_line (u.pending ++ known) u new left' line next numbered))
-    (answered_on before mid after waiting rest (verdict_lines (history node.setting node.order)) h.written sent) judges)
+judged_line_ends None left left' first u new p holds holds' refusal line before mid after waiting rest more h next numbered sent judges = tt
+judged_line_ends (Some text) None left' first u new p holds holds' refusal line before mid after waiting rest more (L, _, h) next numbered sent judges = absurd h.items
+judged_line_ends (Some text) (Some known) left' first u new p holds holds' refusal line before mid after waiting rest more (L, follows, h) next numbered sent judges =
+    let node : Delivered = record { setting = holds.setting; order = L } in
+    let judged = judges L follows in
+    subst (λ s. EndsBy (reading_of s (items_ahead first text)) (Answered before after more) (Err refusal)) h.setting
+    (line_ends text (items_ahead new next.rest) first node (record { setting = holds'.setting; order = judged.0 }) (content order_line new.number line) refusal before after rest more
+    (h.items ∙ ap (with_front L) (said_step order_line (u.pending ++ known) u new left' line next numbered))
+    (answered_on before mid after waiting rest (verdict_lines (history holds.setting L)) h.written sent) judged.2)
 
 -- ---- the answers that wait are written at the end
 
@@ -284,14 +298,17 @@ text_unread None left' before u new refusal is reads = tt
 text_unread (Some text) left' before u new refusal is reads =
     ends_unread text at_start new left' before refusal (subst (λ (v : Unread). ReadsParams order_line (v.pending ++ text) v (Err refusal) new left') is reads.0)
 
+-- where no memory is left for a certifier, nothing is written
+pub none_judged : (start : Option (List ℕ)) (u : Unread) (p : Setting) (before : Option (List ℕ)) →
+    IfSome start (λ rest. Ends (reading_of p (items_ahead u rest)) before before (Err OutOfMemory))
+none_judged None u p before = tt
+none_judged (Some rest) u p before = (0, Appends-nil before)
+
 -- a whole text whose params line is read, and whose items are judged
-pub text_read : (left left' before after : Option (List ℕ)) (u new : Unread) (p : Setting) (node : Delivered) (result : Result (Unit {0}) Refusal) → u ≡ at_start →
-    node ≡ record { setting = p; order = [] } → IfSome (ahead u left) (λ known. ReadsParams order_line known u (Ok p) new left' × ReadsParams script_line known u (Ok p) new left') →
-    (node.order ≡ [] → IfSome (ahead new left') (λ rest. Ends (reading_of node.setting (items_ahead new rest)) before after result)) →
+pub text_read : (left left' before after : Option (List ℕ)) (u new : Unread) (p : Setting) (result : Result (Unit {0}) Refusal) → u ≡ at_start →
+    IfSome (ahead u left) (λ known. ReadsParams order_line known u (Ok p) new left' × ReadsParams script_line known u (Ok p) new left') →
+    IfSome (ahead new left') (λ rest. Ends (reading_of p (items_ahead new rest)) before after result) →
     IfSome left (λ text. Ends (reading text) before after result)
-text_read None left' before after u new p node result is fresh reads ends = tt
-text_read (Some text) left' before after u new p node result is fresh reads ends =
-    let setting : node.setting ≡ p = ap (λ (d : Delivered). d.setting) fresh in
-    let order : node.order ≡ [] = ap (λ (d : Delivered). d.order) fresh in
-    ends_read text at_start new left' before after p result (subst (λ (v : Unread). ReadsParams order_line (v.pending ++ text) v (Ok p) new left') is reads.0)
-    (subst (λ s. IfSome (ahead new left') (λ rest. Ends (reading_of s (items_ahead new rest)) before after result)) setting (ends order))
+text_read None left' before after u new p result is reads ends = tt
+text_read (Some text) left' before after u new p result is reads ends =
+    ends_read text at_start new left' before after p result (subst (λ (v : Unread). ReadsParams order_line (v.pending ++ text) v (Ok p) new left') is reads.0) ends

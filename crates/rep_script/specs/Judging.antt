@@ -8,7 +8,8 @@ use Rattle.rep_types.specs.declared.refusal.Refusal.{Refusal}
 use Rattle.rep_types.specs.declared.refusal.Refusal.TheVariants.{OutOfMemory, Malformed, StreamFault}
 use Rattle.rep_types.specs.Settings.{Setting}
 use Rattle.rep_types.specs.Order.{Order, history, verdict}
-use Rattle.rep_plain.specs.Delivered.{Delivered}
+use Rattle.rep_cert.specs.Holdings.{Holding}
+use Rattle.rep_cert.specs.Following.{Follows}
 use Rattle.rep_record.specs.Words.{is_blank}
 use Rattle.rep_record.specs.Lines.{Unread, ahead, raw_lines, without_feed, line_fault}
 use Rattle.rep_record.specs.Reading.{order_line, params_line}
@@ -122,15 +123,24 @@ ReadsParams read text old (Err refusal) new left = text_ahead read old text ≡ 
 abbrev pub content : {A : Type 0} → (ℕ → List ℕ → Result A Refusal) → ℕ → List ℕ → Option (Result A Refusal)
 content read number line = if is_blank line then None else Some (read number line)
 
+-- The parameters, and the items that were judged so far.
+pub record Delivered : Type 0 where
+  pub setting : Setting
+  pub order : Order
+
 -- the line that is written for the next item
 abbrev pub next_verdict_line : Delivered → Item → List ℕ
 next_verdict_line node i = verdict_line (length node.order + 1) (verdict node.setting (node.order ++ i ∷ []) (length node.order + 1))
 
--- What judging one line does to the node and to what is written.
+-- What judging one line does to the items that were judged so far and to what is written.
 abbrev pub JudgesLine : Delivered → Option (Result Item Refusal) → Result (Unit {0}) Refusal → Delivered → Option (List ℕ) → Option (List ℕ) → Type 0
 JudgesLine old None result new before after = (result ≡ Ok tt) × (new ≡ old) × Appends before after []
 JudgesLine old (Some (Err refusal)) result new before after = (result ≡ Err refusal) × Appends before after []
 JudgesLine old (Some (Ok i)) (Ok _) new before after = (new ≡ record old { order = old.order ++ i ∷ [] }) × Appends before after (next_verdict_line old i)
-JudgesLine old (Some (Ok i)) (Err OutOfMemory) new before after = Appends before after []
 JudgesLine old (Some (Ok i)) (Err StreamFault) new before after = (k : ℕ) × Appends before after (take k (next_verdict_line old i))
 JudgesLine old (Some (Ok i)) (Err refusal) new before after = ⊥
+
+-- What judging one line does to a certifier that follows the items that were judged so far, and to what is written.
+abbrev pub JudgesNext : Holding → Order → Option (Result Item Refusal) → Result (Unit {0}) Refusal → Holding → Option (List ℕ) → Option (List ℕ) → Type 0
+JudgesNext old L c result new before after =
+    (M : Order) × Follows new M × JudgesLine (record { setting = old.setting; order = L }) c result (record { setting = new.setting; order = M }) before after

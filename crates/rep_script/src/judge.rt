@@ -1,18 +1,20 @@
 //! Judging an order text.
 
-ghost use Rattle.std.specs.Prelude.{◌≡◌, ◌++◌, [], IfSome};
+ghost use Rattle.std.specs.Prelude.{◌≡◌, ◌<◌, ◌≤◌, ◌++◌, [], IfSome, IfOk, IfErr};
 ghost use Rattle.std.specs.Io.KnownBytes.{Appends};
 ghost use Rattle.rep_record.specs.Lines.{Unread, ahead};
 ghost use Rattle.rep_record.specs.Reading.{order_line};
-ghost use Rattle.rep_script.specs.Judging.{reading, reading_of, items_ahead, Ends, EndsBy, ReadsParams, JudgesLine, content};
+ghost use Rattle.rep_types.specs.Order.{Order};
+ghost use Rattle.rep_cert.specs.Following.{Follows};
+ghost use Rattle.rep_script.specs.Judging.{reading, reading_of, items_ahead, Ends, EndsBy, ReadsParams, JudgesNext, content};
 ghost use Rattle.rep_script.specs.Answering.{Answered};
 ghost use Rattle.rep_script.specs.ScriptLines.{script_line};
 
 use crate::exchange::{Counted, Waiting, next_line, send};
 use arrayvec::ArrayVec;
-use rep_plain::PlainNode;
+use rep_cert::{Certifier, follows_from_the_start, follows_on, judges_as_the_order};
 use rep_record::{TextReader, is_blank, read_order_line, read_params_line, write_verdict};
-use rep_types::{Params, Refusal};
+use rep_types::{Params, Refusal, Window};
 use std::alloc::Global;
 use std::io::{Read, Write};
 
@@ -40,60 +42,81 @@ pub fn read_params<R: Read>(
     })
 }
 
+/// A certifier that was handed nothing yet.
+///
+/// Refuses with `OutOfMemory` where there is no room for what it may come to keep.
+fn first_certifier(alloc: Global, params: Params) -> Result<Certifier, Refusal>
+    ensures made { IfOk result (λ certifier. (certifier.current.setting ≡ params) × Follows certifier.current []) }
+    ensures refused { IfErr result (λ refusal. refusal ≡ Refusal.OutOfMemory) }
+{
+    follows_from_the_start();
+    let window = Window::fixed(params.window_size(), 0, Vec::new(alloc));
+    Certifier::new(alloc, params, 0, window)
+}
+
 /// Judges the item of the line, if the line has words, and answers its verdict line.
 fn judge_line<W: Write>(
-    node: &mut PlainNode,
+    certifier: &mut Certifier,
     line: &[u8],
     number: u64,
     writer: &mut W,
 ) -> Result<(), Refusal>
-    ensures { JudgesLine node.old (content order_line number line.now) result node.new (W.contents writer.old) (W.contents writer.new) }
+    // Each item had a line, so that a seqno is left.
+    requires left { certifier.old.current.delivered < number }
+    requires small { number ≤ 67108864 }
+    ensures judged { (L : Order) → Follows certifier.old.current L →
+        JudgesNext certifier.old.current L (content order_line number line.now) result certifier.new.current (W.contents writer.old) (W.contents writer.new) }
+    ensures left { certifier.new.current.delivered ≤ number }
 {
+    follows_on();
+    judges_as_the_order();
     if is_blank(line) {
         return Ok(());
     }
     let item = read_order_line(line, number)?;
-    let verdict = node.deliver_item(item)?;
-    write_verdict(writer, node.position(), verdict)
+    let (seqno, verdict) = certifier.admit_item(&item)?;
+    write_verdict(writer, seqno, verdict)
 }
 
-/// Judges the items of the rest of the text at a node with these parameters. The last verdict lines wait.
+/// Judges the items of the rest of the text by a certifier that was handed nothing yet. The last verdict lines wait.
 fn judge_lines<R: Read, W: Write>(
-    mut node: PlainNode,
+    mut certifier: Certifier,
     text: &mut TextReader,
     reader: &mut Counted<'_, R>,
     writer: &mut W,
     waiting: &mut Waiting,
 ) -> Result<(), Refusal>
-    ensures { node.order ≡ [] → waiting.old.items ≡ [] → IfSome (ahead text.old (R.remaining reader.old.reader.now)) (λ known.
-        EndsBy (reading_of node.setting (items_ahead text.old known)) (Answered (W.contents writer.old) (W.contents writer.new) waiting.new.items) result) }
+    requires { Follows certifier.current [] }
+    ensures { waiting.old.items ≡ [] → IfSome (ahead text.old (R.remaining reader.old.reader.now)) (λ known.
+        EndsBy (reading_of certifier.current.setting (items_ahead text.old known)) (Answered (W.contents writer.old) (W.contents writer.new) waiting.new.items) result) }
 {
     let mut line = ArrayVec::new();
     'lines: while next_line(text, reader, &mut line, writer, waiting)? {
-        judge_line(&mut node, &line, text.number(), waiting)?;
+        judge_line(&mut certifier, &line, text.number(), waiting)?;
     }
     Ok(())
 }
 
-/// Judges the items of the rest of the text at a node with these parameters, and writes their verdict lines.
+/// Judges the items of the rest of the text by a certifier that was handed nothing yet, and writes their verdict lines.
 fn judge_items<R: Read, W: Write>(
-    node: PlainNode,
+    certifier: Certifier,
     text: &mut TextReader,
     reader: &mut Counted<'_, R>,
     writer: &mut W,
 ) -> Result<(), Refusal>
-    ensures { node.order ≡ [] → IfSome (ahead text.old (R.remaining reader.old.reader.now)) (λ known.
-        Ends (reading_of node.setting (items_ahead text.old known)) (W.contents writer.old) (W.contents writer.new) result) }
+    requires { Follows certifier.current [] }
+    ensures { IfSome (ahead text.old (R.remaining reader.old.reader.now)) (λ known.
+        Ends (reading_of certifier.current.setting (items_ahead text.old known)) (W.contents writer.old) (W.contents writer.new) result) }
 {
     let mut waiting = Waiting::new();
-    let outcome = judge_lines(node, text, reader, writer, &mut waiting);
+    let outcome = judge_lines(certifier, text, reader, writer, &mut waiting);
     send(writer, &mut waiting)?;
     outcome
 }
 
 /// Judges an order text: writes a verdict line for each of its items, which are write sets and changes of the
 /// window's size. The lines go out together, but each before the reader is asked for what comes after the
-/// item's line.
+/// item's line. Memory is taken once, behind the params line: what it takes does not grow with the text.
 ///
 /// Refuses a params line as `read_params_line` does, an item's line as `read_order_line` does, want of
 /// memory with `OutOfMemory`, and with `StreamFault` a reader or a writer that fails and a text of more
@@ -109,10 +132,6 @@ pub fn judge_text<R: Read, W: Write>(
     let mut line = ArrayVec::new();
     let mut reader = Counted::new(reader);
     let params = read_params(&mut text, &mut reader, &mut line)?;
-    judge_items(
-        PlainNode::new(alloc, params),
-        &mut text,
-        &mut reader,
-        writer,
-    )
+    let certifier = first_certifier(alloc, params)?;
+    judge_items(certifier, &mut text, &mut reader, writer)
 }

@@ -1,145 +1,182 @@
 //! A transaction as its session sees it: what it reads and writes, the most keys of either, and what is refused once it has ended.
 
-use crate::node::{OTHER, ROW, Rows, begun, deleted_in, ended, got, put_in};
-use crate::sessions::{with_a_row, written};
+use crate::node::{Rows, begun, byte_of, deleted_in, ended, got, key_of, put_in, with_a_row};
 use rep_session::{Finished, Session};
-use rep_types::{Key, Refusal, Value};
+use rep_types::{Key, Refusal, Write, WriteSet};
 use std::process::Abort;
 use std::test::Fail;
 
-/// How many keys a transaction may read, and write.
-const MOST: u32 = 16;
+/// What a transaction ended with.
+#[derive(Clone, Copy, PartialEq, Eq)]
+enum Ended {
+    /// Nothing to deliver.
+    Nothing,
+    /// A write set.
+    Wrote(Wrote),
+}
 
-/// A row of the table, by its number.
-fn row(number: u32) -> Key {
-    Key {
-        table: 0,
-        row: number,
+/// What a write set says: its labels and what it had seen, how many keys it reads and the first of them, and how many it writes and
+/// the first of them, with the byte that is put there.
+#[derive(Clone, Copy, PartialEq, Eq)]
+struct Wrote {
+    labels: (u64, u64, u64),
+    reads: (usize, Option<Key>),
+    writes: (usize, Option<(Key, Option<u8>)>),
+}
+
+/// The key of a write, and the byte that it puts.
+fn written(write: &Write) -> (Key, Option<u8>) {
+    match &write.value {
+        Some(value) => (write.key, Some(byte_of(value))),
+        None => (write.key, None),
     }
 }
 
-/// Compares what the transaction finds under the key: this byte alone, or nothing.
-fn finds(
-    rt: &impl Abort,
-    session: &mut Session,
-    rows: &mut Rows,
-    (key, byte): (Key, Option<u8>),
-) -> Result<(), Refusal> {
-    let wanted = match byte {
-        Some(byte) => Some(Value::new(&[byte])?),
-        None => None,
-    };
-    assert!(rt; got(session, rows, key) == Ok(wanted));
-    Ok(())
+/// The first of the writes.
+fn first_of(writes: &[Write]) -> Option<(Key, Option<u8>)> {
+    Some(written(writes.first()?))
 }
 
-/// Compares the write set of a transaction that read the row 1 and put `b` under the row 2.
-fn is_written(rt: &impl Abort, ends: Result<Finished, Refusal>) -> Result<(), Fail> {
-    let item = written(ends)?;
-    assert_eq!(rt; (item.source(), item.trx(), item.last_seen()), (7, 9, 1));
-    assert!(rt; item.reads() == [ROW].as_slice());
-    let [write] = item.writes() else {
-        return Err(Fail::new("not one write"));
-    };
-    assert!(rt; write.key == OTHER);
-    assert!(rt; write.value == Some(Value::new(b"b")?));
-    Ok(())
-}
-
-/// Compares that each call is refused.
-fn is_closed(rt: &impl Abort, session: &mut Session, rows: &mut Rows) {
-    assert!(rt; got(session, rows, ROW) == Err(Refusal::Closed));
-    assert!(rt; put_in(session, ROW, b"c") == Err(Refusal::Closed));
-    assert!(rt; deleted_in(session, ROW) == Err(Refusal::Closed));
-    assert!(rt; ended(session) == Err(Refusal::Closed));
-}
-
-/// Reads the row 1, puts `b` under the row 2, and ends; then the transaction is closed.
-fn writes_and_ends(rt: &impl Abort, session: &mut Session, rows: &mut Rows) -> Result<(), Fail> {
-    finds(rt, session, rows, (ROW, Some(b'a')))?;
-    put_in(session, OTHER, b"b")?;
-    is_written(rt, ended(session))?;
-    is_closed(rt, session, rows);
-    Ok(())
-}
-
-#[test]
-fn a_transaction_is_closed_once_it_has_ended(rt: HostRuntime) -> Result<(), Fail> {
-    let mut rows = with_a_row(&rt)?;
-    let mut session = begun(&mut rows);
-    writes_and_ends(&rt, &mut session, &mut rows)
-}
-
-/// Reads the row 1, and ends with nothing to deliver; then the transaction is closed.
-fn reads_and_ends(rt: &impl Abort, session: &mut Session, rows: &mut Rows) -> Result<(), Fail> {
-    finds(rt, session, rows, (ROW, Some(b'a')))?;
-    assert!(rt; ended(session) == Ok(Finished::ReadOnly));
-    is_closed(rt, session, rows);
-    Ok(())
-}
-
-#[test]
-fn a_transaction_that_only_reads_has_nothing_to_deliver(rt: HostRuntime) -> Result<(), Fail> {
-    let mut rows = with_a_row(&rt)?;
-    let mut session = begun(&mut rows);
-    reads_and_ends(&rt, &mut session, &mut rows)
-}
-
-/// Reads as many keys as may be, one of them again, and one more.
-fn reads_too_many(rt: &impl Abort, session: &mut Session, rows: &mut Rows) -> Result<(), Refusal> {
-    for number in 1..=MOST {
-        got(session, rows, row(number))?;
+/// What the write set says.
+fn said_by(item: &WriteSet) -> Wrote {
+    Wrote {
+        labels: (item.source(), item.trx(), item.last_seen()),
+        reads: (item.reads().len(), item.reads().first().copied()),
+        writes: (item.writes().len(), first_of(item.writes())),
     }
-    finds(rt, session, rows, (ROW, Some(b'a')))?;
-    assert!(rt; got(session, rows, row(0)) == Err(Refusal::TooManyReads));
-    finds(rt, session, rows, (row(MOST), None))
 }
 
-/// Reads one key more than may be. What it writes it still finds.
-fn reads_what_it_wrote(
-    rt: &impl Abort,
-    session: &mut Session,
-    rows: &mut Rows,
-) -> Result<(), Fail> {
-    reads_too_many(rt, session, rows)?;
-    put_in(session, row(0), b"c")?;
-    finds(rt, session, rows, (row(0), Some(b'c')))?;
-    Ok(())
-}
-
-#[test]
-fn a_17th_key_is_not_read(rt: HostRuntime) -> Result<(), Fail> {
-    let mut rows = with_a_row(&rt)?;
-    let mut session = begun(&mut rows);
-    reads_what_it_wrote(&rt, &mut session, &mut rows)
-}
-
-/// Writes as many keys as may be, some of them again, and one more.
-fn writes_too_many(rt: &impl Abort, session: &mut Session) -> Result<(), Refusal> {
-    for number in 1..=MOST {
-        put_in(session, row(number), b"c")?;
+/// Ends the transaction.
+fn end(session: &mut Session) -> Result<Ended, Refusal> {
+    match ended(session)? {
+        Finished::ReadOnly => Ok(Ended::Nothing),
+        Finished::WriteSet(item) => Ok(Ended::Wrote(said_by(&item))),
     }
-    deleted_in(session, ROW)?;
-    put_in(session, row(MOST), b"d")?;
-    assert!(rt; put_in(session, row(0), b"c") == Err(Refusal::TooManyWrites));
-    assert!(rt; deleted_in(session, row(0)) == Err(Refusal::TooManyWrites));
+}
+
+/// A call on a row of the table, by its number, and what it answers.
+#[derive(Clone, Copy)]
+enum Call {
+    Get(u32, Result<Option<u8>, Refusal>),
+    Put(u32, u8, Result<(), Refusal>),
+    Delete(u32, Result<(), Refusal>),
+    End(Result<Ended, Refusal>),
+}
+
+/// Makes the call, and says whether it answers that.
+fn answers(session: &mut Session, rows: &mut Rows, call: Call) -> bool {
+    match call {
+        Call::Get(row, wanted) => got(session, rows, key_of(row)) == wanted,
+        Call::Put(row, byte, wanted) => put_in(session, key_of(row), byte) == wanted,
+        Call::Delete(row, wanted) => deleted_in(session, key_of(row)) == wanted,
+        Call::End(wanted) => end(session) == wanted,
+    }
+}
+
+/// Makes the calls, and compares what they answer.
+fn answer(rt: &impl Abort, session: &mut Session, rows: &mut Rows, calls: &[Call]) {
+    let mut number: usize = 0;
+    for call in calls {
+        assert!(rt; answers(session, rows, *call), "call {number}");
+        number = number.saturating_add(1);
+    }
+}
+
+/// Makes the calls in a transaction over a replica with `a` under the row 1.
+fn begins(rt: &(impl Abort + AllocGlobal), calls: &[Call]) -> Result<(), Refusal> {
+    let mut rows = with_a_row(rt.alloc())?;
+    let mut session = begun(&mut rows);
+    answer(rt, &mut session, &mut rows, calls);
     Ok(())
 }
 
-/// Writes one key more than may be. Compares what is left under a row that was deleted and one that was put again, and how many rows the
-/// transaction writes.
-fn writes_the_most(rt: &impl Abort, session: &mut Session, rows: &mut Rows) -> Result<(), Fail> {
-    writes_too_many(rt, session)?;
-    finds(rt, session, rows, (ROW, None))?;
-    finds(rt, session, rows, (row(MOST), Some(b'd')))?;
-    let item = written(ended(session))?;
-    assert_eq!(rt; (item.reads().len(), item.writes().len()), (0, 16));
-    Ok(())
-}
+const CLOSED: Refusal = Refusal::Closed;
+
+/// A transaction that reads the row 1 and puts `b` under the row 2 is closed once it has ended.
+const WRITES: &[Call] = &[
+    Call::Get(1, Ok(Some(b'a'))),
+    Call::Put(2, b'b', Ok(())),
+    Call::End(Ok(Ended::Wrote(Wrote {
+        labels: (7, 9, 1),
+        reads: (1, Some(Key { table: 0, row: 1 })),
+        writes: (1, Some((Key { table: 0, row: 2 }, Some(b'b')))),
+    }))),
+    Call::Get(1, Err(CLOSED)),
+    Call::Put(1, b'c', Err(CLOSED)),
+    Call::Delete(1, Err(CLOSED)),
+    Call::End(Err(CLOSED)),
+];
+
+/// One that only reads has nothing to deliver, and is closed then too.
+const READS: &[Call] = &[
+    Call::Get(1, Ok(Some(b'a'))),
+    Call::End(Ok(Ended::Nothing)),
+    Call::Get(1, Err(CLOSED)),
+    Call::Put(1, b'c', Err(CLOSED)),
+    Call::Delete(1, Err(CLOSED)),
+    Call::End(Err(CLOSED)),
+];
+
+/// A 17th key is not read. What was read is read again, and what the transaction writes it still finds.
+const READS_TOO_MANY: &[Call] = &[
+    Call::Get(1, Ok(Some(b'a'))),
+    Call::Get(2, Ok(None)),
+    Call::Get(3, Ok(None)),
+    Call::Get(4, Ok(None)),
+    Call::Get(5, Ok(None)),
+    Call::Get(6, Ok(None)),
+    Call::Get(7, Ok(None)),
+    Call::Get(8, Ok(None)),
+    Call::Get(9, Ok(None)),
+    Call::Get(10, Ok(None)),
+    Call::Get(11, Ok(None)),
+    Call::Get(12, Ok(None)),
+    Call::Get(13, Ok(None)),
+    Call::Get(14, Ok(None)),
+    Call::Get(15, Ok(None)),
+    Call::Get(16, Ok(None)),
+    Call::Get(1, Ok(Some(b'a'))),
+    Call::Get(0, Err(Refusal::TooManyReads)),
+    Call::Get(16, Ok(None)),
+    Call::Put(0, b'c', Ok(())),
+    Call::Get(0, Ok(Some(b'c'))),
+];
+
+/// A 17th key is not written. What was written is deleted and put again.
+const WRITES_TOO_MANY: &[Call] = &[
+    Call::Put(1, b'c', Ok(())),
+    Call::Put(2, b'c', Ok(())),
+    Call::Put(3, b'c', Ok(())),
+    Call::Put(4, b'c', Ok(())),
+    Call::Put(5, b'c', Ok(())),
+    Call::Put(6, b'c', Ok(())),
+    Call::Put(7, b'c', Ok(())),
+    Call::Put(8, b'c', Ok(())),
+    Call::Put(9, b'c', Ok(())),
+    Call::Put(10, b'c', Ok(())),
+    Call::Put(11, b'c', Ok(())),
+    Call::Put(12, b'c', Ok(())),
+    Call::Put(13, b'c', Ok(())),
+    Call::Put(14, b'c', Ok(())),
+    Call::Put(15, b'c', Ok(())),
+    Call::Put(16, b'c', Ok(())),
+    Call::Delete(1, Ok(())),
+    Call::Put(16, b'd', Ok(())),
+    Call::Put(0, b'c', Err(Refusal::TooManyWrites)),
+    Call::Delete(0, Err(Refusal::TooManyWrites)),
+    Call::Get(1, Ok(None)),
+    Call::Get(16, Ok(Some(b'd'))),
+    Call::End(Ok(Ended::Wrote(Wrote {
+        labels: (7, 9, 1),
+        reads: (0, None),
+        writes: (16, Some((Key { table: 0, row: 1 }, None))),
+    }))),
+];
 
 #[test]
-fn a_17th_key_is_not_written(rt: HostRuntime) -> Result<(), Fail> {
-    let mut rows = with_a_row(&rt)?;
-    let mut session = begun(&mut rows);
-    writes_the_most(&rt, &mut session, &mut rows)
+fn a_transaction_answers_as_it_stands(rt: HostRuntime) -> Result<(), Fail> {
+    for calls in [WRITES, READS, READS_TOO_MANY, WRITES_TOO_MANY] {
+        begins(&rt, calls)?;
+    }
+    Ok(())
 }

@@ -9,22 +9,18 @@ use rep_session_uses::{move_row, swap_rows};
 use rep_steps::{Answer, Event};
 use rep_types::{Key, Params, Refusal, Value, Verdict, Write, WriteSet};
 use std::alloc::Global;
-use std::process::Abort;
-use std::test::Fail;
 use uuid::Uuid;
 
 /// A replica on a disk in memory.
 pub(crate) type Rows = Replica<MemDisk>;
 
-/// The rows 1 and 2, and one that the schema does not have.
-pub(crate) const ROW: Key = Key { table: 0, row: 1 };
-
-pub(crate) const OTHER: Key = Key { table: 0, row: 2 };
-
-pub(crate) const OUTSIDE: Key = Key { table: 0, row: 126 };
+/// The key of this row of the one table.
+pub(crate) fn key_of(row: u32) -> Key {
+    Key { table: 0, row }
+}
 
 /// A formatted disk for a window of 4, four cells and one table of 126 rows.
-fn new_disk(alloc: Global) -> Result<MemDisk, Fail> {
+fn new_disk(alloc: Global) -> Result<MemDisk, Refusal> {
     let cluster = Some(Uuid::from_bytes([0x11; 16]));
     let params = Params::new(4, 4, &[126])?;
     let (disk, answer) = format_disk(MemDisk::new(alloc, 103_424)?, &params, cluster);
@@ -33,11 +29,18 @@ fn new_disk(alloc: Global) -> Result<MemDisk, Fail> {
 }
 
 /// A replica on a new disk.
-pub(crate) fn new_node(alloc: Global) -> Result<Rows, Fail> {
+fn new_node(alloc: Global) -> Result<Rows, Refusal> {
     match Replica::open(alloc, new_disk(alloc)?) {
         Ok(node) => Ok(node),
-        Err((_, refusal)) => Err(Fail::from(refusal)),
+        Err((_, refusal)) => Err(refusal),
     }
+}
+
+/// A replica with one durable item, which put `a` under the row 1.
+pub(crate) fn with_a_row(alloc: Global) -> Result<Rows, Refusal> {
+    let mut rows = new_node(alloc)?;
+    commit(&mut rows, 1, (1, b'a'))?;
+    Ok(rows)
 }
 
 /// Moves a row, under the labels 7 and 9.
@@ -55,18 +58,25 @@ pub(crate) fn begun(rows: &mut Rows) -> Session {
     Session::begin(rows, 7, 9)
 }
 
-/// What a transaction finds under the key.
-pub(crate) fn got(
-    session: &mut Session,
-    rows: &mut Rows,
-    key: Key,
-) -> Result<Option<Value>, Refusal> {
-    session.get(rows, key)
+/// The one byte that the value is; 0 where it is none.
+pub(crate) fn byte_of(value: &Value) -> u8 {
+    match value.as_bytes() {
+        [byte] => *byte,
+        _ => 0,
+    }
 }
 
-/// Puts these bytes under the key, in the transaction.
-pub(crate) fn put_in(session: &mut Session, key: Key, bytes: &[u8]) -> Result<(), Refusal> {
-    session.put(key, bytes)
+/// What a transaction finds under the key.
+pub(crate) fn got(session: &mut Session, rows: &mut Rows, key: Key) -> Result<Option<u8>, Refusal> {
+    match session.get(rows, key)? {
+        Some(value) => Ok(Some(byte_of(&value))),
+        None => Ok(None),
+    }
+}
+
+/// Puts this byte under the key, in the transaction.
+pub(crate) fn put_in(session: &mut Session, key: Key, byte: u8) -> Result<(), Refusal> {
+    session.put(key, &[byte])
 }
 
 /// Deletes what is under the key, in the transaction.
@@ -80,15 +90,12 @@ pub(crate) fn ended(session: &mut Session) -> Result<Finished, Refusal> {
 }
 
 /// The item with this seqno, which had seen those before it, and puts one byte under the row.
-pub(crate) fn putting(seqno: u64, key: Key, byte: u8) -> Result<WriteSet, Refusal> {
-    let value = Some(Value::new(&[byte])?);
-    WriteSet::new(
-        7,
-        seqno,
-        seqno.saturating_sub(1),
-        &[],
-        &[Write { key, value }],
-    )
+fn putting(seqno: u64, row: u32, byte: u8) -> Result<WriteSet, Refusal> {
+    let write = Write {
+        key: key_of(row),
+        value: Some(Value::new(&[byte])?),
+    };
+    WriteSet::new(7, seqno, seqno.saturating_sub(1), &[], &[write])
 }
 
 /// What a step answers.
@@ -96,34 +103,32 @@ fn step(rows: &mut Rows, event: Event) -> Answer {
     rows.step(event)
 }
 
-/// Delivers the item with this seqno, which has this verdict, and has the replica settle.
-pub(crate) fn deliver(
-    rt: &impl Abort,
-    rows: &mut Rows,
-    (seqno, item): (u64, WriteSet),
-    verdict: Verdict,
-) -> Result<(), Refusal> {
-    let answer = step(rows, Event::Deliver(seqno, item));
-    assert!(rt; answer == Answer::Gave(verdict));
-    rows.settle()
-}
-
-/// What a read answers that finds this byte alone, or no row.
-fn row_of(byte: Option<u8>) -> Result<Answer, Refusal> {
-    match byte {
-        Some(byte) => Ok(Answer::Row(Some(Value::new(&[byte])?))),
-        None => Ok(Answer::Row(None)),
+/// Delivers the item with this seqno, and has the replica settle: its verdict.
+pub(crate) fn delivered(rows: &mut Rows, seqno: u64, item: WriteSet) -> Result<Verdict, Refusal> {
+    match step(rows, Event::Deliver(seqno, item)) {
+        Answer::Gave(verdict) => {
+            rows.settle()?;
+            Ok(verdict)
+        }
+        Answer::Refused(refusal) => Err(refusal),
+        _ => Err(Refusal::NotDue),
     }
 }
 
-/// Compares the row in the state after so many items.
-pub(crate) fn stands(
-    rt: &impl Abort,
-    rows: &mut Rows,
-    (key, s): (Key, u64),
-    byte: Option<u8>,
-) -> Result<(), Refusal> {
-    let wanted = row_of(byte)?;
-    assert!(rt; step(rows, Event::Read(key, s)) == wanted);
-    Ok(())
+/// The item with this seqno puts one byte under the row. Refuses with `NotDue` where it does not commit.
+pub(crate) fn commit(rows: &mut Rows, seqno: u64, (row, byte): (u32, u8)) -> Result<(), Refusal> {
+    match delivered(rows, seqno, putting(seqno, row, byte)?)? {
+        Verdict::Commit => Ok(()),
+        _ => Err(Refusal::NotDue),
+    }
+}
+
+/// The byte under the row in the state after so many items.
+pub(crate) fn row_at(rows: &mut Rows, row: u32, s: u64) -> Result<Option<u8>, Refusal> {
+    match step(rows, Event::Read(key_of(row), s)) {
+        Answer::Row(Some(value)) => Ok(Some(byte_of(&value))),
+        Answer::Row(None) => Ok(None),
+        Answer::Refused(refusal) => Err(refusal),
+        _ => Err(Refusal::NotDue),
+    }
 }

@@ -1,124 +1,166 @@
 //! Rows are moved and swapped through sessions, also beside an item that changes one of them.
 
-use crate::node::{OTHER, OUTSIDE, ROW, Rows, deliver, moved, new_node, putting, stands, swapped};
+use crate::node::{Rows, commit, delivered, key_of, moved, row_at, swapped, with_a_row};
 use rep_session::Finished;
-use rep_types::{Key, Refusal, Verdict, WriteSet};
-use std::process::Abort;
-use std::test::Fail;
+use rep_types::{Refusal, Verdict};
+use std::alloc::Global;
 
-/// The write set that a transaction ended with.
-pub(crate) fn written(ends: Result<Finished, Refusal>) -> Result<WriteSet, Fail> {
-    match ends? {
-        Finished::WriteSet(item) => Ok(item),
-        Finished::ReadOnly => Err(Fail::new("nothing is written")),
+/// What is done with two rows.
+#[derive(Clone, Copy)]
+enum Change {
+    Move(u32, u32),
+    Swap(u32, u32),
+}
+
+/// What came of a change.
+#[derive(Clone, Copy, PartialEq, Eq)]
+enum Came {
+    /// There was nothing to deliver.
+    Nothing,
+    /// It was delivered, with this verdict.
+    Judged(Verdict),
+    /// It was refused.
+    Refused(Refusal),
+}
+
+/// What stands under the rows 1 and 2.
+type Both = (Option<u8>, Option<u8>);
+
+/// An item that puts a byte under a row before the change, what is changed, an item that does so before that is delivered, what comes
+/// of the change, and what stands under the rows 1 and 2 then, where `a` stood under the first.
+type Trial = (Option<(u32, u8)>, Change, Option<(u32, u8)>, Came, Both);
+
+/// The row of the schema's end.
+const OUTSIDE: u32 = 126;
+
+const REFUSED: Came = Came::Refused(Refusal::BadKey);
+
+const TRIALS: &[Trial] = &[
+    // a row is moved, and where there is none, none is
+    (
+        None,
+        Change::Move(1, 2),
+        None,
+        Came::Judged(Verdict::Commit),
+        (None, Some(b'a')),
+    ),
+    (
+        None,
+        Change::Move(2, 1),
+        None,
+        Came::Nothing,
+        (Some(b'a'), None),
+    ),
+    // a row that changed meanwhile is not moved: the item that changes it comes first
+    (
+        None,
+        Change::Move(1, 2),
+        Some((1, b'b')),
+        Came::Judged(Verdict::Conflict(2)),
+        (Some(b'b'), None),
+    ),
+    // rows outside the schema
+    (
+        None,
+        Change::Move(OUTSIDE, 2),
+        None,
+        REFUSED,
+        (Some(b'a'), None),
+    ),
+    (
+        None,
+        Change::Move(1, OUTSIDE),
+        None,
+        REFUSED,
+        (Some(b'a'), None),
+    ),
+    (
+        None,
+        Change::Swap(1, OUTSIDE),
+        None,
+        REFUSED,
+        (Some(b'a'), None),
+    ),
+    // two rows are swapped, and not where one of them changed meanwhile
+    (
+        Some((2, b'b')),
+        Change::Swap(2, 1),
+        None,
+        Came::Judged(Verdict::Commit),
+        (Some(b'b'), Some(b'a')),
+    ),
+    (
+        None,
+        Change::Swap(1, 2),
+        Some((2, b'b')),
+        Came::Judged(Verdict::Conflict(2)),
+        (Some(b'a'), Some(b'b')),
+    ),
+];
+
+/// The item behind those that are there puts this byte under the row, where one is asked for, and commits.
+fn put_where_asked(rows: &mut Rows, asked: Option<(u32, u8)>) -> Result<(), Refusal> {
+    match asked {
+        Some(row) => {
+            let seqno = rows.durable().saturating_add(1);
+            commit(rows, seqno, row)
+        }
+        None => Ok(()),
     }
 }
 
-/// The item with this seqno puts one byte under the row, and commits.
-fn put(
-    rt: &impl Abort,
+/// Makes the change.
+fn changed(rows: &mut Rows, change: Change) -> Result<Finished, Refusal> {
+    match change {
+        Change::Move(from, to) => moved(rows, key_of(from), key_of(to)),
+        Change::Swap(one, other) => swapped(rows, key_of(one), key_of(other)),
+    }
+}
+
+/// Delivers what the change ended with, behind the item that comes first where one is asked for.
+fn came_of(
     rows: &mut Rows,
-    seqno: u64,
-    (key, byte): (Key, u8),
-) -> Result<(), Refusal> {
-    let item = putting(seqno, key, byte)?;
-    deliver(rt, rows, (seqno, item), Verdict::Commit)
+    ends: Result<Finished, Refusal>,
+    meanwhile: Option<(u32, u8)>,
+) -> Result<Came, Refusal> {
+    match ends {
+        Ok(Finished::WriteSet(item)) => {
+            put_where_asked(rows, meanwhile)?;
+            let seqno = rows.durable().saturating_add(1);
+            Ok(Came::Judged(delivered(rows, seqno, item)?))
+        }
+        Ok(Finished::ReadOnly) => Ok(Came::Nothing),
+        Err(refusal) => Ok(Came::Refused(refusal)),
+    }
 }
 
-/// A replica with one durable item, which put `a` under the row 1.
-pub(crate) fn with_a_row(rt: &(impl Abort + AllocGlobal)) -> Result<Rows, Fail> {
-    let mut rows = new_node(rt.alloc())?;
-    put(rt, &mut rows, 1, (ROW, b'a'))?;
-    Ok(rows)
-}
-
-/// Compares both rows in the state after so many items.
-fn stand(
-    rt: &impl Abort,
+/// What comes of a trial on this replica, and what stands under the rows 1 and 2 then.
+fn tried_on(
     rows: &mut Rows,
-    s: u64,
-    (first, second): (Option<u8>, Option<u8>),
-) -> Result<(), Refusal> {
-    stands(rt, rows, (ROW, s), first)?;
-    stands(rt, rows, (OTHER, s), second)
+    (before, change, meanwhile, _, _): Trial,
+) -> Result<(Came, Both), Refusal> {
+    put_where_asked(rows, before)?;
+    let ends = changed(rows, change);
+    let came = came_of(rows, ends, meanwhile)?;
+    let s = rows.durable();
+    Ok((came, (row_at(rows, 1, s)?, row_at(rows, 2, s)?)))
 }
 
-/// Moves the row.
-fn moves(rt: &impl Abort, rows: &mut Rows) -> Result<(), Fail> {
-    let item = written(moved(rows, ROW, OTHER))?;
-    deliver(rt, rows, (2, item), Verdict::Commit)?;
-    stand(rt, rows, 2, (None, Some(b'a')))?;
-    Ok(())
-}
-
-#[test]
-fn a_row_is_moved(rt: HostRuntime) -> Result<(), Fail> {
-    moves(&rt, &mut with_a_row(&rt)?)
+/// The same on a replica with one durable item, which put `a` under the row 1.
+fn tried(alloc: Global, trial: Trial) -> Result<(Came, Both), Refusal> {
+    let mut rows = with_a_row(alloc)?;
+    tried_on(&mut rows, trial)
 }
 
 #[test]
-fn where_there_is_no_row_none_is_moved(rt: HostRuntime) -> Result<(), Fail> {
-    let ends = moved(&mut with_a_row(&rt)?, OTHER, ROW);
-    assert!(rt; ends == Ok(Finished::ReadOnly));
-    Ok(())
-}
-
-/// Moves the row while it changes: the item that changes it comes first.
-fn moves_too_late(rt: &impl Abort, rows: &mut Rows) -> Result<(), Fail> {
-    let item = written(moved(rows, ROW, OTHER))?;
-    put(rt, rows, 2, (ROW, b'b'))?;
-    deliver(rt, rows, (3, item), Verdict::Conflict(2))?;
-    stand(rt, rows, 3, (Some(b'b'), None))?;
-    Ok(())
-}
-
-#[test]
-fn a_row_that_changed_meanwhile_is_not_moved(rt: HostRuntime) -> Result<(), Fail> {
-    moves_too_late(&rt, &mut with_a_row(&rt)?)
-}
-
-/// A transaction that ended so was refused for its key.
-fn is_refused(rt: &impl Abort, ends: Result<Finished, Refusal>) {
-    assert!(rt; ends == Err(Refusal::BadKey));
-}
-
-/// Moves and swaps rows that the schema does not have.
-fn refuses(rt: &impl Abort, rows: &mut Rows) {
-    is_refused(rt, moved(rows, OUTSIDE, OTHER));
-    is_refused(rt, moved(rows, ROW, OUTSIDE));
-    is_refused(rt, swapped(rows, ROW, OUTSIDE));
-}
-
-#[test]
-fn a_row_outside_the_schema_is_refused(rt: HostRuntime) -> Result<(), Fail> {
-    refuses(&rt, &mut with_a_row(&rt)?);
-    Ok(())
-}
-
-/// Swaps both rows.
-fn swaps(rt: &impl Abort, rows: &mut Rows) -> Result<(), Fail> {
-    put(rt, rows, 2, (OTHER, b'b'))?;
-    let item = written(swapped(rows, OTHER, ROW))?;
-    deliver(rt, rows, (3, item), Verdict::Commit)?;
-    stand(rt, rows, 3, (Some(b'b'), Some(b'a')))?;
-    Ok(())
-}
-
-#[test]
-fn two_rows_are_swapped(rt: HostRuntime) -> Result<(), Fail> {
-    swaps(&rt, &mut with_a_row(&rt)?)
-}
-
-/// Swaps both rows while one changes: the item that changes it comes first.
-fn swaps_too_late(rt: &impl Abort, rows: &mut Rows) -> Result<(), Fail> {
-    let item = written(swapped(rows, ROW, OTHER))?;
-    put(rt, rows, 2, (OTHER, b'b'))?;
-    deliver(rt, rows, (3, item), Verdict::Conflict(2))?;
-    stand(rt, rows, 3, (Some(b'a'), Some(b'b')))?;
-    Ok(())
-}
-
-#[test]
-fn rows_that_changed_meanwhile_are_not_swapped(rt: HostRuntime) -> Result<(), Fail> {
-    swaps_too_late(&rt, &mut with_a_row(&rt)?)
+fn rows_are_moved_and_swapped(rt: HostRuntime) {
+    let mut number: usize = 0;
+    for trial in TRIALS {
+        let (_, _, _, came, rows) = *trial;
+        assert!(rt;
+            tried(rt.alloc(), *trial) == Ok((came, rows)),
+            "trial {number}"
+        );
+        number = number.saturating_add(1);
+    }
 }

@@ -1,8 +1,8 @@
 //! A file for each library.
 
 mod backlog;
-mod bytes;
 mod cert;
+mod forms;
 mod layout;
 mod pages;
 mod plain;

@@ -1,142 +1,192 @@
 //! What comes of batches.
 
-use super::paces::{AtOnce, Crossing, HoldsFirst, StopsAt, Writes};
+use super::paces::{Crossing, Held as HeldWorkers, Writes};
 use super::replicas::{
-    durable_after_crash, formatted, has_no_row, has_row, is_whole, new_disk, putting_each, served,
+    durable_after_crash, formatted, has_row, is_whole, new_disk, putting_each, served,
 };
-use rep_disk::{Held, HeldDisk, MemDisk};
+use rep_disk::{Disk, Held, HeldDisk, MemDisk};
 use rep_node::{Batch, Point};
 use rep_replica::Replica;
-use rep_types::{Params, Refusal};
+use rep_types::{Params, Refusal, WriteSet};
 use std::alloc::Global;
 use std::process::Abort;
 use std::sync::Wait;
 use std::test::Fail;
 use std::thread::Threads;
 
-/// A replica on a disk in memory, and what came of the batch that it was left by.
-type Came = (Replica<MemDisk>, Batch);
-
-/// Two workers hand in an item each. The one with the first seqno is held behind its verdict until the other has its own.
-fn while_one_is_held<R: Threads + Wait + Sync>(rt: &R, alloc: Global) -> Result<Came, Refusal> {
-    let items = putting_each(alloc, 2)?;
-    let pace = HoldsFirst::until(2);
-    served(rt, alloc, new_disk(alloc)?, items.as_slice(), 2, &pace)
-}
-
-/// All of that is there, in the replica and behind a crash.
-fn certifies_while_one_is_held<R: Threads + Wait + Sync + Abort>(
-    rt: &R,
-    alloc: Global,
-) -> Result<(), Refusal> {
-    let (mut replica, batch) = while_one_is_held(rt, alloc)?;
-    assert!(rt; is_whole(&replica, &batch, 2, 0));
-    assert!(rt; has_row(&mut replica, 0, 2) && has_row(&mut replica, 1, 2));
-    assert!(rt; durable_after_crash(alloc, replica.into_disk()) == Ok(2));
-    Ok(())
-}
-
-#[test]
-fn two_certifies_while_one_is_held(rt: HostRuntime) -> Result<(), Fail> {
-    Ok(certifies_while_one_is_held(&rt, rt.alloc())?)
-}
-
 /// Two workers hand in an item each. The second is held until the disk's first write has begun, and that write until the second was queued.
 /// It says whether all of it is durable.
 fn while_the_engine_writes<R: Threads + Wait + Sync>(
     rt: &R,
     alloc: Global,
+    items: &[WriteSet],
 ) -> Result<bool, Refusal> {
-    let items = putting_each(alloc, 2)?;
     let crossing = Crossing::new();
     let disk = HeldDisk::new(new_disk(alloc)?, Held::by(Writes(&crossing)));
-    let (replica, batch) = served(rt, alloc, disk, items.as_slice(), 2, &crossing)?;
+    let (replica, batch) = served(rt, alloc, disk, items, 2, &crossing)?;
     Ok(is_whole(&replica, &batch, 2, 0))
 }
 
 #[test]
 fn commits_queue_while_the_engine_writes(rt: HostRuntime) -> Result<(), Fail> {
-    assert!(rt; while_the_engine_writes(&rt, rt.alloc())?);
+    let items = putting_each(rt.alloc(), 2)?;
+    let is_whole = while_the_engine_writes(&rt, rt.alloc(), &items);
+    assert_eq!(rt; is_whole, Ok(true));
     Ok(())
 }
 
-/// Four workers hand in 300 items that had seen nothing, over a window of 256. The one with the first seqno is held behind its verdict
-/// until the fourth seqno has its own.
-fn longer_than_the_window<R: Threads + Wait + Sync>(
-    rt: &R,
-    alloc: Global,
-) -> Result<Came, Refusal> {
-    let items = putting_each(alloc, 300)?;
-    let pace = HoldsFirst::until(4);
-    let disk = formatted(alloc, &Params::new(256, 512, &[300])?)?;
-    served(rt, alloc, disk, items.as_slice(), 4, &pace)
+/// What comes of a batch.
+#[derive(Clone, Copy)]
+enum Came {
+    /// All is told of, so many that commit and so many stale ones behind them, and all is durable, also behind a crash that loses what
+    /// was not stable. The base rose where that is asked.
+    Whole(u64, u64, bool),
+    /// No item is told of, and the replica is stopped.
+    Stopped,
 }
 
-/// The first 257 of those commit, and the others had seen too little.
-fn exceeds_the_window<R: Threads + Wait + Sync + Abort>(
+/// A row, the state after so many items, and whether the byte of the row's item stands there.
+type Row = (u32, u64, bool);
+
+/// A batch of items that had seen nothing: how many, of a disk with the large window or not, by how many workers, held how, what comes of
+/// it, and rows then.
+struct Trial {
+    name: &'static str,
+    items: u32,
+    is_wide: bool,
+    workers: usize,
+    held: (Option<(Point, u64)>, Option<u64>),
+    came: Came,
+    rows: &'static [Row],
+}
+
+const TRIALS: &[Trial] = &[
+    Trial {
+        name: "the worker of the first is held behind its verdict until the other has its own",
+        items: 2,
+        is_wide: false,
+        workers: 2,
+        held: (None, Some(2)),
+        came: Came::Whole(2, 0, false),
+        rows: &[(0, 2, true), (1, 2, true)],
+    },
+    // The first 257 of those commit, and the others had seen too little.
+    Trial {
+        name: "more than a window of 256, the first held behind its verdict until the fourth has its own",
+        items: 300,
+        is_wide: true,
+        workers: 4,
+        held: (None, Some(4)),
+        came: Came::Whole(257, 43, false),
+        rows: &[],
+    },
+    // Over a window of 4 the first five commit, and the others had seen too little. Checkpoints ran.
+    Trial {
+        name: "more than the four cells of the log have room for",
+        items: 40,
+        is_wide: false,
+        workers: 1,
+        held: (None, None),
+        came: Came::Whole(5, 35, true),
+        rows: &[(4, 40, true), (5, 40, false)],
+    },
+    Trial {
+        name: "the first may not go on once it is claimed",
+        items: 2,
+        is_wide: false,
+        workers: 1,
+        held: (Some((Point::Claimed, 1)), None),
+        came: Came::Stopped,
+        rows: &[],
+    },
+    Trial {
+        name: "the first may not go on once it is certified",
+        items: 2,
+        is_wide: false,
+        workers: 1,
+        held: (Some((Point::Certified, 1)), None),
+        came: Came::Stopped,
+        rows: &[],
+    },
+    Trial {
+        name: "the first may not go on once it is queued",
+        items: 2,
+        is_wide: false,
+        workers: 1,
+        held: (Some((Point::Queued, 1)), None),
+        came: Came::Stopped,
+        rows: &[],
+    },
+];
+
+/// The disk of a trial: of a window of 256 and a table of 300 rows, or the small one.
+fn disk_for(alloc: Global, is_wide: bool) -> Result<MemDisk, Refusal> {
+    if is_wide {
+        formatted(alloc, &Params::new(256, 512, &[300])?)
+    } else {
+        new_disk(alloc)
+    }
+}
+
+/// Whether this came of the batch that left the replica.
+fn is_so<D: Disk>(replica: &mut Replica<D>, batch: &Batch, came: Came) -> bool {
+    match came {
+        Came::Whole(commits, stale, is_raised) => {
+            is_whole(replica, batch, commits, stale) && (!is_raised || replica.base() > 0)
+        }
+        Came::Stopped => {
+            batch.receipts.is_empty()
+                && batch.end == Some(Refusal::Stopped)
+                && replica.settle() == Err(Refusal::Stopped)
+        }
+    }
+}
+
+/// Whether the rows stand so in the replica.
+fn has_rows<D: Disk>(replica: &mut Replica<D>, rows: &[Row]) -> bool {
+    let mut right = true;
+    for row in rows {
+        right = right && has_row(replica, *row);
+    }
+    right
+}
+
+/// Whether all that is told of is durable in what opens of the disk after a crash.
+fn is_durable(alloc: Global, disk: MemDisk, came: Came) -> bool {
+    match came {
+        Came::Whole(commits, stale, _) => {
+            durable_after_crash(alloc, disk) == Ok(commits.saturating_add(stale))
+        }
+        Came::Stopped => true,
+    }
+}
+
+/// Serves these items as the trial says: whether that comes of it, whether the rows stand so, and whether what is told of is durable.
+fn tried<R: Threads + Wait + Sync>(
     rt: &R,
     alloc: Global,
-) -> Result<(), Refusal> {
-    let (replica, batch) = longer_than_the_window(rt, alloc)?;
-    assert!(rt; is_whole(&replica, &batch, 257, 43));
-    Ok(())
+    trial: &Trial,
+    items: &[WriteSet],
+) -> Result<(bool, bool, bool), Refusal> {
+    let (stop, until) = trial.held;
+    let pace = HeldWorkers::new(stop, until);
+    let disk = disk_for(alloc, trial.is_wide)?;
+    let (mut replica, batch) = served(rt, alloc, disk, items, trial.workers, &pace)?;
+    let is_so = is_so(&mut replica, &batch, trial.came);
+    let has_rows = has_rows(&mut replica, trial.rows);
+    Ok((
+        is_so,
+        has_rows,
+        is_durable(alloc, replica.into_disk(), trial.came),
+    ))
 }
 
 #[test]
-fn a_batch_is_longer_than_the_window(rt: HostRuntime) -> Result<(), Fail> {
-    Ok(exceeds_the_window(&rt, rt.alloc())?)
-}
-
-/// Two items are handed in, the first of which may not go on from this point.
-fn stopped_at<R: Threads + Wait + Sync>(
-    rt: &R,
-    alloc: Global,
-    point: Point,
-) -> Result<Came, Refusal> {
-    let items = putting_each(alloc, 2)?;
-    let pace = StopsAt { point, seqno: 1 };
-    served(rt, alloc, new_disk(alloc)?, items.as_slice(), 1, &pace)
-}
-
-/// Neither item is told of, and the replica is stopped.
-fn stops_at_each_point<R: Threads + Wait + Sync + Abort>(
-    rt: &R,
-    alloc: Global,
-) -> Result<(), Refusal> {
-    for point in [Point::Claimed, Point::Certified, Point::Queued] {
-        let (mut replica, batch) = stopped_at(rt, alloc, point)?;
-        assert!(rt; batch.receipts.is_empty());
-        assert!(rt; batch.end == Some(Refusal::Stopped));
-        assert!(rt; replica.settle() == Err(Refusal::Stopped));
+fn batches_end_as_they_are_held(rt: HostRuntime) -> Result<(), Fail> {
+    for trial in TRIALS {
+        let items = putting_each(rt.alloc(), trial.items)?;
+        let found = tried(&rt, rt.alloc(), trial, &items);
+        assert_eq!(rt; (trial.name, found), (trial.name, Ok((true, true, true))));
     }
     Ok(())
-}
-
-#[test]
-fn a_pace_says_no(rt: HostRuntime) -> Result<(), Fail> {
-    Ok(stops_at_each_point(&rt, rt.alloc())?)
-}
-
-/// More items are handed in than the four cells of the log have room for.
-fn over_a_full_log<R: Threads + Wait + Sync>(rt: &R, alloc: Global) -> Result<Came, Refusal> {
-    let items = putting_each(alloc, 40)?;
-    served(rt, alloc, new_disk(alloc)?, items.as_slice(), 1, &AtOnce)
-}
-
-/// All of them are there, and checkpoints ran.
-fn frees_a_full_log<R: Threads + Wait + Sync + Abort>(
-    rt: &R,
-    alloc: Global,
-) -> Result<(), Refusal> {
-    let (mut replica, batch) = over_a_full_log(rt, alloc)?;
-    assert!(rt; is_whole(&replica, &batch, 5, 35));
-    assert!(rt; replica.base() > 0);
-    // Over a window of 4 the first five commit, and the others had seen too little.
-    assert!(rt; has_row(&mut replica, 4, 40) && has_no_row(&mut replica, 5, 40));
-    Ok(())
-}
-
-#[test]
-fn a_full_log_is_freed_beside(rt: HostRuntime) -> Result<(), Fail> {
-    Ok(frees_a_full_log(&rt, rt.alloc())?)
 }

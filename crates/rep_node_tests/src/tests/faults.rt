@@ -4,7 +4,7 @@ use super::paces::AtOnce;
 use super::replicas::{durable_after_crash, new_disk, putting_each, served};
 use rep_disk::{Faults, FaultyDisk, Fuse, MemDisk, Once};
 use rep_node::Batch;
-use rep_types::Refusal;
+use rep_types::{Refusal, WriteSet};
 use std::alloc::Global;
 use std::process::Abort;
 use std::sync::Wait;
@@ -49,11 +49,11 @@ fn ended(alloc: Global, batch: &Batch, disk: MemDisk) -> Result<Ending, Refusal>
 fn fails<R: Threads + Wait + Sync, F: Faults + Drop + Send>(
     rt: &R,
     alloc: Global,
+    items: &[WriteSet],
     faults: F,
 ) -> Result<Ending, Refusal> {
-    let items = putting_each(alloc, 2)?;
     let disk = FaultyDisk::new(new_disk(alloc)?, faults);
-    match served(rt, alloc, disk, items.as_slice(), 2, &AtOnce) {
+    match served(rt, alloc, disk, items, 2, &AtOnce) {
         Ok((replica, batch)) => ended(alloc, &batch, replica.into_disk().into_inner()),
         Err(Refusal::DiskFault) => Ok(Ending::AtOpening),
         Err(_) => Ok(Ending::Wrong),
@@ -88,19 +88,31 @@ impl Counts {
 /// More calls than such a batch and the opening before it make of the disk.
 const CALLS: u64 = 60;
 
+/// Serves a batch of two on a device of which this call fails: that one alone, or all behind it too.
+fn fails_at<R: Threads + Wait + Sync>(
+    rt: &R,
+    alloc: Global,
+    items: &[WriteSet],
+    call: u64,
+    all_behind: bool,
+) -> Result<Ending, Refusal> {
+    if all_behind {
+        fails(rt, alloc, items, Fuse::after(call))
+    } else {
+        fails(rt, alloc, items, Once::after(call))
+    }
+}
+
 /// A batch is served on a device of which each call fails in turn: that one alone, or all behind it too.
 fn fails_at_each<R: Threads + Wait + Sync + Abort>(
     rt: &R,
     alloc: Global,
+    items: &[WriteSet],
     all_behind: bool,
 ) -> Result<(), Refusal> {
     let mut counts = Counts { early: 0, whole: 0 };
     for call in 0..CALLS {
-        let ending = if all_behind {
-            fails(rt, alloc, Fuse::after(call))?
-        } else {
-            fails(rt, alloc, Once::after(call))?
-        };
+        let ending = fails_at(rt, alloc, items, call, all_behind)?;
         assert!(rt; ending != Ending::Wrong, "at call {call}");
         counts = counts.with(ending);
     }
@@ -109,11 +121,10 @@ fn fails_at_each<R: Threads + Wait + Sync + Abort>(
 }
 
 #[test]
-fn each_call_fails_once(rt: HostRuntime) -> Result<(), Fail> {
-    Ok(fails_at_each(&rt, rt.alloc(), false)?)
-}
-
-#[test]
-fn each_call_and_all_behind_it_fail(rt: HostRuntime) -> Result<(), Fail> {
-    Ok(fails_at_each(&rt, rt.alloc(), true)?)
+fn each_call_fails_once_or_all_behind_it_too(rt: HostRuntime) -> Result<(), Fail> {
+    let items = putting_each(rt.alloc(), 2)?;
+    for all_behind in [false, true] {
+        fails_at_each(&rt, rt.alloc(), &items, all_behind)?;
+    }
+    Ok(())
 }

@@ -17,54 +17,47 @@ fn comes_true(told: &AtomicCell<bool>) -> bool {
     false
 }
 
-/// All go on at once.
-pub(crate) struct AtOnce;
-
-impl Pace for AtOnce {
-    fn at(&self, _point: Point, _seqno: u64) -> bool {
-        true
-    }
-}
-
-/// The worker of the first seqno is held behind its verdict until that of another has its own.
+/// The worker of the first seqno is held behind its verdict until that of another has its own, and no worker goes on from a point with
+/// a seqno, where either is asked for.
 #[derive(Drop)]
-pub(crate) struct HoldsFirst {
-    other: u64,
+pub(crate) struct Held {
+    stop: Option<(Point, u64)>,
+    other: Option<u64>,
     is_there: AtomicCell<bool>,
 }
 
-impl HoldsFirst {
-    /// It is held until the worker of this seqno has its verdict.
-    pub(crate) fn until(other: u64) -> HoldsFirst {
-        HoldsFirst {
+impl Held {
+    /// No worker goes on from the point with the seqno, and the first is held until the worker of the other seqno has its verdict.
+    pub(crate) fn new(stop: Option<(Point, u64)>, other: Option<u64>) -> Held {
+        Held {
+            stop,
             other,
             is_there: AtomicCell::new(false),
         }
     }
 }
 
-impl Pace for HoldsFirst {
+impl Pace for Held {
     fn at(&self, point: Point, seqno: u64) -> bool {
-        if point != Point::Certified {
+        if self.stop == Some((point, seqno)) {
+            return false;
+        }
+        if point != Point::Certified || self.other.is_none() {
             return true;
         }
-        if seqno == self.other {
+        if self.other == Some(seqno) {
             self.is_there.store(true);
         }
         seqno != 1 || comes_true(&self.is_there)
     }
 }
 
-/// No worker goes on from this point with this seqno.
-#[derive(Drop)]
-pub(crate) struct StopsAt {
-    pub(crate) point: Point,
-    pub(crate) seqno: u64,
-}
+/// All go on at once.
+pub(crate) struct AtOnce;
 
-impl Pace for StopsAt {
-    fn at(&self, point: Point, seqno: u64) -> bool {
-        point != self.point || seqno != self.seqno
+impl Pace for AtOnce {
+    fn at(&self, _point: Point, _seqno: u64) -> bool {
+        true
     }
 }
 

@@ -1,4 +1,4 @@
-//! Replicas, batches, and what comes of a batch that is served: each call stands here once, in a function that promises nothing, so that
+//! Replicas, batches, what comes of a batch that is served, and what is found of a row: each call stands here once, in a function that promises nothing, so that
 //! no test has to be proved beside its contract.
 
 use rep_disk::{Disk, Loss, MemDisk};
@@ -11,6 +11,13 @@ use std::alloc::Global;
 use std::sync::Wait;
 use std::thread::Threads;
 use uuid::Uuid;
+
+/// Two rows, and one that the schema does not have.
+pub(crate) const ROW: Key = Key { table: 0, row: 1 };
+
+pub(crate) const OTHER: Key = Key { table: 0, row: 2 };
+
+pub(crate) const OUTSIDE: Key = Key { table: 0, row: 126 };
 
 /// A formatted disk in memory with these parameters.
 pub(crate) fn formatted(alloc: Global, params: &Params) -> Result<MemDisk, Refusal> {
@@ -50,14 +57,21 @@ fn byte_for(row: u32) -> u8 {
     }
 }
 
-/// An item that had seen nothing, and puts a byte under a row of its own of the first table.
-fn putting(row: u32) -> Result<WriteSet, Refusal> {
-    let key = Key { table: 0, row };
-    let value = Value::new(&[byte_for(row)]).ok();
-    WriteSet::new(7, u64::from(row), 0, &[], &[Write { key, value }])
+/// An item that had seen so many before it, and puts one byte under the row or deletes it.
+pub(crate) fn writing(last_seen: u64, key: Key, byte: Option<u8>) -> Result<WriteSet, Refusal> {
+    let value = match byte {
+        Some(byte) => Value::new(&[byte]).ok(),
+        None => None,
+    };
+    WriteSet::new(7, 1, last_seen, &[], &[Write { key, value }])
 }
 
-/// So many such items.
+/// An item that had seen nothing, and puts a byte under a row of its own of the first table.
+fn putting(row: u32) -> Result<WriteSet, Refusal> {
+    writing(0, Key { table: 0, row }, Some(byte_for(row)))
+}
+
+/// So many items that had seen nothing, each of which puts a byte under a row of its own.
 pub(crate) fn putting_each(alloc: Global, count: u32) -> Result<Vec<WriteSet>, Refusal> {
     let mut items = Vec::new(alloc);
     for row in 0..count {
@@ -85,18 +99,14 @@ pub(crate) fn served<R: Threads + Wait + Sync, D: Disk + Drop + Send, P: Pace + 
     Ok(serve_batch(rt, alloc, replica, items, workers, pace))
 }
 
-/// Whether in the state after so many items the byte stands under the row that its item put there.
-pub(crate) fn has_row<D: Disk>(replica: &mut Replica<D>, row: u32, at: u64) -> bool {
+/// Whether in the state after so many items the byte that its item put there stands under the row, or nothing where that is asked.
+pub(crate) fn has_row<D: Disk>(
+    replica: &mut Replica<D>,
+    (row, at, is_there): (u32, u64, bool),
+) -> bool {
     match replica.read(Key { table: 0, row }, at) {
-        Ok(Some(value)) => value.as_bytes() == [byte_for(row)].as_slice(),
-        Ok(None) | Err(_) => false,
-    }
-}
-
-/// Whether in the state after so many items nothing stands under the row.
-pub(crate) fn has_no_row<D: Disk>(replica: &mut Replica<D>, row: u32, at: u64) -> bool {
-    match replica.read(Key { table: 0, row }, at) {
-        Ok(row) => row.is_none(),
+        Ok(Some(value)) => is_there && value.as_bytes() == [byte_for(row)].as_slice(),
+        Ok(None) => !is_there,
         Err(_) => false,
     }
 }
@@ -130,4 +140,38 @@ pub(crate) fn is_whole<D: Disk>(
     has_verdicts(batch, commits, stale)
         && batch.end.is_none()
         && replica.durable() == commits.saturating_add(stale)
+}
+
+/// What is found of a row.
+#[derive(Clone, Copy, PartialEq, Eq)]
+pub(crate) enum Found {
+    /// This byte alone stands there.
+    Put(u8),
+    /// Nothing stands there.
+    Nothing,
+    /// No write of the row is left in the published list.
+    Cold,
+    /// Bytes stand there that are not one.
+    Others,
+    /// It is not said, for this reason.
+    Refused(Refusal),
+}
+
+/// That this value was found.
+pub(crate) fn put(value: &Value) -> Found {
+    let bytes = value.as_bytes();
+    if bytes.len() == 1 {
+        Found::Put(bytes[0])
+    } else {
+        Found::Others
+    }
+}
+
+/// What a read found.
+pub(crate) fn found_by_read(row: Result<Option<Value>, Refusal>) -> Found {
+    match row {
+        Ok(Some(value)) => put(&value),
+        Ok(None) => Found::Nothing,
+        Err(refusal) => Found::Refused(refusal),
+    }
 }

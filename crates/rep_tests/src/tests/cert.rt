@@ -75,21 +75,28 @@ fn stands(
     Ok(())
 }
 
-#[test]
-fn certifies(rt: HostRuntime) -> Result<(), Fail> {
-    let item = item(0)?;
-    let mut certifier = certifier(rt.alloc(), 0, &item, &[])?;
+/// Admits the item twice, the second time to take it back, and compares what comes of it.
+fn admits_twice(
+    rt: &(impl Abort + AllocGlobal),
+    certifier: &mut Certifier,
+    item: &WriteSet,
+) -> Result<(), Refusal> {
     answers(
-        &rt,
-        &mut certifier,
-        &item,
+        rt,
+        certifier,
+        item,
         Verdict::Commit,
         Ok((1, Verdict::Commit)),
     );
-    let second = taken_back(&mut certifier, &item);
+    let second = taken_back(certifier, item);
     assert_eq!(rt; second, Ok((2, Verdict::Conflict(1))));
-    stands(&rt, &certifier, 1, &[1])?;
-    Ok(())
+    stands(rt, certifier, 1, &[1])
+}
+
+#[test]
+fn certifies(rt: HostRuntime) -> Result<(), Fail> {
+    let item = item(0)?;
+    Ok(admits_twice(&rt, &mut certifier(rt.alloc(), 0, &item, &[])?, &item)?)
 }
 
 /// The greatest number.
@@ -98,19 +105,25 @@ const TOP: u64 = u64::MAX;
 /// Entries near the top, in any order, one of them twice.
 const GIVEN: &[u64] = &[TOP, TOP - 2, TOP - 5, TOP - 3, TOP - 3, 0, TOP - 4];
 
+/// What is left of those entries.
+const LEFT: &[u64] = &[TOP - 2, TOP - 3, TOP - 3, TOP - 4];
+
+/// Compares what a certifier with such entries answers, and its window.
+fn keeps_its_entries(
+    rt: &(impl Abort + AllocGlobal),
+    certifier: &mut Certifier,
+    item: &WriteSet,
+) -> Result<(), Refusal> {
+    let verdict = Verdict::Conflict(TOP - 2);
+    answers(rt, certifier, item, verdict, Err(Refusal::Exhausted));
+    stands(rt, certifier, TOP - 1, LEFT)
+}
+
 // At the last positions of all, with a window of 4 seqnos: the entries above the position and
 // below its window go, the others stay as they are.
 #[test]
 fn is_made_of_any_entries(rt: HostRuntime) -> Result<(), Fail> {
     let item = item(TOP - 5)?;
     let mut certifier = certifier(rt.alloc(), TOP - 1, &item, GIVEN)?;
-    let verdict = Verdict::Conflict(TOP - 2);
-    answers(&rt, &mut certifier, &item, verdict, Err(Refusal::Exhausted));
-    stands(
-        &rt,
-        &certifier,
-        TOP - 1,
-        &[TOP - 2, TOP - 3, TOP - 3, TOP - 4],
-    )?;
-    Ok(())
+    Ok(keeps_its_entries(&rt, &mut certifier, &item)?)
 }

@@ -1,12 +1,11 @@
-//! The layout of the device: the sizes, and each byte of a superblock that may not be another.
+//! The layout of the device: the sizes, where places and rows lie, and superblocks.
 
-use crate::tests::bytes::{exchanged, has_parts};
 use arrayvec::ArrayVec;
 use rep_layout::{
-    Layout, PageState, Place, RowPlace, SUPER_BODY, Side, Slot, SuperBody, need, page_of, row_at,
+    Layout, PageState, Place, RowPlace, Side, Slot, SuperBody, need, page_of, row_at,
 };
 use rep_types::{Key, Params, Part, Refusal, Schema};
-use std::process::Abort;
+use std::alloc::Global;
 use std::test::Fail;
 use uuid::Uuid;
 
@@ -24,12 +23,6 @@ pub(crate) fn largest() -> Result<Params, Refusal> {
     Params::new(256, 1024, &[63 * 4096])
 }
 
-#[test]
-fn devices_have_the_sizes_of_the_format(rt: HostRuntime) -> Result<(), Fail> {
-    assert_eq!(rt; (need(&small()?), need(&largest()?)), (103_424, 41_997_312));
-    Ok(())
-}
-
 /// Where a place and its gate begin, if the layout has it.
 fn lie_of(layout: Layout, place: Place) -> Option<(usize, usize)> {
     if layout.has(place) {
@@ -39,51 +32,42 @@ fn lie_of(layout: Layout, place: Place) -> Option<(usize, usize)> {
     }
 }
 
-/// Where a place begins, if the layout has it.
-fn offset_of(layout: Layout, place: Place) -> Option<usize> {
-    let (offset, _) = lie_of(layout, place)?;
-    Some(offset)
-}
-
-const PLACES: &[(Place, Option<usize>)] = &[
-    (Place::Super(Side::A), Some(0)),
-    (Place::Super(Side::B), Some(4_096)),
-    (Place::Window(Side::A), Some(8_192)),
-    (Place::Window(Side::B), Some(31_232)),
-    (Place::Log(0), Some(54_272)),
-    (Place::Log(3), Some(78_848)),
+/// Places, and where they and their gates begin.
+const PLACES: &[(Place, Option<(usize, usize)>)] = &[
+    (Place::Super(Side::A), Some((0, 3_584))),
+    (Place::Super(Side::B), Some((4_096, 7_680))),
+    (Place::Window(Side::A), Some((8_192, 31_232))),
+    (Place::Window(Side::B), Some((31_232, 54_272))),
+    (Place::Log(0), Some((54_272, 61_952))),
+    (Place::Log(3), Some((78_848, 86_528))),
     (Place::Log(4), None),
-    (Place::Page(0, Slot::First), Some(87_040)),
-    (Place::Page(1, Slot::Second), Some(99_328)),
+    (Place::Page(0, Slot::First), Some((87_040, 91_136))),
+    (Place::Page(1, Slot::Second), Some((99_328, 103_424))),
     (Place::Page(2, Slot::First), None),
 ];
 
+/// The first place that lies elsewhere, if there is one.
+fn misplaced(layout: Layout) -> Option<Place> {
+    for (place, lie) in PLACES {
+        if lie_of(layout, *place) != *lie {
+            return Some(*place);
+        }
+    }
+    None
+}
+
+/// How many bytes a device needs, the first place that lies elsewhere, and the cell of the tenth block.
+fn laid_out(params: &Params) -> (u64, Option<Place>, Place) {
+    let layout = Layout::new(params);
+    (need(params), misplaced(layout), layout.log_of(10))
+}
+
 #[test]
 fn places_lie_where_the_format_says(rt: HostRuntime) -> Result<(), Fail> {
-    let layout = Layout::new(&small()?);
-    for row in PLACES {
-        let (place, offset) = *row;
-        assert_eq!(rt; (place, offset_of(layout, place)), (place, offset));
-    }
-    Ok(())
-}
-
-#[test]
-fn gates_lie_behind_their_bodies(rt: HostRuntime) -> Result<(), Fail> {
-    let layout = Layout::new(&small()?);
-    let lies = [
-        lie_of(layout, Place::Super(Side::A)),
-        lie_of(layout, Place::Log(0)),
-    ];
-    assert_eq!(rt; lies, [Some((0, 3_584)), Some((54_272, 61_952))]);
-    Ok(())
-}
-
-#[test]
-fn sides_and_cells_are_taken_in_turn(rt: HostRuntime) -> Result<(), Fail> {
-    let cell = Layout::new(&small()?).log_of(10);
-    let found = (Side::of(4), Side::of(7), cell);
-    assert_eq!(rt; found, (Side::A, Side::B, Place::Log(2)));
+    let found = laid_out(&small()?);
+    assert_eq!(rt; found, (103_424, None, Place::Log(2)));
+    let found = (need(&largest()?), Side::of(4), Side::of(7));
+    assert_eq!(rt; found, (41_997_312, Side::A, Side::B));
     Ok(())
 }
 
@@ -94,28 +78,57 @@ fn there_and_back(schema: &Schema, key: Key) -> Option<(RowPlace, Option<Key>)> 
 }
 
 /// Rows by table and number, and where they lie: the page, and the place in it.
-const ROWS: &[(u8, u32, Option<(u32, u32)>)] = &[
-    (0, 62, Some((0, 62))),
-    (0, 63, Some((1, 0))),
-    (0, 64, None),
-    (1, 62, Some((2, 62))),
-    (2, 0, Some((3, 0))),
-    (3, 0, None),
+const ROWS: &[(Key, Option<RowPlace>)] = &[
+    (
+        Key { table: 0, row: 62 },
+        Some(RowPlace { page: 0, index: 62 }),
+    ),
+    (
+        Key { table: 0, row: 63 },
+        Some(RowPlace { page: 1, index: 0 }),
+    ),
+    (Key { table: 0, row: 64 }, None),
+    (
+        Key { table: 1, row: 62 },
+        Some(RowPlace { page: 2, index: 62 }),
+    ),
+    (
+        Key { table: 2, row: 0 },
+        Some(RowPlace { page: 3, index: 0 }),
+    ),
+    (Key { table: 3, row: 0 }, None),
 ];
 
-#[test]
-fn rows_lie_in_pages_table_by_table(rt: HostRuntime) -> Result<(), Fail> {
-    let params = Params::new(4, 4, &[64, 63, 1])?;
-    for row in ROWS {
-        let (table, row, place) = *row;
-        let key = Key { table, row };
-        let wanted = match place {
-            Some((page, index)) => Some((RowPlace { page, index }, Some(key))),
-            None => None,
-        };
-        assert_eq!(rt; (key, there_and_back(params.schema(), key)), (key, wanted));
+/// Whether the row lies at this place, and lies there alone.
+fn lies_at(schema: &Schema, key: Key, place: Option<RowPlace>) -> bool {
+    match (there_and_back(schema, key), place) {
+        (Some((found, back)), Some(place)) => found == place && back == Some(key),
+        (None, None) => true,
+        _ => false,
     }
-    Ok(())
+}
+
+/// The first row that lies elsewhere, if there is one.
+fn misplaced_row(schema: &Schema) -> Option<Key> {
+    for (key, place) in ROWS {
+        if !lies_at(schema, *key, *place) {
+            return Some(*key);
+        }
+    }
+    None
+}
+
+/// The first row that lies elsewhere in three tables of 64 rows, of 63 and of one; None where there are no such tables.
+fn misplaced_in_three() -> Option<Option<Key>> {
+    match Params::new(4, 4, &[64, 63, 1]) {
+        Ok(params) => Some(misplaced_row(params.schema())),
+        Err(_) => None,
+    }
+}
+
+#[test]
+fn rows_lie_in_pages_table_by_table(rt: HostRuntime) {
+    assert_eq!(rt; misplaced_in_three(), Some(None));
 }
 
 /// The states of five pages, of which two stand in slots.
@@ -134,161 +147,91 @@ fn five_states() -> ArrayVec<PageState, 4096> {
     pages
 }
 
+/// A superblock of five pages of this cluster, by its number, its position and its start.
+fn superblock_of(cluster: [u8; 16], number: u64, position: u64, start: u64) -> Option<SuperBody> {
+    match Params::new(4, 4, &[126, 189]) {
+        Ok(params) => Some(SuperBody {
+            number,
+            uuid: Uuid::from_bytes(cluster),
+            params,
+            position,
+            start,
+            pages: five_states(),
+        }),
+        Err(_) => None,
+    }
+}
+
 /// A superblock of five pages.
-fn superblock() -> Result<SuperBody, Refusal> {
-    Ok(SuperBody {
-        number: 3,
-        uuid: Uuid::from_bytes([0x11; 16]),
-        params: Params::new(4, 4, &[126, 189])?,
-        position: 9,
-        start: 2,
-        pages: five_states(),
-    })
+fn superblock() -> Option<SuperBody> {
+    superblock_of([0x11; 16], 3, 9, 2)
 }
 
-/// Its bytes.
-fn superblock_bytes() -> Result<ArrayVec<u8, SUPER_BODY>, Fail> {
-    Ok(superblock()?.write_body().ok_or("no superblock")?)
+/// The bytes of a superblock.
+fn bytes_of(alloc: Global, superblock: &SuperBody) -> Option<Vec<u8>> {
+    let body = superblock.write_body()?;
+    Vec::from_slice(alloc, &body).ok()
 }
 
-const PARTS: &[(usize, &[u8])] = &[
-    (0, b"REPSUPR1"),
-    (8, &[0, 0, 0, 0, 0, 0, 0, 3]),
-    (16, &[0x11; 16]),
-    (32, &[0, 4, 0, 4, 2, 0, 0, 0]),
-    (40, &[0, 0, 0, 126, 0, 0, 0, 189, 0, 0, 0, 0]),
-    (72, &[0, 0, 0, 0, 0, 0, 0, 9]),
-    (80, &[0, 0, 0, 0, 0, 0, 0, 2]),
-    (88, &[0, 5]),
-    (128, &[0x08, 0x01, 0]),
-];
-
-#[test]
-fn superblocks_have_the_bytes_of_the_format(rt: HostRuntime) -> Result<(), Fail> {
-    let body = superblock_bytes()?;
-    assert_eq!(rt; body.len(), 3_584);
-    has_parts(&rt, &body, PARTS);
-    Ok(())
+/// The bytes of the superblock of five pages.
+pub(crate) fn written(alloc: Global) -> Option<Vec<u8>> {
+    bytes_of(alloc, &superblock()?)
 }
 
-/// Compares what is read of the bytes.
-fn reads(rt: &impl Abort, body: &[u8], wanted: Result<SuperBody, Refusal>) {
-    assert_eq!(rt; SuperBody::read_body(body), wanted);
+/// What the bytes are refused by.
+pub(crate) fn refusal_of(bytes: &[u8]) -> Option<Refusal> {
+    SuperBody::read_body(bytes).err()
 }
 
-#[test]
-fn superblocks_are_read_back(rt: HostRuntime) -> Result<(), Fail> {
-    reads(&rt, &superblock_bytes()?, Ok(superblock()?));
-    reads(&rt, &[], Err(SUPERBLOCK));
-    Ok(())
-}
-
-/// What the bytes are refused by with this one at the place.
-fn refusal_of(body: &mut [u8], place: usize, byte: u8) -> Option<Refusal> {
-    let kept = exchanged(body, place, byte)?;
-    let refusal = SuperBody::read_body(body).err();
-    exchanged(body, place, kept)?;
-    refusal
-}
-
-/// Compares that a byte of 1 is refused at the places from this one on up to that.
-fn is_zero(rt: &impl Abort, body: &mut [u8], (from, to): (usize, usize)) {
-    for place in from..to {
-        let refusal = refusal_of(body, place, 1);
-        assert_eq!(rt; (place, refusal), (place, Some(SUPERBLOCK)));
+/// Whether the bytes are read as this superblock.
+fn is_read_as(bytes: &[u8], superblock: &SuperBody) -> bool {
+    match SuperBody::read_body(bytes) {
+        Ok(read) => read == *superblock,
+        Err(_) => false,
     }
 }
 
-const ZEROS: &[(usize, usize)] = &[(37, 40), (48, 72), (90, 128), (130, 3_584)];
-
-/// Compares that a byte of 1 is refused in each of these ranges.
-fn are_zero(rt: &impl Abort, body: &mut [u8]) {
-    for range in ZEROS {
-        is_zero(rt, body, *range);
-    }
+/// Whether the superblock is read back; None where it is not written.
+fn is_read_back(superblock: &SuperBody) -> Option<bool> {
+    let body = superblock.write_body()?;
+    Some(is_read_as(&body, superblock))
 }
 
-#[test]
-fn superblocks_keep_their_zeros(rt: HostRuntime) -> Result<(), Fail> {
-    are_zero(&rt, &mut superblock_bytes()?);
-    Ok(())
-}
-
-const FAULTS: &[(usize, u8, Option<Refusal>)] = &[
-    // the mark
-    (7, b'2', Some(SUPERBLOCK)),
-    // the number is above the position by two, and by one
-    (15, 11, Some(SUPERBLOCK)),
-    (15, 10, None),
-    // a window of no seqno and one of 257 and more, three cells and 1,025 and more
-    (33, 0, Some(SUPERBLOCK)),
-    (32, 1, Some(SUPERBLOCK)),
-    (35, 3, Some(SUPERBLOCK)),
-    (34, 4, Some(SUPERBLOCK)),
-    // no table, nine tables, a table without rows, and more pages than there may be
-    (36, 0, Some(SUPERBLOCK)),
-    (36, 9, Some(SUPERBLOCK)),
-    (43, 0, Some(SUPERBLOCK)),
-    (41, 4, Some(SUPERBLOCK)),
-    // a position past the last
-    (72, 0x11, Some(SUPERBLOCK)),
-    // the start is above the position
-    (87, 10, Some(SUPERBLOCK)),
-    // another number of pages
-    (89, 6, Some(SUPERBLOCK)),
-    // a state that is none
-    (128, 0x0c, Some(SUPERBLOCK)),
-    // a state past the last page
-    (129, 0x05, Some(SUPERBLOCK)),
-    // all as it was
-    (7, b'1', None),
-];
-
-/// Compares what these bytes are refused by.
-fn refuses(rt: &impl Abort, body: &mut [u8]) {
-    for row in FAULTS {
-        let (place, byte, refusal) = *row;
-        let found = refusal_of(body, place, byte);
-        assert_eq!(rt; (place, byte, found), (place, byte, refusal));
-    }
-}
-
-#[test]
-fn superblocks_keep_their_bounds(rt: HostRuntime) -> Result<(), Fail> {
-    refuses(&rt, &mut superblock_bytes()?);
-    Ok(())
+/// Whether the superblock of this number, position and start without a cluster is read back; None where it is not written.
+fn is_read_back_undefined(number: u64, position: u64, start: u64) -> Option<bool> {
+    is_read_back(&superblock_of([0; 16], number, position, start)?)
 }
 
 /// Puts a nil UUID into the bytes.
-fn forget_cluster(body: &mut [u8]) -> Option<()> {
-    for place in 16..32 {
-        exchanged(body, place, 0)?;
+fn forget_cluster(bytes: &mut [u8]) {
+    for byte in bytes.iter_mut().skip(16).take(16) {
+        *byte = 0;
     }
-    Some(())
 }
 
+/// What the superblock's bytes are refused by once they name no cluster.
+fn refusal_without_cluster(alloc: Global) -> Option<Refusal> {
+    let mut bytes = written(alloc)?;
+    forget_cluster(&mut bytes);
+    refusal_of(&bytes)
+}
+
+/// Whether the superblock of five pages is read back.
+fn five_are_read_back() -> Option<bool> {
+    is_read_back(&superblock()?)
+}
+
+// A node without a cluster has nothing.
 #[test]
-fn a_superblock_without_a_cluster_is_refused(rt: HostRuntime) -> Result<(), Fail> {
-    let mut body = superblock_bytes()?;
-    forget_cluster(&mut body).ok_or("too short")?;
-    reads(&rt, &body, Err(SUPERBLOCK));
-    Ok(())
-}
-
-/// A superblock without a cluster, of this number, position and start.
-fn undefined(number: u64, position: u64, start: u64) -> Result<SuperBody, Refusal> {
-    let mut body = superblock()?;
-    body.uuid = Uuid::nil();
-    body.number = number;
-    body.position = position;
-    body.start = start;
-    Ok(body)
-}
-
-#[test]
-fn a_node_without_a_cluster_has_nothing(rt: HostRuntime) -> Result<(), Fail> {
-    assert!(rt; undefined(3, 9, 2)?.write_body().is_none());
-    let body = undefined(0, 0, 0)?.write_body().ok_or("no superblock")?;
-    reads(&rt, &body, Ok(undefined(0, 0, 0)?));
-    Ok(())
+fn superblocks_are_read_back(rt: HostRuntime) {
+    assert_eq!(rt;
+        (five_are_read_back(), refusal_of(&[])),
+        (Some(true), Some(SUPERBLOCK))
+    );
+    assert_eq!(rt; refusal_without_cluster(rt.alloc()), Some(SUPERBLOCK));
+    let undefined = [
+        is_read_back_undefined(3, 9, 2),
+        is_read_back_undefined(0, 0, 0),
+    ];
+    assert_eq!(rt; undefined, [None, Some(true)]);
 }

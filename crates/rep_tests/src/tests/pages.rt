@@ -1,6 +1,5 @@
-//! Pages: each byte of the form that may not be another, the slots, and what a page is at a position.
+//! Pages: what is read of them, the slots, and what a page is at a position.
 
-use crate::tests::bytes::{exchanged, has_parts};
 use crate::tests::rows::{add, delete, put};
 use arrayvec::ArrayVec;
 use rep_layout::{PAGE_BODY, PageState, Slot, SuperBody};
@@ -47,32 +46,27 @@ fn page(alloc: Global) -> Result<Page, Refusal> {
 }
 
 /// Its bytes.
-fn page_bytes(alloc: Global) -> Result<ArrayVec<u8, PAGE_BODY>, Fail> {
-    let body = page(alloc)?.write_body(&schema()?).ok_or("no page")?;
-    Ok(body)
+fn body_of(alloc: Global) -> Result<Option<ArrayVec<u8, PAGE_BODY>>, Refusal> {
+    let page = page(alloc)?;
+    Ok(page.write_body(&schema()?))
 }
 
-const PARTS: &[(usize, &[u8])] = &[
-    (0, b"REPPAGE1"),
-    (8, &[0, 4]),
-    (10, &[1, 0]),
-    (12, &[0, 0, 0, 126]),
-    (16, &[0, 0, 0, 0, 0, 0, 0, 3]),
-    (64, &[1, 2, b'a', b'b', 0]),
-    (256, &[1, 0, 0]),
-];
-
-#[test]
-fn pages_have_the_bytes_of_the_format(rt: HostRuntime) -> Result<(), Fail> {
-    let body = page_bytes(rt.alloc())?;
-    assert_eq!(rt; body.len(), 4_096);
-    has_parts(&rt, &body, PARTS);
-    Ok(())
+/// The same as a list.
+pub(crate) fn written(alloc: Global) -> Option<Vec<u8>> {
+    match body_of(alloc) {
+        Ok(Some(body)) => Vec::from_slice(alloc, &body).ok(),
+        _ => None,
+    }
 }
 
-/// What the bytes are refused by, read as the page of this number up to that position.
-fn refusal_of(schema: &Schema, body: &[u8], (number, position): (u32, u64)) -> Option<Refusal> {
-    Page::read_body(schema, number, position, body).err()
+/// What is read of the bytes as the page of this number up to that position.
+fn read(bytes: &[u8], (number, position): (u32, u64)) -> Result<Page, Refusal> {
+    Page::read_body(&schema()?, number, position, bytes)
+}
+
+/// What the bytes are refused by as page 4 up to the position 3.
+pub(crate) fn refusal_of(bytes: &[u8]) -> Option<Refusal> {
+    read(bytes, (4, 3)).err()
 }
 
 /// A number and a position to read page 4 by, which stands at the position 3.
@@ -84,110 +78,27 @@ const READINGS: &[((u32, u64), Option<Refusal>)] = &[
     ((5, 3), Some(PAGES)),
 ];
 
-/// Compares what the bytes are refused by as these pages.
-fn is_read_as(rt: &impl Abort, schema: &Schema, body: &[u8]) {
-    for row in READINGS {
-        let (wanted, refusal) = *row;
-        let found = refusal_of(schema, body, wanted);
-        assert_eq!(rt; (wanted, found), (wanted, refusal));
+/// Compares what the bytes are refused by as these pages, and where they are cut.
+fn is_read_as(rt: &impl Abort, bytes: &[u8]) {
+    for (wanted, refusal) in READINGS {
+        assert_eq!(rt; (*wanted, read(bytes, *wanted).err()), (*wanted, *refusal));
     }
+    let cut = refusal_of(bytes.get(..4_095).unwrap_or(bytes));
+    assert_eq!(rt; (cut, refusal_of(&[])), (Some(PAGES), Some(PAGES)));
 }
 
-#[test]
-fn pages_are_read_by_their_number_and_position(rt: HostRuntime) -> Result<(), Fail> {
-    is_read_as(&rt, &schema()?, &page_bytes(rt.alloc())?);
-    Ok(())
-}
-
-/// Compares what is read of the bytes as page 4 up to the position 3.
-fn reads(rt: &impl Abort, body: &[u8], wanted: Result<Page, Refusal>) -> Result<(), Refusal> {
-    let found = Page::read_body(&schema()?, 4, 3, body);
-    assert_eq!(rt; found, wanted);
+/// Compares what is read of page 4.
+fn is_read_back(rt: &(impl Abort + AllocGlobal), bytes: &[u8]) -> Result<(), Refusal> {
+    is_read_as(rt, bytes);
+    let is_same = read(bytes, (4, 3))? == page(rt.alloc())?;
+    assert!(rt; is_same);
     Ok(())
 }
 
 #[test]
 fn pages_are_read_back(rt: HostRuntime) -> Result<(), Fail> {
-    let body = page_bytes(rt.alloc())?;
-    reads(&rt, &body, Ok(page(rt.alloc())?))?;
-    let cut = body.as_slice().get(..4_095).ok_or("no byte")?;
-    reads(&rt, cut, Err(PAGES))?;
-    reads(&rt, &[], Err(PAGES))?;
-    Ok(())
-}
-
-/// What the bytes are refused by with this one at the place.
-fn refusal_at(schema: &Schema, body: &mut [u8], place: usize, byte: u8) -> Option<Refusal> {
-    let kept = exchanged(body, place, byte)?;
-    let refusal = refusal_of(schema, body, (4, 3));
-    exchanged(body, place, kept)?;
-    refusal
-}
-
-/// Compares that the byte is refused at the places from this one on up to that.
-fn refuses(
-    rt: &impl Abort,
-    schema: &Schema,
-    body: &mut [u8],
-    (from, to): (usize, usize),
-    byte: u8,
-) {
-    for place in from..to {
-        let refusal = refusal_at(schema, body, place, byte);
-        assert_eq!(rt; (place, refusal), (place, Some(PAGES)));
-    }
-}
-
-/// In and behind the head, behind a value, in absent rows, and in rows past the end of the table.
-const ZEROS: &[(usize, usize)] = &[
-    (11, 12),
-    (24, 64),
-    (68, 128),
-    (129, 192),
-    (193, 256),
-    (258, 320),
-    (320, 4_096),
-];
-
-/// Compares that a byte of 1 is refused in each of these ranges.
-fn are_zero(rt: &impl Abort, schema: &Schema, body: &mut [u8]) {
-    for range in ZEROS {
-        refuses(rt, schema, body, *range, 1);
-    }
-}
-
-#[test]
-fn pages_keep_their_zeros(rt: HostRuntime) -> Result<(), Fail> {
-    are_zero(&rt, &schema()?, &mut page_bytes(rt.alloc())?);
-    Ok(())
-}
-
-const FAULTS: &[(usize, u8)] = &[
-    // the mark, the number, the table, the first row
-    (7, b'2'),
-    (9, 3),
-    (10, 0),
-    (15, 125),
-    // a position above the latest
-    (23, 4),
-    // a row that is neither there nor absent, one whose value is too long, and one longer than its value
-    (64, 2),
-    (65, 63),
-    (65, 1),
-];
-
-/// Compares that each of these bytes is refused.
-fn refuses_faults(rt: &impl Abort, schema: &Schema, body: &mut [u8]) {
-    for (place, byte) in FAULTS {
-        let range = (*place, place.saturating_add(1));
-        refuses(rt, schema, body, range, *byte);
-    }
-}
-
-#[test]
-fn pages_keep_their_bounds(rt: HostRuntime) -> Result<(), Fail> {
-    refuses_faults(&rt, &schema()?, &mut page_bytes(rt.alloc())?);
-    Ok(())
+    let bytes = written(rt.alloc()).ok_or("no page")?;
+    Ok(is_read_back(&rt, &bytes)?)
 }
 
 /// Whether the row of this index has these bytes, or none.
@@ -270,13 +181,24 @@ fn longer_page(alloc: Global, longer: &Schema) -> Result<Page, Refusal> {
     Ok(Page::absent(4).image(longer, &versions, 1))
 }
 
+/// Whether the page has bytes for each of the two schemas.
+fn has_bytes(page: &Page, longer: &Schema, shorter: &Schema) -> (bool, bool) {
+    (
+        page.write_body(longer).is_some(),
+        page.write_body(shorter).is_some(),
+    )
+}
+
+/// The same of page 4 of the longer table.
+fn longer_has_bytes(alloc: Global, longer: &Schema) -> Result<(bool, bool), Refusal> {
+    let page = longer_page(alloc, longer)?;
+    Ok(has_bytes(&page, longer, &schema()?))
+}
+
 #[test]
 fn a_page_of_a_longer_table_has_no_bytes(rt: HostRuntime) -> Result<(), Fail> {
-    let longer = Schema::new(&[126, 131])?;
-    let page = longer_page(rt.alloc(), &longer)?;
-    let is_written = page.write_body(&longer).is_some();
-    let is_refused = page.write_body(&schema()?).is_none();
-    assert_eq!(rt; (is_written, is_refused), (true, true));
+    let found = longer_has_bytes(rt.alloc(), &Schema::new(&[126, 131])?);
+    assert_eq!(rt; found, Ok((true, false)));
     Ok(())
 }
 

@@ -2,6 +2,7 @@
 
 use rep_plain::PlainNode;
 use rep_types::{Entry, Key, Params, Refusal, Value, Verdict, Window, WindowSize, Write, WriteSet};
+use std::alloc::Global;
 use std::process::Abort;
 use std::test::Fail;
 
@@ -22,14 +23,17 @@ const ITEMS: &[(u64, u32, u8, Verdict)] = &[
     (3, 2, b'd', Verdict::Commit),
 ];
 
+/// Hands the node such a write set.
+fn delivered(node: &mut PlainNode, last_seen: u64, row: u32, byte: u8) -> Result<Verdict, Refusal> {
+    node.deliver(put(last_seen, row, byte)?)
+}
+
 /// Hands the node the items, and compares their verdicts.
-fn judges(rt: &impl Abort, node: &mut PlainNode) -> Result<(), Refusal> {
-    for row in ITEMS {
-        let (last_seen, row, byte, verdict) = *row;
-        let item = put(last_seen, row, byte)?;
-        assert_eq!(rt; (row, byte, node.deliver(item)?), (row, byte, verdict));
+fn judges(rt: &impl Abort, node: &mut PlainNode) {
+    for (last_seen, row, byte, verdict) in ITEMS {
+        let found = delivered(node, *last_seen, *row, *byte);
+        assert_eq!(rt; (*row, *byte, found), (*row, *byte, Ok(*verdict)));
     }
-    Ok(())
 }
 
 /// Whether the row holds this byte alone after the first `s` items, or nothing where there is none.
@@ -100,14 +104,25 @@ fn stands(
     Ok(())
 }
 
+/// Compares rows and window before the items and behind them.
+fn keeps_rows_and_window(
+    rt: &(impl Abort + AllocGlobal),
+    node: &mut PlainNode,
+) -> Result<(), Refusal> {
+    stands(rt, node, 0, (2, 1), &[])?;
+    judges(rt, node);
+    has_rows(rt, node);
+    stands(rt, node, 4, (2, 3), &[(3, 1), (4, 2)])
+}
+
+/// A plain node with a window of so many seqnos.
+fn node_of(alloc: Global, window: u32) -> Result<PlainNode, Refusal> {
+    Ok(PlainNode::new(alloc, Params::new(window, 4, &[126])?))
+}
+
 #[test]
 fn the_plain_node_keeps_rows_and_window(rt: HostRuntime) -> Result<(), Fail> {
-    let mut node = PlainNode::new(rt.alloc(), Params::new(2, 4, &[126])?);
-    stands(&rt, &node, 0, (2, 1), &[])?;
-    judges(&rt, &mut node)?;
-    has_rows(&rt, &node);
-    stands(&rt, &node, 4, (2, 3), &[(3, 1), (4, 2)])?;
-    Ok(())
+    Ok(keeps_rows_and_window(&rt, &mut node_of(rt.alloc(), 2)?)?)
 }
 
 /// A change of the window to so many seqnos.
@@ -118,16 +133,23 @@ fn resize(node: &mut PlainNode, seqnos: u64) -> Result<Verdict, Refusal> {
 /// Write sets behind a change of the size, by what they saw and their row, and their verdicts.
 type Run = &'static [(u64, u32, Verdict)];
 
-/// Compares the verdict on a change to so many seqnos, and those on the write sets behind it.
-fn resizes(rt: &impl Abort, node: &mut PlainNode, seqnos: u64, items: Run) -> Result<(), Refusal> {
-    let verdict = resize(node, seqnos)?;
-    assert_eq!(rt; (seqnos, verdict), (seqnos, Verdict::Commit));
+/// Compares the verdicts on the write sets.
+fn judges_run(rt: &impl Abort, node: &mut PlainNode, items: Run) {
     for (last_seen, row, verdict) in items {
-        let item = put(*last_seen, *row, b'a')?;
-        assert_eq!(rt; (row, node.deliver(item)?), (row, *verdict));
+        let found = delivered(node, *last_seen, *row, b'a');
+        assert_eq!(rt; (*row, found), (*row, Ok(*verdict)));
     }
-    Ok(())
 }
+
+/// Compares the verdict on a change to so many seqnos, and those on the write sets behind it.
+fn resizes(rt: &impl Abort, node: &mut PlainNode, seqnos: u64, items: Run) {
+    let verdict = resize(node, seqnos);
+    assert_eq!(rt; (seqnos, verdict), (seqnos, Ok(Verdict::Commit)));
+    judges_run(rt, node, items);
+}
+
+/// Before any change: one that commits.
+const FIRST: Run = &[(0, 1, Verdict::Commit)];
 
 /// Behind a change to two seqnos: the first may have seen nothing, the second came too late for that.
 const NARROW: Run = &[(0, 2, Verdict::Commit), (0, 3, Verdict::Stale)];
@@ -135,14 +157,16 @@ const NARROW: Run = &[(0, 2, Verdict::Commit), (0, 3, Verdict::Stale)];
 /// Behind a change to four, which does not lower the floor at once.
 const WIDE: Run = &[(1, 4, Verdict::Stale), (2, 5, Verdict::Commit)];
 
+/// Compares verdicts and window over two changes of the size.
+fn leaves_the_floor(rt: &(impl Abort + AllocGlobal), node: &mut PlainNode) -> Result<(), Refusal> {
+    judges_run(rt, node, FIRST);
+    resizes(rt, node, 2, NARROW);
+    resizes(rt, node, 4, WIDE);
+    stands(rt, node, 7, (4, 4), &[(7, 5)])
+}
+
 // A smaller window raises the floor, seqno by seqno, and a larger one does not lower it.
 #[test]
 fn a_larger_window_leaves_the_floor(rt: HostRuntime) -> Result<(), Fail> {
-    let mut node = PlainNode::new(rt.alloc(), Params::new(4, 4, &[126])?);
-    let first = node.deliver(put(0, 1, b'a')?)?;
-    assert_eq!(rt; first, Verdict::Commit);
-    resizes(&rt, &mut node, 2, NARROW)?;
-    resizes(&rt, &mut node, 4, WIDE)?;
-    stands(&rt, &node, 7, (4, 4), &[(7, 5)])?;
-    Ok(())
+    Ok(leaves_the_floor(&rt, &mut node_of(rt.alloc(), 4)?)?)
 }

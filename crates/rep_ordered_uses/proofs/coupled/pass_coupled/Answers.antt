@@ -1,38 +1,30 @@
-use Rattle.std.proofs.Common.{rules, ◌≡◌, ℕ, ◌+◌, ◌*◌, ◌<◌, List, [], ◌∷◌, ◌++◌, length, arith, sym, refl, ap, ◌∙◌, subst}
-use Rattle.rep_ordered.specs.declared.view.Reached.{Reached}
+use Rattle.std.proofs.Common.{rules, ◌≡◌, ◌<◌, ◌≤◌, refl, ◌++◌, ℕ, ◌+◌, ◌*◌, List, [], ◌∷◌, length, arith, sym, ap, ◌∙◌, subst}
+use Rattle.rep_ordered.specs.declared.view.Hold.{Hold}
 use Rattle.rep_ordered.specs.declared.view.View.{View}
 use Rattle.rep_ordered.specs.Counts.{times}
-use Rattle.rep_ordered.specs.Views.{held_at, word_at, except, turn_of, reach}
+use Rattle.rep_ordered.specs.Views.{held_at, hold, reached_at}
+use Rattle.rep_ordered.specs.Going.{Went}
+use Rattle.rep_ordered.specs.GoingLaws.{goes_entered, goes_on}
 use Rattle.rep_ordered.specs.Seats.{Place}
 use Rattle.rep_ordered_uses.specs.Passing.{HavePassed}
-use Rattle.rep_ordered_uses.proofs.Passes.{next_first, done_coupled}
+use Rattle.rep_ordered_uses.proofs.Passes.{all_done, ok_then}
 use Rattle.rep_ordered_uses.proofs.coupled.pass_coupled.Goals as goal
 
 pub enter-requires-2-clause-ticket : goal.enter-requires-2-clause-ticket
 enter-requires-2-clause-ticket g c = let e = c.in_ok-first.ensures.entered in
     subst (λ (l : List ℕ). 0 < times c.claim-ticket.result l) (sym (ap (λ (z : View _ ℕ). z.own) e.view)) c.claim-ticket.ensures.drawn
 
-pub leave-requires-clause-value : goal.leave-requires-clause-value
-leave-requires-clause-value g c = let t : ℕ = c.claim-ticket.result in let e = c.in_ok-first.ensures.entered in let f = c.in-Ok.ensures.entered in let before : View _ ℕ = c.enter.new.seat.view in let now : View _ ℕ = c.enter-2.new.seat.view in
-    let start = ap (λ (z : Place _ ℕ). z.view.start) c.claim-ticket.ensures.seat ∙ c.requires.start in let place = e.place refl in let holding = ap (λ (z : View _ ℕ). held_at 0 z.held) e.view in let same = f.still (omega arith) in
-    let items : c.push.new.self.items ≡ c.in_ok-first.first.tickets.items ++ t ∷ [] = search rules in
-    let turn : turn_of 0 now ≡ t = ap (λ (z : View _ ℕ). turn_of 0 z) f.view ∙ e.now in
-    subst (λ (z : ℕ × List ℕ × List ℕ). HavePassed g.row.START (z.0 + 1) (z.1 ++ t ∷ []) z.2) (λ i. (sym turn i, sym same i, sym items i)) (next_first g.row.START t before.seen c.in_ok-first.first.tickets.items e.keeps (omega arith))
+pub leave_both-requires : goal.leave_both-requires
+leave_both-requires g c = let t : ℕ = c.claim-ticket.result in let e = c.in_ok-first.ensures.entered in let f = c.in-Ok.ensures.entered in let v : View _ ℕ = c.args.seat.now.view in
+    let start = ap (λ (z : Place _ ℕ). z.view.start) c.claim-ticket.ensures.seat ∙ c.requires.start in let place = e.place refl in
+    let held : c.enter.new.seat.view.held ≡ hold 0 (4 * t + 1) 0 ∷ [] = ap (λ (z : View _ ℕ). z.held) e.view ∙ ap (λ (z : Place _ ℕ). hold 0 (4 * t + 1) 0 ∷ z.view.held) c.claim-ticket.ensures.seat ∙ ap (λ (l : List Hold). hold 0 (4 * t + 1) 0 ∷ l) c.requires.free in
+    let holding = ap (held_at 0) held in let same = f.still (omega arith) in let long = ap (λ (l : List ℕ). length l) same in
+    (omega arith, (search rules, (ap (λ (z : View _ ℕ). z.held) f.view ∙ ap (λ (l : List Hold). hold 1 (4 * t + 1) 0 ∷ l) held, (ap (λ (z : View _ ℕ). z.common) f.view, (omega arith, (subst (λ (l : List ℕ). HavePassed g.row.START t l c.in_ok-first.first.tickets.items) (sym same) e.keeps, f.keeps))))))
 
-pub leave-requires-2-clause-value : goal.leave-requires-2-clause-value
-leave-requires-2-clause-value g c = let t : ℕ = c.claim-ticket.result in let e = c.in_ok-first.ensures.entered in let f = c.in-Ok.ensures.entered in let now : View _ ℕ = c.enter-2.new.seat.view in let left : View _ ℕ = c.leave.new.seat.view in
-    let start = ap (λ (z : Place _ ℕ). z.view.start) c.claim-ticket.ensures.seat ∙ c.requires.start in let place = e.place refl in let holding = ap (λ (z : View _ ℕ). held_at 0 z.held) e.view in let same = ap (λ (l : List ℕ). length l) (f.still (omega arith)) in
-    let items : c.push-2.new.self.items ≡ c.in-Ok.second.tickets.items ++ t ∷ [] = search rules in
-    let seen : left.seen ≡ now.seen ++ t ∷ [] = ap (λ (z : Place _ ℕ). z.view.seen) c.leave.ensures.seat in
-    let word : word_at 1 left.held ≡ 4 * t + 1 = ap (λ (z : Place _ ℕ). word_at 1 z.view.held) c.leave.ensures.seat ∙ ap (λ (z : View _ ℕ). word_at 1 (except 0 z.held)) f.view in let turn : turn_of 1 left ≡ t = omega arith in
-    subst (λ (z : ℕ × List ℕ × List ℕ). HavePassed g.row.START (z.0 + 1) z.1 z.2) (λ i. (sym turn i, sym seen i, sym items i)) (next_first g.row.START t now.seen c.in-Ok.second.tickets.items f.keeps (omega arith))
-
-pub returns-clause-done : goal.returns-clause-done
-returns-clause-done g c = let t : ℕ = c.claim-ticket.result in let e = c.in_ok-first.ensures.entered in let f = c.in-Ok.ensures.entered in let v : View _ ℕ = c.args.seat.now.view in
-    let own = ap (λ (z : Place _ ℕ). z.view.own) c.leave-2.ensures.seat ∙ (ap (λ (z : Place _ ℕ). z.view.own) c.leave.ensures.seat ∙ (ap (λ (z : View _ ℕ). z.own) f.view ∙ (ap (λ (z : View _ ℕ). z.own) e.view ∙ ap (λ (z : Place _ ℕ). z.view.own) c.claim-ticket.ensures.seat))) in
-    let entered : c.enter.new.seat.view.reached ≡ reach 0 t ∷ v.reached = ap (λ (z : View _ ℕ). z.reached) e.view ∙ ap (λ (z : Place _ ℕ). reach 0 t ∷ z.view.reached) c.claim-ticket.ensures.seat in
-    let both : c.enter-2.new.seat.view.reached ≡ reach 1 t ∷ reach 0 t ∷ v.reached = ap (λ (z : View _ ℕ). z.reached) f.view ∙ ap (λ (l : List Reached). reach 1 t ∷ l) entered in
-    let turn : turn_of 0 c.enter-2.new.seat.view ≡ t = ap (λ (z : View _ ℕ). turn_of 0 z) f.view ∙ e.now in
-    let first : c.leave.new.seat.view.reached ≡ reach 0 (t + 1) ∷ reach 1 t ∷ reach 0 t ∷ v.reached = ap (λ (z : Place _ ℕ). z.view.reached) c.leave.ensures.seat ∙ (λ i. reach 0 (turn i + 1) ∷ both i) in
-    let word : word_at 1 c.leave.new.seat.view.held ≡ 4 * t + 1 = ap (λ (z : Place _ ℕ). word_at 1 z.view.held) c.leave.ensures.seat ∙ ap (λ (z : View _ ℕ). word_at 1 (except 0 z.held)) f.view in let last : turn_of 1 c.leave.new.seat.view ≡ t = omega arith in
-    done_coupled v c.leave-2.new.seat.view t own (ap (λ (z : Place _ ℕ). z.view.reached) c.leave-2.ensures.seat ∙ (λ i. reach 1 (last i + 1) ∷ first i)) c.requires.done
+pub returns-in-Ok-clause-done : goal.returns-in-Ok-clause-done
+returns-in-Ok-clause-done g c = let t : ℕ = c.claim-ticket.result in let e = c.in_ok-first.ensures.entered in let f = c.in-Ok.ensures.entered in let seat = c.claim-ticket.ensures.seat in
+    let v : View _ ℕ = c.args.seat.now.view in let w : View _ ℕ = c.leave_both.new.seat.view in let went : Went c.enter-2.new.seat.view w = c.leave_both.ensures.went in
+    let first = goes_entered _ _ _ _ 0 t 1 c.claim-ticket.new.seat.view c.enter.new.seat.view c.in_ok-first.first e in let second = goes_entered _ _ _ _ 1 t 1 c.enter.new.seat.view c.enter-2.new.seat.view c.in-Ok.second f in
+    let own : w.own ≡ v.own ++ t ∷ [] = c.leave_both.ensures.own ∙ (ap (λ (z : View _ ℕ). z.own) f.view ∙ (ap (λ (z : View _ ℕ). z.own) e.view ∙ ap (λ (z : Place _ ℕ). z.view.own) seat)) in
+    let goes = goes_on _ _ _ first (goes_on _ _ _ second went.goes) in let start : c.claim-ticket.new.seat.view.reached ≡ v.reached = ap (λ (z : Place _ ℕ). z.view.reached) seat in
+    ok_then c.leave_both.result c.leave_both.ensures.reached (λ reached. all_done v w t own reached.0 reached.1 (subst (λ l. reached_at 0 l ≤ reached_at 0 w.reached) start (goes.reached 0)) (subst (λ l. reached_at 1 l ≤ reached_at 1 w.reached) start (goes.reached 1)) c.requires.done)

@@ -1,4 +1,4 @@
-use Rattle.std.proofs.Common.{◌≡◌, ◌∙◌, ◌+◌, ◌<◌, List, [], ◌++◌, append-nil, map, length, length-append, take, Result, Ok, Err, refl, sym, ap, subst, arith, OnErr}
+use Rattle.std.proofs.Common.{◌≡◌, ◌∙◌, ◌+◌, ◌<◌, List, [], ◌++◌, append-nil, map, length, length-append, take, Result, Ok, Err, refl, sym, ap, subst, arith, OnErr, inl}
 use Rattle.std.proofs.lemmas.List.{map-append, length-take-le}
 use Rattle.rep_types.specs.declared.judged.Judged.{Judged}
 use Rattle.rep_types.specs.declared.reply.Reply.{Reply}
@@ -13,6 +13,7 @@ use Rattle.rep_engine.specs.Accepting.{ComeNext, AddsItems, accepted_in}
 use Rattle.rep_engine.specs.Holding.{Holds}
 use Rattle.rep_engine.proofs.Accepting.{engine_accepted, fitting_within}
 use Rattle.rep_engine.proofs.Accepts.{accepted_some, gathers_whole, accepted_few, length-replies, holds_more}
+use Rattle.rep_engine.proofs.Refusing.{passed_on}
 use Rattle.rep_engine.proofs.engine.Engine.accept.Goals as goal
 
 -- ---- where a growth was refused
@@ -112,3 +113,9 @@ returns-else-count-gt0-clause-holds g c = λ n holds judged.
     holds_more g.D.Disk.honest g.D.Disk.history g.D.Disk.failures c.versions_follow_the_items.ensures c.the_log_is_apart.ensures _ _ (take c.next_items-count.result c.args.backlog.now) (engine_else g c) refl refl refl refl refl
     (sym (ap (λ (js : List Judged). c.self.inside.block ++ js) (none_come g c) ∙ append-nil c.self.inside.block)) c.in_ok-add_items.ensures.added n
     (subst (λ (e : Engine g.row.D.Denot). Holds g.D.Disk.honest g.D.Disk.history g.D.Disk.failures n e) (sym c.self.view_is) holds) judged
+
+-- ---- where the device has failed before
+
+pub returns-in_err-running : goal.returns-in_err-running
+returns-in_err-running g c =
+    rw (passed_on c.from_residual.result c.in_err-running.field-0.0 c.from_residual.ensures.1 c.in_err-running.ensures.stopped.0) (record { count = tt; facts = tt; backlog = tt; rest = refl; block = tt; versions = tt; running = tt; refused = inl (refl, c.in_err-running.ensures.stopped.1); unchanged = (refl, refl); holds = tt })

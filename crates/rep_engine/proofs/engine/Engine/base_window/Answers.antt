@@ -1,14 +1,20 @@
-use Rattle.std.proofs.Common.{◌≡◌, Ok, Result, IfOk, IsOk, rules, refl, sym, ap, subst}
+use Rattle.std.proofs.Common.{◌≡◌, ◌∙◌, Ok, Result, IfOk, IsOk, IsErr, rules, refl, sym, ap, subst}
 use Rattle.rep_types.specs.declared.refusal.Refusal.{Refusal}
 use Rattle.rep_types.specs.declared.refusal.Refusal.TheVariants.{Stopped, DiskFault}
 use Rattle.rep_layout.specs.declared.place.Place.TheVariants.{Window as in_window_area}
-use Rattle.rep_layout.specs.Windows.{Window, window}
+use Rattle.rep_layout.specs.declared.place.Layout.{Layout}
+use Rattle.rep_layout.specs.declared.super_body.SuperBody.{SuperBody}
+use Rattle.rep_layout.specs.Windows.{Window, window, IsWindowBody}
+use Rattle.rep_cells.specs.Device.{disk_of, layout_of}
 use Rattle.rep_steps.specs.Nodes.{Node}
+use Rattle.rep_engine.specs.Engines.{Engine, IsEngine}
 use Rattle.rep_engine.specs.Holding.{Holds}
+use Rattle.rep_engine.proofs.Pools.{pooled_as, pooled_read}
 use Rattle.rep_engine.proofs.Refusing.{passed_on}
-use Rattle.rep_engine.proofs.Answering.{runs_within}
-use Rattle.rep_engine.proofs.Asking.{holds_read}
+use Rattle.rep_engine.proofs.Answering.{inside, runs_within}
+use Rattle.rep_engine.proofs.Asking.{holds_read, asks_found, asks_failed, asks_stopped}
 use Rattle.rep_engine.proofs.DonorPages.{if_read, window_read, window_spelled, window_elsewise}
+use Rattle.rep_types.specs.declared.refusal.Part.TheVariants.{Window as in_window}
 use Rattle.rep_engine.proofs.engine.Engine.base_window.Goals as goal
 use Rattle.rep_engine.proofs.engine.Engine.base_window.Goals.{After-window_in}
 
@@ -21,27 +27,52 @@ read g c n holds =
     c.base-base.result.now (in_window_area c.of.result) c.read_area.new.room c.window_in.result c.base-base.ensures.base (ap in_window_area c.of.ensures)
     (λ honest s assigns sure. if_read c.read_area.result ok (c.read_area.ensures.shown honest s assigns sure)) c.window_in.ensures.only
 
-pub returns-clause-holds : goal.returns-clause-holds
-returns-clause-holds g c = λ n holds other.
+pub invariant_of-self-2 : goal.invariant_of-self-2
+invariant_of-self-2 g c =
+    let b = c.self.inside.checkpoint.base in (
+      subst (λ (l : Layout). IsEngine l c.self.inside.checkpoint c.self.inside.log c.self.inside.versions c.self.inside.block) (sym c.read_area.ensures.layout) c.self.invariant.0,
+      c.self.invariant.1,
+      λ on. pooled_as g.D.Disk.honest g.D.Disk.history (layout_of c.self.inside.cells) (layout_of c.read_area.new.self) b b (disk_of c.read_area.new.self) c.self.inside.pool c.read_area.ensures.layout refl
+          (pooled_read g.D.Disk.honest g.D.Disk.history b.params.rows (layout_of c.self.inside.cells) (disk_of c.self.inside.cells) (disk_of c.read_area.new.self) c.self.inside.pool c.read_area.ensures.call.was_honest c.read_area.ensures.same (c.self.invariant.2 on)),
+    )
+
+pub returns : goal.returns
+returns g c =
     let ok : IsOk c.read_area.result = search rules in
-    holds_read g.D.Disk.size g.D.Disk.failures g.D.Disk.honest g.D.Disk.history _ c.args.self.now _ _ c.read_area.result c.self.view_is (runs_within c.self.view_is c.in_ok-running.ensures.runs) c.read_area.ensures.layout c.read_area.ensures.call ok c.read_area.ensures.same n holds
+    let b_is : c.base-base.result.now ≡ c.args.self.now.checkpoint.base = c.base-base.ensures.base ∙ ap (λ (e : Engine g.row.D.Denot). e.checkpoint.base) c.self.view_is in
+    record {
+      asks = asks_found g.D.Disk.size g.D.Disk.failures g.D.Disk.honest g.D.Disk.history in_window (inside c.self.inside.cells c.self.inside.checkpoint c.self.inside.log c.self.inside.versions c.self.inside.block c.self.inside.halted) c.args.self.now (disk_of c.read_area.new.self) (layout_of c.read_area.new.self) c.read_area.result c.self.view_is (runs_within c.self.view_is c.in_ok-running.ensures.runs) c.read_area.ensures.layout c.read_area.ensures.call c.read_area.ensures.same ok c.window_in.result c.window_in.ensures.refused;
+      form = subst (λ (b : SuperBody). IfOk c.window_in.result (λ w. (w ≡ window b.number b.position w.entries) × IsWindowBody b.params w)) b_is c.window_in.ensures.form;
+      holds = λ n holds other. holds_read g.D.Disk.size g.D.Disk.failures g.D.Disk.honest g.D.Disk.history _ c.args.self.now _ _ c.read_area.result c.self.view_is (runs_within c.self.view_is c.in_ok-running.ensures.runs) c.read_area.ensures.layout c.read_area.ensures.call ok c.read_area.ensures.same n holds;
+      window = λ n holds. subst (λ (r : Result Window Refusal). IfOk r (λ w. w.entries ≡ n.base.kept.entries)) (sym (read g c n holds)) refl;
+      whole = λ n holds corrupt. (let was = read g c n holds in absurd cc);
+      spelled = window_spelled g.D.Disk.honest g.D.Disk.history _ c.args.self.now c.self.view_is c.base-base.result.now (in_window_area c.of.result) c.read_area.new.room c.window_in.result c.base-base.ensures.base (ap in_window_area c.of.ensures)
+          (λ honest readable. if_read c.read_area.result ok (c.read_area.ensures.read honest readable)) c.window_in.ensures.only c.window_in.ensures.found;
+    }
 
-pub returns-clause-window : goal.returns-clause-window
-returns-clause-window g c = λ n holds. subst (λ (r : Result Window Refusal). IfOk r (λ w. w.entries ≡ n.base.kept.entries)) (sym (read g c n holds)) refl
+-- ---- where the device fails
 
-pub returns-clause-whole : goal.returns-clause-whole
-returns-clause-whole g c = λ n holds corrupt. let was = read g c n holds in absurd cc
+pub returns-then-is_err : goal.returns-then-is_err
+returns-then-is_err g c =
+    let err : IsErr c.read_area.result = search rules in
+    record {
+      asks = asks_failed g.D.Disk.size g.D.Disk.failures g.D.Disk.honest g.D.Disk.history in_window (inside c.self.inside.cells c.self.inside.checkpoint c.self.inside.log c.self.inside.versions c.self.inside.block c.self.inside.halted) c.args.self.now (disk_of c.read_area.new.self) (layout_of c.read_area.new.self) c.read_area.result c.self.view_is (runs_within c.self.view_is c.in_ok-running.ensures.runs) c.read_area.ensures.layout c.read_area.ensures.call c.read_area.ensures.same err c.phase.result c.phase.ensures;
+      form = tt;
+      holds = λ n holds other. absurd (other refl);
+      window = λ n holds. tt;
+      whole = λ n holds corrupt. absurd cc;
+      spelled = λ honest readable. window_elsewise _ c.args.self.now.checkpoint.base DiskFault (λ is. absurd cc);
+    }
 
--- ---- what the bytes say
+-- ---- where the device has failed before
 
-pub returns-clause-spelled : goal.returns-clause-spelled
-returns-clause-spelled g c =
-    let ok : IsOk c.read_area.result = search rules in
-    window_spelled g.D.Disk.honest g.D.Disk.history _ c.args.self.now c.self.view_is c.base-base.result.now (in_window_area c.of.result) c.read_area.new.room c.window_in.result c.base-base.ensures.base (ap in_window_area c.of.ensures)
-    (λ honest readable. if_read c.read_area.result ok (c.read_area.ensures.read honest readable)) c.window_in.ensures.only c.window_in.ensures.found
-
-pub returns-in_err-running-clause-spelled : goal.returns-in_err-running-clause-spelled
-returns-in_err-running-clause-spelled g c = λ honest readable. rw (passed_on c.from_residual.result c.in_err-running.field-0.0 c.from_residual.ensures.1 c.in_err-running.ensures.stopped.0) (window_elsewise _ c.args.self.now.checkpoint.base Stopped (λ is. absurd cc))
-
-pub returns-then-is_err-clause-spelled : goal.returns-then-is_err-clause-spelled
-returns-then-is_err-clause-spelled g c = λ honest readable. window_elsewise _ c.args.self.now.checkpoint.base DiskFault (λ is. absurd cc)
+pub returns-in_err-running : goal.returns-in_err-running
+returns-in_err-running g c =
+    rw (passed_on c.from_residual.result c.in_err-running.field-0.0 c.from_residual.ensures.1 c.in_err-running.ensures.stopped.0) (record {
+      asks = asks_stopped g.D.Disk.size g.D.Disk.failures g.D.Disk.honest g.D.Disk.history in_window c.args.self.now c.in_err-running.ensures.stopped.1;
+      form = tt;
+      holds = λ n holds other. holds;
+      window = λ n holds. tt;
+      whole = λ n holds corrupt. absurd cc;
+      spelled = λ honest readable. window_elsewise _ c.args.self.now.checkpoint.base Stopped (λ is. absurd cc);
+    })

@@ -1,67 +1,37 @@
-use Rattle.std.proofs.Common.{◌≡◌, inl, Ok, Err, sym, ap, subst, ◌∙◌}
-use Rattle.rep_disk.specs.Leaving.{leaves_none}
-use Rattle.rep_checkpoint.specs.declared.stage.Step.TheVariants.{Flush, Sync as AwaitsSync}
+use Rattle.std.proofs.Common.{◌≡◌, sym, ap, subst, ◌∙◌}
 use Rattle.rep_checkpoint.specs.Standing.{due_in}
 use Rattle.rep_engine.specs.Engines.{Engine}
-use Rattle.rep_engine.specs.Holding.{Holds}
-use Rattle.rep_engine.proofs.Checking.{IsGone, gone, goes, begins_off, began_moves, began_holds, begin_refused, check_moves, check_holds, gone_leaves, waits_steps}
+use Rattle.rep_engine.proofs.Refusing.{passed_on}
+use Rattle.rep_engine.proofs.Checking.{IsChecked, begins_off, stopped_checked, begins_checked, goes_checked, waits_checked}
 use Rattle.rep_engine.proofs.engine.Engine.check.Goals as goal
 
--- ---- it begins
+stopped : (g : _) (c : goal.After-from_residual g) → IsChecked g.D.Disk.honest g.D.Disk.history g.D.Disk.size g.D.Disk.failures c.args.certifier.now.current c.args.self.now c.args.self.now c.from_residual.result
+stopped g c =
+    subst (IsChecked g.D.Disk.honest g.D.Disk.history g.D.Disk.size g.D.Disk.failures c.args.certifier.now.current c.args.self.now c.args.self.now) (sym (passed_on c.from_residual.result c.in_err-running.field-0.0 c.from_residual.ensures.1 c.in_err-running.ensures.stopped.0))
+    (stopped_checked g.D.Disk.honest g.D.Disk.history g.D.Disk.size g.D.Disk.failures c.args.certifier.now.current c.args.self.now c.in_err-running.ensures.stopped.1)
 
-pub returns-in-Ok-clause-moves : goal.returns-in-Ok-clause-moves
-returns-in-Ok-clause-moves g c = began_moves g.D.Disk.failures c.args.self.now c.begin.new.self c.args.certifier.now.current c.in-Ok.position c.in_ok-running.ensures.runs (begins_off c.self.view_is c.in-Begin.ensures) c.begin.ensures.rest c.in-Ok.ensures.begun
+pub returns-in_err-running : goal.returns-in_err-running
+returns-in_err-running g c = let k = stopped g c in record { call = k.call; rest = k.rest; params = k.params; unchanged = k.unchanged; fault = k.fault; moves = k.moves; steps = k.steps; leaves = k.leaves }
 
-pub returns-in-Ok-clause-steps : goal.returns-in-Ok-clause-steps
-returns-in-Ok-clause-steps g c = λ n holds window.
-    began_holds g.D.Disk.failures c.args.self.now c.begin.new.self c.args.certifier.now.current c.in-Ok.position c.in_ok-running.ensures.runs (begins_off c.self.view_is c.in-Begin.ensures) c.begin.ensures.rest c.in-Ok.ensures.begun g.D.Disk.honest g.D.Disk.history c.checkpoints_go_on.ensures.nodes c.checkpoints_go_on.ensures.states c.judging_goes_on.ensures n holds
-    (c.requires.window (begins_off c.self.view_is c.in-Begin.ensures)).window.is_fixed window
+begins : (g : _) (c : goal.After-begin g) → IsChecked g.D.Disk.honest g.D.Disk.history g.D.Disk.size g.D.Disk.failures c.args.certifier.now.current c.args.self.now c.begin.new.self c.begin.result
+begins g c =
+    let off = begins_off c.self.view_is c.in-Begin.ensures in
+    begins_checked g.D.Disk.honest g.D.Disk.history g.D.Disk.size g.D.Disk.failures c.args.certifier.now.current c.checkpoints_go_on.ensures.nodes c.checkpoints_go_on.ensures.states c.judging_goes_on.ensures c.args.self.now c.begin.new.self c.in_ok-running.ensures.runs off (c.requires.window off) c.begin.ensures.rest c.begin.result c.begin.ensures.begins
 
-pub returns-in-Err-clause-steps : goal.returns-in-Err-clause-steps
-returns-in-Err-clause-steps g c = λ n holds window.
-    let why = c.in-Err.ensures.refused in
-    (n, begin_refused g.D.Disk.honest g.D.Disk.history g.D.Disk.failures c.args.self.now n holds c.in_ok-running.ensures.runs (begins_off c.self.view_is c.in-Begin.ensures) c.in-Err.refusal why.1, subst (λ (e : Engine g.row.D.Denot). Holds g.D.Disk.honest g.D.Disk.history g.D.Disk.failures n e) (sym why.0) holds)
+pub returns-in-Begin : goal.returns-in-Begin
+returns-in-Begin g c = let k = begins g c in record { call = k.call; rest = k.rest; params = k.params; unchanged = k.unchanged; fault = k.fault; moves = k.moves; steps = k.steps; leaves = k.leaves }
 
-pub returns-in-Ok-clause-leaves : goal.returns-in-Ok-clause-leaves
-returns-in-Ok-clause-leaves g c = λ n holds. leaves_none _ _ (ap (λ (e : Engine g.row.D.Denot). g.D.Disk.history e.disk) c.begin.ensures.rest)
+goes : (g : _) (c : goal.After-and g) → IsChecked g.D.Disk.honest g.D.Disk.history g.D.Disk.size g.D.Disk.failures c.args.certifier.now.current c.args.self.now c.go_on.new.self c.and.result
+goes g c =
+    subst (IsChecked g.D.Disk.honest g.D.Disk.history g.D.Disk.size g.D.Disk.failures c.args.certifier.now.current c.args.self.now c.go_on.new.self) (sym c.and.ensures)
+    (goes_checked g.D.Disk.honest g.D.Disk.history g.D.Disk.size g.D.Disk.failures c.args.certifier.now.current c.checkpoints_go_on.ensures.nodes c.checkpoints_go_on.ensures.fronts c.checkpoints_go_on.ensures.apart c.checkpoints_go_on.ensures.facts g.met.D.Disk.sized c.self.view_is c.self.invariant.0
+    c.in_ok-running.ensures.runs c.in-Next.ensures c.go_on.result c.go_on.ensures)
 
--- ---- it goes on
+pub returns-in-Next : goal.returns-in-Next
+returns-in-Next g c = let k = goes g c in record { call = k.call; rest = k.rest; params = k.params; unchanged = k.unchanged; fault = k.fault; moves = k.moves; steps = k.steps; leaves = k.leaves }
 
-gone_ok : (g : _) (c : goal.In-Ok-go_on g) → IsGone g.D.Disk.honest g.D.Disk.history g.D.Disk.size g.D.Disk.failures c.args.self.now c.go_on.new.self (Ok c.in-Ok-go_on.field-0)
-gone_ok g c = let did = c.in-Ok-go_on.ensures in gone c.self.view_is c.self.invariant.0 c.in_ok-running.ensures.runs c.in-Next.ensures did.rest did.call did.halted did.goes
-
-gone_err : (g : _) (c : goal.In-Err-go_on g) → IsGone g.D.Disk.honest g.D.Disk.history g.D.Disk.size g.D.Disk.failures c.args.self.now c.go_on.new.self (Err c.in-Err-go_on.refusal)
-gone_err g c = let did = c.in-Err-go_on.ensures in gone c.self.view_is c.self.invariant.0 c.in_ok-running.ensures.runs c.in-Next.ensures did.rest did.call did.halted did.goes
-
-pub returns-in-Ok-go_on-clause-moves : goal.returns-in-Ok-go_on-clause-moves
-returns-in-Ok-go_on-clause-moves g c = check_moves g.D.Disk.honest g.D.Disk.history g.D.Disk.size g.D.Disk.failures g.met.D.Disk.sized c.checkpoints_go_on.ensures.facts c.args.self.now c.go_on.new.self (Ok c.in-Ok-go_on.field-0) (gone_ok g c)
-
-pub returns-in-Ok-go_on-clause-steps : goal.returns-in-Ok-go_on-clause-steps
-returns-in-Ok-go_on-clause-steps g c = λ n holds window. check_holds g.D.Disk.honest g.D.Disk.history g.D.Disk.size g.D.Disk.failures g.met.D.Disk.sized c.checkpoints_go_on.ensures.facts c.args.self.now c.go_on.new.self (Ok c.in-Ok-go_on.field-0) (gone_ok g c) n holds c.checkpoints_go_on.ensures.nodes c.checkpoints_go_on.ensures.fronts c.checkpoints_go_on.ensures.apart
-
-pub returns-in-Ok-go_on-clause-leaves : goal.returns-in-Ok-go_on-clause-leaves
-returns-in-Ok-go_on-clause-leaves g c = λ n holds. gone_leaves g.D.Disk.honest g.D.Disk.history g.D.Disk.size g.D.Disk.failures g.met.D.Disk.sized c.checkpoints_go_on.ensures.facts c.args.self.now c.go_on.new.self (Ok c.in-Ok-go_on.field-0) (gone_ok g c) n holds c.checkpoints_go_on.ensures.nodes c.checkpoints_go_on.ensures.fronts c.checkpoints_go_on.ensures.apart
-
-pub returns-in-Err-go_on-clause-moves : goal.returns-in-Err-go_on-clause-moves
-returns-in-Err-go_on-clause-moves g c = check_moves g.D.Disk.honest g.D.Disk.history g.D.Disk.size g.D.Disk.failures g.met.D.Disk.sized c.checkpoints_go_on.ensures.facts c.args.self.now c.go_on.new.self (Err c.in-Err-go_on.refusal) (gone_err g c)
-
-pub returns-in-Err-go_on-clause-steps : goal.returns-in-Err-go_on-clause-steps
-returns-in-Err-go_on-clause-steps g c = λ n holds window. check_holds g.D.Disk.honest g.D.Disk.history g.D.Disk.size g.D.Disk.failures g.met.D.Disk.sized c.checkpoints_go_on.ensures.facts c.args.self.now c.go_on.new.self (Err c.in-Err-go_on.refusal) (gone_err g c) n holds c.checkpoints_go_on.ensures.nodes c.checkpoints_go_on.ensures.fronts c.checkpoints_go_on.ensures.apart
-
-pub returns-in-Err-go_on-clause-leaves : goal.returns-in-Err-go_on-clause-leaves
-returns-in-Err-go_on-clause-leaves g c = λ n holds. gone_leaves g.D.Disk.honest g.D.Disk.history g.D.Disk.size g.D.Disk.failures g.met.D.Disk.sized c.checkpoints_go_on.ensures.facts c.args.self.now c.go_on.new.self (Err c.in-Err-go_on.refusal) (gone_err g c) n holds c.checkpoints_go_on.ensures.nodes c.checkpoints_go_on.ensures.fronts c.checkpoints_go_on.ensures.apart
-
-pub returns-in-Err-go_on-clause-unchanged : goal.returns-in-Err-go_on-clause-unchanged
-returns-in-Err-go_on-clause-unchanged g c = inl (goes g.D.Disk.honest g.D.Disk.history g.D.Disk.size g.D.Disk.failures g.met.D.Disk.sized c.checkpoints_go_on.ensures.facts c.args.self.now c.go_on.new.self (Err c.in-Err-go_on.refusal) (gone_err g c)).fault.0
-
--- ---- it waits
-
-pub returns-in-Flush-clause-steps : goal.returns-in-Flush-clause-steps
-returns-in-Flush-clause-steps g c = λ n holds window.
-    let due = subst (λ (e : Engine g.row.D.Denot). Flush c.in-Flush.field-0 ≡ due_in e.checkpoint.stage) c.self.view_is c.in-Flush.ensures in
-    (n, waits_steps g.D.Disk.honest g.D.Disk.history g.D.Disk.failures c.checkpoints_go_on.ensures.facts c.args.self.now n holds c.in_ok-running.ensures.runs (λ e. let never = due ∙ e in absurd cc) (λ e. let never = due ∙ e in absurd cc), holds)
-
-pub returns-in-Sync-clause-steps : goal.returns-in-Sync-clause-steps
-returns-in-Sync-clause-steps g c = λ n holds window.
-    let due = subst (λ (e : Engine g.row.D.Denot). AwaitsSync ≡ due_in e.checkpoint.stage) c.self.view_is c.in-Sync.ensures in
-    (n, waits_steps g.D.Disk.honest g.D.Disk.history g.D.Disk.failures c.checkpoints_go_on.ensures.facts c.args.self.now n holds c.in_ok-running.ensures.runs (λ e. let never = due ∙ e in absurd cc) (λ e. let never = due ∙ e in absurd cc), holds)
+pub returns-in-Flush : goal.returns-in-Flush
+returns-in-Flush g c =
+    let due : c.step_due.result ≡ due_in c.args.self.now.checkpoint.stage = c.step_due.ensures ∙ ap (λ (e : Engine g.row.D.Denot). due_in e.checkpoint.stage) c.self.view_is in
+    let k = waits_checked g.D.Disk.honest g.D.Disk.history g.D.Disk.size g.D.Disk.failures c.args.certifier.now.current c.checkpoints_go_on.ensures.facts c.args.self.now c.in_ok-running.ensures.runs c.step_due.result due c.in-Flush.is in
+    record { call = k.call; rest = k.rest; params = k.params; unchanged = k.unchanged; fault = k.fault; moves = k.moves; steps = k.steps; leaves = k.leaves }

@@ -1,10 +1,10 @@
-use Rattle.std.proofs.Common.{◌≡◌, ◌⊎◌, ℕ, Some, IfErr, refl, sym, subst, arith}
+use Rattle.std.proofs.Common.{◌≡◌, ◌⊎◌, ℕ, Some, IfErr, refl, sym, subst, arith, inr, ap, ◌∙◌}
 use Rattle.rep_types.specs.declared.refusal.Refusal.TheVariants.{DiskFault, Corrupt, NotDue, Stopped}
 use Rattle.rep_types.specs.declared.refusal.Part.TheVariants.{Pages}
 use Rattle.rep_steps.specs.declared.event.Event.TheVariants.{Flush as to_flush}
 use Rattle.rep_steps.specs.Moves.{Moves}
 use Rattle.rep_steps.specs.Nodes.{Steps}
-use Rattle.rep_steps.specs.Standings.{flush_refusal}
+use Rattle.rep_steps.specs.Standings.{flush_refusal, Standing}
 use Rattle.rep_checkpoint.specs.Standing.{stage_of}
 use Rattle.rep_checkpoint.specs.Moves.{position_in}
 use Rattle.rep_pool.specs.BasePages.{IsPageReadable}
@@ -13,6 +13,9 @@ use Rattle.rep_engine.specs.Engines.{Engine, facts_of}
 use Rattle.rep_engine.specs.Holding.{Holds, wrote}
 use Rattle.rep_engine.proofs.Refusing.{passed_on}
 use Rattle.rep_engine.proofs.Flushing.{IsFlushed, flush_moves, flush_holds, flush_leaves, flush_left, flush_stops, flush_spelled, refused_spelled, far_steps}
+use Rattle.rep_engine.proofs.Asking.{none_asked}
+use Rattle.rep_engine.proofs.Steps.{stopped_moves, stopped_steps}
+use Rattle.rep_disk.specs.Leaving.{leaves_none}
 use Rattle.rep_engine.proofs.engine.Engine.flush.Goals as goal
 use Rattle.rep_engine.proofs.engine.Engine.flush.Goals.{After-flush_page}
 
@@ -69,5 +72,17 @@ returns-in-Ok-clause-spelled g c =
 pub returns-in-Err-clause-spelled : goal.returns-in-Err-clause-spelled
 returns-in-Err-clause-spelled g c = λ honest readable. refused_spelled _ _ _ _ _ _ _ NotDue (λ e. absurd cc)
 
-pub returns-in_err-running-clause-spelled : goal.returns-in_err-running-clause-spelled
-returns-in_err-running-clause-spelled g c = λ honest readable. rw (passed_on c.from_residual.result c.in_err-running.field-0.0 c.from_residual.ensures.1 c.in_err-running.ensures.stopped.0) (refused_spelled _ _ _ _ _ _ _ Stopped (λ e. absurd cc))
+-- ---- where the device has failed before
+
+pub returns-in_err-running : goal.returns-in_err-running
+returns-in_err-running g c =
+    rw (passed_on c.from_residual.result c.in_err-running.field-0.0 c.from_residual.ensures.1 c.in_err-running.ensures.stopped.0) (record {
+      call = none_asked g.D.Disk.size g.D.Disk.failures g.D.Disk.honest c.args.self.now.disk;
+      rest = refl;
+      moves = stopped_moves (facts_of g.D.Disk.failures c.args.self.now) (to_flush c.args.page) c.in_err-running.ensures.stopped.1;
+      steps = λ n holds. (n, stopped_steps n (to_flush c.args.page) (ap (λ (s : Standing). s.stopped) holds.facts ∙ c.in_err-running.ensures.stopped.1), holds);
+      leaves = λ n holds. leaves_none _ _ refl;
+      spelled = λ honest readable. refused_spelled _ _ _ _ _ _ _ Stopped (λ e. absurd cc);
+      unchanged = inr (inr refl);
+      fault = λ e. absurd cc;
+    })

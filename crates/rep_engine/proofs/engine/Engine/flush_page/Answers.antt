@@ -1,12 +1,17 @@
-use Rattle.std.proofs.Common.{rules, ◌≡◌, ◌≢◌, None, Some, Err, sym, ap, subst, ◌∙◌}
-use Rattle.rep_types.specs.declared.refusal.Refusal.TheVariants.{DiskFault}
+use Rattle.std.proofs.Common.{◌≡◌, None, IfSome, OnErr, refl, sym, ap, subst, ◌∙◌}
+use Rattle.rep_disk.specs.Calls.{IsCall}
+use Rattle.rep_log.specs.declared.phase.Phase.{Phase}
+use Rattle.rep_log.specs.Moves.{fault_of}
 use Rattle.rep_layout.specs.declared.super_body.SuperBody.{SuperBody}
 use Rattle.rep_layout.specs.declared.place.Layout.{Layout}
 use Rattle.rep_cells.specs.Device.{disk_of, layout_of}
 use Rattle.rep_pool.specs.BasePages.{IsPooled}
 use Rattle.rep_checkpoint.specs.Moves.{flush_refusal}
-use Rattle.rep_checkpoint.specs.Calls.{Flushes}
+use Rattle.rep_checkpoint.specs.Calls.{IsRefused, Flushes}
 use Rattle.rep_engine.specs.Engines.{Engine, IsEngine}
+use Rattle.rep_engine.specs.Reading.{halted_by}
+use Rattle.rep_engine.proofs.Answering.{inside, came_out}
+use Rattle.rep_engine.proofs.Refusing.{not_failed}
 use Rattle.rep_engine.proofs.Pools.{pooled_as}
 use Rattle.rep_engine.proofs.Flushing.{engine_went}
 use Rattle.rep_engine.proofs.engine.Engine.flush_page.Goals as goal
@@ -25,19 +30,25 @@ engine_then g c =
     c.self.invariant.0 c.base.ensures.checkpoint c.flush-outcome.ensures.refused (λ due. c.flush-outcome.ensures.flushes due (pooled g c)))
 
 pub invariant_of-self : goal.invariant_of-self
-invariant_of-self g c = (engine_then g (goal.at.invariant_of-self g c).After-base, c.self.invariant.1, λ on. let never : Some c.phase.result ≡ None = on in absurd cc)
-
-pub invariant_of-self-else-eq : goal.invariant_of-self-else-eq
-invariant_of-self-else-eq g c =
-    let other : c.flush-outcome.result ≢ Err DiskFault = search rules in (
-      engine_then g (goal.at.invariant_of-self-else-eq g c).After-base,
+invariant_of-self g c =
+    let at = (goal.at.invariant_of-self g c).After-base in (
+      engine_then g at,
       c.self.invariant.1,
       λ on. pooled_as g.D.Disk.honest g.D.Disk.history (layout_of c.self.inside.cells) (layout_of c.flush-outcome.new.cells) c.self.inside.checkpoint.base c.flush-outcome.new.self.base (disk_of c.flush-outcome.new.cells) c.flush-outcome.new.pool c.flush-outcome.ensures.layout (ap (λ (b : SuperBody). b.params) c.flush-outcome.ensures.base)
-          (c.flush-outcome.ensures.agrees other (c.self.invariant.2 on)),
+          (c.flush-outcome.ensures.agrees (not_failed c.phase.result c.flush-outcome.result (sym c.halted_by-self-inside.ensures ∙ on)) (pooled g at)),
     )
 
-pub returns-else-eq-clause-flushes : goal.returns-else-eq-clause-flushes
-returns-else-eq-clause-flushes g c =
-    let at = (goal.at.returns-else-eq-clause-flushes g c).After-base in
-    subst (λ (e : Engine g.row.D.Denot). flush_refusal e.layout e.checkpoint c.args.page ≡ None → Flushes g.D.Disk.honest g.D.Disk.history e.layout e.kept c.args.page e.checkpoint c.flush-outcome.new.self e.disk (disk_of c.flush-outcome.new.cells) c.flush-outcome.result) c.self.view_is
-    (λ due. c.flush-outcome.ensures.flushes due (pooled g at))
+pub returns : goal.returns
+returns g c =
+    let at = (goal.at.returns g c).After-base in
+    let d = disk_of c.flush-outcome.new.cells in
+    record {
+      call = subst (λ (e : Engine g.row.D.Denot). IsCall g.D.Disk.size g.D.Disk.failures g.D.Disk.honest e.disk d (fault_of c.flush-outcome.result)) c.self.view_is c.flush-outcome.ensures.call;
+      rest = came_out (inside c.self.inside.cells c.self.inside.checkpoint c.self.inside.log c.self.inside.versions c.self.inside.block c.self.inside.halted) d (layout_of c.flush-outcome.new.cells) c.flush-outcome.new.self c.halted_by-self-inside.result c.halted_by-self-inside.result c.flush-outcome.ensures.layout refl
+          ∙ ap (λ (e : Engine g.row.D.Denot). record e { disk = d; checkpoint = c.flush-outcome.new.self; halted = c.halted_by-self-inside.result }) c.self.view_is;
+      halted = c.halted_by-self-inside.ensures ∙ ap (λ (p : Phase). halted_by p c.flush-outcome.result) (c.phase.ensures ∙ ap (λ (e : Engine g.row.D.Denot). e.log.phase) c.self.view_is);
+      refused = subst (λ (e : Engine g.row.D.Denot). IfSome (flush_refusal e.layout e.checkpoint c.args.page) (λ r. IsRefused r e.checkpoint c.flush-outcome.new.self e.disk d c.flush-outcome.result)) c.self.view_is c.flush-outcome.ensures.refused;
+      flushes = subst (λ (e : Engine g.row.D.Denot). flush_refusal e.layout e.checkpoint c.args.page ≡ None → Flushes g.D.Disk.honest g.D.Disk.history e.layout e.kept c.args.page e.checkpoint c.flush-outcome.new.self e.disk d c.flush-outcome.result) c.self.view_is
+          (λ due. c.flush-outcome.ensures.flushes due (pooled g at));
+      unchanged = subst (λ (e : Engine g.row.D.Denot). OnErr c.flush-outcome.result (c.flush-outcome.new.self ≡ e.checkpoint)) c.self.view_is c.flush-outcome.ensures.unchanged;
+    }

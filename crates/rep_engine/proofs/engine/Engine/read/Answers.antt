@@ -1,4 +1,4 @@
-use Rattle.std.proofs.Common.{◌∙◌, None, Some, refl, sym, ap, subst}
+use Rattle.std.proofs.Common.{◌∙◌, None, Some, refl, sym, ap, subst, inr}
 use Rattle.rep_types.specs.declared.refusal.Refusal.TheVariants.{Stopped}
 use Rattle.rep_versions.specs.declared.versions.At.{At}
 use Rattle.rep_versions.specs.Versions.{IsAnswer, told}
@@ -6,6 +6,10 @@ use Rattle.rep_engine.specs.Engines.{facts_of}
 use Rattle.rep_engine.proofs.Refusing.{passed_on, fault_stops, refused_after}
 use Rattle.rep_engine.proofs.Spelled.{read_newest, read_below, read_refused, found_above, refused_elsewise, row_inside}
 use Rattle.rep_engine.proofs.Reading.{row_moves, row_steps, reads_moves, reads_steps}
+use Rattle.rep_engine.proofs.Asking.{none_asked}
+use Rattle.rep_engine.proofs.Steps.{stopped_moves, stopped_steps}
+use Rattle.rep_steps.specs.Standings.{Standing}
+use Rattle.rep_steps.specs.declared.event.Event.TheVariants.{Read}
 use Rattle.rep_engine.proofs.engine.Engine.read.Goals as goal
 
 pub returns-in-Found-clause-moves : goal.returns-in-Found-clause-moves
@@ -52,9 +56,6 @@ returns-in-Some-clause-spelled g c = λ honest readable.
     read_refused _ c.args.self.now.checkpoint.base c.args.self.now.kept c.args.key c.args.s c.in-Some.refusal
     (refused_elsewise (facts_of g.D.Disk.failures c.args.self.now) c.args.key c.args.s c.in-Some.refusal (sym c.read_refusal.ensures ∙ c.in-Some.is))
 
-pub returns-in_err-running-clause-spelled : goal.returns-in_err-running-clause-spelled
-returns-in_err-running-clause-spelled g c = λ honest readable. rw (passed_on c.from_residual.result c.in_err-running.field-0.0 c.from_residual.ensures.1 c.in_err-running.ensures.stopped.0) (read_refused _ c.args.self.now.checkpoint.base c.args.self.now.kept c.args.key c.args.s Stopped (λ e. absurd cc))
-
 pub returns-in-Found-clause-spelled : goal.returns-in-Found-clause-spelled
 returns-in-Found-clause-spelled g c = λ honest readable.
     let is : IsAnswer c.args.self.now.kept c.args.key c.args.s c.version_of.result = c.version_of.ensures in
@@ -86,3 +87,18 @@ returns-in-Below-clause-unchanged g c =
 
 pub returns-in-Below-clause-fault : goal.returns-in-Below-clause-fault
 returns-in-Below-clause-fault g c = fault_stops c.args.self.now c.read_base.new.self c.read_base.result c.read_base.ensures.read.after
+
+-- ---- where the device has failed before
+
+pub returns-in_err-running : goal.returns-in_err-running
+returns-in_err-running g c =
+    rw (passed_on c.from_residual.result c.in_err-running.field-0.0 c.from_residual.ensures.1 c.in_err-running.ensures.stopped.0) (record {
+      call = none_asked g.D.Disk.size g.D.Disk.failures g.D.Disk.honest c.args.self.now.disk;
+      rest = refl;
+      moves = stopped_moves (facts_of g.D.Disk.failures c.args.self.now) (Read c.args.key c.args.s) c.in_err-running.ensures.stopped.1;
+      steps = λ n holds. (n, stopped_steps n (Read c.args.key c.args.s) (ap (λ (s : Standing). s.stopped) holds.facts ∙ c.in_err-running.ensures.stopped.1), holds);
+      same = λ honest. refl;
+      spelled = λ honest readable. read_refused _ c.args.self.now.checkpoint.base c.args.self.now.kept c.args.key c.args.s Stopped (λ e. absurd cc);
+      unchanged = inr (inr refl);
+      fault = λ e. absurd cc;
+    })

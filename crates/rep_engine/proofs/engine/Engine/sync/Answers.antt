@@ -1,4 +1,4 @@
-use Rattle.std.proofs.Common.{◌≡◌, Some, Ok, Err, refl, sym, ap, subst, ◌∙◌}
+use Rattle.std.proofs.Common.{◌≡◌, Some, Ok, Err, refl, sym, ap, subst, ◌∙◌, inr}
 use Rattle.rep_disk.specs.Moments.{LeavesOnly}
 use Rattle.rep_disk.specs.Calls.{IsCall}
 use Rattle.rep_cells.specs.Calls.{Settles}
@@ -21,6 +21,11 @@ use Rattle.rep_engine.specs.Holding.{Holds}
 use Rattle.rep_engine.proofs.Pools.{pooled_as, pooled_synced}
 use Rattle.rep_engine.proofs.Answering.{inside, runs_within}
 use Rattle.rep_engine.proofs.Syncs.{IsSynced, GoesOn, synced_moves, sync_leaves, sync_halts, sync_holds}
+use Rattle.rep_engine.proofs.Refusing.{passed_on}
+use Rattle.rep_engine.proofs.Asking.{none_asked}
+use Rattle.rep_engine.proofs.Steps.{stopped_moves, stopped_steps}
+use Rattle.rep_steps.specs.Standings.{Standing}
+use Rattle.rep_disk.specs.Leaving.{leaves_none}
 use Rattle.rep_engine.proofs.engine.Engine.sync.Goals as goal
 
 -- ---- where the device failed
@@ -123,3 +128,21 @@ returns-clause-log g c =
     let log : mid.log ≡ after_sync c.args.self.now.log = ap (λ (e : Engine g.row.D.Denot). e.log) settled ∙ ap (λ (e : Engine g.row.D.Denot). after_sync e.log) c.self.view_is in
     let checkpoint : c.raise.new.self.checkpoint ≡ checkpoint_after mid.checkpoint = ap (λ (e : Engine g.row.D.Denot). e.checkpoint) is in
     ap (λ (e : Engine g.row.D.Denot). e.log) is ∙ ap (λ (k : Checkpoint). started k.base.start mid.log) (sym checkpoint) ∙ ap (started c.raise.new.self.checkpoint.base.start) log
+
+-- ---- where the device has failed before
+
+pub returns-in_err-running : goal.returns-in_err-running
+returns-in_err-running g c =
+    rw (passed_on c.from_residual.result c.in_err-running.field-0.0 c.from_residual.ensures.1 c.in_err-running.ensures.stopped.0) (record {
+      call = none_asked g.D.Disk.size g.D.Disk.failures g.D.Disk.honest c.args.self.now.disk;
+      rest = refl;
+      params = refl;
+      unchanged = inr refl;
+      fault = λ e. absurd cc;
+      synced = λ honest. tt;
+      unsynced = λ honest. refl;
+      log = tt;
+      moves = stopped_moves (facts_of g.D.Disk.failures c.args.self.now) to_sync c.in_err-running.ensures.stopped.1;
+      steps = λ n holds. (n, stopped_steps n to_sync (ap (λ (s : Standing). s.stopped) holds.facts ∙ c.in_err-running.ensures.stopped.1), holds);
+      leaves = λ n holds. leaves_none _ _ refl;
+    })

@@ -1,12 +1,17 @@
-use Rattle.std.proofs.Common.{◌≡◌, ◌+◌, ◌-◌, ◌<◌, Ok, refl, ap, ◌∙◌, arith}
+use Rattle.std.proofs.Common.{◌≡◌, ◌+◌, ◌-◌, ◌<◌, true, false, None, Some, Ok, Err, IsOk, IsErr, refl, sym, ap, subst, ◌∙◌, arith, rules}
 use Rattle.rep_layout.specs.declared.place.Layout.{Layout}
 use Rattle.rep_layout.specs.Places.{log_of}
-use Rattle.rep_cells.specs.Device.{layout_of}
-use Rattle.rep_engine.proofs.Answering.{runs_within}
-use Rattle.rep_engine.proofs.Asking.{holds_read}
-use Rattle.rep_engine.proofs.Donating.{tail_block, tail_whole, block_spelled, none_spelled}
+use Rattle.std.specs.Prelude.{nat_lt}
+use Rattle.rep_record.specs.Blocks.{IsBlock}
+use Rattle.rep_cells.specs.Device.{disk_of, layout_of}
+use Rattle.rep_engine.specs.Engines.{Engine}
+use Rattle.rep_engine.proofs.Answering.{inside, runs_within, not_both}
+use Rattle.rep_engine.proofs.Asking.{holds_read, asks_none, asks_found, asks_failed, asks_stopped}
+use Rattle.rep_engine.proofs.Donating.{is_past, is_within, tail_block, tail_whole, block_spelled, none_spelled}
+use Rattle.rep_engine.proofs.Refusing.{passed_on}
+use Rattle.rep_types.specs.declared.refusal.Part.TheVariants.{Log as in_log}
 use Rattle.rep_engine.proofs.engine.Engine.tail_block.Goals as goal
-use Rattle.rep_engine.proofs.engine.Engine.tail_block.Goals.{After-block_in}
+use Rattle.rep_engine.proofs.engine.Engine.tail_block.Goals.{After-block_in, After-next}
 
 -- there is such a block
 due : (g : _) (c : After-block_in g) → c.args.index < c.self.inside.log.next - c.self.inside.log.start
@@ -16,30 +21,91 @@ due g c = omega (arith, c.start-first.ensures, c.next.ensures.next, c.if-index-n
 lies : (g : _) (c : After-block_in g) → c.log_of-cell.result ≡ log_of (layout_of c.self.inside.cells) (c.start-first.result + c.args.index)
 lies g c = c.log_of-cell.ensures ∙ ap (λ (l : Layout). log_of l (c.start-first.result + c.args.index)) c.layout.ensures
 
-pub returns-in-Ok-block_in-clause-holds : goal.returns-in-Ok-block_in-clause-holds
-returns-in-Ok-block_in-clause-holds g c = λ n holds other.
-    holds_read g.D.Disk.size g.D.Disk.failures g.D.Disk.honest g.D.Disk.history _ c.args.self.now _ _ (Ok c.in-Ok.body) c.self.view_is (runs_within c.self.view_is c.in_ok-running.ensures.runs) c.read_cell.ensures.layout c.in-Ok.ensures.call refl c.read_cell.ensures.same n holds
+some_there : (g : _) (c : After-next g) → c.args.index < c.next.result - c.start-first.result → true ≡ nat_lt c.args.index (c.args.self.now.log.next - c.args.self.now.log.start)
+some_there g c below =
+    subst (λ (e : Engine g.row.D.Denot). true ≡ nat_lt c.args.index (e.log.next - e.log.start)) c.self.view_is
+    (is_within c.args.index (c.self.inside.log.next - c.self.inside.log.start) (omega (arith, c.start-first.ensures, c.next.ensures.next, below)))
 
-pub returns-in-Err-clause-holds : goal.returns-in-Err-clause-holds
-returns-in-Err-clause-holds g c = λ n holds other.
-    holds_read g.D.Disk.size g.D.Disk.failures g.D.Disk.honest g.D.Disk.history _ c.args.self.now _ _ (Ok c.in-Ok.body) c.self.view_is (runs_within c.self.view_is c.in_ok-running.ensures.runs) c.read_cell.ensures.layout c.in-Ok.ensures.call refl c.read_cell.ensures.same n holds
+-- ---- there is none
 
-pub returns-in-Ok-block_in-clause-block : goal.returns-in-Ok-block_in-clause-block
-returns-in-Ok-block_in-clause-block g c = λ n holds.
-    let at = (goal.at.returns-in-Ok-block_in-clause-block g c).After-block_in in
-    tail_block g.D.Disk.honest g.D.Disk.history _ c.args.self.now c.self.view_is c.args.index (c.start-first.result + c.args.index) (ap (λ first. first + c.args.index) c.start-first.ensures) c.log_of-cell.result (lies g at) _ c.block_in.result c.block_in.ensures.only g.D.Disk.failures c.self.invariant.0 (runs_within c.self.view_is c.in_ok-running.ensures.runs) (due g at) c.in-Ok.ensures.shown n holds c.images_read_as_allowed.ensures c.turns_are_taken.ensures c.in-Ok-block_in.block c.in-Ok-block_in.is
+pub returns-then-index-next : goal.returns-then-index-next
+returns-then-index-next g c =
+    record {
+      asks = asks_none g.D.Disk.size g.D.Disk.failures g.D.Disk.honest g.D.Disk.history in_log c.args.self.now None c.in_ok-running.ensures.runs;
+      none = subst (λ (e : Engine g.row.D.Denot). false ≡ nat_lt c.args.index (e.log.next - e.log.start)) c.self.view_is
+          (is_past c.args.index (c.self.inside.log.next - c.self.inside.log.start) (omega (arith, c.start-first.ensures, c.next.ensures.next, c.if-index-next.true)));
+      behind = λ past runs. refl;
+      form = tt;
+      holds = λ n holds other. holds;
+      block = λ n holds. tt;
+      whole = λ n holds corrupt. absurd cc;
+      spelled = λ honest readable. record { block = tt; corrupt = λ gave. absurd cc };
+    }
 
-pub returns-in-Err-clause-whole : goal.returns-in-Err-clause-whole
-returns-in-Err-clause-whole g c = λ n holds corrupt.
-    let at = (goal.at.returns-in-Err-clause-whole g c).After-block_in in
-    tail_whole g.D.Disk.honest g.D.Disk.history _ c.args.self.now c.self.view_is c.args.index (c.start-first.result + c.args.index) (ap (λ first. first + c.args.index) c.start-first.ensures) c.log_of-cell.result (lies g at) _ c.block_in.result c.block_in.ensures.only g.D.Disk.failures c.self.invariant.0 (runs_within c.self.view_is c.in_ok-running.ensures.runs) (due g at) c.in-Ok.ensures.shown n holds c.in-Err.refusal c.in-Err.is
+-- ---- there is one
 
-pub returns-in-Ok-block_in-clause-spelled : goal.returns-in-Ok-block_in-clause-spelled
-returns-in-Ok-block_in-clause-spelled g c = λ honest readable.
-    let at = (goal.at.returns-in-Ok-block_in-clause-spelled g c).After-block_in in
-    block_spelled g.D.Disk.honest g.D.Disk.history _ c.args.self.now c.self.view_is c.args.index (c.start-first.result + c.args.index) (ap (λ first. first + c.args.index) c.start-first.ensures) c.log_of-cell.result (lies g at) _ c.block_in.result c.block_in.ensures.only c.block_in.ensures.found c.in-Ok.ensures.read honest readable c.in-Ok-block_in.block c.in-Ok-block_in.is
+pub returns-in-Ok-block_in : goal.returns-in-Ok-block_in
+returns-in-Ok-block_in g c =
+    let at = (goal.at.returns-in-Ok-block_in g c).After-block_in in
+    let some = some_there g (goal.at.returns-in-Ok-block_in g c).After-next c.if-index-next.false in
+    let form = c.in-Ok-block_in.ensures.form in
+    record {
+      asks = asks_found g.D.Disk.size g.D.Disk.failures g.D.Disk.honest g.D.Disk.history in_log (inside c.self.inside.cells c.self.inside.checkpoint c.self.inside.log c.self.inside.versions c.self.inside.block c.self.inside.halted) c.args.self.now (disk_of c.read_cell.new.self) (layout_of c.read_cell.new.self) c.read_cell.result c.self.view_is (runs_within c.self.view_is c.in_ok-running.ensures.runs) c.read_cell.ensures.layout c.read_cell.ensures.call c.read_cell.ensures.same (subst IsOk (sym c.in-Ok.is) refl) (Ok (Some c.in-Ok-block_in.block)) tt;
+      none = some;
+      behind = λ past runs. (let never : true ≡ false = some ∙ past in absurd cc);
+      form = (
+        form.0 ∙ ap (λ first. first + c.args.index) (c.start-first.ensures ∙ ap (λ (e : Engine g.row.D.Denot). e.log.start) c.self.view_is),
+        subst (λ k. IsBlock k c.in-Ok-block_in.block.records) (sym form.0) form.1,
+      );
+      holds = λ n holds other. holds_read g.D.Disk.size g.D.Disk.failures g.D.Disk.honest g.D.Disk.history _ c.args.self.now _ _ (Ok c.in-Ok.body) c.self.view_is (runs_within c.self.view_is c.in_ok-running.ensures.runs) c.read_cell.ensures.layout c.in-Ok.ensures.call refl c.read_cell.ensures.same n holds;
+      block = λ n holds. tail_block g.D.Disk.honest g.D.Disk.history _ c.args.self.now c.self.view_is c.args.index (c.start-first.result + c.args.index) (ap (λ first. first + c.args.index) c.start-first.ensures) c.log_of-cell.result (lies g at) _ c.block_in.result c.block_in.ensures.only g.D.Disk.failures c.self.invariant.0 (runs_within c.self.view_is c.in_ok-running.ensures.runs) (due g at) c.in-Ok.ensures.shown n holds c.images_read_as_allowed.ensures c.turns_are_taken.ensures c.in-Ok-block_in.block c.in-Ok-block_in.is;
+      whole = λ n holds corrupt. absurd cc;
+      spelled = λ honest readable. block_spelled g.D.Disk.honest g.D.Disk.history _ c.args.self.now c.self.view_is c.args.index (c.start-first.result + c.args.index) (ap (λ first. first + c.args.index) c.start-first.ensures) c.log_of-cell.result (lies g at) _ c.block_in.result c.block_in.ensures.only c.block_in.ensures.found c.in-Ok.ensures.read honest readable c.in-Ok-block_in.block c.in-Ok-block_in.is;
+    }
 
-pub returns-in-Err-clause-spelled : goal.returns-in-Err-clause-spelled
-returns-in-Err-clause-spelled g c = λ honest readable.
-    let at = (goal.at.returns-in-Err-clause-spelled g c).After-block_in in
-    none_spelled g.D.Disk.honest g.D.Disk.history _ c.args.self.now c.self.view_is c.args.index (c.start-first.result + c.args.index) (ap (λ first. first + c.args.index) c.start-first.ensures) c.log_of-cell.result (lies g at) _ c.block_in.result c.block_in.ensures.only c.block_in.ensures.found c.in-Ok.ensures.read honest readable c.in-Err.refusal c.in-Err.is
+pub returns-in-Err : goal.returns-in-Err
+returns-in-Err g c =
+    let at = (goal.at.returns-in-Err g c).After-block_in in
+    let some = some_there g (goal.at.returns-in-Err g c).After-next c.if-index-next.false in
+    record {
+      asks = asks_found g.D.Disk.size g.D.Disk.failures g.D.Disk.honest g.D.Disk.history in_log (inside c.self.inside.cells c.self.inside.checkpoint c.self.inside.log c.self.inside.versions c.self.inside.block c.self.inside.halted) c.args.self.now (disk_of c.read_cell.new.self) (layout_of c.read_cell.new.self) c.read_cell.result c.self.view_is (runs_within c.self.view_is c.in_ok-running.ensures.runs) c.read_cell.ensures.layout c.read_cell.ensures.call c.read_cell.ensures.same (subst IsOk (sym c.in-Ok.is) refl) (Err c.in-Err.refusal) c.in-Err.ensures.refused;
+      none = tt;
+      behind = λ past runs. (let never : true ≡ false = some ∙ past in absurd cc);
+      form = tt;
+      holds = λ n holds other. holds_read g.D.Disk.size g.D.Disk.failures g.D.Disk.honest g.D.Disk.history _ c.args.self.now _ _ (Ok c.in-Ok.body) c.self.view_is (runs_within c.self.view_is c.in_ok-running.ensures.runs) c.read_cell.ensures.layout c.in-Ok.ensures.call refl c.read_cell.ensures.same n holds;
+      block = λ n holds. tt;
+      whole = λ n holds corrupt. tail_whole g.D.Disk.honest g.D.Disk.history _ c.args.self.now c.self.view_is c.args.index (c.start-first.result + c.args.index) (ap (λ first. first + c.args.index) c.start-first.ensures) c.log_of-cell.result (lies g at) _ c.block_in.result c.block_in.ensures.only g.D.Disk.failures c.self.invariant.0 (runs_within c.self.view_is c.in_ok-running.ensures.runs) (due g at) c.in-Ok.ensures.shown n holds c.in-Err.refusal c.in-Err.is;
+      spelled = λ honest readable. none_spelled g.D.Disk.honest g.D.Disk.history _ c.args.self.now c.self.view_is c.args.index (c.start-first.result + c.args.index) (ap (λ first. first + c.args.index) c.start-first.ensures) c.log_of-cell.result (lies g at) _ c.block_in.result c.block_in.ensures.only c.block_in.ensures.found c.in-Ok.ensures.read honest readable c.in-Err.refusal c.in-Err.is;
+    }
+
+-- ---- where the device fails
+
+pub returns-in_default : goal.returns-in_default
+returns-in_default g c =
+    let some = some_there g (goal.at.returns-in_default g c).After-next c.if-index-next.false in
+    let err : IsErr c.read_cell.result = search rules in
+    record {
+      asks = asks_failed g.D.Disk.size g.D.Disk.failures g.D.Disk.honest g.D.Disk.history in_log (inside c.self.inside.cells c.self.inside.checkpoint c.self.inside.log c.self.inside.versions c.self.inside.block c.self.inside.halted) c.args.self.now (disk_of c.read_cell.new.self) (layout_of c.read_cell.new.self) c.read_cell.result c.self.view_is (runs_within c.self.view_is c.in_ok-running.ensures.runs) c.read_cell.ensures.layout c.read_cell.ensures.call c.read_cell.ensures.same err c.phase.result c.phase.ensures;
+      none = tt;
+      behind = λ past runs. (let never : true ≡ false = some ∙ past in absurd cc);
+      form = tt;
+      holds = λ n holds other. absurd (other refl);
+      block = λ n holds. tt;
+      whole = λ n holds corrupt. absurd cc;
+      spelled = λ honest readable. record { block = tt; corrupt = λ gave. absurd cc };
+    }
+
+-- ---- where the device has failed before
+
+pub returns-in_err-running : goal.returns-in_err-running
+returns-in_err-running g c =
+    rw (passed_on c.from_residual.result c.in_err-running.field-0.0 c.from_residual.ensures.1 c.in_err-running.ensures.stopped.0) (record {
+      asks = asks_stopped g.D.Disk.size g.D.Disk.failures g.D.Disk.honest g.D.Disk.history in_log c.args.self.now c.in_err-running.ensures.stopped.1;
+      none = tt;
+      behind = λ past runs. absurd (not_both c.args.self.now.halted c.in_err-running.ensures.stopped.1 runs);
+      form = tt;
+      holds = λ n holds other. holds;
+      block = λ n holds. tt;
+      whole = λ n holds corrupt. absurd cc;
+      spelled = λ honest readable. record { block = tt; corrupt = λ gave. absurd cc };
+    })

@@ -1,13 +1,41 @@
-use Rattle.std.proofs.Common.{◌≡◌, IfErr, subst}
-use Rattle.rep_types.specs.declared.refusal.Refusal.TheVariants.{DiskFault}
-use Rattle.rep_engine.specs.Installing.{halted_node}
+use Rattle.std.proofs.Common.{◌≡◌, None, Err, IfErr, IfSome, OnOk, OnErr, ap, subst, ◌∙◌}
+use Rattle.rep_types.specs.declared.refusal.Refusal.TheVariants.{DiskFault, Stopped}
+use Rattle.rep_disk.specs.Calls.{IsCall}
+use Rattle.rep_disk.specs.Moments.{LeavesOnly}
+use Rattle.rep_log.specs.Moves.{fault_of}
+use Rattle.rep_steps.specs.Images.{IsFrontAt}
+use Rattle.rep_image.specs.Meanings.{Means}
+use Rattle.rep_checkpoint.specs.Coming.{placed, with_page}
+use Rattle.rep_engine.specs.Engines.{Engine}
+use Rattle.rep_engine.specs.Reading.{halted_by}
+use Rattle.rep_engine.specs.Installing.{Beside, halted_node}
 use Rattle.rep_replica.specs.Installing.{Bringing, HoldsBoth}
-use Rattle.rep_replica.proofs.Installing.{halts_on}
+use Rattle.rep_replica.proofs.Installing.{halts_on, done_on, some_on}
 use Rattle.rep_replica.proofs.install.Installation.put_page.Goals as goal
 
-pub returns-clause-halts : goal.returns-clause-halts
-returns-clause-halts g c = λ n y.
-    let new : Bringing g.row.D.Denot = record { engine = c.put_page.new.self.engine; coming = c.put_page.new.self.coming; before = c.self.inside.before; after = c.self.inside.after } in
-    subst (λ (b : Bringing g.row.D.Denot). HoldsBoth g.D.Disk.honest g.D.Disk.history g.D.Disk.failures n y b
-    → IfErr c.put_page.result (λ e. e ≡ DiskFault → HoldsBoth g.D.Disk.honest g.D.Disk.history g.D.Disk.failures (halted_node (g.D.Disk.failures c.put_page.new.self.engine.disk) n) y new)) c.self.view_is
-    (λ holds. halts_on c.put_page.result (c.put_page.ensures.halts n y holds.engine) (λ h. record { engine = h; judged = holds.judged; windows = holds.windows }))
+abbrev within : (g : _) (c : goal.After-put_page g) → Bringing g.row.D.Denot
+within g c = record { engine = c.self.inside.engine.engine; coming = c.self.inside.engine.coming; before = c.self.inside.before; after = c.self.inside.after }
+
+abbrev new : (g : _) (c : goal.After-put_page g) → Bringing g.row.D.Denot
+new g c = record { engine = c.put_page.new.self.engine; coming = c.put_page.new.self.coming; before = c.self.inside.before; after = c.self.inside.after }
+
+pub returns : goal.returns
+returns g c =
+    let r = c.put_page.result in
+    let e = c.put_page.ensures in
+    record {
+      call = subst (λ (b : Bringing g.row.D.Denot). IsCall g.D.Disk.size g.D.Disk.failures g.D.Disk.honest b.engine.disk (new g c).engine.disk (fault_of r)) c.self.view_is e.call;
+      rest = ap (λ (x : Engine g.row.D.Denot). record (new g c) { engine = x }) e.rest
+          ∙ ap (λ (b : Bringing g.row.D.Denot). record b { engine = record (b.engine) { disk = (new g c).engine.disk; halted = (new g c).engine.halted }; coming = (new g c).coming }) c.self.view_is;
+      stopped = subst (λ (b : Bringing g.row.D.Denot). IfSome b.engine.halted (λ _. (r ≡ Err Stopped) × (new g c ≡ b))) c.self.view_is
+          (some_on (within g c).engine.halted e.stopped (λ was. (was.0, ap (λ (x : Beside g.row.D.Denot). record (within g c) { engine = x.engine; coming = x.coming }) was.1)));
+      running = subst (λ (b : Bringing g.row.D.Denot). b.engine.halted ≡ None → ((new g c).engine.halted ≡ halted_by b.engine.log.phase r) × IfErr r (λ e. e ≡ DiskFault)) c.self.view_is e.running;
+      done = subst (λ (b : Bringing g.row.D.Denot). OnOk r ((new g c).coming ≡ placed b.engine.checkpoint.base c.args.page b.coming)) c.self.view_is e.done;
+      fault = subst (λ (b : Bringing g.row.D.Denot). OnErr r ((new g c).coming ≡ b.coming)) c.self.view_is e.fault;
+      holds = λ n y. subst (λ (b : Bringing g.row.D.Denot). HoldsBoth g.D.Disk.honest g.D.Disk.history g.D.Disk.failures n y b → OnOk r (HoldsBoth g.D.Disk.honest g.D.Disk.history g.D.Disk.failures n (with_page b.engine.checkpoint.base.params.rows c.args.page c.args.rows y) (new g c))) c.self.view_is
+          (λ holds. done_on r (e.holds n y holds.engine) (λ h. record { engine = h; judged = holds.judged; windows = holds.windows }));
+      halts = λ n y. subst (λ (b : Bringing g.row.D.Denot). HoldsBoth g.D.Disk.honest g.D.Disk.history g.D.Disk.failures n y b → IfErr r (λ e. e ≡ DiskFault → HoldsBoth g.D.Disk.honest g.D.Disk.history g.D.Disk.failures (halted_node (g.D.Disk.failures (new g c).engine.disk) n) y (new g c))) c.self.view_is
+          (λ holds. halts_on r (e.halts n y holds.engine) (λ h. record { engine = h; judged = holds.judged; windows = holds.windows }));
+      leaves = λ n y. subst (λ (b : Bringing g.row.D.Denot). HoldsBoth g.D.Disk.honest g.D.Disk.history g.D.Disk.failures n y b → LeavesOnly (g.D.Disk.history b.engine.disk) (g.D.Disk.history (new g c).engine.disk) (IsFrontAt Means n)) c.self.view_is
+          (λ holds. e.leaves n y holds.engine);
+    }

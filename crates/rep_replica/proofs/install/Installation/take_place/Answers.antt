@@ -1,13 +1,15 @@
-use Rattle.std.proofs.Common.{◌≡◌, List, [], None, false, sym, ap, subst, ◌∙◌}
+use Rattle.std.proofs.Common.{◌≡◌, List, [], None, false, refl, sym, ap, subst, ◌∙◌}
+use Rattle.std.specs.Prelude.{OnOk}
 use Rattle.rep_types.specs.declared.judged.Judged.{Judged}
+use Rattle.rep_steps.specs.Standings.{Off as is_off_stage}
 use Rattle.rep_steps.specs.Nodes.{Node}
 use Rattle.rep_checkpoint.specs.Arriving.{installed}
 use Rattle.rep_engine.specs.Engines.{facts_of as engine_facts}
-use Rattle.rep_replica.specs.Replicas.{Replica, IsReplica}
+use Rattle.rep_replica.specs.Replicas.{Replica, IsReplica, facts_of}
 use Rattle.rep_replica.specs.Refusing.{TellsFaults}
 use Rattle.rep_replica.specs.Holding.{Holds}
 use Rattle.rep_replica.specs.Installing.{Bringing, HoldsBoth, Installs, Lands}
-use Rattle.rep_replica.proofs.Installing.{err_of, replica_failed, replica_there, lands_failed, told_by, told_behind, none_told, installs_failed, held, installs_there, taken_of}
+use Rattle.rep_replica.proofs.Installing.{err_of, replica_failed, replica_there, running_there, stage_there, phase_there, lands_there, lands_failed, told_by, told_behind, none_told, installs_failed, held, installs_there, taken_of}
 use Rattle.rep_replica.proofs.install.Installation.take_place.Goals as goal
 
 pub invariant_of-replica : goal.invariant_of-replica
@@ -37,6 +39,27 @@ invariant_of-replica-2 g c =
     let b : Bringing g.row.D.Denot = record { engine = c.self.inside.engine.engine; coming = c.self.inside.engine.coming; before = c.self.inside.before; after = c.self.inside.after } in
     subst (λ (js : List Judged). IsReplica (engine_facts g.D.Disk.failures c.end-engine.result.0) js c.self.inside.after.current false) (sym c.self.invariant.0)
     (replica_there g.D.Disk.failures c.certifiers_hold_windows.ensures b c.end-engine.result.0 (taken_of c.end-engine.result.1 c.if-is_err.ensures.negation c.end-engine.ensures.taken) c.position-position.ensures.beside.0 runs c.self.invariant.1)
+
+pub retire-retired-requires : goal.retire-retired-requires
+retire-retired-requires g c =
+    let runs : c.self.inside.engine.engine.halted ≡ None = ap (λ (b : Bringing g.row.D.Denot). b.engine.halted) c.self.view_is ∙ c.requires.running in
+    let b : Bringing g.row.D.Denot = record { engine = c.self.inside.engine.engine; coming = c.self.inside.engine.coming; before = c.self.inside.before; after = c.self.inside.after } in
+    let taken = taken_of c.end-engine.result.1 c.if-is_err.ensures.negation c.end-engine.ensures.taken in
+    let beside = c.position-position.ensures.beside.0 in
+    record {
+      running = record { inside = refl; device = running_there g.D.Disk.failures b c.end-engine.result.0 taken beside runs };
+      retiring = stage_there g.D.Disk.failures b c.end-engine.result.0 taken beside runs;
+      resting = phase_there g.D.Disk.failures b c.end-engine.result.0 taken beside runs;
+    }
+
+pub returns-clause-lands : goal.returns-clause-lands
+returns-clause-lands g c =
+    let runs : c.self.inside.engine.engine.halted ≡ None = ap (λ (b : Bringing g.row.D.Denot). b.engine.halted) c.self.view_is ∙ c.requires.running in
+    let taken = taken_of c.end-engine.result.1 c.if-is_err.ensures.negation c.end-engine.ensures.taken in
+    subst (λ (b : Bringing g.row.D.Denot). Lands g.D.Disk.failures b c.retire-retired.new.self c.retire-retired.result) c.self.view_is
+    (lands_there g.D.Disk.failures (record { engine = c.self.inside.engine.engine; coming = c.self.inside.engine.coming; before = c.self.inside.before; after = c.self.inside.after }) c.end-engine.result.0 taken c.position-position.ensures.beside.0 runs c.self.inside.after c.retire-retired.new.self c.retire-retired.result
+    (subst (λ (js : List Judged). OnOk c.retire-retired.result (facts_of g.D.Disk.failures c.retire-retired.new.self ≡ record (facts_of g.D.Disk.failures (record { engine = c.end-engine.result.0; backlog = js; certifier = c.self.inside.after; stopped = false })) { stage = is_off_stage })) c.self.invariant.0 c.retire-retired.ensures.done)
+    c.retire-retired.ensures.fault)
 
 pub returns-clause-installs : goal.returns-clause-installs
 returns-clause-installs g c = λ n y.
