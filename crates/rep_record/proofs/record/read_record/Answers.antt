@@ -1,6 +1,5 @@
 use Rattle.std.proofs.Common.{arith}
 use Rattle.std.proofs.lemmas.Grind.{common_steps}
-use Rattle.std.proofs.Common.{rules}
 use Rattle.rep_record.proofs.record.read_record.Goals as goal
 
 pub returns-in-Some-clause-found : goal.returns-in-Some-clause-found

@@ -1,4 +1,4 @@
-use Rattle.std.proofs.Common.{◌≡◌, ◌+◌, ◌<◌, List, [], ◌∷◌, ◌++◌, length, drop, slice_get, Some, true, sym, ap, ◌∙◌, subst, arith}
+use Rattle.std.proofs.Common.{rules, ◌≡◌, ◌+◌, ◌<◌, List, [], ◌∷◌, ◌++◌, length, drop, slice_get, Some, true, sym, ap, ◌∙◌, subst, arith}
 use Rattle.rep_types.specs.declared.judged.Judged.{Judged}
 use Rattle.rep_record.specs.Blocks.{has_room}
 use Rattle.rep_record.specs.Fronts.{fitting}
@@ -45,3 +45,6 @@ returns-in_default-clause-moved c =
     let none : fitting c.loop-first.builder here ≡ 0 = fitting_none c.loop-first.builder here (sym c.in_default.ensures) in
     let all : c.loop-first.moved ≡ fitting c.args.builder.now c.self.inside.items.items = omega (arith, c.loop-first.invariant.counted, none) in
     all ∙ ap (fitting c.args.builder.now) c.self.view_is
+
+pub loop-first-init : goal.loop-first-init
+loop-first-init c = search rules

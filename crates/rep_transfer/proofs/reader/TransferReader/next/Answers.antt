@@ -1,4 +1,4 @@
-use Rattle.std.proofs.Common.{◌≡◌, ◌+◌, ◌≤◌, ℕ, take, None}
+use Rattle.std.proofs.Common.{rules, ◌≡◌, ◌+◌, ◌≤◌, ℕ, take, None}
 use Rattle.std.specs.Io.KnownBytes.{Consumes}
 use Rattle.rep_transfer.specs.declared.pieces.TheConstants.{PIECE}
 use Rattle.rep_transfer.proofs.Streams.{at_some, none_there}
@@ -11,3 +11,6 @@ returns-in_default-of-clause-known g c =
     (at_some (λ (n : ℕ). (n ≡ g.T.Piece.head + g.T.Piece.more (take g.T.Piece.head room)) × (n ≤ PIECE)) c.in_ok-size.field-0 c.in-Some.size c.in-Some.is c.in_ok-size.ensures.size)
     (at_some (λ (n : ℕ). Consumes (g.R.Read.remaining c.args.reader.now) (g.R.Read.remaining c.fill.new.reader) (take n room)) c.in_ok-size.field-0 c.in-Some.size c.in-Some.is c.in_ok-size.ensures.found)
     c.in_default-of.ensures
+
+pub returns-clause-taken : goal.returns-clause-taken
+returns-clause-taken c = search rules
