@@ -1,5 +1,4 @@
-use Rattle.std.proofs.Common.{◌≡◌, ◌+◌, ◌∙◌, ◌++◌, [], ◌∷◌, length, cond, None, Some, Ok, Err, sym, ap, arith}
-use Rattle.std.proofs.lemmas.Result.{err_from_is_err_and}
+use Rattle.std.proofs.Common.{◌≡◌, ◌+◌, ◌∙◌, ◌++◌, [], ◌∷◌, length, cond, None, Some, Ok, sym, ap}
 use Rattle.rep_types.specs.Settings.{Setting}
 use Rattle.rep_record.specs.Reading.{order_line}
 use Rattle.rep_script.specs.Judging.{Delivered, content}
