@@ -1,0 +1,339 @@
+"""Wrong bodies: edits of a crate's code that its contracts have to refuse, many of them tried by one run of the prover.
+
+A function is proved against its own contract and the contracts of what it calls, whatever their bodies are. So bodies of several
+functions can be wrong in one copy of a crate, and the prover says of each function by itself whether it is proved. Of a function that is
+not, it says too whether a goal of its own is open, or whether it only calls one that is not proved: that counts for nothing here.
+
+Nothing counts that can't be told so. An edit outside functions, or of which nothing is told beside the others, is tried alone by the
+gate's own code; and where a function without an edit has an open goal of its own, so are all that were tried beside it.
+"""
+import collections
+import importlib.machinery
+import importlib.util
+import os
+import re
+import shutil
+import subprocess
+import tempfile
+import time
+
+# The folders of a crate that have edits: those that the gate tries, each by itself and together, and those that it leaves out.
+ALONE, TOGETHER, MORE = "must-fail", "must-fail-together", "must-fail-more"
+
+# What a proof file says where it names something that an edit took away.
+OF_NAMES = re.compile(r"has no field|is not in scope|has no `|was not admitted")
+
+
+def kit():
+    """The code of the command `rt`, as a module: it knows how a crate is checked, and tries an edit alone."""
+    path = os.path.realpath(shutil.which("rt"))
+    loader = importlib.machinery.SourceFileLoader("rt_kit", path)
+    made = importlib.util.module_from_spec(importlib.util.spec_from_loader("rt_kit", loader))
+    loader.exec_module(made)
+    return made
+
+
+def edits_in(folder):
+    """The edits of a folder, by their names."""
+    return sorted(it for it in os.listdir(folder) if it.endswith(".edit")) if os.path.isdir(folder) else []
+
+
+def code_of(text):
+    """The text with blanks in the place of comments, characters and strings."""
+    return re.sub(r"//[^\n]*|\"(?:\\.|[^\"\\])*\"|'(?:\\.|[^'\\\n])'", lambda it: re.sub(r"[^\n]", " ", it[0]), text)
+
+
+def behind_brace(code, start):
+    """Where the block ends whose brace opens at start."""
+    depth = 0
+    for at in range(start, len(code)):
+        depth += {"{": 1, "}": -1}.get(code[at], 0)
+        if not depth:
+            return at + 1
+    return len(code)
+
+
+def body_of(code, start):
+    """Where the body of the function lies whose head goes on at start: behind its clauses. None where it has none."""
+    at, depth = start, 0
+    while at < len(code):
+        sign = code[at]
+        depth += {"(": 1, "[": 1, ")": -1, "]": -1}.get(sign, 0)
+        if sign == ";" and not depth:
+            return None
+        if sign == "{" and re.search(r"\b(?:ensures|requires)\*?(?:\s+\w+)?\s*$|\bghost\s+\w+\s*:\s*$", code[start:at]):
+            at = behind_brace(code, at)
+        elif sign == "{" and not depth:
+            return at, behind_brace(code, at)
+        else:
+            at += 1
+    return None
+
+
+def words_of(text):
+    """The names of a type or a trait, without lifetimes and what is const."""
+    return [it for it in re.findall(r"'?\w+", re.sub(r"\bconst\b", "", text)) if not it.startswith("'")]
+
+
+def outside_brackets(text):
+    """The text without what stands between angle brackets."""
+    while True:
+        less = re.sub(r"<[^<>]*>", "", text)
+        if less == text:
+            return text
+        text = less
+
+
+def holders_of(code):
+    """The impls and traits of a file: where each lies, and what the prover calls it in a function's name."""
+    found = []
+    for it in re.finditer(r"^(?:pub(?:\([^)]*\))? )?(?:unsafe )?(impl|trait)\b([^{;]*)\{", code, re.M):
+        head = re.split(r"\bwhere\b", it[2])[0]
+        if it[1] == "impl":
+            head = re.sub(r"^\s*<(?:[^<>]|<(?:[^<>]|<[^<>]*>)*>)*>", "", head)
+        trait, _, kind = head.rpartition(" for ")
+        name = words_of(outside_brackets(kind))[-1] if it[1] == "impl" else words_of(outside_brackets(head))[0]
+        if trait:
+            name += "".join([words_of(outside_brackets(trait))[-1]] + words_of("".join(re.findall(r"<(.*)>", trait, re.S))))
+        found.append((it.start(), behind_brace(code, it.end() - 1), name))
+    return found
+
+
+def functions_of(text):
+    """The functions of a file that have a body: where each body lies, and its name with that of the impl or trait that it stands in."""
+    code = code_of(text)
+    holders, found = holders_of(code), []
+    for it in re.finditer(r"\bfn (\w+)", code):
+        body = body_of(code, it.end())
+        if body:
+            holder = [name for start, end, name in holders if start <= it.start() < end][-1:]
+            found.append((*body, "::".join(holder + [it[1]])))
+    return found
+
+
+def macros_of(text):
+    """Where the macros of a file lie."""
+    code = code_of(text)
+    return [(it.start(), behind_brace(code, it.end() - 1)) for it in re.finditer(r"\bmacro_rules! \w+\s*\{", code)]
+
+
+def module_of(file):
+    name = file[len("src/") : -len(".rt")].replace("/", "::")
+    return "" if name in ("lib", "main") else re.sub(r"::mod$", "", name)
+
+
+def in_module(file, name):
+    """A function's name with the module of its file."""
+    return "::".join(it for it in (module_of(file), name) if it)
+
+
+def brings_more(old, new):
+    """Whether this line of imports has the names that it had, and others."""
+    return old.startswith("use ") and new.startswith("use ") and set(re.findall(r"\w+", old)) <= set(re.findall(r"\w+", new))
+
+
+class Edit:
+    """One wrong body: what it replaces, in which files, and the functions whose bodies that changes."""
+
+    def __init__(self, crate, path):
+        self.path, self.name, self.pairs, self.functions, self.is_apart = path, os.path.basename(path)[: -len(".edit")], [], set(), False
+        texts, file, old = {}, None, None
+        with open(path, encoding="utf-8") as it:
+            lines = it.read().split("\n")
+        for line in lines:
+            kind, _, text = line.partition(":")
+            text = text[1:]
+            if kind == "file":
+                file = text.strip()
+                texts.setdefault(file, text_of(crate, file))
+            elif kind == "old":
+                old = text
+            elif kind == "new" and old is not None:
+                self.pairs.append((file, old, text))
+                if not brings_more(old, text):
+                    self.place(file, texts[file], old)
+                texts[file], old = texts[file].replace(old, text), None
+
+    def place(self, file, text, old):
+        """Notes the function whose body has this text."""
+        at = text.find(old)
+        holds = lambda it: it[0] <= at and at + len(old) <= it[1]
+        inside = [it for it in functions_of(text) if holds(it)]
+        if not file.startswith("src/") or at < 0:
+            self.is_apart = True
+        elif any(holds(it) for it in macros_of(text)) and module_of(file):
+            # (what the macro writes, it writes in the file's own module)
+            self.functions.add(module_of(file))
+        elif inside:
+            self.functions.add(in_module(file, inside[-1][2]))
+        else:
+            self.is_apart = True
+
+    def is_of(self, function):
+        """Whether this is a function that the edit changes, or a closure in one."""
+        function = function.replace("fn::", "")
+        return any(function == it or function.startswith(it + "::") for it in self.functions)
+
+
+def text_of(crate, file):
+    path = os.path.join(crate.folder, file)
+    if not os.path.isfile(path):
+        return ""
+    with open(path, encoding="utf-8") as it:
+        return it.read()
+
+
+def changed(crate, edits):
+    """The texts that all these edits together make, or None where one doesn't fit to what the others made."""
+    texts = {}
+    for edit in edits:
+        for file, old, new in edit.pairs:
+            text = texts.get(file) or text_of(crate, file)
+            if text.count(old) != 1:
+                return None
+            texts[file] = text.replace(old, new)
+    return texts
+
+
+class Said:
+    """What the prover said of each function, of a copy of the crate with these texts."""
+
+    def __init__(self, crate, texts, text):
+        self.crate, self.texts, self.notes = crate, texts, collections.defaultdict(list)
+        self.of = dict(re.findall(r"^fn %s::(\S+): (.*)$" % crate.name, text, re.M))
+        self.errors = re.findall(r"^\./proofs/(\S+)/\w+\.antt:\d+:\d+: error: (.*)$", text, re.M)
+        for file, line, note in re.findall(r"^note: (src/\S+?):(\d+):\d+: (it is not proved .*)$", text, re.M):
+            self.notes[self.function_at(file, int(line))].append(note)
+
+    def function_at(self, file, line):
+        """The name of the function that has this line of a file."""
+        text = self.texts.get(file) or text_of(self.crate, file)
+        at = sum(len(it) + 1 for it in text.split("\n")[: line - 1])
+        inside = [name for start, end, name in functions_of(text) if text.rfind("\n", 0, start) <= at <= end]
+        return in_module(file, inside[-1]) if inside else file
+
+    def why(self, function):
+        """What refused the function for itself: the first goal of its own that is open, and not for a name that is gone. None where nothing did."""
+        told = self.of[function]
+        without = re.match(r"no proof: expected answers in \S+ `?search`? did not prove (.*?)(?:;|$)", told)
+        if without:
+            return "no proof of " + without[1]
+        if not told.startswith("not proved"):
+            return None
+        errors = [why for path, why in self.errors if path == function.replace("::", "/")]
+        own = [it for it in errors if not OF_NAMES.search(it)] + self.notes[function]
+        return own[0] if own else "a goal of its own" if told == "not proved" and not errors else None
+
+
+class Tries:
+    """Tries edits of one crate, and says what came of each."""
+
+    def __init__(self, kit, crate, edits, say=print):
+        self.kit, self.crate, self.edits, self.say, self.kept = kit, crate, edits, say, None
+        self.refused, self.missed, self.spent, self.rounds = 0, [], 0.0, 0
+
+    def all(self):
+        """Tries them all. What one run proved of the functions that these call serves the next."""
+        with tempfile.TemporaryDirectory(prefix="wrong-bodies-kept-") as self.kept:
+            return self.in_rounds()
+
+    def in_rounds(self):
+        left = [it for it in self.edits if not it.is_apart]
+        apart, waited = [it for it in self.edits if it.is_apart], collections.Counter()
+        while left:
+            planted = self.chosen(sorted(left, key=lambda it: -waited[it.name]))
+            found, others = self.round(planted)
+            for edit in planted:
+                waited[edit.name] += 1
+                if edit.name in found:
+                    self.tell(edit, found[edit.name])
+            apart += others
+            left = [it for it in left if it.name not in found and it not in others]
+        for edit in apart:
+            self.alone(edit)
+        return self
+
+    def chosen(self, edits):
+        """As many of them as can be made together, with one edit to a function."""
+        chosen = []
+        for edit in edits:
+            is_free = not any(other.is_of(it) or edit.is_of(name) for other in chosen for it in edit.functions for name in other.functions)
+            if is_free and changed(self.crate, chosen + [edit]) is not None:
+                chosen.append(edit)
+        return chosen
+
+    def round(self, planted):
+        """One run with all of these. Gives what refused those that it refused, and those to be tried alone; what is neither waits for others."""
+        said = self.checked(planted)
+        why = {it: said.why(it) for it in said.of}
+        found = {}
+        for edit in planted:
+            own = [(it, why[it]) for it in said.of if edit.is_of(it) and why[it]]
+            if own:
+                found[edit.name] = "%s: %s" % own[0]
+        spilled = [it for it in said.of if why[it] and not any(edit.is_of(it) for edit in planted)]
+        if spilled:
+            self.say("%s: %s is refused beside them, which has no edit: each is tried alone" % (self.crate.name, spilled[0]))
+            return {}, planted
+        waits = [it for it in planted if it.name not in found and any(it.is_of(name) and "it calls" in told for name, told in said.of.items())]
+        return found, [it for it in planted if it.name not in found and (it not in waits or not found)]
+
+    def checked(self, planted):
+        """What the prover says of the functions of these edits."""
+        names = sorted({it for edit in planted for it in edit.functions})
+        texts = changed(self.crate, planted)
+        while True:
+            status, text = self.run(texts, [it for name in names for it in ("--only", name)])
+            missing = re.search(r"has no (?:function|[\w ]+) `([^`]*)`", text) if status == 2 else None
+            # (an impl whose name is told in another way: all functions of its module)
+            if not missing or missing[1] not in names:
+                return Said(self.crate, texts, text)
+            names = sorted({*names, module_of_name(missing[1])} - {missing[1]})
+
+    def run(self, texts, words):
+        """Runs the prover over a copy with these texts. Gives its status, and what it said."""
+        rtlib = self.kit.rtlib
+        with tempfile.TemporaryDirectory(prefix="wrong-bodies-") as room:
+            for part in rtlib.PARTS:
+                if os.path.isdir(os.path.join(self.crate.folder, part)):
+                    shutil.copytree(os.path.join(self.crate.folder, part), os.path.join(room, part))
+            for file, text in texts.items():
+                with open(os.path.join(room, file), "w", encoding="utf-8") as it:
+                    it.write(text)
+            whole = [*rtlib.guarded(), rtlib.RATTLE, "check", *self.crate.words(["--jobs", "1"], keeps=False), "--incremental", self.kept, *words]
+            with open(os.path.join(room, "said"), "w+b") as out:
+                process = subprocess.Popen(whole, cwd=room, stdin=subprocess.DEVNULL, stdout=out, stderr=subprocess.STDOUT)
+                self.rounds += 1
+                status = self.ended(process)
+                out.seek(0)
+                return status, out.read().decode(errors="replace")
+
+    def ended(self, process):
+        """Waits for the process, and adds what it took."""
+        _, status, usage = os.wait4(process.pid, 0)
+        self.spent += usage.ru_utime + usage.ru_stime
+        process.returncode = os.waitstatus_to_exitcode(status)
+        return process.returncode
+
+    def alone(self, edit):
+        """Tries the edit by itself, by the code of the gate. What it took is told by the clock: a processor's seconds, or more."""
+        began = time.monotonic()
+        kind, told = self.kit.must_fail(self.crate, edit.path, ["--jobs", "1"])
+        self.spent += time.monotonic() - began
+        self.rounds += 1
+        if kind in (self.kit.REFUSED, self.kit.AT_LIMIT):
+            self.tell(edit, re.sub(r"^must-fail \S+: refused, as it must be:? ?", "alone: ", told))
+        else:
+            self.missed.append(edit)
+            self.say(told)
+
+    def tell(self, edit, why):
+        self.refused += 1
+        self.say("%s/%s: refused: %s" % (self.crate.name, edit.name, why[:200]))
+
+
+def module_of_name(function):
+    """The module of a function's name: what stands before the first name of a type, or before its last one."""
+    parts = function.split("::")
+    of_types = [at for at, it in enumerate(parts) if it[:1].isupper()]
+    return "::".join(parts[: of_types[0] if of_types else -1])
