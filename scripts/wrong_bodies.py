@@ -84,30 +84,43 @@ def outside_brackets(text):
         text = less
 
 
+def homes_of(crate):
+    """The types and traits of a crate, each with the module that declares it: the prover names their functions by that one."""
+    found = {}
+    for folder, _, files in os.walk(os.path.join(crate.folder, "src")):
+        for name in files:
+            file = os.path.relpath(os.path.join(folder, name), crate.folder)
+            for it in re.findall(r"^\s*(?:pub(?:\([^)]*\))? )?(?:struct|enum|union|trait) (\w+)", code_of(text_of(crate, file)), re.M):
+                found[it] = module_of(file)
+    return found
+
+
 def holders_of(code):
-    """The impls and traits of a file: where each lies, and what the prover calls it in a function's name."""
+    """The impls and traits of a file: where each lies, the type's name, and what the prover calls it in a function's name."""
     found = []
     for it in re.finditer(r"^(?:pub(?:\([^)]*\))? )?(?:unsafe )?(impl|trait)\b([^{;]*)\{", code, re.M):
         head = re.split(r"\bwhere\b", it[2])[0]
         if it[1] == "impl":
             head = re.sub(r"^\s*<(?:[^<>]|<(?:[^<>]|<[^<>]*>)*>)*>", "", head)
         trait, _, kind = head.rpartition(" for ")
-        name = words_of(outside_brackets(kind))[-1] if it[1] == "impl" else words_of(outside_brackets(head))[0]
+        name = kind = words_of(outside_brackets(kind))[-1] if it[1] == "impl" else words_of(outside_brackets(head))[0]
         if trait:
             name += "".join([words_of(outside_brackets(trait))[-1]] + words_of("".join(re.findall(r"<(.*)>", trait, re.S))))
-        found.append((it.start(), behind_brace(code, it.end() - 1), name))
+        found.append((it.start(), behind_brace(code, it.end() - 1), kind, name))
     return found
 
 
-def functions_of(text):
-    """The functions of a file that have a body: where each body lies, and its name with that of the impl or trait that it stands in."""
+def functions_of(file, text, homes):
+    """The functions of a file that have a body: where head and body begin and the body ends, and its name. What stands in an impl has the
+    module of the impl's type."""
     code = code_of(text)
     holders, found = holders_of(code), []
     for it in re.finditer(r"\bfn (\w+)", code):
         body = body_of(code, it.end())
         if body:
-            holder = [name for start, end, name in holders if start <= it.start() < end][-1:]
-            found.append((*body, "::".join(holder + [it[1]])))
+            holder = [(kind, name) for start, end, kind, name in holders if start <= it.start() < end][-1:]
+            parts = [homes.get(holder[0][0], module_of(file)), holder[0][1], it[1]] if holder else [module_of(file), it[1]]
+            found.append((it.start(), *body, "::".join(it for it in parts if it)))
     return found
 
 
@@ -122,11 +135,6 @@ def module_of(file):
     return "" if name in ("lib", "main") else re.sub(r"::mod$", "", name)
 
 
-def in_module(file, name):
-    """A function's name with the module of its file."""
-    return "::".join(it for it in (module_of(file), name) if it)
-
-
 def brings_more(old, new):
     """Whether this line of imports has the names that it had, and others."""
     return old.startswith("use ") and new.startswith("use ") and set(re.findall(r"\w+", old)) <= set(re.findall(r"\w+", new))
@@ -135,8 +143,9 @@ def brings_more(old, new):
 class Edit:
     """One wrong body: what it replaces, in which files, and the functions whose bodies that changes."""
 
-    def __init__(self, crate, path):
-        self.path, self.name, self.pairs, self.functions, self.is_apart = path, os.path.basename(path)[: -len(".edit")], [], set(), False
+    def __init__(self, crate, path, homes):
+        self.path, self.name, self.homes = path, os.path.basename(path)[: -len(".edit")], homes
+        self.pairs, self.functions, self.is_apart = [], set(), False
         texts, file, old = {}, None, None
         with open(path, encoding="utf-8") as it:
             lines = it.read().split("\n")
@@ -157,15 +166,15 @@ class Edit:
     def place(self, file, text, old):
         """Notes the function whose body has this text."""
         at = text.find(old)
-        holds = lambda it: it[0] <= at and at + len(old) <= it[1]
-        inside = [it for it in functions_of(text) if holds(it)]
+        holds = lambda start, end: start <= at and at + len(old) <= end
+        inside = [name for _, start, end, name in functions_of(file, text, self.homes) if holds(start, end)]
         if not file.startswith("src/") or at < 0:
             self.is_apart = True
-        elif any(holds(it) for it in macros_of(text)) and module_of(file):
+        elif any(holds(*it) for it in macros_of(text)) and module_of(file):
             # (what the macro writes, it writes in the file's own module)
             self.functions.add(module_of(file))
         elif inside:
-            self.functions.add(in_module(file, inside[-1][2]))
+            self.functions.add(inside[-1])
         else:
             self.is_apart = True
 
@@ -198,8 +207,8 @@ def changed(crate, edits):
 class Said:
     """What the prover said of each function, of a copy of the crate with these texts."""
 
-    def __init__(self, crate, texts, text):
-        self.crate, self.texts, self.notes = crate, texts, collections.defaultdict(list)
+    def __init__(self, crate, homes, texts, text):
+        self.crate, self.homes, self.texts, self.notes = crate, homes, texts, collections.defaultdict(list)
         self.of = dict(re.findall(r"^fn %s::(\S+): (.*)$" % crate.name, text, re.M))
         self.errors = re.findall(r"^\./proofs/(\S+)/\w+\.antt:\d+:\d+: error: (.*)$", text, re.M)
         for file, line, note in re.findall(r"^note: (src/\S+?):(\d+):\d+: (it is not proved .*)$", text, re.M):
@@ -208,9 +217,10 @@ class Said:
     def function_at(self, file, line):
         """The name of the function that has this line of a file."""
         text = self.texts.get(file) or text_of(self.crate, file)
-        at = sum(len(it) + 1 for it in text.split("\n")[: line - 1])
-        inside = [name for start, end, name in functions_of(text) if text.rfind("\n", 0, start) <= at <= end]
-        return in_module(file, inside[-1]) if inside else file
+        lines = text.split("\n")
+        start = sum(len(it) + 1 for it in lines[: line - 1])
+        inside = [name for head, _, end, name in functions_of(file, text, self.homes) if head < start + len(lines[line - 1]) and start < end]
+        return inside[-1] if inside else file
 
     def why(self, function):
         """What refused the function for itself: the first goal of its own that is open, and not for a name that is gone. None where nothing did."""
@@ -228,8 +238,9 @@ class Said:
 class Tries:
     """Tries edits of one crate, and says what came of each."""
 
-    def __init__(self, kit, crate, edits, say=print):
-        self.kit, self.crate, self.edits, self.say, self.kept = kit, crate, edits, say, None
+    def __init__(self, kit, crate, paths, say=print):
+        self.kit, self.crate, self.say, self.kept, self.homes = kit, crate, say, None, homes_of(crate)
+        self.edits = [Edit(crate, path, self.homes) for path in paths]
         self.refused, self.missed, self.spent, self.rounds = 0, [], 0.0, 0
 
     def all(self):
@@ -287,7 +298,7 @@ class Tries:
             missing = re.search(r"has no (?:function|[\w ]+) `([^`]*)`", text) if status == 2 else None
             # (an impl whose name is told in another way: all functions of its module)
             if not missing or missing[1] not in names:
-                return Said(self.crate, texts, text)
+                return Said(self.crate, self.homes, texts, text)
             names = sorted({*names, module_of_name(missing[1])} - {missing[1]})
 
     def run(self, texts, words):
