@@ -4,13 +4,11 @@ CRATES := rep_types rep_forms rep_record rep_disk rep_layout rep_versions rep_pa
 	rep_checkpoint rep_cert rep_backlog rep_engine rep_recover rep_replica rep_saved rep_transfer rep_catchup rep_script \
 	rep_ordered rep_snap rep_stations rep_node rep_serve replicad
 PROGRAM := crates/replicad/out/replicad
-# What `make bench` needs beside these: what times the certifier against the plain node, what times the versions of rows, what
-# times readers against a lock, and what times them beside a node that serves.
-TIMED := rep_compare rep_timed rep_snap_uses rep_snap_timed rep_node_timed
+# What `make bench` needs beside these: what times the certifier against the plain node, and what times versions and pages of rows,
+# readers against a lock, and readers beside a node that serves.
+TIMED := rep_compare rep_snap_uses rep_timed
 COMPARE := crates/rep_compare/out/rep_compare
-VERSIONS := crates/rep_timed/out/rep_timed
-PEEKS := crates/rep_snap_timed/out/rep_snap_timed
-BESIDE := crates/rep_node_timed/out/rep_node_timed
+PARTS := crates/rep_timed/out/rep_timed
 
 .PHONY: run build test check edits gate-time bench soak toolchain
 
@@ -45,7 +43,7 @@ gate-time: toolchain
 # a second beside the same writes alone, checkpoints, and openings.
 bench: toolchain
 	@scripts/build $(CRATES) $(TIMED)
-	@scripts/bench $(PROGRAM) $(COMPARE) $(VERSIONS) $(PEEKS) $(BESIDE)
+	@scripts/bench $(PROGRAM) $(COMPARE) $(PARTS)
 
 # Drawn lives of the proved program on a file, killed, stopped within writes and syncs, and opened again, for so many seconds, as
 # `SECONDS=600 make soak`; with SEED=N from the life of this seed on.

@@ -1,43 +1,72 @@
-//! What `make bench` times: versions of rows that are added and looked up, and rows of pages that are read.
+//! What `make bench` times: versions of rows that are added and looked up, rows of pages that are read, peeks beside a publisher, and a node
+//! that serves a batch with readers beside. The first word of the command line says which.
 #![tactic(auto)]
 
-mod pages;
-mod versions;
+mod node;
+mod peeks;
+mod rows;
+mod words;
 
-use anyhow::{Context, Result};
-use rep_disk::FileDisk;
-use rep_layout::need;
-use std::env;
-use std::fs::Files;
+use anyhow::{Result, bail};
+use std::env::{Args, args};
+use std::fs::{File, Files};
 use std::rt::Env;
+use std::sync::Wait;
+use std::thread::Threads;
+use std::time::Clock;
+use words::word;
 
-/// As many times as the first word of the command line says: the versions of as many items as the
-/// second says, and as many look-ups among them as the third says.
-///
-/// Or where the first word is `pages` or `pool`: writes 4,096 pages on a new file at the path that the second word is, and reads them in
-/// turn, as many as the third word says, as often as the fourth says.
-fn main(rt: HostRuntime) -> Result<()> {
-    let alloc = rt.alloc();
-    let mut words = env::args(&rt)?.skip(1);
-    let first = words.next().context("no number of rounds")?;
-    let second = words.next().context("no number of items")?;
-    let third = words.next().context("no number of look-ups")?;
-    let is_pooled = first.as_str() == "pool";
-    if !is_pooled && first.as_str() != "pages" {
-        let rounds = first.parse::<u64>()?;
-        let all = versions::found_in_rounds(
-            alloc,
-            rounds,
-            second.parse::<u64>()?,
-            third.parse::<u64>()?,
-        )?;
-        rt.println(format_args!("{all} found"))?;
-        return Ok(());
+/// Versions, peeks and a node in turn, each with its words, which stand one behind the other.
+fn run_each<
+    R: Files<File = File>
+        + Print
+        + AllocGlobal
+        + Clock
+        + Threads
+        + Wait
+        + Copy
+        + Send
+        + Sync
+        + 'static,
+>(rt: &R, words: &mut Args) -> Result<()> {
+    rows::run_versions(rt, words)?;
+    peeks::run(rt, false, words)?;
+    node::run(rt, words)
+}
+
+/// Does what the first word of the command line names, as the words behind it say: `versions`; rows of `pages` of a file, or through a
+/// `pool`; `peeks`, or look-ups behind one lock (`locked`); a `node`; or versions, peeks and a node in turn (`each`).
+fn run<
+    R: Env
+        + Files<File = File>
+        + Print
+        + AllocGlobal
+        + Clock
+        + Threads
+        + Wait
+        + Copy
+        + Send
+        + Sync
+        + 'static,
+>(rt: &R) -> Result<()> {
+    let mut words = args(rt)?;
+    let _program = words.next();
+    let kind = word(
+        &mut words,
+        "no kind: versions, pages, pool, peeks, locked, node or each",
+    )?;
+    match kind.as_str() {
+        "versions" => rows::run_versions(rt, &mut words),
+        "pages" => rows::run_pages(rt, false, &mut words),
+        "pool" => rows::run_pages(rt, true, &mut words),
+        "peeks" => peeks::run(rt, false, &mut words),
+        "locked" => peeks::run(rt, true, &mut words),
+        "node" => node::run(rt, &mut words),
+        "each" => run_each(rt, &mut words),
+        other => bail!("{other} is no kind: versions, pages, pool, peeks, locked, node or each"),
     }
-    let reads = words.next().context("no number of reads")?.parse::<u64>()?;
-    let size = need(&pages::params()?) as usize;
-    let disk = FileDisk::create(&rt, &second, size)?;
-    let all = pages::found_on(alloc, disk, is_pooled, third.parse::<u32>()?, reads)?;
-    rt.println(format_args!("{all} found"))?;
-    Ok(())
+}
+
+fn main(rt: HostRuntime) -> Result<()> {
+    run(&rt)
 }

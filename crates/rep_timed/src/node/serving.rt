@@ -7,8 +7,8 @@ ghost use Rattle.rep_replica.specs.Settling.{is_quiet};
 ghost use Rattle.rep_ordered.specs.Views.{HasAll};
 ghost use Rattle.rep_node.specs.Seats.{PassedOrStopped};
 
-use crate::items::params;
-use crate::readers::{Tally, Watchers};
+use crate::node::items::params;
+use crate::node::readers::{Tally, Watchers};
 use rep_disk::Disk;
 use rep_node::{Node, NodeReader, Pace, Point, Seat};
 use rep_recover::format_disk;

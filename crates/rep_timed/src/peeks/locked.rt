@@ -1,6 +1,8 @@
 //! The same table behind one lock.
 
-use crate::threads::{AT_FIRST, LAST, LOOKS, Readers, joined, pruned_at, right, row_of, write_of};
+use crate::peeks::threads::{
+    AT_FIRST, LAST, LOOKS, Readers, joined, pruned_at, right, row_of, write_of,
+};
 use arrayvec::ArrayVec;
 use rep_snap::Peek;
 use rep_types::{Key, MAX_WRITES, Refusal, Write};

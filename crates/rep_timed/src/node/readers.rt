@@ -1,6 +1,6 @@
 //! Readers that look rows up beside the batch.
 
-use crate::items::{is_right, row_of};
+use crate::node::items::{is_right, row_of};
 use rep_node::NodeReader;
 use rep_types::Refusal;
 use std::alloc::{AllocError, Global};

@@ -1,6 +1,8 @@
 //! Readers that wait for nobody.
 
-use crate::threads::{AT_FIRST, LAST, LOOKS, Readers, joined, pruned_at, right, row_of, write_of};
+use crate::peeks::threads::{
+    AT_FIRST, LAST, LOOKS, Readers, joined, pruned_at, right, row_of, write_of,
+};
 use rep_snap::Reader;
 use rep_snap_uses::{Free, Steady};
 use rep_types::Refusal;

@@ -1,5 +1,5 @@
 use Rattle.std.proofs.Common.{◌≡◌, length}
-use Rattle.rep_timed.proofs.versions.item.Given as goal
+use Rattle.rep_timed.proofs.rows.versions.item.Given as goal
 
 -- so many writes so far
 abbrev pub invariant-loop-i : goal.invariant-loop-i

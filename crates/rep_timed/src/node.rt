@@ -1,5 +1,4 @@
-//! Serves a batch by a node on a new file, with readers beside that look rows up, as many as its command line says: what `make bench` times.
-#![tactic(auto)]
+//! Serves a batch by a node on a new file, with readers beside that look rows up, as many as the words of the command line say.
 
 mod items;
 mod readers;
@@ -8,6 +7,7 @@ mod words;
 
 ghost use Rattle.std.specs.Prelude.{◌<◌, ◌≤◌};
 
+use crate::words::word;
 use anyhow::{Context, Result, bail};
 use items::{batch, params};
 use readers::Watchers;
@@ -15,9 +15,8 @@ use rep_disk::FileDisk;
 use rep_layout::need;
 use rep_types::WriteSet;
 use serving::{Outcome, serve_on};
-use std::env::{Args, args};
+use std::env::Args;
 use std::fs::{File, Files};
-use std::rt::Env;
 use std::sync::Wait;
 use std::thread::Threads;
 use std::time::{Clock, Duration};
@@ -94,18 +93,13 @@ fn run_words<R: Files<File = File> + Print + AllocGlobal + Clock + Threads + Wai
     report(rt, durable, came, has_rates)
 }
 
-/// The words of the command line are the path of the new file, the number of workers, from 1 to 64, the number of readers, from 0 to 64, and
-/// the number of items. It prints how many items are durable, and how many look-ups had an answer that is not right. Where a fifth word
-/// follows, `rates`, it prints in a second line how many items and how many look-ups there were in a second.
-fn run<R: Env + Files<File = File> + Print + AllocGlobal + Clock + Threads + Wait + Sync>(
+/// The words are the path of the new file, the number of workers, from 1 to 64, the number of readers, from 0 to 64, and the number of items.
+/// It prints how many items are durable, and how many look-ups had an answer that is not right. Where a fifth word follows, `rates`, it
+/// prints in a second line how many items and how many look-ups there were in a second.
+pub(crate) fn run<R: Files<File = File> + Print + AllocGlobal + Clock + Threads + Wait + Sync>(
     rt: &R,
+    words: &mut Args,
 ) -> Result<()> {
-    let mut words = args(rt)?;
-    let _program = words.next();
-    let path = words.next().context("no path of a new file")?;
-    run_words(rt, &path, &mut words)
-}
-
-fn main(rt: HostRuntime) -> Result<()> {
-    run(&rt)
+    let path = word(words, "no path of a new file")?;
+    run_words(rt, &path, words)
 }

@@ -2,7 +2,8 @@
 
 ghost use Rattle.std.specs.Prelude.{◌<◌, ◌≤◌, IfOk};
 
-use anyhow::{Context, Result, bail};
+use crate::words::number;
+use anyhow::{Result, bail};
 use std::env::Args;
 
 /// The most workers, and the most readers.
@@ -14,12 +15,6 @@ pub(crate) struct Counts {
     pub(crate) workers: usize,
     pub(crate) readers: usize,
     pub(crate) items: usize,
-}
-
-/// The next word, which is a number. Where there is no word, the error says what is lacking.
-fn number(words: &mut Args, lacking: &'static str) -> Result<usize> {
-    let word = words.next().context(lacking)?;
-    Ok(word.parse::<usize>()?)
 }
 
 /// The next three words, which are the number of workers, from 1 to 64, the number of readers, from 0 to 64, and the number of items.
