@@ -12,7 +12,6 @@ ghost use Rattle.rep_node.specs.Seats.{PassedOrStopped};
 ghost use Rattle.rep_node.specs.Ending.{AreParts, StartsFrom, StartsFromParts, EndsAs};
 ghost use Rattle.rep_node.specs.Reading.{AreParams};
 
-use crate::boxed::Boxed;
 use crate::changes::Changes;
 use crate::home::{Desk, Home, Queue};
 use crate::node::Node;
@@ -29,7 +28,7 @@ use rep_ordered::{OrderedLock, Refused};
 use rep_replica::Replica;
 use rep_snap::Reader;
 use rep_stations::{histories_extend_the_order, histories_go_on, histories_lie_between_replicas};
-use rep_types::{MAX_SEQNO, Params, Refusal};
+use rep_types::{Boxed, MAX_SEQNO, Params, Refusal};
 use std::alloc::Global;
 use std::sync::Wait;
 

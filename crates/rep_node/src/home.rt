@@ -1,6 +1,5 @@
 //! What lies at home in the three stations.
 
-use crate::boxed::Boxed;
 use crate::origin::Origin;
 use crate::waiting::Waiting;
 use rep_backlog::Backlog;
@@ -9,7 +8,7 @@ use rep_disk::Disk;
 use rep_engine::Engine;
 use rep_ordered::Keeps;
 use rep_snap::Publisher;
-use rep_types::Judged;
+use rep_types::{Boxed, Judged};
 
 /// The engine, and beside it what shows readers its durable items. The engine is large, and a station's value is moved whenever somebody
 /// enters or leaves: so it lies on the heap.

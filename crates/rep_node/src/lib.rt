@@ -4,7 +4,6 @@
 
 mod batch;
 mod beside;
-mod boxed;
 mod changes;
 mod checking;
 mod ends;
@@ -24,7 +23,6 @@ mod submitting;
 mod waiting;
 
 pub use batch::{Batch, Receipt};
-pub use boxed::Boxed;
 pub use checking::Checked;
 pub use home::{Desk, Home, Queue};
 pub use keeping::Kept;

@@ -1,13 +1,15 @@
 -- What is so of each page that is kept goes on being so.
-use Rattle.std.proofs.Common.{◌≡◌, ◌≢◌, refl, sym, ap, subst, ◌∙◌, ℕ, inl, inr, Bool, true, false, cond, Option, None, Some, Contains, nat_eq, Result, Ok, Err, OnOk, OnErr}
+use Rattle.std.proofs.Common.{◌≡◌, ◌≢◌, refl, sym, ap, subst, ◌∙◌, ℕ, ◌-◌, inl, inr, Bool, true, false, cond, ◌∷◌, take, Option, None, Some, option_map, Contains, nat_eq, Result, Ok, Err, OnOk, OnErr}
 use Rattle.std.specs.Cmp.{nat_eq_equiv}
 use Rattle.std.specs.List.{IsDistinct}
-use Rattle.std.specs.Map.{keys_of, lookup, remove_entry}
+use Rattle.std.specs.Map.{keys_of, lookup, lookup_entry, remove_entry, set_value}
+use Rattle.std.specs.Option.{option_map_or}
 use Rattle.std.proofs.lemmas.Bool.{eqb-true}
 use Rattle.std.proofs.lemmas.Map.{lookup-remove_entry}
 use Rattle.lru.specs.LruCache.{LruCache, lru_cache, promoted, put_entries}
-use Rattle.lru.proofs.CallerLemmas.{Contains-lookup, Contains-promoted, Contains-put_entries, Contains-remove_entry}
+use Rattle.lru.proofs.CallerLemmas.{Contains-lookup, Contains-lookup_entry, Contains-promoted, Contains-put_entries, Contains-remove_entry}
 use Rattle.lru.proofs.Matching.{none_found}
+use Rattle.lru.proofs.Pairs.{lookup-lookup_entry}
 use Rattle.rep_layout.specs.declared.place.Slot.{Slot}
 use Rattle.rep_layout.specs.declared.place.Slot.TheVariants.{First, Second}
 use Rattle.rep_layout.specs.declared.place.Place.{Place}
@@ -95,6 +97,23 @@ module _ (Is : ℕ → Slot → PageBody → Type 0) where
   pub without_each : (number : ℕ) (pages : Pooled) → AreEach Is pages → AreEach Is (without_page number pages)
   without_each number pages each n kept there = each n kept (Contains-remove_entry (nat_eq number) pages (n, kept) there)
 
+-- ---- a page in the place of what is kept of it
+
+over : (number : ℕ) (kept was : Kept) (old : LruCache ℕ Kept) (o : Option (ℕ × Kept)) → lookup_entry (nat_eq number) old.entries ≡ o → option_map (λ e. e.1) o ≡ Some was
+    → set_value (nat_eq number) (option_map_or (λ e. e ∷ remove_entry (nat_eq number) old.entries) o old.entries) kept
+    ≡ option_map_or (λ e. (e.0, kept) ∷ remove_entry (nat_eq number) old.entries) o ((number, kept) ∷ take (old.cap - 1) old.entries)
+over number kept was old None at is = absurd cc
+over number kept was old (Some e) at is = rw (Contains-lookup_entry (nat_eq number) old.entries e at).1
+
+-- to write it over what is kept, once that is in front, is to put it
+written_over : (number : ℕ) (kept was : Kept) (old : LruCache ℕ Kept) → lookup (nat_eq number) old.entries ≡ Some was → set_value (nat_eq number) (promoted (nat_eq number) old.entries) kept ≡ put_entries nat_eq old number kept
+written_over number kept was old is = over number kept was old (lookup_entry (nat_eq number) old.entries) refl (lookup-lookup_entry (nat_eq number) old.entries ∙ is)
+
+pub over_kept : (number : ℕ) (kept was : Kept) (old : LruCache ℕ Kept) (before : Pooled) → old.cap ≡ POOL_PAGES → old.entries ≡ before → lookup (nat_eq number) old.entries ≡ Some was
+    → IsKept number kept before (set_value (nat_eq number) (promoted (nat_eq number) old.entries) kept)
+over_kept number kept was old before cap view is =
+    inl (written_over number kept was old is ∙ (ap (λ (n : ℕ). put_entries nat_eq (lru_cache old.entries n) number kept) cap ∙ ap (λ (es : Pooled). put_entries nat_eq (lru_cache es POOL_PAGES) number kept) view))
+
 -- ---- what holds of every pool
 
 abbrev Holds : LruCache ℕ Kept → Type 0
@@ -112,3 +131,7 @@ removed_holds number old new is holds = subst Holds (sym is) (holds.0, without_e
 pub put_holds : {T E : Type 0} (number : ℕ) (kept : Kept) (old new : LruCache ℕ Kept) (result : Result T E) → kept.page.number ≡ number → OnOk result (new ≡ lru_cache (put_entries nat_eq old number kept) old.cap) → OnErr result (new ≡ old) → Holds old → Holds new
 put_holds number kept old new (Ok x) same done failed holds = subst Holds (sym done) (holds.0, put_each is_numbered number kept old same holds.1)
 put_holds number kept old new (Err e) same done failed holds = subst Holds (sym failed) holds
+
+pub over_holds : (number : ℕ) (kept was : Kept) (old : LruCache ℕ Kept) → kept.page.number ≡ number → lookup (nat_eq number) old.entries ≡ Some was → Holds old
+    → Holds (lru_cache (set_value (nat_eq number) (promoted (nat_eq number) old.entries) kept) old.cap)
+over_holds number kept was old same is holds = (holds.0, subst AreNumbered (sym (written_over number kept was old is)) (put_each is_numbered number kept old same holds.1))

@@ -25,7 +25,7 @@ use rep_cells::{Cells, refusal_of};
 use rep_disk::Disk;
 use rep_layout::{PAGE_BODY, PageState, Place, RowPlace, Slot, SuperBody};
 use rep_pages::{Page, pages_are_told, slot_of};
-use rep_types::{Part, Refusal, Value};
+use rep_types::{Boxed, Part, Refusal, Value};
 use std::alloc::Global;
 use std::marker::Model;
 use std::num::NonZeroUsize;
@@ -52,7 +52,8 @@ pub struct Kept {
 /// base asks for the other one.
 #[derive(Drop)]
 pub struct Pool {
-    pages: LruCache<u32, Kept>,
+    alloc: Global,
+    pages: LruCache<u32, Boxed<Kept>>,
 }
 
 impl Model for Pool {
@@ -123,6 +124,7 @@ impl Pool {
             unreachable!();
         };
         Ok(Pool {
+            alloc,
             pages: LruCache::new(alloc, room)?,
         })
     }
@@ -131,7 +133,7 @@ impl Pool {
     fn found(&self, number: u32, slot: Slot) -> Option<&Page>
         ensures { option_copied result ≡ found number slot self.now }
     {
-        let kept = self.pages.peek(&number)?;
+        let kept = self.pages.peek(&number)?.get();
         if kept.slot != slot {
             return None;
         }
@@ -143,7 +145,13 @@ impl Pool {
         requires { kept.page.number ≡ number }
         ensures { IsKept number kept self.old self.new }
     {
-        drop(self.pages.put(number, kept));
+        if let Some(place) = self.pages.get_mut(&number) {
+            *place.get_mut() = kept;
+            return;
+        }
+        if let Ok(kept) = Boxed::new(self.alloc, kept) {
+            drop(self.pages.put(number, kept));
+        }
     }
 
     /// Lets go what is kept of the page, and gives it where it is of this slot.
@@ -155,7 +163,7 @@ impl Pool {
         ensures numbered { AreNumbered self.old }
     {
         self.pages.len();
-        let kept = self.pages.pop(&number)?;
+        let kept = self.pages.pop(&number)?.into_inner();
         if kept.slot == slot {
             Some(kept.page)
         } else {

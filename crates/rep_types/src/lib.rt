@@ -2,6 +2,7 @@
 //! refusals, with the definitions of an order and of the verdicts in it.
 #![tactic(auto)]
 
+mod boxed;
 mod entry;
 mod gtid;
 mod item;
@@ -19,6 +20,7 @@ mod verdict;
 mod window;
 mod write_set;
 
+pub use boxed::Boxed;
 pub use entry::Entry;
 pub use gtid::{Gtid, gtids_read_back, read_seqno, read_uuid};
 pub use item::{Item, SetWindow};

@@ -7,6 +7,7 @@ use std::alloc::Global;
 use std::marker::Model;
 
 /// A value on the heap, so that what holds it is cheap to move. In contracts it is the value.
+#[derive(Drop)]
 pub struct Boxed<T> {
     inside: Box<T>,
 }
@@ -19,7 +20,7 @@ impl<T> Model for Boxed<T> {
 
 impl<T> Boxed<T> {
     /// Puts the value on the heap; where there is no memory for it, it is handed back.
-    pub(crate) fn new(alloc: Global, value: T) -> Result<Boxed<T>, T>
+    pub fn new(alloc: Global, value: T) -> Result<Boxed<T>, T>
         ensures put { IfOk result (λ boxed. boxed ≡ value) }
         ensures refused { IfErr result (λ back. back ≡ value) }
     {
@@ -30,14 +31,14 @@ impl<T> Boxed<T> {
     }
 
     /// The value.
-    pub(crate) fn get(&self) -> &T
+    pub fn get(&self) -> &T
         ensures { result.now ≡ self.now }
     {
         self.inside.as_ref()
     }
 
     /// The value, to be changed in its place.
-    pub(crate) fn get_mut(&mut self) -> &mut T
+    pub fn get_mut(&mut self) -> &mut T
         ensures* writes_back { sem 𝓛 (Lends T.row T.row self.entry result (λ value. value)) }
         ensures value { result.now ≡ self.old }
     {
@@ -45,7 +46,7 @@ impl<T> Boxed<T> {
     }
 
     /// The value, taken out.
-    pub(crate) fn into_inner(self) -> T
+    pub fn into_inner(self) -> T
         ensures { result ≡ self }
     {
         let Boxed { inside } = self;
