@@ -253,6 +253,10 @@ class Tries:
         apart, waited = [it for it in self.edits if it.is_apart], collections.Counter()
         while left:
             planted = self.chosen(sorted(left, key=lambda it: -waited[it.name]))
+            if not planted:
+                # (none of them can be made)
+                apart += left
+                break
             found, others = self.round(planted)
             for edit in planted:
                 waited[edit.name] += 1
