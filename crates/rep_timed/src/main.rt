@@ -16,26 +16,9 @@ use std::thread::Threads;
 use std::time::Clock;
 use words::word;
 
-/// Versions, peeks and a node in turn, each with its words, which stand one behind the other.
-fn run_each<
-    R: Files<File = File>
-        + Print
-        + AllocGlobal
-        + Clock
-        + Threads
-        + Wait
-        + Copy
-        + Send
-        + Sync
-        + 'static,
->(rt: &R, words: &mut Args) -> Result<()> {
-    rows::run_versions(rt, words)?;
-    peeks::run(rt, false, words)?;
-    node::run(rt, words)
-}
-
 /// Does what the first word of the command line names, as the words behind it say: `versions`; rows of `pages` of a file, or through a
-/// `pool`; `peeks`, or look-ups behind one lock (`locked`); a `node`; or versions, peeks and a node in turn (`each`).
+/// `pool`; `peeks`, or look-ups behind one lock (`locked`); a `node`; or versions, peeks and a node in turn (`each`), whose words stand one behind
+/// the other.
 fn run<
     R: Env
         + Files<File = File>
@@ -62,7 +45,11 @@ fn run<
         "peeks" => peeks::run(rt, false, &mut words),
         "locked" => peeks::run(rt, true, &mut words),
         "node" => node::run(rt, &mut words),
-        "each" => run_each(rt, &mut words),
+        "each" => {
+            rows::run_versions(rt, &mut words)?;
+            peeks::run(rt, false, &mut words)?;
+            node::run(rt, &mut words)
+        }
         other => bail!("{other} is no kind: versions, pages, pool, peeks, locked, node or each"),
     }
 }
