@@ -24,6 +24,10 @@ ALONE, TOGETHER, MORE = "must-fail", "must-fail-together", "must-fail-more"
 OF_NAMES = re.compile(r"has no field|is not in scope|has no `|was not admitted")
 
 
+# What `rt` says of an edit that only such a name refused: it counts that as refused, and here it counts for nothing.
+ONLY_NAMES = "only because a proof file names what the edit took away"
+
+
 def kit():
     """The code of the command `rt`, as a module: it knows how a crate is checked, and tries an edit alone."""
     path = os.path.realpath(shutil.which("rt"))
@@ -162,6 +166,7 @@ class Edit:
                 if not brings_more(old, text):
                     self.place(file, texts[file], old)
                 texts[file], old = texts[file].replace(old, text), None
+        self.is_apart = self.is_apart or not self.functions
 
     def place(self, file, text, old):
         """Notes the function whose body has this text."""
@@ -241,7 +246,7 @@ class Tries:
     def __init__(self, kit, crate, paths, say=print):
         self.kit, self.crate, self.say, self.kept, self.homes = kit, crate, say, None, homes_of(crate)
         self.edits = [Edit(crate, path, self.homes) for path in paths]
-        self.refused, self.missed, self.spent, self.rounds = 0, [], 0.0, 0
+        self.refused, self.missed, self.spent, self.rounds = 0, {}, 0.0, 0
 
     def all(self):
         """Tries them all. What one run proved of the functions that these call serves the next."""
@@ -336,10 +341,10 @@ class Tries:
         kind, told = self.kit.must_fail(self.crate, edit.path, ["--jobs", "1"])
         self.spent += time.monotonic() - began
         self.rounds += 1
-        if kind in (self.kit.REFUSED, self.kit.AT_LIMIT):
+        if kind in (self.kit.REFUSED, self.kit.AT_LIMIT) and ONLY_NAMES not in told:
             self.tell(edit, re.sub(r"^must-fail \S+: refused, as it must be:? ?", "alone: ", told))
         else:
-            self.missed.append(edit)
+            self.missed[edit.path] = kind
             self.say(told)
 
     def tell(self, edit, why):
