@@ -8,6 +8,7 @@ Nothing counts that can't be told so. An edit outside functions, or of which not
 gate's own code; and where a function without an edit has an open goal of its own, so are all that were tried beside it.
 """
 import collections
+import copy
 import importlib.machinery
 import importlib.util
 import os
@@ -144,12 +145,41 @@ def brings_more(old, new):
     return old.startswith("use ") and new.startswith("use ") and set(re.findall(r"\w+", old)) <= set(re.findall(r"\w+", new))
 
 
+def span_of(file, text, function, homes):
+    """Where a function of a file lies, with its attributes. None where it is one of a trait, or is proved with others."""
+    traits = [it[:2] for it in holders_of(code_of(text)) if it[2] != it[3] or text.startswith(("trait", "pub trait"), it[0])]
+    found = [(start, end) for start, _, end, name in functions_of(file, text, homes) if name == function]
+    if len(found) != 1 or any(start <= found[0][0] < end for start, end in traits):
+        return None
+    start = text.rfind("\n", 0, found[0][0]) + 1
+    attributes = re.search(r"(?:^[ \t]*#\[[^\n]*\]\n)*\Z", text[:start], re.M)
+    whole = text[attributes.start() : found[0][1]]
+    is_cut = re.search(r"\]\s*\Z", text[: attributes.start()])
+    return None if is_cut or "#[cycle" in whole else (attributes.start(), found[0][1])
+
+
+def module_in_proofs(parts):
+    """How proofs name what the prover makes of a function."""
+    return ".proofs.%s." % ".".join(parts)
+
+
+def is_cited(crate, parts):
+    """Whether a proof that is not the function's own names what the prover makes of it, or closures of it have answers of their own."""
+    own = os.path.join(crate.folder, "proofs", *parts)
+    for folder, _, files in os.walk(os.path.join(crate.folder, "proofs")):
+        if folder.endswith(os.path.join("fn", parts[-1])) or os.path.join("fn", parts[-1], "") in folder:
+            return True
+        if folder != own and any(module_in_proofs(parts) in text_in(os.path.join(folder, name)) for name in files):
+            return True
+    return False
+
+
 class Edit:
     """One wrong body: what it replaces, in which files, and the functions whose bodies that changes."""
 
     def __init__(self, crate, path, homes):
         self.path, self.name, self.homes = path, os.path.basename(path)[: -len(".edit")], homes
-        self.pairs, self.functions, self.is_apart = [], set(), False
+        self.pairs, self.functions, self.is_apart, self.proofs = [], set(), False, None
         texts, file, old = {}, None, None
         with open(path, encoding="utf-8") as it:
             lines = it.read().split("\n")
@@ -183,18 +213,53 @@ class Edit:
         else:
             self.is_apart = True
 
+    def beside(self, crate, number):
+        """The same wrong body, as that of a copy of its function that stands beside it; None where there can be none. So two wrong bodies of one
+        function can be tried together: a copy has the function's contract and answers."""
+        own = {file for file, old, new in self.pairs if not brings_more(old, new)}
+        if self.is_apart or len(self.functions) != 1 or len(own) != 1:
+            return None
+        (file,), (function,) = own, self.functions
+        parts, text = function.split("::"), text_of(crate, file)
+        span = span_of(file, text, function, self.homes)
+        if not span or is_cited(crate, parts):
+            return None
+        whole = wrong = text[slice(*span)]
+        for _, old, new in (it for it in self.pairs if it[0] == file and not brings_more(*it[1:])):
+            wrong = wrong.replace(old, new)
+        name = "%s_tried_%d" % (parts[-1], number)
+        copied = copy.copy(self)
+        copied.pairs = [it for it in self.pairs if brings_more(*it[1:])]
+        copied.pairs.append((file, whole, whole + "\n\n" + re.sub(r"\bfn %s\b" % parts[-1], "fn " + name, wrong, count=1)))
+        copied.functions, copied.proofs = {"::".join(parts[:-1] + [name])}, (parts, parts[:-1] + [name])
+        return copied
+
+    def put_proofs(self, room):
+        """Puts the answers of the function beside those of its copy, in this copy of the crate."""
+        if self.proofs:
+            old, new = (os.path.join(room, "proofs", *it) for it in self.proofs)
+            if os.path.isdir(old):
+                shutil.copytree(old, new)
+                for name in os.listdir(new):
+                    text = text_in(os.path.join(new, name)).replace(module_in_proofs(self.proofs[0]), module_in_proofs(self.proofs[1]))
+                    with open(os.path.join(new, name), "w", encoding="utf-8") as it:
+                        it.write(text)
+
     def is_of(self, function):
         """Whether this is a function that the edit changes, or a closure in one."""
         function = function.replace("fn::", "")
         return any(function == it or function.startswith(it + "::") for it in self.functions)
 
 
-def text_of(crate, file):
-    path = os.path.join(crate.folder, file)
+def text_in(path):
     if not os.path.isfile(path):
         return ""
     with open(path, encoding="utf-8") as it:
         return it.read()
+
+
+def text_of(crate, file):
+    return text_in(os.path.join(crate.folder, file))
 
 
 def changed(crate, edits):
@@ -227,6 +292,11 @@ class Said:
         inside = [name for head, _, end, name in functions_of(file, text, self.homes) if head < start + len(lines[line - 1]) and start < end]
         return inside[-1] if inside else file
 
+    def are_proved(self, edit):
+        """Whether the functions that the edit changes are told, and proved."""
+        told = [it for function, it in self.of.items() if edit.is_of(function)]
+        return bool(told) and all(it == "proved" for it in told)
+
     def why(self, function):
         """What refused the function for itself: the first goal of its own that is open, and not for a name that is gone. None where nothing did."""
         told = self.of[function]
@@ -243,10 +313,12 @@ class Said:
 class Tries:
     """Tries edits of one crate, and says what came of each."""
 
-    def __init__(self, kit, crate, paths, say=print):
+    def __init__(self, kit, crate, paths, say=print, same=()):
+        """`same` are those of the edits that mean the same as before, and have to pass beside the others."""
         self.kit, self.crate, self.say, self.kept, self.homes = kit, crate, say, None, homes_of(crate)
-        self.edits = [Edit(crate, path, self.homes) for path in paths]
-        self.refused, self.missed, self.spent, self.rounds = 0, {}, 0.0, 0
+        edits = [Edit(crate, path, self.homes) for path in [*paths, *same]]
+        self.edits, self.same = [it.beside(crate, number) or it for number, it in enumerate(edits)], {*same}
+        self.refused, self.missed, self.passed, self.spent, self.rounds = 0, set(), set(), 0.0, 0
 
     def all(self):
         """Tries them all. What one run proved of the functions that these call serves the next."""
@@ -270,7 +342,8 @@ class Tries:
             apart += others
             left = [it for it in left if it.name not in found and it not in others]
         for edit in apart:
-            self.alone(edit)
+            if edit.path not in self.same:
+                self.alone(edit)
         return self
 
     def chosen(self, edits):
@@ -296,6 +369,7 @@ class Tries:
             self.say("%s: %s is refused beside them, which has no edit: each is tried alone" % (self.crate.name, spilled[0]))
             return {}, planted
         waits = [it for it in planted if it.name not in found and any(it.is_of(name) and "it calls" in told for name, told in said.of.items())]
+        self.passed |= {it.path for it in planted if it.path in self.same and said.are_proved(it)}
         return found, [it for it in planted if it.name not in found and (it not in waits or not found)]
 
     def checked(self, planted):
@@ -303,15 +377,15 @@ class Tries:
         names = sorted({it for edit in planted for it in edit.functions})
         texts = changed(self.crate, planted)
         while True:
-            status, text = self.run(texts, [it for name in names for it in ("--only", name)])
+            status, text = self.run(planted, texts, [it for name in names for it in ("--only", name)])
             missing = re.search(r"has no (?:function|[\w ]+) `([^`]*)`", text) if status == 2 else None
             # (an impl whose name is told in another way: all functions of its module)
             if not missing or missing[1] not in names:
                 return Said(self.crate, self.homes, texts, text)
             names = sorted({*names, module_of_name(missing[1])} - {missing[1]})
 
-    def run(self, texts, words):
-        """Runs the prover over a copy with these texts. Gives its status, and what it said."""
+    def run(self, planted, texts, words):
+        """Runs the prover over a copy with these edits. Gives its status, and what it said."""
         rtlib = self.kit.rtlib
         with tempfile.TemporaryDirectory(prefix="wrong-bodies-") as room:
             for part in rtlib.PARTS:
@@ -320,6 +394,8 @@ class Tries:
             for file, text in texts.items():
                 with open(os.path.join(room, file), "w", encoding="utf-8") as it:
                     it.write(text)
+            for edit in planted:
+                edit.put_proofs(room)
             whole = [*rtlib.guarded(), rtlib.RATTLE, "check", *self.crate.words(["--jobs", "1"], keeps=False), "--incremental", self.kept, *words]
             with open(os.path.join(room, "said"), "w+b") as out:
                 process = subprocess.Popen(whole, cwd=room, stdin=subprocess.DEVNULL, stdout=out, stderr=subprocess.STDOUT)
@@ -341,10 +417,11 @@ class Tries:
         kind, told = self.kit.must_fail(self.crate, edit.path, ["--jobs", "1"])
         self.spent += time.monotonic() - began
         self.rounds += 1
-        if kind in (self.kit.REFUSED, self.kit.AT_LIMIT) and ONLY_NAMES not in told:
+        # (a kit tells it by a name of its own, or by whether it is so)
+        if kind in {getattr(self.kit, it, True) for it in ("REFUSED", "AT_LIMIT")} and ONLY_NAMES not in told:
             self.tell(edit, re.sub(r"^must-fail \S+: refused, as it must be:? ?", "alone: ", told))
         else:
-            self.missed[edit.path] = kind
+            self.missed.add(edit.path)
             self.say(told)
 
     def tell(self, edit, why):
