@@ -1,8 +1,9 @@
 """Wrong bodies: edits of a crate's code that its contracts have to refuse, many of them tried by one run of the prover.
 
-A function is proved against its own contract and the contracts of what it calls, whatever their bodies are. So bodies of several
-functions can be wrong in one copy of a crate, and the prover says of each function by itself whether it is proved. Of a function that is
-not, it says too whether a goal of its own is open, or whether it only calls one that is not proved: that counts for nothing here.
+A function is proved against its own contract and the contracts of what it calls, whatever their bodies are. So each wrong body is put
+beside the right one, as that of a function of another name with the same contract and the same answers, and the prover says of each by
+itself whether it is proved. Where there can be no such function, in an impl of a trait, the wrong body takes the place of the right one, and of
+what calls it the prover says so: that counts for nothing here.
 
 Nothing counts that can't be told so. An edit outside functions, or of which nothing is told beside the others, is tried alone by the
 gate's own code; and where a function without an edit has an open goal of its own, so are all that were tried beside it.

@@ -1,5 +1,0 @@
-pub mod Judging
-pub mod Homes
-pub mod Growing
-pub mod Seats
-pub mod Batches
