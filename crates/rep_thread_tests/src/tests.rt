@@ -1,5 +1,4 @@
 //! A file for each library.
 
 mod lock;
-mod node;
 mod snapshots;
