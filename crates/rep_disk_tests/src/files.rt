@@ -10,7 +10,7 @@ use std::process::Abort;
 use std::test::Fail;
 
 /// What a file was asked for, with the offset and the length of a read or a write.
-#[derive(Clone, Copy, Debug, PartialEq, Eq)]
+#[derive(Clone, Copy, PartialEq)]
 enum Asked {
     Nothing,
     Read(u64, usize),
@@ -126,18 +126,18 @@ const ONE_SYNC: [Asked; 7] = [
     Nothing,
 ];
 
-/// The number of the file's call that fails, which of a write, two syncs and a read then succeed, and
-/// what the file is asked for.
-type Case = (usize, [bool; 4], [Asked; 7]);
+/// The number of the file's call that fails; which of a write, two syncs and a read then succeed, and how many do not; and what the
+/// file is asked for.
+type Case = (usize, [bool; 4], u64, [Asked; 7]);
 
 const CASES: [Case; 5] = [
-    (NO_FAULT, [true, true, true, true], ALL),
+    (NO_FAULT, [true, true, true, true], 0, ALL),
     // A piece of the write is refused.
-    (1, [false, true, true, true], ALL),
-    (2, [true, false, false, true], ONE_SYNC),
-    (3, [true, true, false, true], ALL),
+    (1, [false, true, true, true], 1, ALL),
+    (2, [true, false, false, true], 2, ONE_SYNC),
+    (3, [true, true, false, true], 1, ALL),
     // A piece of the read is refused.
-    (5, [true, true, true, false], ALL),
+    (5, [true, true, true, false], 1, ALL),
 ];
 
 /// A disk on such a file, of which the call of this number fails.
@@ -162,42 +162,31 @@ fn ask_four(disk: &mut FileDisk<NotedFile>, out: &mut [u8; 4]) -> [bool; 4] {
     ]
 }
 
-/// How many calls failed.
-fn count_failed(answers: [bool; 4]) -> u64 {
-    let mut count = 0u64;
-    for answer in answers {
-        count = count.saturating_add(u64::from(!answer));
-    }
-    count
-}
-
-/// Which of the calls succeed, whether as many failures were counted as failed, and what the file was asked for.
-type Answer = ([bool; 4], bool, [Asked; 7]);
-
 /// The bytes that were read, and those of the file.
 type Bytes = ([u8; 4], [u8; SIZE]);
 
-/// Makes the calls on a file that fails its call of this number.
-fn ask_noted(fault: usize) -> Result<(Answer, Bytes), Fail> {
+/// Which of the calls succeed on a file that fails its call of this number, how many failures were counted, and the bytes; and whether
+/// the file was asked for this.
+fn ask_noted(fault: usize, asked: [Asked; 7]) -> Result<([bool; 4], u64, Bytes, bool), Fail> {
     let mut disk = noted_disk(fault)?;
     let mut out = [5; 4];
     let answers = ask_four(&mut disk, &mut out);
-    let is_counted = disk.failures() == count_failed(answers);
+    let failures = disk.failures();
     let file = disk.into_file();
-    let bytes = file.bytes.get();
-    Ok(((answers, is_counted, file.asked.get()), (out, bytes)))
+    let bytes = (out, file.bytes.get());
+    Ok((answers, failures, bytes, file.asked.get() == asked))
 }
 
 /// The bytes where no call fails: they are those that were written.
 const WRITTEN: Bytes = ([0, 7, 8, 9], [0, 0, 0, 7, 8, 9, 0, 0]);
 
 /// Compares what the file is asked for, and the bytes where no call fails.
-fn is_asked(rt: &impl Abort, (fault, succeed, asked): Case) -> Result<(), Fail> {
-    let (found, bytes) = ask_noted(fault)?;
+fn is_asked(rt: &impl Abort, (fault, succeed, failures, asked): Case) -> Result<(), Fail> {
+    let (answers, counted, bytes, is_asked) = ask_noted(fault, asked)?;
     let is_written = fault != NO_FAULT || bytes == WRITTEN;
     assert_eq!(rt;
-        (fault, found, is_written),
-        (fault, (succeed, true, asked), true)
+        (fault, answers, counted, is_written && is_asked),
+        (fault, succeed, failures, true)
     );
     Ok(())
 }
