@@ -6,7 +6,8 @@
  *   STOP_AT=N        the call that is met; 0 or nothing: none is
  *   STOP_PART=P      so many thousandths of a write's bytes are written first, one byte at least and one too few at most, unless
  *                    P is 0 (none) or 1000 (all); a sync is made only where P is 1000
- *   STOP_FAILS=1     the call fails then (EIO), and the program goes on; else the program ends there, with the status 77
+ *   STOP_FAILS=1     the call fails then (EIO), and the program goes on; 2: so does each behind it; else the program ends there, with
+ *                    the status 77
  *   SHORT_CALLS=N    of N calls of `pwrite` one is interrupted (EINTR), and some write the first half of their bytes; what is then
  *                    called again for the rest is no call of its own
  *   STOPPED=PATH     there the call that was met is told: its number, `write` with the place, the size and how many bytes were
@@ -29,7 +30,7 @@
 #include <sys/uio.h>
 #include <unistd.h>
 
-enum { STOPPED_STATUS = 77, BROKEN_STATUS = 99, WHOLE = 1000 };
+enum { STOPPED_STATUS = 77, BROKEN_STATUS = 99, WHOLE = 1000, ALL_BEHIND = 2 };
 static const uint64_t NO_PLACE = UINT64_MAX; /* of a sync */
 
 static ssize_t (*next_pwrite)(int, const void *, size_t, off_t);
@@ -104,6 +105,13 @@ static ssize_t write_part(int file, const void *bytes, size_t count, off_t at) {
     return met(text);
 }
 
+/* Whether the call that was counted last fails because one before it did. */
+static int is_behind(void) {
+    if (is_failing != ALL_BEHIND || stop_at == 0 || calls <= stop_at) return 0;
+    errno = EIO;
+    return 1;
+}
+
 /* Writes the bytes, or some of the first of them. */
 static ssize_t write_some(int file, const void *bytes, size_t count, off_t at) {
     int is_short = short_calls && count > 1 && asked % 3 == 0;
@@ -128,6 +136,7 @@ static ssize_t write_in_turn(int file, const void *bytes, size_t count, off_t at
     rest_at = -1;
     if (!is_rest && noted >= 0) put(noted, (uint64_t)at, bytes, count);
     if (!is_rest && ++calls == stop_at) return write_part(file, bytes, count, at);
+    if (is_behind()) return -1;
     return write_some(file, bytes, count, at);
 }
 
@@ -146,7 +155,9 @@ static int sync_by(int (*sync)(int), int file) {
     pthread_mutex_lock(&turn);
     is_met = ++calls == stop_at;
     if (noted >= 0) put(noted, NO_PLACE, "", 0);
-    if (!is_met || stop_part >= WHOLE) {
+    if (is_behind()) {
+        done = -1;
+    } else if (!is_met || stop_part >= WHOLE) {
         done = sync(file);
         if (done == 0 && unsynced >= 0 && ftruncate(unsynced, 0) != 0) _exit(BROKEN_STATUS);
     }

@@ -21,10 +21,11 @@ NO_PLACE = (1 << 64) - 1
 
 
 class Stop:
-    """A call at which the program ends, or which fails: its number, and how much of it is done before, in thousandths."""
+    """A call at which the program ends, or which fails, that one alone or all behind it too: its number, and how much of it is done
+    before, in thousandths."""
 
-    def __init__(self, call=0, part=0, is_failing=False):
-        self.call, self.part, self.is_failing = call, part, is_failing
+    def __init__(self, call=0, part=0, is_failing=False, all_behind=False):
+        self.call, self.part, self.is_failing, self.all_behind = call, part, is_failing, all_behind
 
     def is_done(self, kind):
         """Whether the call that is met is done, as far as a gate can tell: its first byte decides."""
@@ -77,7 +78,7 @@ class DiskFile:
     def environment(self, stop):
         return {
             "LD_PRELOAD": self.library, "UNSYNCED": self.unsynced, "STOPPED": self.told, "CALLS": self.noted,
-            "STOP_AT": str(stop.call), "STOP_PART": str(stop.part), "STOP_FAILS": str(int(stop.is_failing)),
+            "STOP_AT": str(stop.call), "STOP_PART": str(stop.part), "STOP_FAILS": str(stop.is_failing + stop.all_behind),
             "SHORT_CALLS": str(self.short_calls),
         }
 

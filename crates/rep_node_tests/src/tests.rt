@@ -3,7 +3,6 @@
 
 mod batches;
 mod devices;
-mod faults;
 mod paces;
 mod reads;
 mod replicas;
