@@ -6,8 +6,8 @@ CRATES := rep_types rep_forms rep_record rep_disk rep_layout rep_versions rep_pa
 PROGRAM := crates/replicad/out/replicad
 # What `make bench` needs beside these: what times the certifier against the plain node, and what times versions and pages of rows,
 # readers against a lock, and readers beside a node that serves.
-TIMED := rep_compare rep_snap_uses rep_timed
-COMPARE := crates/rep_compare/out/rep_compare
+TIMED := rep_snap_uses rep_trials rep_timed
+COMPARE := crates/rep_trials/out/rep_trials
 PARTS := crates/rep_timed/out/rep_timed
 
 .PHONY: run build test check edits gate-time bench soak toolchain
