@@ -1,5 +1,0 @@
-//! A file for each library.
-
-mod lock;
-mod node;
-mod snapshots;
