@@ -1,5 +1,6 @@
 //! What is read beside a node, and by transactions that go through a session: of what is published, and of its engine.
 
+use super::limits::LIMITS;
 use super::replicas::{Found, OTHER, OUTSIDE, ROW};
 use super::running::found_by_peek;
 use super::steps::{Answer, Call, Node, Step, gone};
@@ -29,6 +30,8 @@ const COMMIT: Answer = Answer::Judged(Verdict::Commit);
 
 /// That it is not there yet, behind so many items.
 const NOT_YET_AT_0: Answer = Answer::Is(Found::Refused(Refusal::NotYet { durable: 0 }));
+
+const NOT_YET_AT_2: Answer = Answer::Is(Found::Refused(Refusal::NotYet { durable: 2 }));
 
 const NOT_YET_AT_3: Answer = Answer::Is(Found::Refused(Refusal::NotYet { durable: 3 }));
 
@@ -64,6 +67,34 @@ const PEEKS: &[Step] = &[
     (Call::Peek(OTHER, 3), COLD),
     (Call::Peek(OTHER, 4), NOT_YET_AT_3),
     (Call::Peek(OUTSIDE, 0), BAD_KEY),
+];
+
+/// What a reader finds of a row that is put, put again and deleted, before and behind a checkpoint, and behind an item that writes nothing.
+const PEEKS_AGAIN: &[Step] = &[
+    (Call::Write(0, ROW, Some(b'a')), COMMIT),
+    (Call::Write(1, ROW, Some(b'b')), COMMIT),
+    (Call::Keep, Answer::Stands(2)),
+    (Call::Peek(ROW, 0), COLD),
+    (Call::Peek(ROW, 1), A),
+    (Call::Peek(ROW, 2), B),
+    (Call::Peek(ROW, 3), NOT_YET_AT_2),
+    (Call::Peek(OTHER, 2), COLD),
+    (Call::Check, Answer::Stands(2)),
+    (Call::Write(2, ROW, None), COMMIT),
+    (Call::Keep, Answer::Stands(3)),
+    (Call::Peek(ROW, 0), TOO_OLD_AT_2),
+    (Call::Peek(ROW, 1), TOO_OLD_AT_2),
+    (Call::Peek(ROW, 2), COLD),
+    (Call::Peek(ROW, 3), NOTHING),
+    (Call::Peek(ROW, 4), NOT_YET_AT_3),
+    (
+        Call::Write(2, ROW, Some(b'c')),
+        Answer::Judged(Verdict::Conflict(3)),
+    ),
+    (Call::Keep, Answer::Stands(4)),
+    (Call::Peek(ROW, 3), NOTHING),
+    (Call::Peek(ROW, 4), NOTHING),
+    (Call::Peek(ROW, 5), NOT_YET_AT_4),
 ];
 
 /// Compares what a reader finds whose node was closed behind the third item.
@@ -179,6 +210,8 @@ const TRIALS: &[(&[Step], (u64, u64, bool))] = &[
     (MOVES, (2, 0, false)),
     (MOVES_TOO_LATE, (3, 0, false)),
     (BELOW_THE_BASE, (2, 2, false)),
+    (LIMITS, (1, 0, false)),
+    (PEEKS_AGAIN, (4, 2, false)),
 ];
 
 /// Closes the node, and compares how it is left.

@@ -1,10 +1,10 @@
 //! What is done to a node with one seat and one reader, step by step, and what each step answers.
 
-use super::replicas::{Found, new_disk, opened, writing};
+use super::replicas::{Found, new_disk, opened, put, writing};
 use super::running::Running;
 use rep_disk::MemDisk;
 use rep_session::{Finished, Session};
-use rep_types::{Key, Refusal, Verdict, WriteSet};
+use rep_types::{Key, Refusal, Verdict, Write, WriteSet};
 use std::alloc::Global;
 use std::process::Abort;
 use std::sync::Wait;
@@ -36,6 +36,8 @@ pub(crate) enum Call {
     Put(Key, Option<u8>),
     /// It ends, and what it wrote is handed in, if there is something.
     End,
+    /// It ends, and what it wrote is looked at, if there is something.
+    Finish,
 }
 
 /// What such a call answers.
@@ -49,6 +51,9 @@ pub(crate) enum Answer {
     Stands(u64),
     /// This is found.
     Is(Found),
+    /// A write set has these labels and had seen so many, it reads so many keys with this one first, and writes so many with this one
+    /// first, under which it puts this.
+    Wrote((u64, u64, u64), (usize, Option<Key>), (usize, Option<(Key, Found)>)),
     /// It is refused.
     Refused(Refusal),
 }
@@ -102,6 +107,29 @@ fn ended<R: Threads + Wait + Sync>(
     }
 }
 
+/// The first of the writes, and what it puts there.
+fn first_of(writes: &[Write]) -> Option<(Key, Found)> {
+    let write = writes.first()?;
+    let found = match &write.value {
+        Some(value) => put(value),
+        None => Found::Nothing,
+    };
+    Some((write.key, found))
+}
+
+/// Ends the transaction, and says what it wrote, if there is something.
+fn finished(session: &mut Session) -> Answer {
+    match session.finish() {
+        Ok(Finished::WriteSet(item)) => Answer::Wrote(
+            (item.source(), item.trx(), item.last_seen()),
+            (item.reads().len(), item.reads().first().copied()),
+            (item.writes().len(), first_of(item.writes())),
+        ),
+        Ok(Finished::ReadOnly) => Answer::Done,
+        Err(refusal) => Answer::Refused(refusal),
+    }
+}
+
 /// Puts one byte under a key, or deletes what is there, in the transaction.
 fn put_in(session: &mut Session, key: Key, byte: Option<u8>) -> Answer {
     let done = match byte {
@@ -137,6 +165,7 @@ fn made<R: Threads + Wait + Sync>(
             (node, Answer::Is(found))
         }
         Call::Put(key, byte) => (node, put_in(session, key, byte)),
+        Call::Finish => (node, finished(session)),
         call => looked(rt, node, call),
     }
 }

@@ -1,5 +1,0 @@
-//! Tests of what threads leave behind: on the ordered lock, and beside a publisher of snapshots. They stand in a crate of their own so that a tested crate is proved once.
-#![tactic(auto)]
-
-#[cfg(test)]
-mod tests;

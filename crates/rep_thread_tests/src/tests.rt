@@ -1,4 +1,0 @@
-//! A file for each library.
-
-mod lock;
-mod snapshots;
