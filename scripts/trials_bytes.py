@@ -330,6 +330,70 @@ def rows_past_the_end(program):
     yield comes_back(program, make("the row behind the last", 100), "13 corrupt pages")
 
 
+# ---- each byte that is to be zero
+
+# A disk with five pages of two tables, of which the second stands in its second slot and the last one in its first, with four rows;
+# its base stands at the position 9, with two entries in the window; behind it is a block with an item. Where the last page and the
+# block begin, and how many bytes the block has.
+LAST_PAGE, BLOCK, BLOCK_SIZE = PAGES + 8 * 4_096, CELLS + 2 * 8_192, 18 + 53
+
+
+def of_five_pages(title):
+    trial = Trial(title)
+    trial.say("disk 128000 0", "blank")
+    trial.say("params 4 4 126 130", "formatted %s:0" % CLUSTER)
+    head = [
+        (FIRST[1], "00"), (SECOND[0], superblock(3, 9)), (SECOND[0] + 36, "02"), (SECOND[0] + 44, number(130, 4)),
+        (SECOND[0] + 80, number(2)), (SECOND[0] + 88, number(5, 2)), (SECOND[0] + 128, "0801"), (SECOND[1], OPEN),
+        (SECOND[2], b"REPWIND1".hex() + number(3) + number(9) + number(2, 2)),
+        (SECOND[2] + 256, entry(6, (0, 0)) + entry(9, (0, 0), (0, 1))),
+    ]
+    pages = [
+        (place, b"REPPAGE1".hex() + number(page, 2) + number(table, 1) + "00" + number(row, 4) + number(3))
+        for place, page, table, row in ((PAGES + 3 * 4_096, 1, 0, 63), (LAST_PAGE, 4, 1, 126))
+    ]
+    values = [(LAST_PAGE + 64, "01026162"), (LAST_PAGE + 4 * 64, "0100")]
+    opens(with_puts(trial, [*head, *pages, *values]), 9, 9)
+    trial.say("window", "window 2", "entry 6 1", "key 0/0", "entry 9 2", "key 0/0", "key 0/1")
+    return with_puts(trial, [(BLOCK, block(2, 10, record(10, [put_of(1)]))), (FIRST_CELL_GATE + 2 * 8_192, OPEN)])
+
+
+# Of each part where it begins, and from where to where its bytes are to be zero.
+ZEROS = [
+    ("superblock", SECOND[0], [(37, 40), (48, 72), (90, 128), (130, 3_584)]),
+    ("window", SECOND[2], [(26, 256), (289, 23_040)]),
+    # The number of a seqno that a commit does not conflict with, and all behind the record.
+    ("log", BLOCK, [(53, 61), (BLOCK_SIZE, 7_680)]),
+    ("pages", LAST_PAGE, [(11, 12), (24, 64), (68, 128), (129, 192), (193, 256), (258, 320), (320, 4_096)]),
+]
+
+
+def is_as_it_was(trial):
+    opens(trial, 10, 9)
+    for line, *wanted in (
+        ["window", "window 2", "entry 9 2", "key 0/0", "key 0/1", "entry 10 1", "key 0/1"],
+        ["read 1/126 9", "value 6162"], ["read 1/127 9", "absent"], ["read 1/129 9", "value"], ["read 0/1 10", "value 61"],
+    ):
+        trial.say(line, *wanted)
+    return trial
+
+
+def each_zero(_):
+    for part, begin, ranges in ZEROS:
+        trial = is_as_it_was(of_five_pages("each zero of the " + part))
+        for first, last in ranges:
+            for at in range(begin + first, begin + last):
+                trial.say("write %d 01" % at, "written")
+                trial.say("open", "refused 13 corrupt " + part)
+                trial.say("write %d 00" % at, "written")
+        yield is_as_it_was(trial)
+
+
+def greatest_number(_):
+    """The number of a superblock is at most one above its position."""
+    yield opens(with_base(new("a number above the position"), SECOND, 1, 0), 0, 0, "busy")
+
+
 TRIALS = [
     ("a superblock of no form", each_superblock),
     ("as many cells and pages as there may be", limits_of_the_device),
@@ -343,4 +407,6 @@ TRIALS = [
     ("the log is answered before a page", log_before_pages),
     ("a page of no form at an opening", each_page),
     ("a row behind a table's end", rows_past_the_end),
+    ("a superblock's number is at most one above its position", greatest_number),
+    ("each byte that is to be zero", each_zero),
 ]

@@ -390,29 +390,31 @@ fn made_all(
     Ok(answer)
 }
 
-/// What is tried: calls, how many cells another log's device has on which they are made, another block, and what has to be due for this
-/// log not to refuse them as not due.
+/// What is tried: calls, how many cells another log's device has on which they are made, another block, and what has to be due for the
+/// calls: they are made of this log and of its next block where that is not due, and otherwise where it is.
 type Tried = (&'static [Call], Option<u32>, Option<Block>, &'static [Step]);
 
-/// Whatever is due, the cells of another log are refused, and each block that is not the next one.
 const TRIED: &[Tried] = &[
     (&[Call::Recycle], None, None, &[Step::Recycle]),
-    (&[Call::Seal], None, None, &[Step::Seal, Step::Full]),
+    (&[Call::Recycle], Some(0), None, &[Step::Recycle]),
+    (&[Call::Recycle], Some(3), None, &[Step::Recycle]),
+    (&[Call::Recycle], Some(5), None, &[Step::Recycle]),
     (&[Call::Gate], None, None, &[Step::Gate]),
-    (&[Call::Recycle], Some(0), None, &[]),
-    (&[Call::Recycle], Some(3), None, &[]),
-    (&[Call::Recycle], Some(5), None, &[]),
-    (&[Call::Seal], Some(0), None, &[]),
-    (&[Call::Seal], Some(3), None, &[]),
-    (&[Call::Seal], Some(5), None, &[]),
-    (&[Call::Gate], Some(0), None, &[]),
-    (&[Call::Gate], Some(3), None, &[]),
-    (&[Call::Gate], Some(5), None, &[]),
-    (&[Call::Seal], None, Some((0, 0)), &[]),
-    (&[Call::Seal], None, Some((1, 2)), &[]),
-    (&[Call::Seal], None, Some((4, 64)), &[]),
-    (&[Call::Seal], None, Some((69, 1)), &[]),
+    (&[Call::Gate], Some(0), None, &[Step::Gate]),
+    (&[Call::Gate], Some(3), None, &[Step::Gate]),
+    (&[Call::Gate], Some(5), None, &[Step::Gate]),
+    (&[Call::Seal], None, None, SEALED),
+    (&[Call::Seal], Some(0), None, SEALED),
+    (&[Call::Seal], Some(3), None, SEALED),
+    (&[Call::Seal], Some(5), None, SEALED),
+    (&[Call::Seal], None, Some((0, 0)), SEALED),
+    (&[Call::Seal], None, Some((1, 2)), SEALED),
+    (&[Call::Seal], None, Some((4, 64)), SEALED),
+    (&[Call::Seal], None, Some((69, 1)), SEALED),
 ];
+
+/// What has to be due for the next block to be sealed, or to be refused because the log is full.
+const SEALED: &[Step] = &[Step::Seal, Step::Full];
 
 /// What the calls answer, and whether the device reads as before where they are refused.
 fn asked(
@@ -430,16 +432,17 @@ fn asked(
     Ok((answer, is_same || may_write))
 }
 
-/// Whether what is tried is refused and leaves log and device as they were, where it is not due.
+/// Whether what is tried is refused and leaves log and device as they were, where it is made.
 fn is_refused(
     alloc: Global,
     log: &mut Log,
     device: &mut Device,
-    (calls, cells, other, but): Tried,
+    (calls, cells, other, due): Tried,
     block: Block,
 ) -> Result<bool, Refusal> {
     let before = look_at(log);
-    if but.contains(&before.4) {
+    let is_next = cells.is_none() && other.is_none();
+    if due.contains(&before.4) == is_next {
         return Ok(true);
     }
     let block = other.unwrap_or(block);
@@ -453,7 +456,7 @@ fn is_refused(
     Ok(found == (Err(Refusal::NotDue), true) && look_at(log) == before)
 }
 
-/// Compares that all that is tried is refused where it is not due.
+/// Compares that all that is tried is refused.
 fn refuses(
     rt: &(impl Abort + AllocGlobal),
     log: &mut Log,
@@ -467,7 +470,7 @@ fn refuses(
     Ok(())
 }
 
-/// Compares what the rows answer, before each of which all is tried that is not due.
+/// Compares what the rows answer, before each of which all is tried that is to be refused.
 fn takes(
     rt: &(impl Abort + AllocGlobal),
     log: &mut Log,

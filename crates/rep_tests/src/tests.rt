@@ -1,8 +1,6 @@
 //! A file for each library.
 
-mod backlog;
 mod cert;
-mod forms;
 mod layout;
 mod pages;
 mod plain;

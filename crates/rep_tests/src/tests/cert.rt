@@ -1,4 +1,4 @@
-//! The certifier: each call once, and one that is made of any entries.
+//! The certifier that is made of any entries.
 
 use rep_cert::Certifier;
 use rep_types::{Entry, Key, Params, Refusal, Verdict, Window, Write, WriteSet};
@@ -15,39 +15,34 @@ fn item(last_seen: u64) -> Result<WriteSet, Refusal> {
     WriteSet::new(1, 1, last_seen, &[], &[write])
 }
 
-/// A certifier with a window of 4 seqnos at this position, which holds entries of the item with these seqnos.
-fn certifier(
-    alloc: Global,
-    position: u64,
-    item: &WriteSet,
-    seqnos: &[u64],
-) -> Result<Certifier, Refusal> {
+/// Entries of the item with these seqnos.
+fn entries_of(alloc: Global, item: &WriteSet, seqnos: &[u64]) -> Result<Vec<Entry>, Refusal> {
     let mut entries = Vec::new(alloc);
     for seqno in seqnos {
         entries.push(Entry::new(*seqno, item.written()))?;
     }
-    let params = Params::new(4, 4, &[10])?;
+    Ok(entries)
+}
+
+/// A certifier of these parameters at this position, with these entries.
+fn certifier(
+    alloc: Global,
+    params: Params,
+    position: u64,
+    entries: Vec<Entry>,
+) -> Result<Certifier, Refusal> {
     let window = Window::fixed(params.window_size(), position, entries);
     Certifier::new(alloc, params, position, window)
 }
 
-/// Compares what the item is judged and admitted with.
-fn answers(
-    rt: &impl Abort,
-    certifier: &mut Certifier,
-    item: &WriteSet,
-    verdict: Verdict,
-    admitted: Result<(u64, Verdict), Refusal>,
-) {
-    let judged = certifier.judge(item);
-    assert_eq!(rt; (judged, certifier.admit(item)), (verdict, admitted));
+/// What the item is judged with.
+fn judged(certifier: &Certifier, item: &WriteSet) -> Verdict {
+    certifier.judge(item)
 }
 
-/// Admits the item, and takes it back.
-fn taken_back(certifier: &mut Certifier, item: &WriteSet) -> Result<(u64, Verdict), Refusal> {
-    let judged = certifier.admit(item)?;
-    certifier.undo_last();
-    Ok(judged)
+/// What the item is admitted with.
+fn admitted(certifier: &mut Certifier, item: &WriteSet) -> Result<(u64, Verdict), Refusal> {
+    certifier.admit(item)
 }
 
 /// Whether the entries have these seqnos, and each of them the row 7 alone.
@@ -75,30 +70,6 @@ fn stands(
     Ok(())
 }
 
-/// Admits the item twice, the second time to take it back, and compares what comes of it.
-fn admits_twice(
-    rt: &(impl Abort + AllocGlobal),
-    certifier: &mut Certifier,
-    item: &WriteSet,
-) -> Result<(), Refusal> {
-    answers(
-        rt,
-        certifier,
-        item,
-        Verdict::Commit,
-        Ok((1, Verdict::Commit)),
-    );
-    let second = taken_back(certifier, item);
-    assert_eq!(rt; second, Ok((2, Verdict::Conflict(1))));
-    stands(rt, certifier, 1, &[1])
-}
-
-#[test]
-fn certifies(rt: HostRuntime) -> Result<(), Fail> {
-    let item = item(0)?;
-    Ok(admits_twice(&rt, &mut certifier(rt.alloc(), 0, &item, &[])?, &item)?)
-}
-
 /// The greatest number.
 const TOP: u64 = u64::MAX;
 
@@ -114,8 +85,11 @@ fn keeps_its_entries(
     certifier: &mut Certifier,
     item: &WriteSet,
 ) -> Result<(), Refusal> {
-    let verdict = Verdict::Conflict(TOP - 2);
-    answers(rt, certifier, item, verdict, Err(Refusal::Exhausted));
+    let found = (judged(certifier, item), admitted(certifier, item));
+    assert_eq!(rt;
+        found,
+        (Verdict::Conflict(TOP - 2), Err(Refusal::Exhausted))
+    );
     stands(rt, certifier, TOP - 1, LEFT)
 }
 
@@ -123,7 +97,9 @@ fn keeps_its_entries(
 // below its window go, the others stay as they are.
 #[test]
 fn is_made_of_any_entries(rt: HostRuntime) -> Result<(), Fail> {
+    let params = Params::new(4, 4, &[10])?;
     let item = item(TOP - 5)?;
-    let mut certifier = certifier(rt.alloc(), TOP - 1, &item, GIVEN)?;
+    let entries = entries_of(rt.alloc(), &item, GIVEN)?;
+    let mut certifier = certifier(rt.alloc(), params, TOP - 1, entries)?;
     Ok(keeps_its_entries(&rt, &mut certifier, &item)?)
 }

@@ -1,11 +1,9 @@
-//! The layout of the device: the sizes, where places and rows lie, and superblocks.
+//! The layout of the device: the sizes, where places lie, and superblocks of no cluster.
 
 use arrayvec::ArrayVec;
-use rep_layout::{
-    Layout, PageState, Place, RowPlace, Side, Slot, SuperBody, need, page_of, row_at,
-};
-use rep_types::{Key, Params, Part, Refusal, Schema};
-use std::alloc::Global;
+use rep_layout::{Layout, PageState, Place, Side, Slot, SuperBody, need};
+use rep_pages::{slot_of, spare_of};
+use rep_types::{Params, Part, Refusal};
 use std::test::Fail;
 use uuid::Uuid;
 
@@ -71,167 +69,44 @@ fn places_lie_where_the_format_says(rt: HostRuntime) -> Result<(), Fail> {
     Ok(())
 }
 
-/// Where the row lies, and which row lies there.
-fn there_and_back(schema: &Schema, key: Key) -> Option<(RowPlace, Option<Key>)> {
-    let place = page_of(schema, key)?;
-    Some((place, row_at(schema, place)))
+/// A superblock of the small parameters that names no cluster, of pages that are in no slot.
+fn undefined(number: u64, position: u64, start: u64) -> Result<SuperBody, Refusal> {
+    let mut pages = ArrayVec::from([PageState::Nowhere; 4096]);
+    pages.truncate(2);
+    Ok(SuperBody {
+        number,
+        uuid: Uuid::nil(),
+        params: small()?,
+        position,
+        start,
+        pages,
+    })
 }
 
-/// Rows by table and number, and where they lie: the page, and the place in it.
-const ROWS: &[(Key, Option<RowPlace>)] = &[
-    (
-        Key { table: 0, row: 62 },
-        Some(RowPlace { page: 0, index: 62 }),
-    ),
-    (
-        Key { table: 0, row: 63 },
-        Some(RowPlace { page: 1, index: 0 }),
-    ),
-    (Key { table: 0, row: 64 }, None),
-    (
-        Key { table: 1, row: 62 },
-        Some(RowPlace { page: 2, index: 62 }),
-    ),
-    (
-        Key { table: 2, row: 0 },
-        Some(RowPlace { page: 3, index: 0 }),
-    ),
-    (Key { table: 3, row: 0 }, None),
-];
-
-/// Whether the row lies at this place, and lies there alone.
-fn lies_at(schema: &Schema, key: Key, place: Option<RowPlace>) -> bool {
-    match (there_and_back(schema, key), place) {
-        (Some((found, back)), Some(place)) => found == place && back == Some(key),
-        (None, None) => true,
-        _ => false,
-    }
+/// Whether it is written, and the slots of a page that there is not.
+fn is_written(superblock: &SuperBody) -> (bool, PageState, Slot) {
+    let is_written = superblock.write_body().is_some();
+    (is_written, slot_of(superblock, 2), spare_of(superblock, 2))
 }
 
-/// The first row that lies elsewhere, if there is one.
-fn misplaced_row(schema: &Schema) -> Option<Key> {
-    for (key, place) in ROWS {
-        if !lies_at(schema, *key, *place) {
-            return Some(*key);
-        }
-    }
-    None
+/// The same of a superblock of this number, position and start.
+fn written_of(
+    (number, position, start): (u64, u64, u64),
+) -> Result<(bool, PageState, Slot), Refusal> {
+    Ok(is_written(&undefined(number, position, start)?))
 }
 
-/// The first row that lies elsewhere in three tables of 64 rows, of 63 and of one; None where there are no such tables.
-fn misplaced_in_three() -> Option<Option<Key>> {
-    match Params::new(4, 4, &[64, 63, 1]) {
-        Ok(params) => Some(misplaced_row(params.schema())),
-        Err(_) => None,
-    }
-}
-
-#[test]
-fn rows_lie_in_pages_table_by_table(rt: HostRuntime) {
-    assert_eq!(rt; misplaced_in_three(), Some(None));
-}
-
-/// The states of five pages, of which two stand in slots.
-fn five_states() -> ArrayVec<PageState, 4096> {
-    let mut pages = ArrayVec::new();
-    for state in [
-        PageState::Nowhere,
-        PageState::In(Slot::Second),
-        PageState::Nowhere,
-        PageState::Nowhere,
-        PageState::In(Slot::First),
-    ] {
-        let fitted = pages.try_push(state);
-        let _ = fitted;
-    }
-    pages
-}
-
-/// A superblock of five pages of this cluster, by its number, its position and its start.
-fn superblock_of(cluster: [u8; 16], number: u64, position: u64, start: u64) -> Option<SuperBody> {
-    match Params::new(4, 4, &[126, 189]) {
-        Ok(params) => Some(SuperBody {
-            number,
-            uuid: Uuid::from_bytes(cluster),
-            params,
-            position,
-            start,
-            pages: five_states(),
-        }),
-        Err(_) => None,
-    }
-}
-
-/// A superblock of five pages.
-fn superblock() -> Option<SuperBody> {
-    superblock_of([0x11; 16], 3, 9, 2)
-}
-
-/// The bytes of a superblock.
-fn bytes_of(alloc: Global, superblock: &SuperBody) -> Option<Vec<u8>> {
-    let body = superblock.write_body()?;
-    Vec::from_slice(alloc, &body).ok()
-}
-
-/// The bytes of the superblock of five pages.
-pub(crate) fn written(alloc: Global) -> Option<Vec<u8>> {
-    bytes_of(alloc, &superblock()?)
-}
-
-/// What the bytes are refused by.
-pub(crate) fn refusal_of(bytes: &[u8]) -> Option<Refusal> {
-    SuperBody::read_body(bytes).err()
-}
-
-/// Whether the bytes are read as this superblock.
-fn is_read_as(bytes: &[u8], superblock: &SuperBody) -> bool {
-    match SuperBody::read_body(bytes) {
-        Ok(read) => read == *superblock,
-        Err(_) => false,
-    }
-}
-
-/// Whether the superblock is read back; None where it is not written.
-fn is_read_back(superblock: &SuperBody) -> Option<bool> {
-    let body = superblock.write_body()?;
-    Some(is_read_as(&body, superblock))
-}
-
-/// Whether the superblock of this number, position and start without a cluster is read back; None where it is not written.
-fn is_read_back_undefined(number: u64, position: u64, start: u64) -> Option<bool> {
-    is_read_back(&superblock_of([0; 16], number, position, start)?)
-}
-
-/// Puts a nil UUID into the bytes.
-fn forget_cluster(bytes: &mut [u8]) {
-    for byte in bytes.iter_mut().skip(16).take(16) {
-        *byte = 0;
-    }
-}
-
-/// What the superblock's bytes are refused by once they name no cluster.
-fn refusal_without_cluster(alloc: Global) -> Option<Refusal> {
-    let mut bytes = written(alloc)?;
-    forget_cluster(&mut bytes);
-    refusal_of(&bytes)
-}
-
-/// Whether the superblock of five pages is read back.
-fn five_are_read_back() -> Option<bool> {
-    is_read_back(&superblock()?)
+/// What the empty bytes are refused by.
+fn refusal_of_nothing() -> Option<Refusal> {
+    SuperBody::read_body(&[]).err()
 }
 
 // A node without a cluster has nothing.
 #[test]
-fn superblocks_are_read_back(rt: HostRuntime) {
-    assert_eq!(rt;
-        (five_are_read_back(), refusal_of(&[])),
-        (Some(true), Some(SUPERBLOCK))
-    );
-    assert_eq!(rt; refusal_without_cluster(rt.alloc()), Some(SUPERBLOCK));
-    let undefined = [
-        is_read_back_undefined(3, 9, 2),
-        is_read_back_undefined(0, 0, 0),
-    ];
-    assert_eq!(rt; undefined, [None, Some(true)]);
+fn superblocks_without_a_cluster_have_no_position(rt: HostRuntime) {
+    for (head, wanted) in [((3, 9, 2), false), ((0, 0, 0), true)] {
+        let wanted = Ok((wanted, PageState::Nowhere, Slot::First));
+        assert_eq!(rt; (head, written_of(head)), (head, wanted));
+    }
+    assert_eq!(rt; refusal_of_nothing(), Some(SUPERBLOCK));
 }

@@ -1,4 +1,4 @@
-//! Refusals and GTIDs as texts, against texts that were written by hand; sizes of windows; and the first fault of a write set.
+//! Refusals and GTIDs as texts, against texts that were written by hand; floors of windows; and the first fault of a write set.
 
 use rep_types::{Gtid, Key, Part, Refusal, Window, WindowSize, Write, WriteSet};
 use std::alloc::{AllocError, Global};
@@ -163,28 +163,6 @@ fn gtids_are_written_in_lower_case(rt: HostRuntime) -> Result<(), Fail> {
     ];
     assert_eq!(rt; found, [true; 3]);
     Ok(())
-}
-
-/// The number of seqnos that the window of this size spans.
-fn size_of(seqnos: u64) -> Result<u64, Refusal> {
-    Ok(WindowSize::new(seqnos)?.get())
-}
-
-/// Sizes of windows, and what is made of them.
-const SIZES: &[(u64, Result<u64, Refusal>)] = &[
-    (0, Err(Refusal::BadParams)),
-    (1, Ok(1)),
-    (256, Ok(256)),
-    (257, Err(Refusal::BadParams)),
-    (u64::MAX, Err(Refusal::BadParams)),
-];
-
-#[test]
-fn windows_have_sizes_from_1_to_256(rt: HostRuntime) {
-    for row in SIZES {
-        let (seqnos, size) = *row;
-        assert_eq!(rt; (seqnos, size_of(seqnos)), (seqnos, size));
-    }
 }
 
 /// The floor of a fixed window of this size at the position.
