@@ -3,12 +3,13 @@
 use super::limits::LIMITS;
 use super::replicas::{Found, OTHER, OUTSIDE, ROW};
 use super::running::found_by_peek;
-use super::steps::{Answer, Call, Node, Step, gone};
+use super::steps::{Answer, Call, Step, gone};
 use rep_node::NodeReader;
 use rep_types::{Refusal, Verdict};
+use std::alloc::Global;
 use std::process::Abort;
 use std::sync::Wait;
-use std::test::Fail;
+use std::thread::Threads;
 
 /// That the row is not there, and that no write of it is left in the published list.
 const NOTHING: Answer = Answer::Is(Found::Nothing);
@@ -97,28 +98,6 @@ const PEEKS_AGAIN: &[Step] = &[
     (Call::Peek(ROW, 5), NOT_YET_AT_4),
 ];
 
-/// Compares what a reader finds whose node was closed behind the third item.
-fn is_closed<R: Abort>(rt: &R, reader: NodeReader) {
-    let (reader, closed) = reader.peek(ROW, 3);
-    let (reader, outside) = reader.peek(OUTSIDE, 3);
-    let (_reader, front) = reader.front();
-    let found = (found_by_peek(closed), found_by_peek(outside), front);
-    let wanted = (
-        Found::Refused(Refusal::Closed),
-        Found::Refused(Refusal::BadKey),
-        3,
-    );
-    assert!(rt; found == wanted);
-}
-
-#[test]
-fn a_reader_finds_what_is_published(rt: HostRuntime) -> Result<(), Fail> {
-    let node = gone(&rt, rt.alloc(), PEEKS)?;
-    let (_replica, reader) = node.close(&rt);
-    is_closed(&rt, reader);
-    Ok(())
-}
-
 /// What is read of the base and of what is newer, and once the node was halted.
 const READS: &[Step] = &[
     (Call::Write(0, ROW, Some(b'a')), COMMIT),
@@ -206,25 +185,45 @@ const BELOW_THE_BASE: &[Step] = &[
 
 /// Steps, and how the node is left by them: what is durable, where the base stands, and whether it was halted.
 const TRIALS: &[(&[Step], (u64, u64, bool))] = &[
+    (PEEKS, (3, 3, false)),
+    (PEEKS_AGAIN, (4, 2, false)),
     (READS, (4, 3, true)),
     (MOVES, (2, 0, false)),
     (MOVES_TOO_LATE, (3, 0, false)),
     (BELOW_THE_BASE, (2, 2, false)),
     (LIMITS, (1, 0, false)),
-    (PEEKS_AGAIN, (4, 2, false)),
 ];
 
-/// Closes the node, and compares how it is left.
-fn closes<R: Wait + Abort>(rt: &R, node: Node, wanted: (u64, u64, bool)) {
-    let (replica, _reader) = node.close(rt);
-    let left = (replica.durable(), replica.base(), replica.is_stopped());
-    assert!(rt; left == wanted);
+/// What a reader finds of a row of the schema and of one outside, and the front that it saw last.
+fn found_last(reader: NodeReader) -> (Found, Found, u64) {
+    let (reader, inside) = reader.peek(ROW, 3);
+    let (reader, outside) = reader.peek(OUTSIDE, 3);
+    let (_reader, front) = reader.front();
+    (found_by_peek(inside), found_by_peek(outside), front)
+}
+
+/// Makes the calls on a new node, and compares what each answers. Says whether the node is left so once it is closed, and its reader
+/// then finds it closed behind what is durable.
+fn is_left<R: Threads + Wait + Sync + Abort>(
+    rt: &R,
+    alloc: Global,
+    steps: &[Step],
+    left: (u64, u64, bool),
+) -> Result<bool, Refusal> {
+    let node = gone(rt, alloc, steps)?;
+    let (replica, reader) = node.close(rt);
+    let found = (replica.durable(), replica.base(), replica.is_stopped());
+    let wanted = (
+        Found::Refused(Refusal::Closed),
+        Found::Refused(Refusal::BadKey),
+        left.0,
+    );
+    Ok(found == left && found_last(reader) == wanted)
 }
 
 #[test]
-fn rows_are_read_and_written_beside_a_node(rt: HostRuntime) -> Result<(), Fail> {
+fn rows_are_read_and_written_beside_a_node(rt: HostRuntime) {
     for (steps, left) in TRIALS {
-        closes(&rt, gone(&rt, rt.alloc(), steps)?, *left);
+        assert!(rt; is_left(&rt, rt.alloc(), steps, *left) == Ok(true));
     }
-    Ok(())
 }
