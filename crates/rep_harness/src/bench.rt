@@ -1,7 +1,7 @@
 //! Does what the lines of a text ask for: to the disk, and to a node on it.
 
 use crate::device::{
-    Device, armed, blank, bytes, copied, crashed, cut, damaged, failures, put, written,
+    Device, armed, blank, bytes, copied, crashed, cut, damaged, failures, put, renew, written,
 };
 use crate::donor::{Donor, lend, let_go};
 use crate::join::joined;
@@ -84,16 +84,17 @@ fn change<W: Write>(
     match change {
         Change::Blank(size, byte) => {
             write_line(writer, "blank")?;
-            *device = blank(alloc, size as usize, byte)?;
-            Ok(())
+            renew(device, blank(alloc, size as usize, byte))
         }
         Change::Cut(size) => {
             write_line(writer, "cut")?;
-            *device = cut(alloc, device, size as usize)?;
-            Ok(())
+            let made = cut(alloc, device, size as usize);
+            renew(device, made)
         }
-        Change::Put(at, part) => put_part(alloc, device, at, part.as_slice(), writer),
-        Change::Write(at, part) => write_part(device, at, part.as_slice(), writer),
+        Change::Bytes(is_put, at, part) if is_put => {
+            put_part(alloc, device, at, part.as_slice(), writer)
+        }
+        Change::Bytes(_, at, part) => write_part(device, at, part.as_slice(), writer),
     }
 }
 
@@ -167,22 +168,21 @@ fn read_event(line: &[u8], number: u64) -> Result<Event, Refusal> {
     }
 }
 
-/// The events that the next so many lines ask for.
+/// Adds the events that the next so many lines ask for.
 fn read_events<R: Read>(
-    alloc: Global,
+    events: &mut Vec<Event>,
     text: &mut TextReader,
     reader: &mut R,
     count: u64,
-) -> Result<Vec<Event>, Refusal> {
+) -> Result<(), Refusal> {
     let mut line = Line::new();
-    let mut events = Vec::new(alloc);
     for _ in 0..count {
         if !next_line(text, reader, &mut line)? {
             break;
         }
         events.push(read_event(&line, text.number())?)?;
     }
-    Ok(events)
+    Ok(())
 }
 
 /// Runs the events together that the next so many lines ask for, and writes what came of it.
@@ -194,7 +194,8 @@ fn batch<R: Read, W: Write>(
     count: u64,
     writer: &mut W,
 ) -> Result<(), Refusal> {
-    let events = read_events(alloc, text, reader, count)?;
+    let mut events = Vec::new(alloc);
+    read_events(&mut events, text, reader, count)?;
     bench.batch(alloc, &events, writer)
 }
 

@@ -57,7 +57,10 @@ pub(crate) fn write_window<W: Write>(writer: &mut W, window: &[Entry]) -> Result
 
 /// Puts the text at the end of the line, which has room for it.
 fn put<D: Display + Drop>(line: &mut Line, text: D) -> Result<(), Refusal> {
-    line.write_fmt(text).map_err(|_| Refusal::StreamFault)
+    match line.write_fmt(text) {
+        Ok(()) => Ok(()),
+        Err(_) => Err(Refusal::StreamFault),
+    }
 }
 
 /// Puts the bytes at the end of the line, two digits each, and ends it.
