@@ -1,7 +1,7 @@
 //! Does what the lines of a text ask for: to the disk, and to a node on it.
 
 use crate::device::{
-    Device, armed, blank, bytes, copied, crashed, cut, damaged, failures, put, renew, written,
+    Device, armed, blank, bytes, copied, crashed, cut, damaged, failures, put, written,
 };
 use crate::donor::{Donor, lend, let_go};
 use crate::join::joined;
@@ -84,17 +84,16 @@ fn change<W: Write>(
     match change {
         Change::Blank(size, byte) => {
             write_line(writer, "blank")?;
-            renew(device, blank(alloc, size as usize, byte))
+            *device = blank(alloc, size as usize, byte)?;
+            Ok(())
         }
         Change::Cut(size) => {
             write_line(writer, "cut")?;
-            let made = cut(alloc, device, size as usize);
-            renew(device, made)
+            *device = cut(alloc, device, size as usize)?;
+            Ok(())
         }
-        Change::Bytes(is_put, at, part) if is_put => {
-            put_part(alloc, device, at, part.as_slice(), writer)
-        }
-        Change::Bytes(_, at, part) => write_part(device, at, part.as_slice(), writer),
+        Change::Put(at, part) => put_part(alloc, device, at, part.as_slice(), writer),
+        Change::Write(at, part) => write_part(device, at, part.as_slice(), writer),
     }
 }
 
@@ -168,21 +167,22 @@ fn read_event(line: &[u8], number: u64) -> Result<Event, Refusal> {
     }
 }
 
-/// Adds the events that the next so many lines ask for.
+/// The events that the next so many lines ask for.
 fn read_events<R: Read>(
-    events: &mut Vec<Event>,
+    alloc: Global,
     text: &mut TextReader,
     reader: &mut R,
     count: u64,
-) -> Result<(), Refusal> {
+) -> Result<Vec<Event>, Refusal> {
     let mut line = Line::new();
+    let mut events = Vec::new(alloc);
     for _ in 0..count {
         if !next_line(text, reader, &mut line)? {
             break;
         }
         events.push(read_event(&line, text.number())?)?;
     }
-    Ok(())
+    Ok(events)
 }
 
 /// Runs the events together that the next so many lines ask for, and writes what came of it.
@@ -194,8 +194,7 @@ fn batch<R: Read, W: Write>(
     count: u64,
     writer: &mut W,
 ) -> Result<(), Refusal> {
-    let mut events = Vec::new(alloc);
-    read_events(&mut events, text, reader, count)?;
+    let events = read_events(alloc, text, reader, count)?;
     bench.batch(alloc, &events, writer)
 }
 

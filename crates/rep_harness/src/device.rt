@@ -108,21 +108,6 @@ pub(crate) fn written(device: &mut Device, at: usize, part: &[u8]) -> bool {
     device.write_at(at, part).is_ok()
 }
 
-/// Has the device be this one, where it could be made.
-pub(crate) fn renew(device: &mut Device, made: Result<Device, Refusal>) -> Result<(), Refusal> {
-    *device = made?;
-    Ok(())
-}
-
-/// A disk with the bytes of this one but for these at this place, where they fit, all of them stable.
-fn patched(alloc: Global, device: &Device, at: usize, part: &[u8]) -> Result<Device, Refusal> {
-    let mut all = bytes(device).to_vec(alloc)?;
-    for (place, byte) in all.iter_mut().skip(at).zip(part) {
-        *place = *byte;
-    }
-    holding(alloc, &all)
-}
-
 /// Has these bytes stand at this place, and all bytes be stable, on a disk that serves every call. Says whether they fit; else the disk
 /// stays as it is.
 pub(crate) fn put(
@@ -131,11 +116,11 @@ pub(crate) fn put(
     at: usize,
     part: &[u8],
 ) -> Result<bool, Refusal> {
-    let size = bytes(device).len();
-    if at > size || part.len() > size - at {
+    let mut all = bytes(device).to_vec(alloc)?;
+    if at > all.len() || part.len() > all.len() - at {
         return Ok(false);
     }
-    let made = patched(alloc, device, at, part);
-    renew(device, made)?;
+    all[at..at + part.len()].copy_from_slice(part);
+    *device = holding(alloc, &all)?;
     Ok(true)
 }

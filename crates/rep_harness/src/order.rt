@@ -21,8 +21,10 @@ pub(crate) type Part = ArrayVec<u8, MAX_PUT>;
 pub(crate) enum Change {
     /// A new disk of so many bytes, each of which is this one.
     Blank(u64, u8),
-    /// These bytes stand at this place, and all bytes are stable, where that is asked; else they are written there.
-    Bytes(bool, u64, Part),
+    /// These bytes stand at this place, and all bytes are stable.
+    Put(u64, Part),
+    /// These bytes are written at this place.
+    Write(u64, Part),
     /// The disk keeps so many bytes, all of them stable.
     Cut(u64),
 }
@@ -170,26 +172,22 @@ fn read_damage(words: &mut Words) -> Option<Damage> {
     Some(Damage { calls, at, part })
 }
 
-/// Bytes that stand at a place, `put`, or are written there, `write`.
-fn read_bytes(words: &mut Words) -> Option<Change> {
-    let is_put = words.skip(b"put");
-    if !is_put && !words.skip(b"write") {
-        return None;
-    }
-    let (at, part) = read_part(words)?;
-    Some(Change::Bytes(is_put, at, part))
-}
-
 /// What changes the bytes of the disk.
 fn read_change(words: &mut Words) -> Option<Change> {
     if words.skip(b"disk") {
         let size = next_number(words)?;
         let byte = u8::try_from(next_number(words)?).ok()?;
         Some(Change::Blank(size, byte))
+    } else if words.skip(b"put") {
+        let (at, part) = read_part(words)?;
+        Some(Change::Put(at, part))
+    } else if words.skip(b"write") {
+        let (at, part) = read_part(words)?;
+        Some(Change::Write(at, part))
     } else if words.skip(b"cut") {
         Some(Change::Cut(next_number(words)?))
     } else {
-        read_bytes(words)
+        None
     }
 }
 
@@ -220,7 +218,7 @@ fn read_disk(words: &mut Words) -> Option<DiskOrder> {
     }
     match read_change(words) {
         Some(change) => Some(DiskOrder::Change(change)),
-        None => Some(DiskOrder::Show(read_sight(words)?)),
+        None => read_sight(words).map(DiskOrder::Show),
     }
 }
 
@@ -258,7 +256,7 @@ fn read_transfer(words: &mut Words) -> Option<JoinOrder> {
     } else if words.skip(b"join") {
         Some(JoinOrder::Join)
     } else {
-        Some(JoinOrder::Spoil(read_harm(words)?))
+        read_harm(words).map(JoinOrder::Spoil)
     }
 }
 
@@ -297,7 +295,7 @@ fn read_own(words: &mut Words) -> Option<Order> {
     if let Some(order) = read_disk(words) {
         return Some(Order::Disk(order));
     }
-    Some(Order::Node(read_node(words)?))
+    read_node(words).map(Order::Node)
 }
 
 /// The parameters of a format, `params W N rows ..`, where the line asks for one; and whether `undefined` stands before them.

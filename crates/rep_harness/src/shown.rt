@@ -57,10 +57,7 @@ pub(crate) fn write_window<W: Write>(writer: &mut W, window: &[Entry]) -> Result
 
 /// Puts the text at the end of the line, which has room for it.
 fn put<D: Display + Drop>(line: &mut Line, text: D) -> Result<(), Refusal> {
-    match line.write_fmt(text) {
-        Ok(()) => Ok(()),
-        Err(_) => Err(Refusal::StreamFault),
-    }
+    line.write_fmt(text).map_err(|_| Refusal::StreamFault)
 }
 
 /// Puts the bytes at the end of the line, two digits each, and ends it.
