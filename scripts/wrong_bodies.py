@@ -2,8 +2,8 @@
 
 A function is proved against its own contract and the contracts of what it calls, whatever their bodies are. So each wrong body is put
 beside the right one, as that of a function of another name with the same contract and the same answers, and the prover says of each by
-itself whether it is proved. Where there can be no such function, in an impl of a trait, the wrong body takes the place of the right one, and of
-what calls it the prover says so: that counts for nothing here.
+itself whether it is proved. Where there can be no such function, in an impl of a trait, or where an edit changes two, the wrong body takes the
+place of the right one, and of what calls it the prover says so: that counts for nothing here.
 
 Nothing counts that can't be told so. An edit outside functions, or of which nothing is told beside the others, is tried alone by the
 gate's own code; and where a function without an edit has an open goal of its own, so are all that were tried beside it.
@@ -22,8 +22,8 @@ import time
 # The folders of a crate that have edits: those that the gate tries, each by itself and together, and those that it leaves out.
 ALONE, TOGETHER, MORE = "must-fail", "must-fail-together", "must-fail-more"
 
-# What a proof file says where it names something that an edit took away.
-OF_NAMES = re.compile(r"has no field|is not in scope|has no `|was not admitted")
+# What a proof file says where it names something that an edit took away, or answers a goal that asks for nothing any more.
+OF_NAMES = re.compile(r"has no field|is not in scope|has no `|was not admitted|binders, but its type has room")
 
 
 # What `rt` says of an edit that only such a name refused: it counts that as refused, and here it counts for nothing.
