@@ -1,4 +1,5 @@
 """Finds the proved programs, and runs them, with growths of memory refused where that is asked."""
+import multiprocessing
 import os
 import subprocess
 
@@ -49,6 +50,13 @@ def programs_of(crate):
     other = made + ".by-rattle"
     is_current = os.path.exists(other) and os.stat(other).st_mtime >= max(newest(low) for low in below)
     return [made] + [other] * is_current
+
+
+def side_by_side(call, tasks):
+    """What the call gives for each of the tasks, in their order: as many at a time as there are processors, each in a process of its own."""
+    if tasks:
+        with multiprocessing.get_context("fork").Pool(min(len(tasks), len(os.sched_getaffinity(0)))) as pool:
+            yield from pool.imap(call, tasks)
 
 
 def library(folder, name):

@@ -314,9 +314,10 @@ class Said:
 class Tries:
     """Tries edits of one crate, and says what came of each."""
 
-    def __init__(self, kit, crate, paths, say=print, same=()):
-        """`same` are those of the edits that mean the same as before, and have to pass beside the others."""
-        self.kit, self.crate, self.say, self.kept, self.homes = kit, crate, say, None, homes_of(crate)
+    def __init__(self, kit, crate, paths, say=print, same=(), before=()):
+        """`same` are those of the edits that mean the same as before, and have to pass beside the others. `before` are the words before each
+        command line."""
+        self.kit, self.crate, self.say, self.kept, self.homes, self.before = kit, crate, say, None, homes_of(crate), before
         edits = [Edit(crate, path, self.homes) for path in [*paths, *same]]
         self.edits, self.same = [it.beside(crate, number) or it for number, it in enumerate(edits)], {*same}
         self.refused, self.missed, self.passed, self.spent, self.rounds = 0, set(), set(), 0.0, 0
@@ -397,7 +398,7 @@ class Tries:
                     it.write(text)
             for edit in planted:
                 edit.put_proofs(room)
-            whole = [*rtlib.guarded(), rtlib.RATTLE, "check", *self.crate.words(["--jobs", "1"], keeps=False), "--incremental", self.kept, *words]
+            whole = [*self.before, *rtlib.guarded(), rtlib.RATTLE, "check", *self.crate.words(["--jobs", "1"], keeps=False), "--incremental", self.kept, *words]
             with open(os.path.join(room, "said"), "w+b") as out:
                 process = subprocess.Popen(whole, cwd=room, stdin=subprocess.DEVNULL, stdout=out, stderr=subprocess.STDOUT)
                 self.rounds += 1
