@@ -1,7 +1,10 @@
 """What `make test` runs beside the gate, `rt ci`, and behind it.
 
-Wrong bodies wait for nothing but the libraries that they stand on: those of a crate are tried while `rt ci` proves what stands above it, by
-the processors that it leaves. What runs the built programs begins when it ends, side by side.
+Wrong bodies wait for nothing but the libraries that they stand on: those of a crate are tried while `rt ci` proves it and what stands above
+it, by the processors that it leaves. What runs the built programs begins when it ends, side by side.
+
+`rt ci` reckons with several times the memory that its checks take here, and leaves processors idle for it, those that come last with the dearest
+crates. Where there is memory for as many checks as there are processors, it is told to make so many at a time, each by one (RT_JOBS).
 """
 import glob
 import os
@@ -12,10 +15,21 @@ import time
 from concurrent.futures import ThreadPoolExecutor
 
 import proved
+import wrong_bodies
+
+# The memory that there has to be for a check, in bytes: the most that one took was 3,000 million (docs/gate.md).
+CHECK = 4_000_000_000
 
 EDITS = "scripts/edits --gate"
 # Behind the gate: those of a row go one after another, beside the other rows.
 ROWS = (("scripts/lives",), ("scripts/edits --fit", "scripts/program", "scripts/shown", "scripts/growths", "scripts/served"))
+
+
+def fill_processors():
+    """Has the gate check as many crates at a time as there are processors, where there is memory for so many."""
+    kit = wrong_bodies.kit()
+    if kit.free() >= CHECK * kit.processors():
+        os.environ.setdefault("RT_JOBS", str(kit.processors()))
 
 
 def counts_of(text):

@@ -1,15 +1,12 @@
 //! A batch is handed in by several workers, with a keeper beside; or items are handed in one by one by the one seat of a node, and rows
-//! are read between them; or a replica alone is read and written by sessions. Below these, a file for the ordered lock, and one for a
-//! publisher of snapshots.
+//! are read between them; or a replica alone is read and written by sessions.
 
 mod batches;
 mod devices;
 mod limits;
-mod lock;
 mod paces;
 mod reads;
 mod replicas;
 mod running;
 mod sessions;
-mod snapshots;
 mod steps;

@@ -2,8 +2,6 @@
 
 ghost use Rattle.std.specs.Prelude.{◌≡◌};
 
-use super::replicas::{Found, ROW};
-use super::running::found_by_peek;
 use rep_snap::{Pair, Peek, Publisher, Reader, start};
 use rep_snap_uses::{Free, Plan, Steady, planned_row_at, watched_beside};
 use rep_types::{Key, Refusal, Value};
@@ -101,17 +99,17 @@ fn started<R: Wait>(rt: &R, alloc: Global) -> Result<(usize, Option<u64>), Refus
 }
 
 /// What a reader of a plan without pairs, which starts at 5, finds there.
-fn planned<R: Wait + Abort>(rt: &R, alloc: Global) -> Result<Found, Refusal> {
+fn planned<R: Wait + Abort>(rt: &R, alloc: Global) -> Result<Peek, Refusal> {
     let pairs: Vec<Pair> = Vec::new(alloc);
     let mut publisher = Publisher::start(alloc, rt, Plan::of(&pairs), 5, 1)?;
     let reader = publisher.reader().expect(rt, "a reader");
-    let (_reader, peek) = planned_row_at(reader, &publisher.tell(), ROW, 5);
+    let (_reader, peek) = planned_row_at(reader, &publisher.tell(), Key { table: 0, row: 1 }, 5);
     publisher.close(rt);
-    Ok(found_by_peek(peek))
+    peek
 }
 
 #[test]
 fn publishers_start_with_their_readers(rt: HostRuntime) {
     assert!(rt; started(&rt, rt.alloc()) == Ok((3, Some(5))));
-    assert!(rt; planned(&rt, rt.alloc()) == Ok(Found::Cold));
+    assert!(rt; planned(&rt, rt.alloc()) == Ok(Peek::Cold));
 }

@@ -5,7 +5,7 @@ use std::marker::Model;
 
 /// How many workers hand items in: 1 to 64.
 #[derive(Drop)]
-pub(crate) struct Workers {
+pub struct Workers {
     count: usize,
 }
 
@@ -45,7 +45,7 @@ impl Workers {
     }
 
     /// How many they are.
-    pub(crate) fn count(&self) -> usize
+    pub fn count(&self) -> usize
         ensures few { (0 < result) × (result ≤ 64) }
     {
         self.count

@@ -9,7 +9,7 @@ use std::alloc::{AllocError, Global};
 use uuid::Uuid;
 
 /// The status of a usage fault.
-pub(crate) const USAGE: u8 = 2;
+pub const USAGE: u8 = 2;
 
 /// An argument of a subcommand, which takes one value.
 #[derive(Clone, Copy)]
@@ -161,7 +161,7 @@ fn command<'a>(alloc: Global) -> Result<Command<'a>, AllocError> {
 
 /// What the words of a command line ask for.
 #[derive(Drop)]
-pub(crate) enum Task<'a> {
+pub enum Task<'a> {
     /// Judge an order text.
     Judge,
     /// Run a script on a new disk in memory.
@@ -174,7 +174,7 @@ pub(crate) enum Task<'a> {
 
 impl Task<'_> {
     /// The status to end with once it is done.
-    pub(crate) fn status(&self) -> u8 {
+    pub fn status(&self) -> u8 {
         match self {
             Task::Printed(status) => *status,
             _ => 0,
@@ -184,7 +184,7 @@ impl Task<'_> {
 
 /// What the words of a command line ask for that names files.
 #[derive(Drop)]
-pub(crate) enum FileTask<'a> {
+pub enum FileTask<'a> {
     /// Make the file at this path a disk with these parameters and this state UUID.
     Format(&'a str, Params, Option<Uuid>),
     /// Run a script on the disk at this path.
@@ -325,7 +325,7 @@ fn named_task<'a, R: Print + Eprint>(
 /// Reads the words of the command line. Help, the version and usage faults are printed here.
 ///
 /// Refuses with `BadParams` parameters of `format` outside the limits.
-pub(crate) fn task_of<'a, R: Print + Eprint>(
+pub fn task_of<'a, R: Print + Eprint>(
     rt: &R,
     alloc: Global,
     words: &'a [String],
