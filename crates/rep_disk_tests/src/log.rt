@@ -2,8 +2,8 @@
 //! block than the next. What it says of itself behind each call, of four cells and of one, and behind a call that fails; and what a
 //! scan refuses of numbers and of cells that no superblock has.
 
-use rep_cells::Cells;
-use rep_disk::{DiskFault, FaultOnce, MemDisk, Once};
+use rep_cells::{Cells, refusal_of};
+use rep_disk::{FaultOnce, MemDisk, Once};
 use rep_layout::Layout;
 use rep_log::{Log, Phase, Step};
 use rep_record::BlockBuilder;
@@ -291,14 +291,6 @@ fn block_of((position, count): Block) -> Result<BlockBuilder, Refusal> {
     Ok(block)
 }
 
-/// Syncs the device.
-fn synced(device: &mut Device) -> Result<(), Refusal> {
-    match device.sync() {
-        Ok(()) => Ok(()),
-        Err(DiskFault) => Err(Refusal::DiskFault),
-    }
-}
-
 /// A new device of so many cells that fails the call of this number, behind a first sync.
 fn device_of(alloc: Global, cells: u32, fault: u64) -> Result<Device, Refusal> {
     let layout = Layout { cells, pages: 0 };
@@ -306,7 +298,7 @@ fn device_of(alloc: Global, cells: u32, fault: u64) -> Result<Device, Refusal> {
     let Ok(mut device) = Cells::new(FaultOnce::new(disk, Once::after(fault)), layout) else {
         return Err(Refusal::NotFormatted);
     };
-    synced(&mut device)?;
+    refusal_of(device.sync())?;
     Ok(device)
 }
 
@@ -356,7 +348,7 @@ fn made(
 ) -> Result<u64, Refusal> {
     match call {
         Call::Sync => {
-            synced(device)?;
+            refusal_of(device.sync())?;
             Ok(u64::from(log.synced()))
         }
         Call::StartAt(start) => {

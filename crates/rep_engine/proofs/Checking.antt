@@ -532,7 +532,7 @@ pub record IsChecked {D : Type 0} (honest : D → Type 0) (history : D → Histo
   pub unchanged : IfErr result (λ e. (e ≡ DiskFault) ⊎ (new ≡ old))
   pub fault : IfErr result (λ e. e ≡ DiskFault → new ≡ record old { disk = new.disk; halted = Some old.log.phase })
   pub moves : Moves (facts_of failures old) Check (checked result) (facts_of failures new)
-  pub steps : (n : Node) → Holds honest history failures n old → window_of h (durable_of old.log) ≡ window_at n n.facts.durable → (m : Node) × Steps n Check (checked result) m × Holds honest history failures m new
+  pub steps : (n : Node) → Holds honest history failures n old → (old.checkpoint.stage ≡ Off → window_of h (durable_of old.log) ≡ window_at n n.facts.durable) → (m : Node) × Steps n Check (checked result) m × Holds honest history failures m new
   pub leaves : (n : Node) → Holds honest history failures n old → LeavesOnly (history old.disk) (history new.disk) (IsFrontAt Means n)
 
 module _ {D : Type 0} (honest : D → Type 0) (history : D → History) (size failures : D → ℕ) (h : Holding) where
@@ -577,7 +577,7 @@ module _ {D : Type 0} (honest : D → Type 0) (history : D → History) (size fa
     unchanged = tt;
     fault = tt;
     moves = began_moves failures old new h answer runs off rest b.begun;
-    steps = λ n holds there. began_holds failures old new h answer runs off rest b.begun honest history nodes lead goes n holds window.window.is_fixed there;
+    steps = λ n holds there. began_holds failures old new h answer runs off rest b.begun honest history nodes lead goes n holds window.window.is_fixed (there off);
     leaves = λ n holds. leaves_none _ _ (ap (λ (e : Engine D). history e.disk) rest);
   }
   begins_checked nodes lead goes old new runs off window rest (Err e) b =

@@ -125,7 +125,7 @@ impl<D: Disk> Engine<D> {
         ensures unchanged { IfErr result (λ e. (e ≡ DiskFault) ⊎ (self.new ≡ self.old)) }
         ensures fault { IfErr result (λ e. e ≡ DiskFault → self.new ≡ record (self.old) { disk = self.new.disk; halted = Some self.old.log.phase }) }
         ensures moves { Moves (facts_of D.failures self.old) to_check (checked result) (facts_of D.failures self.new) }
-        ensures steps { (n : Node) → Holds D.honest D.history D.failures n self.old → window_of certifier.now.current (durable_of self.old.log) ≡ window_at n n.facts.durable → (m : Node) × Steps n to_check (checked result) m × Holds D.honest D.history D.failures m self.new }
+        ensures steps { (n : Node) → Holds D.honest D.history D.failures n self.old → (self.old.checkpoint.stage ≡ Off → window_of certifier.now.current (durable_of self.old.log) ≡ window_at n n.facts.durable) → (m : Node) × Steps n to_check (checked result) m × Holds D.honest D.history D.failures m self.new }
         ensures leaves { (n : Node) → Holds D.honest D.history D.failures n self.old → LeavesOnly (D.history self.old.disk) (D.history self.new.disk) (IsFrontAt Means n) }
     {
         self.running()?;

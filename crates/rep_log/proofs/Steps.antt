@@ -18,9 +18,9 @@ use Rattle.rep_cells.specs.States.{State, States, filling, opening, closing}
 use Rattle.rep_cells.specs.Calls.{WritesOnly, WritesIn, Stepped, StepsAt}
 use Rattle.rep_log.specs.declared.phase.Phase.{Phase}
 use Rattle.rep_log.specs.declared.phase.Phase.TheVariants.{Resting, Closing as is_closing, Filling as is_filling, Filled as is_filled, Opening as is_opening}
-use Rattle.rep_log.specs.declared.phase.Step.TheVariants.{Recycle, Seal, Full}
+use Rattle.rep_log.specs.declared.phase.Step.TheVariants.{Recycle, Seal, Gate, Full}
 use Rattle.rep_log.specs.Standing.{Standing, stands_at, index_of, due_at_rest, due_in, due_of, busy, AtRest, IsDue, StandsOpen, LogIs}
-use Rattle.rep_log.specs.Moves.{unless_recycle, unless_seal, unless_gate, recycle_refusal, seal_refusal, gate_refusal, fault_of, IsStep}
+use Rattle.rep_log.specs.Moves.{unless_due, step_refusal, seal_refusal, fault_of, IsStep}
 use Rattle.rep_log.proofs.Blocks.{last_small, stand_moved}
 use Rattle.rep_log.proofs.Cells.{log_is, index_small, other_cell}
 
@@ -99,49 +99,49 @@ pub record IsFree (log : Standing) (stands : Bool) : Type 0 where
   pub stands_so : stands_at log (index_of log) ≡ stands
 
 -- whether the cell is live and whether it stands open, where a step is due at rest
-recycle_tests : (full stands : Bool) → unless_recycle (cond full Full (cond stands Recycle Seal)) ≡ None → (full ≡ false) × (stands ≡ true)
+recycle_tests : (full stands : Bool) → unless_due Recycle (cond full Full (cond stands Recycle Seal)) ≡ None → (full ≡ false) × (stands ≡ true)
 recycle_tests true stands e = absurd cc
 recycle_tests false true e = (refl, refl)
 recycle_tests false false e = absurd cc
 
-seal_tests : (full stands : Bool) → unless_seal (cond full Full (cond stands Recycle Seal)) ≡ None → (full ≡ false) × (stands ≡ false)
+seal_tests : (full stands : Bool) → unless_due Seal (cond full Full (cond stands Recycle Seal)) ≡ None → (full ≡ false) × (stands ≡ false)
 seal_tests true stands e = absurd cc
 seal_tests false true e = absurd cc
 seal_tests false false e = (refl, refl)
 
-recycle_at : (log : Standing) (phase : Phase) → unless_recycle (due_in log phase) ≡ None → (phase ≡ Resting) × (unless_recycle (due_at_rest log) ≡ None)
+recycle_at : (log : Standing) (phase : Phase) → unless_due Recycle (due_in log phase) ≡ None → (phase ≡ Resting) × (unless_due Recycle (due_at_rest log) ≡ None)
 recycle_at log Resting e = (refl, e)
 recycle_at log _ e = absurd cc
 
-seal_at : (log : Standing) (phase : Phase) → unless_seal (due_in log phase) ≡ None → (phase ≡ Resting) × (unless_seal (due_at_rest log) ≡ None)
+seal_at : (log : Standing) (phase : Phase) → unless_due Seal (due_in log phase) ≡ None → (phase ≡ Resting) × (unless_due Seal (due_at_rest log) ≡ None)
 seal_at log Resting e = (refl, e)
 seal_at log _ e = absurd cc
 
-gate_at : (log : Standing) (phase : Phase) → unless_gate (due_in log phase) ≡ None → (n : ℕ) × (phase ≡ is_filled n)
+gate_at : (log : Standing) (phase : Phase) → unless_due Gate (due_in log phase) ≡ None → (n : ℕ) × (phase ≡ is_filled n)
 gate_at log Resting e = absurd (not_at_rest _ _ e)
   where
-    not_at_rest : (full stands : Bool) → unless_gate (cond full Full (cond stands Recycle Seal)) ≡ None → ⊥
+    not_at_rest : (full stands : Bool) → unless_due Gate (cond full Full (cond stands Recycle Seal)) ≡ None → ⊥
     not_at_rest true stands f = absurd cc
     not_at_rest false true f = absurd cc
     not_at_rest false false f = absurd cc
 gate_at log (is_filled n) e = (n, refl)
 gate_at log _ e = absurd cc
 
-pub recycle_free : (l : Layout) (log : Standing) → recycle_refusal l log ≡ None → IsFree log true
+pub recycle_free : (l : Layout) (log : Standing) → step_refusal Recycle l log ≡ None → IsFree log true
 recycle_free l log e =
-    let a = recycle_at log log.phase (same_cells (eqb l.cells log.cells) (unless_recycle (due_of log)) e).1 in
+    let a = recycle_at log log.phase (same_cells (eqb l.cells log.cells) (unless_due Recycle (due_of log)) e).1 in
     let b = recycle_tests (leb (log.start + log.cells) log.next) (stands_at log (index_of log)) a.1 in
     record { rests = a.0; room = leb-false (log.start + log.cells) log.next b.0; stands_so = b.1 }
 
 pub seal_free : (l : Layout) (log : Standing) (records : List Judged) → seal_refusal l log records ≡ None → IsFree log false × (first_seqno records ≡ log.seqno)
 seal_free l log records e =
-    let t = same_cells (eqb l.cells log.cells && eqb (first_seqno records) log.seqno) (unless_seal (due_of log)) e in
+    let t = same_cells (eqb l.cells log.cells && eqb (first_seqno records) log.seqno) (unless_due Seal (due_of log)) e in
     let a = seal_at log log.phase t.1 in
     let b = seal_tests (leb (log.start + log.cells) log.next) (stands_at log (index_of log)) a.1 in
     (record { rests = a.0; room = leb-false (log.start + log.cells) log.next b.0; stands_so = b.1 }, eqb-true (first_seqno records) log.seqno (conjuncts (eqb l.cells log.cells) (eqb (first_seqno records) log.seqno) t.0).1)
 
-pub gate_filled : (l : Layout) (log : Standing) → gate_refusal l log ≡ None → (n : ℕ) × (log.phase ≡ is_filled n)
-gate_filled l log e = gate_at log log.phase (same_cells (eqb l.cells log.cells) (unless_gate (due_of log)) e).1
+pub gate_filled : (l : Layout) (log : Standing) → step_refusal Gate l log ≡ None → (n : ℕ) × (log.phase ≡ is_filled n)
+gate_filled l log e = gate_at log log.phase (same_cells (eqb l.cells log.cells) (unless_due Gate (due_of log)) e).1
 
 -- ---- what is due
 
@@ -155,7 +155,7 @@ free_cell l log stands s first blocks sealed free is =
     let rest : AtRest (stands_at log at) l at log.next (s (Log at)) = is.rest at (index_small l log.next is.some) (λ b. absurd (omega (arith, idle, b))) in
     (omega (arith, free.room, is.cells), subst (λ p. AtRest stands l at log.next (s p)) (sym (log_is l log.next is.some)) (subst (λ b. AtRest b l at log.next (s (Log at))) (ap (stands_at log) same ∙ free.stands_so) rest))
 
-pub recycle_is_due : (l : Layout) (log : Standing) → recycle_refusal l log ≡ None → IsDueFor l log is_closing (λ sealed. sealed) closing
+pub recycle_is_due : (l : Layout) (log : Standing) → step_refusal Recycle l log ≡ None → IsDueFor l log is_closing (λ sealed. sealed) closing
 recycle_is_due l log e s first blocks sealed is =
     let cell = free_cell l log true s first blocks sealed (recycle_free l log e) is in
     (cell.0, (cell.1.0, ap closing cell.1.1, cell.1.2))

@@ -16,44 +16,27 @@ use Rattle.rep_cells.specs.Calls.{Reaches, WritesOnly, WritesIn}
 use Rattle.rep_log.specs.declared.phase.Phase.{Phase}
 use Rattle.rep_log.specs.declared.phase.Phase.TheVariants.{Resting, Closing, Filling, Filled, Opening}
 use Rattle.rep_log.specs.declared.phase.Step.{Step}
-use Rattle.rep_log.specs.declared.phase.Step.TheVariants.{Recycle, Seal, Gate, Sync, Full}
+use Rattle.rep_log.specs.declared.phase.Step.TheVariants.{Recycle, Seal, Gate, Full}
 use Rattle.rep_log.specs.Tail.{seqno_after}
 use Rattle.rep_log.specs.Standing.{Standing, index_of, due_of, LogIs}
 
 -- ---- what is refused
 
--- where this isn't due
-abbrev pub unless_recycle : Step → Option Refusal
-unless_recycle Recycle = None
-unless_recycle Seal = Some NotDue
-unless_recycle Gate = Some NotDue
-unless_recycle Sync = Some NotDue
-unless_recycle Full = Some NotDue
-
-abbrev pub unless_seal : Step → Option Refusal
-unless_seal Recycle = Some NotDue
-unless_seal Seal = None
-unless_seal Gate = Some NotDue
-unless_seal Sync = Some NotDue
-unless_seal Full = Some LogFull
-
-abbrev pub unless_gate : Step → Option Refusal
-unless_gate Recycle = Some NotDue
-unless_gate Seal = Some NotDue
-unless_gate Gate = None
-unless_gate Sync = Some NotDue
-unless_gate Full = Some NotDue
+-- what a call is answered whose step this is, where that is due
+abbrev pub unless_due : Step → Step → Option Refusal
+unless_due Recycle Recycle = None
+unless_due Seal Seal = None
+unless_due Seal Full = Some LogFull
+unless_due Gate Gate = None
+unless_due step due = Some NotDue
 
 -- What a call refuses before it touches the device: nothing is due on cells that aren't the log's, and no block but that of the
 -- next seqno.
-abbrev pub recycle_refusal : Layout → Standing → Option Refusal
-recycle_refusal l log = if l.cells == log.cells then unless_recycle (due_of log) else Some NotDue
+abbrev pub step_refusal : Step → Layout → Standing → Option Refusal
+step_refusal step l log = if l.cells == log.cells then unless_due step (due_of log) else Some NotDue
 
 abbrev pub seal_refusal : Layout → Standing → List Judged → Option Refusal
-seal_refusal l log records = if (l.cells == log.cells) && (first_seqno records == log.seqno) then unless_seal (due_of log) else Some NotDue
-
-abbrev pub gate_refusal : Layout → Standing → Option Refusal
-gate_refusal l log = if l.cells == log.cells then unless_gate (due_of log) else Some NotDue
+seal_refusal l log records = if (l.cells == log.cells) && (first_seqno records == log.seqno) then unless_due Seal (due_of log) else Some NotDue
 
 -- A call that was refused: log and device are as before.
 pub record IsRefused {D T : Type 0} (e : Refusal) (before after : Standing) (old new : D) (result : Result T Refusal) : Type 0 where

@@ -11,7 +11,7 @@ ghost use Rattle.rep_cells.specs.Readings.{IsCell, reading_of};
 ghost use Rattle.rep_cells.specs.Calls.{gate, WritesOnly};
 ghost use Rattle.rep_log.specs.Tail.{IsBlockFrom, IsOfForm};
 ghost use Rattle.rep_log.specs.Standing.{index_of, due_of};
-ghost use Rattle.rep_log.specs.Moves.{unless_recycle, unless_seal, unless_gate, recycle_refusal, seal_refusal, gate_refusal, fault_of, recycled, sealed_as, gated, after_sync, durable_by, started, restarted, IsRefused, IsStep, SyncsLog, StartsLater, Restarts};
+ghost use Rattle.rep_log.specs.Moves.{unless_due, step_refusal, seal_refusal, fault_of, recycled, sealed_as, gated, after_sync, durable_by, started, restarted, IsRefused, IsStep, SyncsLog, StartsLater, Restarts};
 ghost use Rattle.rep_log.specs.Scanning.{HasCells, Finds, IsScanned, RefusesLog, rests_as};
 
 use crate::phase::{Phase, Step};
@@ -183,12 +183,15 @@ impl Log {
         }
     }
 
-    /// What `recycle` refuses on a device with these places.
-    fn recycle_refusal(&self, layout: Layout) -> Option<Refusal>
-        ensures { result ≡ recycle_refusal layout self.now }
+    /// What a call whose step this is refuses on a device with these places.
+    fn step_refusal(&self, step: Step, layout: Layout) -> Option<Refusal>
+        ensures { result ≡ step_refusal step layout self.now }
     {
-        match self.step_on(layout) {
-            Some(Step::Recycle) => None,
+        match (step, self.step_on(layout)) {
+            (Step::Recycle, Some(Step::Recycle))
+            | (Step::Seal, Some(Step::Seal))
+            | (Step::Gate, Some(Step::Gate)) => None,
+            (Step::Seal, Some(Step::Full)) => Some(Refusal::LogFull),
             _ => Some(Refusal::NotDue),
         }
     }
@@ -197,20 +200,10 @@ impl Log {
     fn seal_refusal(&self, layout: Layout, block: &BlockBuilder) -> Option<Refusal>
         ensures { result ≡ seal_refusal layout self.now block.now }
     {
-        match self.step_on(layout) {
-            Some(Step::Seal) if block.first() == self.seqno => None,
-            Some(Step::Full) if block.first() == self.seqno => Some(Refusal::LogFull),
-            _ => Some(Refusal::NotDue),
-        }
-    }
-
-    /// What `gate` refuses on a device with these places.
-    fn gate_refusal(&self, layout: Layout) -> Option<Refusal>
-        ensures { result ≡ gate_refusal layout self.now }
-    {
-        match self.step_on(layout) {
-            Some(Step::Gate) => None,
-            _ => Some(Refusal::NotDue),
+        if block.first() == self.seqno {
+            self.step_refusal(Step::Seal, layout)
+        } else {
+            Some(Refusal::NotDue)
         }
     }
 
@@ -221,12 +214,12 @@ impl Log {
     pub fn recycle<D: Disk>(&mut self, cells: &mut Cells<D>) -> Result<(), Refusal>
         ensures call { IsCall D.size D.failures D.honest (disk_of cells.old) (disk_of cells.new) (fault_of result) }
         ensures layout { layout_of cells.new ≡ layout_of cells.old }
-        ensures refused { IfSome (recycle_refusal (layout_of cells.old) self.old) (λ e. IsRefused e self.old self.new (disk_of cells.old) (disk_of cells.new) result) }
-        ensures step { recycle_refusal (layout_of cells.old) self.old ≡ None → IsStep D.honest D.history (layout_of cells.old) self.old self.new (recycled self.old) (λ sealed. sealed) (gate_of (layout_of cells.old) (log_of (layout_of cells.old) self.old.next)) (gate 0) (disk_of cells.old) (disk_of cells.new) result }
+        ensures refused { IfSome (step_refusal Step.Recycle (layout_of cells.old) self.old) (λ e. IsRefused e self.old self.new (disk_of cells.old) (disk_of cells.new) result) }
+        ensures step { step_refusal Step.Recycle (layout_of cells.old) self.old ≡ None → IsStep D.honest D.history (layout_of cells.old) self.old self.new (recycled self.old) (λ sealed. sealed) (gate_of (layout_of cells.old) (log_of (layout_of cells.old) self.old.next)) (gate 0) (disk_of cells.old) (disk_of cells.new) result }
     {
         turns_are_taken();
         let layout = cells.layout();
-        if let Some(refusal) = self.recycle_refusal(layout) {
+        if let Some(refusal) = self.step_refusal(Step::Recycle, layout) {
             return Err(refusal);
         }
         self.phase = Phase::Closing;
@@ -268,12 +261,12 @@ impl Log {
     pub fn gate<D: Disk>(&mut self, cells: &mut Cells<D>) -> Result<(), Refusal>
         ensures call { IsCall D.size D.failures D.honest (disk_of cells.old) (disk_of cells.new) (fault_of result) }
         ensures layout { layout_of cells.new ≡ layout_of cells.old }
-        ensures refused { IfSome (gate_refusal (layout_of cells.old) self.old) (λ e. IsRefused e self.old self.new (disk_of cells.old) (disk_of cells.new) result) }
-        ensures step { gate_refusal (layout_of cells.old) self.old ≡ None → IsStep D.honest D.history (layout_of cells.old) self.old self.new (gated self.old) (λ sealed. sealed) (gate_of (layout_of cells.old) (log_of (layout_of cells.old) self.old.next)) (gate 0xA5) (disk_of cells.old) (disk_of cells.new) result }
+        ensures refused { IfSome (step_refusal Step.Gate (layout_of cells.old) self.old) (λ e. IsRefused e self.old self.new (disk_of cells.old) (disk_of cells.new) result) }
+        ensures step { step_refusal Step.Gate (layout_of cells.old) self.old ≡ None → IsStep D.honest D.history (layout_of cells.old) self.old self.new (gated self.old) (λ sealed. sealed) (gate_of (layout_of cells.old) (log_of (layout_of cells.old) self.old.next)) (gate 0xA5) (disk_of cells.old) (disk_of cells.new) result }
     {
         turns_are_taken();
         let layout = cells.layout();
-        if let Some(refusal) = self.gate_refusal(layout) {
+        if let Some(refusal) = self.step_refusal(Step::Gate, layout) {
             return Err(refusal);
         }
         let Phase::Filled(count) = self.phase else {
@@ -283,11 +276,13 @@ impl Log {
         refusal_of(cells.open_gate(layout.log_of(self.next)))
     }
 
-    /// Moves on by a sync that succeeded. It stands apart from `synced`, whose law is of all that this
-    /// does together.
-    fn settle(&mut self) -> u16
+    /// Takes note of a sync that succeeded, and says how many records it made durable: those of the
+    /// next block where its gate was opened, and none else. Called where no sync succeeded, it says so
+    /// all the same: nothing is then durable.
+    pub fn synced(&mut self) -> u16
         ensures durable { result ≡ durable_by self.old.phase }
         ensures after { self.new ≡ after_sync self.old }
+        ensures log { SyncsLog self.old self.new }
     {
         let index = self.index();
         match self.phase {
@@ -311,39 +306,24 @@ impl Log {
         }
     }
 
-    /// Takes note of a sync that succeeded, and says how many records it made durable: those of the
-    /// next block where its gate was opened, and none else. Called where no sync succeeded, it says so
-    /// all the same: nothing is then durable.
-    pub fn synced(&mut self) -> u16
-        ensures durable { result ≡ durable_by self.old.phase }
-        ensures after { self.new ≡ after_sync self.old }
-        ensures log { SyncsLog self.old self.new }
-    {
-        self.settle()
-    }
-
-    /// Moves the start within the blocks that stand.
-    fn raise(&mut self, start: u64)
-        ensures after { self.new ≡ started start self.old }
-    {
-        self.start = self.start.max(start.min(self.next));
-    }
-
     /// Lets the blocks before this number go: their cells may be used again. A number behind the next
     /// block's lets all go, and one before the start none.
     pub fn start_at(&mut self, start: u64)
         ensures after { self.new ≡ started start self.old }
         ensures log { StartsLater self.old self.new }
     {
-        self.raise(start)
+        self.start = self.start.max(start.min(self.next));
     }
 
-    /// Moves the start to the next block, whose first record is to have this seqno.
-    fn leave(&mut self, seqno: u64)
+    /// Lets all blocks go and goes on behind a state that came from elsewhere: the next block keeps its number and
+    /// its cell, and its first record is to have this seqno.
+    #[tactic(auto, using(crate::proofs::Synced::log_restarted))]
+    pub fn restart(&mut self, seqno: u64)
         requires resting { self.old.phase ≡ Phase.Resting }
         requires later { self.old.next < seqno }
         requires limit { seqno ≤ MAX_SEQNO + 1 }
         ensures after { self.new ≡ restarted seqno self.old }
+        ensures log { Restarts seqno self.old self.new }
     {
         let Log {
             start,
@@ -353,17 +333,5 @@ impl Log {
         } = self;
         *start = *next;
         *following = seqno;
-    }
-
-    /// Lets all blocks go and goes on behind a state that came from elsewhere: the next block keeps its number and
-    /// its cell, and its first record is to have this seqno.
-    pub fn restart(&mut self, seqno: u64)
-        requires resting { self.old.phase ≡ Phase.Resting }
-        requires later { self.old.next < seqno }
-        requires limit { seqno ≤ MAX_SEQNO + 1 }
-        ensures after { self.new ≡ restarted seqno self.old }
-        ensures log { Restarts seqno self.old self.new }
-    {
-        self.leave(seqno)
     }
 }

@@ -14,9 +14,10 @@ use Rattle.rep_cells.specs.States.{States, Allowed}
 use Rattle.rep_cells.specs.Known.{Assigns}
 use Rattle.rep_log.specs.declared.phase.Phase.{Phase}
 use Rattle.rep_log.specs.declared.phase.Phase.TheVariants.{Filled, Opening}
+use Rattle.rep_log.specs.declared.phase.Step.TheVariants.{Gate}
 use Rattle.rep_log.specs.Tail.{IsLog, seqno_after, records_of}
 use Rattle.rep_log.specs.Standing.{Standing, LogIs}
-use Rattle.rep_log.specs.Moves.{sealed_as, gated, after_sync, blocks_synced, gate_refusal, Steps}
+use Rattle.rep_log.specs.Moves.{sealed_as, gated, after_sync, blocks_synced, step_refusal, Steps}
 use Rattle.rep_log.specs.Laws.{MayHold, TheLogInEveryImage, TheLogIsTold}
 use Rattle.rep_log_uses.specs.Appending.{Settles, HoldsOneOf, Appends, WhatAStopLeavesIsFound}
 
@@ -143,8 +144,8 @@ block_appended law l old h new start n before after first blocks records result 
     }
 
 -- the gate is due once the block is filled
-pub gate_is_due : (l m : Layout) (n : ℕ) (log filled : Standing) → m ≡ l → l.cells ≡ log.cells → filled ≡ record log { phase = Filled n } → gate_refusal m filled ≡ None
-gate_is_due l m n log filled same cells is = ap (λ (k : Layout). gate_refusal k filled) same ∙ ap (gate_refusal l) is ∙ rw (eq-eqb l.cells log.cells cells) refl
+pub gate_is_due : (l m : Layout) (n : ℕ) (log filled : Standing) → m ≡ l → l.cells ≡ log.cells → filled ≡ record log { phase = Filled n } → step_refusal Gate m filled ≡ None
+gate_is_due l m n log filled same cells is = ap (λ (k : Layout). step_refusal Gate k filled) same ∙ ap (step_refusal Gate l) is ∙ rw (eq-eqb l.cells log.cells cells) refl
 
 -- an end before the last call
 pub stops :

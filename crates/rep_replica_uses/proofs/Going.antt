@@ -10,7 +10,7 @@ use Rattle.rep_replica.specs.Opening.{Opens}
 use Rattle.rep_replica.specs.Running.{Ran, RunsAreJoined}
 use Rattle.rep_replica.specs.Stopping.{StoppedReplicasHold}
 use Rattle.rep_replica.specs.Lives.{Life, IsLife, Lives, LivesFollowTheOrder}
-use Rattle.rep_replica_uses.specs.Living.{Did, DidEach, LivesOnce, LivesOn}
+use Rattle.rep_replica_uses.specs.Living.{Did, DidEach, left_by, LivesOnce, LivesOn}
 
 -- ---- one life
 
@@ -30,11 +30,6 @@ lived_once honest history failures joined stopped images moments old new start l
     }
 
 -- ---- one life more
-
--- what the last of them left, or what they began on
-abbrev pub left_by : {D : Type 0} → List ℕ → List (Life D) → List ℕ
-left_by image [] = image
-left_by image (life ∷ lives) = left_by life.left lives
 
 lives_more : {D : Type 0} (honest : D → Type 0) (history : D → History) (failures : D → ℕ) (image : List ℕ) (lives : List (Life D)) (life : Life D) → Lives honest history failures image lives → IsLife honest history failures (left_by image lives) life
     → Lives honest history failures image (lives ++ life ∷ [])
@@ -76,5 +71,5 @@ module _ {D Z : Type 0} (honest : D → Type 0) (history : D → History) (failu
     is_honest = once.is_honest;
   }
 
-  pub gone : LivesFollowTheOrder honest history failures → (events : List (Vec Event Z)) (told : List (Vec Answer Z)) (now : D) → Going honest history failures old events told now → LivesOn honest history failures old events told
-  gone law events told now g = record { lives = g.lives; did = g.did; follow = λ uuid p O d h front fed. law uuid p O d h (seen (history old)) g.lives front g.are fed }
+  pub gone : LivesFollowTheOrder honest history failures → (events : List (Vec Event Z)) (told : List (Vec Answer Z)) (now : D) → Going honest history failures old events told now → LivesOn honest history failures old events told now
+  gone law events told now g = record { lives = g.lives; did = g.did; are_lives = g.are; left = g.left; is_honest = g.is_honest; follow = λ uuid p O d h front fed. law uuid p O d h (seen (history old)) g.lives front g.are fed }

@@ -8,7 +8,7 @@ use Rattle.rep_steps.specs.declared.event.Event.{Event}
 use Rattle.rep_steps.specs.declared.answer.Answer.{Answer}
 use Rattle.rep_steps.specs.Images.{IsFrontOf}
 use Rattle.rep_image.specs.Meanings.{Means}
-use Rattle.rep_replica.specs.Lives.{Life, IsLife, AreFed, LivesFollow}
+use Rattle.rep_replica.specs.Lives.{Life, IsLife, Lives, AreFed, LivesFollow}
 
 -- The life did these events and answered them so; nothing had begun when it ended.
 pub record Did {D : Type 0} (events : List Event) (answers : List Answer) (life : Life D) : Type 0 where
@@ -25,6 +25,11 @@ DidEach (events ∷ rest) [] lives = ⊥
 DidEach (events ∷ rest) (answers ∷ told) [] = ⊥
 DidEach (events ∷ rest) (answers ∷ told) (life ∷ lives) = Did events.items answers.items life × DidEach rest told lives
 
+-- what the last of them left, or what they began on
+abbrev pub left_by : {D : Type 0} → List ℕ → List (Life D) → List ℕ
+left_by image [] = image
+left_by image (life ∷ lives) = left_by life.left lives
+
 -- A life on the disk, which is taken out at its end as it then reads.
 pub record LivesOnce {D : Type 0} (honest : D → Type 0) (history : D → History) (failures : D → ℕ) (old : D) (events : List Event) (answers : List Answer) (new : D) : Type 0 where
   pub life : Life D
@@ -33,9 +38,12 @@ pub record LivesOnce {D : Type 0} (honest : D → Type 0) (history : D → Histo
   pub left : life.left ≡ seen (history new)
   pub is_honest : honest new
 
--- Lives on the disk that did these events and answered them so. Where the disk stood for a front of an order, and they were fed that
--- order, they follow it.
-pub record LivesOn {D Z : Type 0} (honest : D → Type 0) (history : D → History) (failures : D → ℕ) (disk : D) (events : List (Vec Event Z)) (answers : List (Vec Answer Z)) : Type 0 where
+-- Lives on the disk that did these events and answered them so, and the disk is handed back as the last of them left it, so that further
+-- lives go on from there. Where it stood for a front of an order, and they were fed that order, they follow it.
+pub record LivesOn {D Z : Type 0} (honest : D → Type 0) (history : D → History) (failures : D → ℕ) (old : D) (events : List (Vec Event Z)) (answers : List (Vec Answer Z)) (new : D) : Type 0 where
   pub lives : List (Life D)
   pub did : DidEach events answers lives
-  pub follow : (uuid : List ℕ) (p : Setting) (O : Order) (d h : ℕ) → IsFrontOf Means uuid p (take h O) d (seen (history disk)) → AreFed failures O lives → LivesFollow honest history failures uuid p O d h [] lives
+  pub are_lives : Lives honest history failures (seen (history old)) lives
+  pub left : left_by (seen (history old)) lives ≡ seen (history new)
+  pub is_honest : honest new
+  pub follow : (uuid : List ℕ) (p : Setting) (O : Order) (d h : ℕ) → IsFrontOf Means uuid p (take h O) d (seen (history old)) → AreFed failures O lives → LivesFollow honest history failures uuid p O d h [] lives

@@ -33,7 +33,7 @@ pub fn live_once<D: Disk>(
     }
 }
 
-/// Does so with each of these lists of events, and gives all answers.
+/// Does so with each of these lists of events, and gives all answers, and the disk as the last of these lives left it.
 ///
 /// On an honest disk that stands for a front of an order, as one does that was just formatted, and with the
 /// rest of the order delivered from where each opening stands: each opening gives the rows, the GTID and the window
@@ -44,7 +44,7 @@ pub fn live<D: Disk>(
     disk: D,
     lives: &[Vec<Event>],
 ) -> Result<(D, Vec<Vec<Answer>>), (D, Refusal)>
-    ensures { D.honest disk → IfOk result (λ r. LivesOn D.honest D.history D.failures disk lives.now r.1.items) }
+    ensures { D.honest disk → IfOk result (λ r. LivesOn D.honest D.history D.failures disk lives.now r.1.items r.0) }
 {
     lives_follow_the_order::<D>();
     let mut disk = disk;

@@ -30,5 +30,5 @@ pub returns : goal.returns
 returns g c = λ is_honest.
     let lives : List (Vec Event Global) = c.args.lives.now in
     let all : take c.loop-events.events-index lives ≡ lives = take_all c.loop-events.events-index lives (omega (arith, c.loop-events-test.false)) in
-    subst (λ (es : List (Vec Event Global)). LivesOn g.D.Disk.honest g.D.Disk.history g.D.Disk.failures c.args.disk es c.loop-events.told.items) all
+    subst (λ (es : List (Vec Event Global)). LivesOn g.D.Disk.honest g.D.Disk.history g.D.Disk.failures c.args.disk es c.loop-events.told.items c.loop-events.disk) all
     (gone g.D.Disk.honest g.D.Disk.history g.D.Disk.failures c.args.disk c.lives_follow_the_order.ensures (take c.loop-events.events-index lives) c.loop-events.told.items c.loop-events.disk (c.loop-events.invariant is_honest))

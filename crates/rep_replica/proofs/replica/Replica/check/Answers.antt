@@ -39,7 +39,7 @@ pub returns : goal.returns
 returns g c =
     let block = ap (λ (x : Engine g.row.D.Denot). x.block) c.check.ensures.rest in
     let step = check_step g.D.Disk.honest g.D.Disk.history g.D.Disk.failures c.nodes_stay_nodes.ensures c.judging_goes_on.ensures c.parts_step_as_the_whole.ensures (old g c) (new g c) (checked c.check.result) c.check.ensures.params refl refl refl (runs_inside c.self.view_is c.requires.running).0
-    block c.check.ensures.moves c.check.ensures.steps c.check.ensures.leaves c.self.invariant.askable in
+    block c.check.ensures.moves (λ n holds window. c.check.ensures.steps n holds (λ off. window)) c.check.ensures.leaves c.self.invariant.askable in
     subst (λ (r : Replica g.row.D.Denot). IsStep g.D.Disk.honest g.D.Disk.history g.D.Disk.failures r Check c.checked.result (new g c)) c.self.view_is
     (subst (λ (a : Answer). IsStep g.D.Disk.honest g.D.Disk.history g.D.Disk.failures (old g c) Check a (new g c)) (sym c.checked.ensures)
     (as_step g.D.Disk.honest g.D.Disk.history g.D.Disk.failures (old g c) Check (checked c.check.result) (new g c) step
