@@ -1,12 +1,12 @@
 """Refuses each growth of memory in turn while a donor writes for a node and while that node joins (the proved program `rep_harness`), and has
 the node join once more: it then has all, and its window and rows are those of its position. A disk in memory has no room for the record of a
 write or a sync where that growth is refused: it has failed then, and is opened again before that."""
-from node_model import CLUSTER, Node, does
+from node_model import CLUSTER, LOSSES, Node, does
 from proved import Wrong
 from trials import Life, Trial
 from trials_faults import FAULT, STOPPED
-from trials_installs import PARAMS, fresh, of_no_cluster, wrapped
-from trials_joins import AT, ENDS, KEYS, LAST, Transfer, behind_by_items, met_by, shown, with_full_log
+from trials_installs import PARAMS
+from trials_joins import AT, ENDS, JOINERS, KEYS, LAST, Transfer, met_by, shown
 
 REFUSED = "refused 1 out-of-memory"
 JOINED = "joined %s:%d" % (CLUSTER, LAST)
@@ -87,7 +87,8 @@ class Joining:
         if said == REFUSED:
             self.joins_again(growth, [("join", [REFUSED]), ("settle", ["settled"])], False)
         elif said == FAULT:
-            lost = [("join", [FAULT]), ("log", [STOPPED]), ("settle", [STOPPED]), ("crash drop", ["crashed"])]
+            # The losses take turns: faults are many.
+            lost = [("join", [FAULT]), ("log", [STOPPED]), ("settle", [STOPPED]), ("crash " + LOSSES[growth % 3], ["crashed"])]
             opened, _ = self.found([self.donate, *lost, ("open", [])], growth)
             # What an opening leaves to be done is done by the settling, so that the node is shown with nothing left.
             self.joins_again(growth, [*lost, ("open", opened[-1:]), ("settle", ["settled"])], True)
@@ -99,7 +100,7 @@ class Joining:
 def joining(refusing, program):
     """Each growth of a donation and of a join is refused in turn."""
     asked, without, kinds = 0, 0, {}
-    for make in (fresh, of_no_cluster, wrapped, behind_by_items, with_full_log):
+    for make in JOINERS:
         node = Joining(make, refusing, program)
         _, first = node.found([])
         found, last = node.found([node.donate, node.join])

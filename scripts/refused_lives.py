@@ -5,10 +5,16 @@ from copy import deepcopy
 
 from node_model import does
 from proved import Wrong
-from trials import BEFORE, Life, Trial, before_items, beside_an_item, full_log, two_laps
+from trials import BEFORE, SMALL_SIZE, Life, Trial, before_items, beside_an_item, full_log, one_item, two_laps
 from trials_faults import STOPPED, standing_at
 
 ENDED, REFUSED, FAULT = "fault 1 out-of-memory", "refused 1 out-of-memory", "refused 2 disk-fault"
+# The lives, each a script, how many of its events go before the settling, and whether its bytes are on a new disk in memory then. Behind the
+# twelfth event of the third the body of the item's block is stable, and a page of the checkpoint is left.
+LIVES = (
+    (one_item, None, False), (one_item, 1, True), (beside_an_item, 12, False), (beside_an_item, None, False), (before_items, None, False),
+    (two_laps, None, False), (full_log, BEFORE, False),
+)
 # What shows between which steps a settling stands.
 PROBES = ("log", "sync", "check", "flush 0", "flush 1")
 
@@ -16,11 +22,14 @@ PROBES = ("log", "sync", "check", "flush 0", "flush 1")
 class Settled:
     """A script that settles behind so many events, loses power, and is handed the rest and settles once more."""
 
-    def __init__(self, make, count=None):
+    def __init__(self, make, count, is_new):
         self.script, self.trial, self.before = make(), Trial(make.__name__), {}
         self.life = self.script.play(self.trial, count)
         self.settles()
         self.trial.say("crash drop", "crashed")
+        if is_new:
+            # A new disk has no room for a record yet: an opening's sync asks for some.
+            self.trial.say("cut %d" % SMALL_SIZE, "cut")
         self.trial.say("open", *self.life.node.stop("drop"))
         self.life.deliver_the_rest(self.script.order())
         self.settles()
@@ -78,6 +87,12 @@ class Refused:
         shown = ("sum", found[-1:])
         self.has(behind(front, shown, (line[0], [REFUSED]), shown, line, *rest))
 
+    def is_faulted(self, front, line, rest):
+        """The disk failed in an opening, and is as it was: it opens behind a stop."""
+        found, _ = self.answers(behind(front, ("sum", [])))
+        shown = ("sum", found[-1:])
+        self.has(behind(front, shown, (line[0], [FAULT]), ("log", ["off"]), shown, ("crash drop", ["crashed"]), shown, line, *rest))
+
     def stands_between(self, place, front):
         """A settling that was refused stands behind some of its steps: each step then answers as the model, and a settling ends quiet."""
         node, could_be = deepcopy(self.lived.before[place]), []
@@ -116,12 +131,17 @@ class Refused:
         place, said = met
         front, line, rest = self.lived.trial.lines[:place], self.lived.trial.lines[place], self.lived.trial.lines[place + 1 :]
         word = line[0].split()[0]
-        if said == REFUSED and word == "open":
+        if said == ENDED:
+            # A disk is asked for once its line is answered, which is the one before.
+            word = front[-1][0].split()[0]
+        elif said == REFUSED and word == "open":
             self.comes_back(front, line, rest)
         elif said == REFUSED and word == "settle":
             self.stands_between(place, front)
         elif said == REFUSED:
             self.is_twice(front, line, rest)
+        elif said == FAULT and word == "open":
+            self.is_faulted(front, line, rest)
         elif said == FAULT and word != "params":
             self.has_failed(front, line)
         elif word != "params":
@@ -143,17 +163,16 @@ def answers_of(node, probe):
 # By which lines growths are refused, and by which the disk has failed.
 WANTED = {
     REFUSED: {"open", "log", "check", "settle", "state", "window"},
-    FAULT: {"params", "log", "flush", "check", "sync", "settle"},
-    # The disk is asked for once its line is answered.
-    ENDED: {"params"},
+    FAULT: {"params", "open", "log", "flush", "check", "sync", "settle"},
+    ENDED: {"disk", "cut"},
 }
 
 
 def living(refusing, program):
     """Each growth of each life is refused in turn."""
     asked, without, kinds = 0, 0, {}
-    for make, count in ((beside_an_item, None), (before_items, None), (two_laps, None), (full_log, BEFORE)):
-        lived = Settled(make, count)
+    for make, count, is_new in LIVES:
+        lived = Settled(make, count, is_new)
         found, told, status, growths = refusing.run([program], lived.trial.text().encode())
         if told or status or lived.trial.wrong(found):
             raise Wrong("without a refused growth: %s, status %d" % (lived.trial.wrong(found), status))

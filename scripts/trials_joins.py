@@ -492,6 +492,32 @@ def cut(make):
     return trials
 
 
+# Nine items of one row each. Behind the sixth, a transfer is a header, three records and an end; from which of its lengths on a cut is
+# refused where, and up to which item the node then has been handed all.
+SHORT = [(seqno - 1, {(0, seqno): b"a"}, [], "commit") for seqno in range(1, 10)]
+SHORT_SIZE, SHORT_CUTS = 230, [(0, 0, 6), (59, 59, 6), (113, 113, 7), (167, 167, 8), (221, 221, 9)]
+
+
+def of_each_length(_):
+    """A node at 6 joins a donor at 9 whose base is at 4, by a transfer that is cut behind each number of bytes, and then by it whole."""
+    scene = Meeting("each length", SHORT, [(0, 6), (0, 7), (0, 8), (0, 9)])
+    scene.lends(9, base=4)
+    scene.new_node()
+    scene.logs(6)
+    for place in range(SHORT_SIZE):
+        _, at, delivered = max(row for row in SHORT_CUTS if row[0] <= place)
+        transfer = scene.donates()
+        assert len(transfer.bytes()) == SHORT_SIZE
+        scene.say("shorten %d" % place, "spoilt %d" % place)
+        does(transfer.taken(scene.node(), delivered - 6))
+        scene.say("join", malformed(at))
+        scene.say("node", "node %d 6 0 %s running" % (delivered, "quiet" if delivered == 6 else "busy"))
+        scene.say("crash drop", "crashed")
+        scene.say("open", *scene.node().stop("drop"))
+    scene.joins()
+    yield scene.trial
+
+
 def changes_of(transfer, is_defined):
     """Changes of one byte: where, and to what; how many parts behind the header stand before it, and how the rest is refused."""
     data = transfer.bytes()
@@ -692,6 +718,7 @@ TRIALS = (
     + each("a stop at each call of a join leaves the node, the snapshot or some items", failing("from"))
     + [("a donor that fails is as it was", failing_donors), ("a donor whose base or log is bad writes no transfer", bad_donors)]
     + each("a transfer that is cut is taken up to there", cut, CUT)
+    + [("a transfer of three items is taken up to where it is cut, behind each of its bytes", of_each_length)]
     + each("a transfer that is changed is taken up to there", changed, CUT)
     + [
         ("a part of a transfer is of no form", of_no_form),

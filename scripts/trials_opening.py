@@ -206,7 +206,8 @@ CORRUPT = [
 
 def each_part(program):
     for refusal, *puts in CORRUPT:
-        yield comes_back(program, with_item("%s at %d" % (refusal, puts[0][0]), *puts), refusal)
+        title = ", ".join("%d to %s" % changed for changed in puts)
+        yield comes_back(program, with_item("%s, %s" % (refusal, title), *puts), refusal)
     for size, refusal in ((103_423, "13 corrupt superblock"), (54_272, "13 corrupt superblock"), (54_271, "12 not-formatted")):
         trial = with_item("cut to %d bytes" % size)
         trial.say("cut %d" % size, "cut")

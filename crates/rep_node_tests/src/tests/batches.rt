@@ -4,7 +4,7 @@ use super::paces::{Crossing, Held as HeldWorkers, Writes};
 use super::replicas::{
     durable_after_crash, formatted, has_row, is_whole, new_disk, putting_each, served,
 };
-use rep_disk::{Disk, Held, HeldDisk, MemDisk};
+use rep_disk::{Disk, Faults, FaultyDisk, Fuse, Held, HeldDisk, MemDisk, Once};
 use rep_node::{Batch, Point};
 use rep_replica::Replica;
 use rep_types::{Params, Refusal, WriteSet};
@@ -186,5 +186,74 @@ fn batches_end_as_they_are_held(rt: HostRuntime) -> Result<(), Fail> {
         );
         number = number.saturating_add(1);
     }
+    Ok(())
+}
+
+/// How many items a batch of two tells of, where it ended right: what it tells of is durable, and it was stopped unless it tells of both.
+fn told_of(batch: &Batch, durable: u64) -> Result<usize, Refusal> {
+    let told = batch.receipts.len();
+    let last = match batch.receipts.last() {
+        Some(receipt) => receipt.seqno,
+        None => 0,
+    };
+    let is_ended = match batch.end {
+        Some(refusal) => refusal == Refusal::Stopped,
+        None => told == 2,
+    };
+    if is_ended && last <= durable && durable <= 2 {
+        Ok(told)
+    } else {
+        Err(Refusal::NotDue)
+    }
+}
+
+/// Serves two items by two workers on a disk with these faults. The worker of the first is held behind its verdict until the other has its
+/// own. It says how many are told of, and are there after a crash that loses all that was not stable; and refuses as opening the disk does.
+fn told_on<R: Threads + Wait + Sync, F: Faults + Drop + Send>(
+    rt: &R,
+    alloc: Global,
+    items: &[WriteSet],
+    faults: F,
+) -> Result<usize, Refusal> {
+    let pace = HeldWorkers::new(None, Some(2));
+    let disk = FaultyDisk::new(new_disk(alloc)?, faults);
+    let (replica, batch) = served(rt, alloc, disk, items, 2, &pace)?;
+    let durable = durable_after_crash(alloc, replica.into_disk().into_inner())?;
+    told_of(&batch, durable)
+}
+
+/// The same on a disk of which this call fails: that one alone, or all behind it too.
+fn told_at<R: Threads + Wait + Sync>(
+    rt: &R,
+    alloc: Global,
+    items: &[WriteSet],
+    call: u64,
+    all_behind: bool,
+) -> Result<usize, Refusal> {
+    if all_behind {
+        told_on(rt, alloc, items, Fuse::after(call))
+    } else {
+        told_on(rt, alloc, items, Once::after(call))
+    }
+}
+
+/// More calls than the opening and a batch of two make.
+const CALLS: u64 = 60;
+
+#[test]
+fn what_is_told_of_is_there_where_a_call_fails(rt: HostRuntime) -> Result<(), Fail> {
+    let items = putting_each(rt.alloc(), 2)?;
+    let mut early: u64 = 0;
+    let mut whole: u64 = 0;
+    for number in 0..2 * CALLS {
+        let told = told_at(&rt, rt.alloc(), &items, number / 2, number % 2 == 1);
+        assert!(rt;
+            told.is_ok() || told == Err(Refusal::DiskFault),
+            "number {number}"
+        );
+        early = early.saturating_add(u64::from(told == Ok(0) || told == Ok(1)));
+        whole = whole.saturating_add(u64::from(told == Ok(2)));
+    }
+    assert!(rt; early > 7 && whole > 7);
     Ok(())
 }

@@ -101,12 +101,14 @@ fn body(alloc: Global) -> Result<Option<Vec<u8>>, Refusal> {
     }
 }
 
-/// The block itself, its first record and its second one.
+/// The block itself, its first record, its second one, and what stands behind that.
 const AT_0: Option<Refusal> = Some(Refusal::Malformed { at: 0 });
 
 const AT_18: Option<Refusal> = Some(Refusal::Malformed { at: 18 });
 
 const AT_71: Option<Refusal> = Some(Refusal::Malformed { at: 71 });
+
+const AT_124: Option<Refusal> = Some(Refusal::Malformed { at: 124 });
 
 /// How many of the first bytes are read as a block, a place and what is put there, and what is then refused.
 const BODIES: &[(usize, usize, u8, Option<Refusal>)] = &[
@@ -119,7 +121,30 @@ const BODIES: &[(usize, usize, u8, Option<Refusal>)] = &[
     // the verdict of the first record, and the seqno of the second
     (7_680, 18 + 34, 5, AT_18),
     (7_680, 71 + 9, 7, AT_71),
+    // the number of records: none, 65, one too few, and one too many
+    (7_680, 17, 0, AT_0),
+    (7_680, 17, 65, AT_0),
+    (7_680, 17, 1, AT_0),
+    (7_680, 17, 3, AT_124),
+    // the first byte behind the records, and the closing one
+    (7_680, 124, 1, AT_0),
+    (7_680, 7_679, 1, AT_0),
 ];
+
+/// So many of the first bytes, with this byte at the place.
+fn changed(
+    alloc: Global,
+    bytes: &[u8],
+    length: usize,
+    place: usize,
+    byte: u8,
+) -> Result<Vec<u8>, AllocError> {
+    let mut changed = Vec::from_slice(alloc, bytes.get(..length).unwrap_or(bytes))?;
+    if let Some(old) = changed.get_mut(place) {
+        *old = byte;
+    }
+    Ok(changed)
+}
 
 /// What so many of the first bytes are refused by as a block, with this byte at the place.
 fn refusal_of(
@@ -129,11 +154,7 @@ fn refusal_of(
     place: usize,
     byte: u8,
 ) -> Result<Option<Refusal>, AllocError> {
-    let mut changed = Vec::from_slice(alloc, bytes.get(..length).unwrap_or(bytes))?;
-    if let Some(old) = changed.get_mut(place) {
-        *old = byte;
-    }
-    Ok(read_block(&changed).err())
+    Ok(read_block(&changed(alloc, bytes, length, place, byte)?).err())
 }
 
 /// Compares what is refused of the body.
@@ -185,6 +206,71 @@ fn a_record_is_read_whole(rt: HostRuntime) -> Result<(), Fail> {
             Err(refusal) => Err(*refusal),
         };
         assert_eq!(rt; (*length, found), (*length, wanted));
+    }
+    Ok(())
+}
+
+/// The bytes of the fourth item, which reads `0/1` and `0/2`, writes `61` and `62` under them and conflicts with the second, and some
+/// behind them.
+const CONFLICT: &[u8] = &[
+    0, 0x47, 0, 0, 0, 0, 0, 0, 0, 4, 0, 0, 0, 0, 0, 0, 0, 0, 0, 0, 0, 0, 0, 0, 0, 0, 0, 0, 0, 0, 0,
+    0, 0, 0, 1, 0, 0, 0, 0, 0, 0, 0, 2, 2, 2, 0, 0, 0, 0, 1, 0, 0, 0, 0, 2, 0, 0, 0, 0, 1, 1, 1,
+    0x61, 0, 0, 0, 0, 2, 1, 1, 0x62, 0xFF, 0xFF,
+];
+
+const REFUSED: Result<usize, Refusal> = Err(Refusal::Malformed { at: 0 });
+
+/// A record, a place in it, a byte that is put there, and how long what is then read is.
+const CHANGES: &[(&[u8], usize, u8, Result<usize, Refusal>)] = &[
+    // the seqno 0, and one above 2^60
+    (RECORD, 9, 0, REFUSED),
+    (RECORD, 2, 0x10, REFUSED),
+    // a conflict with the item 0, with the one before, with itself, and with a later one
+    (CONFLICT, 42, 0, REFUSED),
+    (CONFLICT, 42, 3, Ok(71)),
+    (CONFLICT, 42, 4, REFUSED),
+    (CONFLICT, 42, 5, REFUSED),
+    // a verdict of no number, and a commit that names a seqno
+    (RECORD, 34, 5, REFUSED),
+    (RECORD, 42, 1, REFUSED),
+    // a byte more and a byte less than a record has
+    (CONFLICT, 1, 72, REFUSED),
+    (CONFLICT, 1, 70, REFUSED),
+    // 17 reads, no write, and 17 writes
+    (CONFLICT, 43, 17, REFUSED),
+    (CONFLICT, 44, 0, REFUSED),
+    (CONFLICT, 44, 17, REFUSED),
+    // a write of another kind, a delete with a value, and a value of 63 bytes
+    (CONFLICT, 60, 2, REFUSED),
+    (CONFLICT, 60, 0, REFUSED),
+    (CONFLICT, 61, 63, REFUSED),
+    // a key twice and keys that descend, of the reads and of the writes
+    (CONFLICT, 54, 1, REFUSED),
+    (CONFLICT, 54, 0, REFUSED),
+    (CONFLICT, 67, 1, REFUSED),
+    (CONFLICT, 67, 0, REFUSED),
+    (CONFLICT, 67, 3, Ok(71)),
+];
+
+/// How long the record at the front of the bytes is, with this byte at the place.
+fn length_with(
+    alloc: Global,
+    bytes: &[u8],
+    place: usize,
+    byte: u8,
+) -> Result<Result<usize, Refusal>, AllocError> {
+    let changed = changed(alloc, bytes, bytes.len(), place, byte)?;
+    Ok(match read_record(&changed) {
+        Ok((_, length)) => Ok(length),
+        Err(refusal) => Err(refusal),
+    })
+}
+
+#[test]
+fn a_record_is_held_to_its_form(rt: HostRuntime) -> Result<(), Fail> {
+    for (bytes, place, byte, wanted) in CHANGES {
+        let found = length_with(rt.alloc(), bytes, *place, *byte)?;
+        assert_eq!(rt; (*place, *byte, found), (*place, *byte, *wanted));
     }
     Ok(())
 }
