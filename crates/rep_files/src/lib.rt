@@ -60,7 +60,7 @@ fn disk_at<R: Files<File = File>>(rt: &R, path: &str) -> Result<FileDisk<File>, 
 
 /// The replica on the disk at this path.
 ///
-/// Refuses the disk as `disk_at` does, and else as `Replica::open` does.
+/// Refuses with `DiskFault` a file that cannot be opened, and else as `Replica::open` does.
 pub fn opened_file<R: Files<File = File> + AllocGlobal>(
     rt: &R,
     path: &str,
@@ -100,7 +100,7 @@ pub fn format_file<R: Files<File = File> + Print>(
 
 /// Runs a script from standard input on the disk at this path.
 ///
-/// Refuses the disk as `disk_at` does, and else as `run_on_disk` does.
+/// Refuses with `DiskFault` a file that cannot be opened, and else as `run_on_disk` does.
 pub fn run_file<R: Files<File = File> + Input + Print + AllocGlobal>(
     rt: &R,
     path: &str,
