@@ -151,10 +151,13 @@ fn tell_state<R: Files<File = File> + Print>(
     }
 }
 
-/// Prints the state of the disk at this path, and writes what the node has, as `tell_state` does. The saved state in the file
-/// at the other path, where there is one, is read before the disk is looked at, which is opened to read alone.
+/// Prints the state of the disk at this path, and writes what the node has to the file at the last one, where there is one, which is
+/// made anew. The saved state in the file at the other path, where there is one, is read before the disk is looked at, which is
+/// opened to read alone.
 ///
-/// Refuses the saved state's file as `saved_in_file` does, then the disk as `opened_to_read` does, and else as `tell_state` does.
+/// Refuses with `StreamFault` a saved state's file that cannot be opened, and else as `read_saved` does; then the disk with `DiskFault`
+/// where it cannot be opened, and else as `Replica::open` does; then as `state_text` does; and with `StreamFault` a file that cannot
+/// be made or written.
 pub fn print_state<R: Files<File = File> + Print + AllocGlobal>(
     rt: &R,
     path: &str,
@@ -190,10 +193,13 @@ fn donate_from<R: Files<File = File> + Print>(
     donate_text(replica, have, &mut file, &mut io::writer(rt))
 }
 
-/// Writes for the joiner what it lacks of the order on the disk at this path, into the file at the last one, as `donate_from`
-/// does. What the joiner has is read from the file at the other path before the disk is looked at.
+/// Writes for the joiner what it lacks of the order on the disk at this path, into the file at the last one, which is made anew, once
+/// nothing else refuses it. What the joiner has is read from the file at the other path before the disk is looked at, which is opened
+/// to read alone.
 ///
-/// Refuses what the joiner has as `have_in_file` does, then the disk as `opened_to_read` does, and else as `donate_from` does.
+/// Refuses with `StreamFault` a joiner's file that cannot be opened, and else as `read_have` does; then the disk with `DiskFault` where
+/// it cannot be opened, and else as `Replica::open` does; then as `donate` does; and with `StreamFault` a file that cannot be made or
+/// written.
 pub fn donate_to_file<R: Files<File = File> + Print + AllocGlobal>(
     rt: &R,
     path: &str,
