@@ -11,9 +11,7 @@ use Rattle.rep_record.specs.Records.{IsRecord}
 use Rattle.rep_disk.specs.History.{History}
 use Rattle.rep_layout.specs.Supers.{IsNil}
 use Rattle.rep_steps.specs.Standings.{Standing}
-use Rattle.rep_steps.specs.Nodes.{Node}
 use Rattle.rep_replica.specs.Replicas.{Replica, facts_of}
-use Rattle.rep_replica.specs.Holding.{Holds}
 use Rattle.rep_replica.specs.Running.{RunsAreJoined}
 use Rattle.rep_transfer.specs.declared.pieces.Front.{Front}
 use Rattle.rep_transfer.specs.declared.part.Part.{Part}
@@ -67,36 +65,36 @@ behind_same f g xs ys is same = behind (part_bytes (OfSnapshot g)) xs ys (ap (λ
 
 module _ {D : Type 0} (honest : D → Type 0) (history : D → History) (failures : D → ℕ) where
   -- where no part stands none follows
-  none_stands : (r : Replica D) (before : Option (List ℕ)) → IfSome before (BeginWithNone PartFits part_bytes) → IfSome before (NoneFollows honest history failures r)
+  none_stands : (r : Replica D) (before : Option (List ℕ)) → IfSome before (BeginWithNone PartFits part_bytes) → IfSome before (NoneFollows failures r)
   none_stands r None none = tt
-  none_stands r (Some bytes) none = λ m holds part rest fits is may. none part rest fits is
+  none_stands r (Some bytes) none = λ part rest fits is may. none part rest fits is
 
   pub no_snapshot_stands : (s : Standing) (before : Option (List ℕ)) → IfSome before (BeginWithNone PartFits part_bytes) → IfSome before (NoSnapshotComes s)
   no_snapshot_stands s None none = tt
   no_snapshot_stands s (Some bytes) none = λ y rest fits is snapshot later. none (OfSnapshot (front_of y)) (rest_of y ++ rest) (fits_front y fits) (is ∙ fronted y rest)
 
-  pub ends_at_none : (r : Replica D) (at : ℕ) (before : Option (List ℕ)) → IfSome before (BeginWithNone PartFits part_bytes) → EndsHere honest history failures r at before (Malformed at)
+  pub ends_at_none : (r : Replica D) (at : ℕ) (before : Option (List ℕ)) → IfSome before (BeginWithNone PartFits part_bytes) → EndsHere failures r at before (Malformed at)
   ends_at_none r at before none = inr (inr (refl, none_stands r before none))
 
   -- nor where one stands that may not
-  ends_out : (r : Replica D) (part : Part) (at : ℕ) (before left : Option (List ℕ)) (e : Refusal) → PartFits part → Consumes before left (part_bytes part) → IsOut honest history failures r part at e → EndsHere honest history failures r at before e
+  ends_out : (r : Replica D) (part : Part) (at : ℕ) (before left : Option (List ℕ)) (e : Refusal) → PartFits part → Consumes before left (part_bytes part) → IsOut failures r part at e → EndsHere failures r at before e
   ends_out r part at before left e fits taken (inl work) = inr (inl work)
   ends_out r part at before left e fits taken (inr out) =
-      inr (inr (out.0, known_front (NoneFollows honest history failures r) before left (part_bytes part) taken (λ rest m holds q more fit is may. out.1 m holds (subst (MayFollow m) (sym (same_part part q rest more fits fit is)) may))))
+      inr (inr (out.0, known_front (NoneFollows failures r) before left (part_bytes part) taken (λ rest q more fit is may. out.1 (subst (MayFollow failures r) (sym (same_part part q rest more fits fit is)) may))))
 
   -- no part but a snapshot comes to a node of no cluster
-  pub nil_is_out : (r : Replica D) (part : Part) (at : ℕ) → IsNil (facts_of failures r).uuid → IsOut honest history failures r part at (Malformed at)
-  nil_is_out r part at nil = inr (refl, λ m holds may. never m holds part may)
+  pub nil_is_out : (r : Replica D) (part : Part) (at : ℕ) → IsNil (facts_of failures r).uuid → IsOut failures r part at (Malformed at)
+  nil_is_out r part at nil = inr (refl, never part)
     where
-      never : (m : Node) → Holds honest history failures m r → (p : Part) → MayFollow m p → ⊥
-      never m holds (OfSnapshot front) may = may
-      never m holds (OfRecord j) may = may.0 (subst IsNil (sym (ap (λ (s : Standing). s.uuid) holds.facts)) nil)
-      never m holds (OfEnd last) may = may.0 (subst IsNil (sym (ap (λ (s : Standing). s.uuid) holds.facts)) nil)
+      never : (p : Part) → MayFollow failures r p → ⊥
+      never (OfSnapshot front) may = may
+      never (OfRecord j) may = may.0 nil
+      never (OfEnd last) may = may.0 nil
 
   -- ---- records that were taken
 
   -- where nothing was taken
-  short_nothing : (old new : Replica D) (uuid : List ℕ) (at : ℕ) (before : Option (List ℕ)) (e : Refusal) → counted at 0 ≡ at → Went honest history failures old new uuid None [] → EndsHere honest history failures new at before e
+  short_nothing : (old new : Replica D) (uuid : List ℕ) (at : ℕ) (before : Option (List ℕ)) (e : Refusal) → counted at 0 ≡ at → Went honest history failures old new uuid None [] → EndsHere failures new at before e
       → ((k : ℕ) → e ≡ Malformed k → IfSome before (NoSnapshotComes (facts_of failures old))) → CutShort honest history failures old new uuid before at e
   short_nothing old new uuid at before e small went ends none = record {
     snapshot = None;
@@ -106,13 +104,13 @@ module _ {D : Type 0} (honest : D → Type 0) (history : D → History) (failure
     left = before;
     taken = Consumes-nil before;
     went = went;
-    ends = subst (λ k. EndsHere honest history failures new k before e) (sym small) ends;
+    ends = subst (λ k. EndsHere failures new k before e) (sym small) ends;
     none = λ _ _ k is. none k is;
   }
 
   module _ (by_items : HistoryByItems) (joined : RunsAreJoined honest history failures) where
     -- behind those that were taken no more
-    cut_at : (old now new : Replica D) (start at : ℕ) (first before : Option (List ℕ)) (e : Refusal) → counted at 0 ≡ at → Followed honest history failures old now start at first before None → Grown honest history failures now new [] → EndsHere honest history failures new at before e
+    cut_at : (old now new : Replica D) (start at : ℕ) (first before : Option (List ℕ)) (e : Refusal) → counted at 0 ≡ at → Followed honest history failures old now start at first before None → Grown honest history failures now new [] → EndsHere failures new at before e
         → Cut honest history failures old new first start e
     cut_at old now new start at first before e small f grown ends =
         let h = f.2 in
@@ -123,7 +121,7 @@ module _ {D : Type 0} (honest : D → Type 0) (history : D → History) (failure
           grown = subst (Grown honest history failures old new) (append-nil h.records) (grown_then by_items honest history failures joined old now new h.records [] h.grown grown);
           left = before;
           taken = subst (Consumes first before) bytes_are f.1.taken;
-          ends = subst (λ k. EndsHere honest history failures new k before e) (sym small ∙ f.1.counts ∙ ap (λ (bs : List ℕ). counted start (length bs)) bytes_are) ends;
+          ends = subst (λ k. EndsHere failures new k before e) (sym small ∙ f.1.counts ∙ ap (λ (bs : List ℕ). counted start (length bs)) bytes_are) ends;
         }
 
     pub cut_by_reader : (old now : Replica D) (start at : ℕ) (first before : Option (List ℕ)) (e : Refusal) → counted at 0 ≡ at → Followed honest history failures old now start at first before None → e ≡ StreamFault → Cut honest history failures old now first start e
@@ -134,11 +132,11 @@ module _ {D : Type 0} (honest : D → Type 0) (history : D → History) (failure
     cut_at_none old now start at first before small f none = cut_at old now now start at first before (Malformed at) small f (grown_none by_items honest history failures joined now) (ends_at_none now at before none)
 
     pub cut_at_part : (old now new : Replica D) (start at : ℕ) (first before left : Option (List ℕ)) (part : Part) (e : Refusal) → counted at 0 ≡ at → Followed honest history failures old now start at first before None → Grown honest history failures now new []
-        → PartFits part → Consumes before left (part_bytes part) → IsOut honest history failures new part at e → Cut honest history failures old new first start e
+        → PartFits part → Consumes before left (part_bytes part) → IsOut failures new part at e → Cut honest history failures old new first start e
     cut_at_part old now new start at first before left part e small f grown fits taken out = cut_at old now new start at first before e small f grown (ends_out new part at before left e fits taken out)
 
     -- the part in hand isn't taken
-    pub cut_in_hand : (old new : Replica D) (at : ℕ) (before left : Option (List ℕ)) (part : Part) (e : Refusal) → counted at 0 ≡ at → Grown honest history failures old new [] → PartFits part → Consumes before left (part_bytes part) → IsOut honest history failures new part at e
+    pub cut_in_hand : (old new : Replica D) (at : ℕ) (before left : Option (List ℕ)) (part : Part) (e : Refusal) → counted at 0 ≡ at → Grown honest history failures old new [] → PartFits part → Consumes before left (part_bytes part) → IsOut failures new part at e
         → Cut honest history failures old new before at e
     cut_in_hand old new at before left part e small grown fits taken out = record {
       records = [];
@@ -146,7 +144,7 @@ module _ {D : Type 0} (honest : D → Type 0) (history : D → History) (failure
       grown = grown;
       left = before;
       taken = Consumes-nil before;
-      ends = subst (λ k. EndsHere honest history failures new k before e) (sym small) (ends_out new part at before left e fits taken out);
+      ends = subst (λ k. EndsHere failures new k before e) (sym small) (ends_out new part at before left e fits taken out);
     }
 
     -- it was, and some of those behind it
@@ -163,7 +161,7 @@ module _ {D : Type 0} (honest : D → Type 0) (history : D → History) (failure
           grown = grown_then by_items honest history failures joined a b c first.records cut.records first.grown cut.grown;
           left = cut.left;
           taken = subst (Consumes before cut.left) both (Consumes-trans before left cut.left hand ys taken cut.taken);
-          ends = subst (λ k. EndsHere honest history failures c k cut.left e) (counted_from at now (length hand) (length ys) counts ∙ ap (counted at) (sym (length-append hand ys)) ∙ ap (λ (bs : List ℕ). counted at (length bs)) both) cut.ends;
+          ends = subst (λ k. EndsHere failures c k cut.left e) (counted_from at now (length hand) (length ys) counts ∙ ap (counted at) (sym (length-append hand ys)) ∙ ap (λ (bs : List ℕ). counted at (length bs)) both) cut.ends;
         }
 
     pub cut_behind_on : (a b c : Replica D) (at now : ℕ) (before left : Option (List ℕ)) (ended : Option ℕ) (hand : List ℕ) (result : Result ℕ Refusal) → ended ≡ None → now ≡ counted at (length hand) → Consumes before left hand → Follows honest history failures a b ended hand
@@ -172,7 +170,7 @@ module _ {D : Type 0} (honest : D → Type 0) (history : D → History) (failure
     cut_behind_on a b c at now before left ended hand (Err e) is counts taken first cut = cut_behind a b c at now before left hand e counts taken (subst (λ (o : Option ℕ). Follows honest history failures a b o hand) is first) cut
 
     -- nothing was taken
-    pub short_none : (old : Replica D) (uuid : List ℕ) (at : ℕ) (before : Option (List ℕ)) (e : Refusal) → counted at 0 ≡ at → EndsHere honest history failures old at before e → ((k : ℕ) → e ≡ Malformed k → IfSome before (NoSnapshotComes (facts_of failures old)))
+    pub short_none : (old : Replica D) (uuid : List ℕ) (at : ℕ) (before : Option (List ℕ)) (e : Refusal) → counted at 0 ≡ at → EndsHere failures old at before e → ((k : ℕ) → e ≡ Malformed k → IfSome before (NoSnapshotComes (facts_of failures old)))
         → CutShort honest history failures old old uuid before at e
     short_none old uuid at before e small ends none = short_nothing old old uuid at before e small (went_records honest history failures old old uuid [] (grown_none by_items honest history failures joined old)) ends none
 
@@ -199,10 +197,10 @@ module _ {D : Type 0} (honest : D → Type 0) (history : D → History) (failure
   -- what it begins with was taken, and the rest of it not
   module _ (by_items : HistoryByItems) (old new : Replica D) (uuid : List ℕ) (front : Front) (at start : ℕ) (before left : Option (List ℕ)) (e : Refusal) (fits : FrontFits front) (small : counted at 0 ≡ at) (counts : start ≡ counted at (length (part_bytes (OfSnapshot front)))) (taken : Consumes before left (part_bytes (OfSnapshot front))) where
     -- no other part stands there, and none of a second snapshot may come
-    none_else : IfSome before (NoneFollows honest history failures new)
-    none_else = known_front (NoneFollows honest history failures new) before left (part_bytes (OfSnapshot front)) taken (λ rest m holds q more fit is may. subst (MayFollow m) (sym (same_part (OfSnapshot front) q rest more fits fit is)) may)
+    none_else : IfSome before (NoneFollows failures new)
+    none_else = known_front (NoneFollows failures new) before left (part_bytes (OfSnapshot front)) taken (λ rest q more fit is may. subst (MayFollow failures new) (sym (same_part (OfSnapshot front) q rest more fits fit is)) may)
 
-    ends_early : BringsEarly (facts_of failures old) front at left e → EndsHere honest history failures new at before e
+    ends_early : BringsEarly (facts_of failures old) front at left e → EndsHere failures new at before e
     ends_early (inl stream) = inl stream
     ends_early (inr (inl memory)) = inr (inl (inl memory))
     ends_early (inr (inr (inl fault))) = inr (inl (inr (inl fault)))
@@ -254,7 +252,7 @@ module _ {D : Type 0} (honest : D → Type 0) (history : D → History) (failure
               subst (Consumes before cut.left) (ap (λ (bs : List ℕ). bs ++ ys) whole)
               (Consumes-trans before second cut.left hand ys (Consumes-trans before left second (part_bytes (OfSnapshot front)) (rest_of s) taken b.takes.took.taken) cut.taken);
           went = went_snapshot honest history failures by_items old mid new uuid front start now left second cut.records b cut.grown;
-          ends = subst (λ k. EndsHere honest history failures new k cut.left e) (counted_still at now (length hand) (length ys) count ∙ ap (counted at) (sym (length-append hand ys)) ∙ ap (λ (bs : List ℕ). counted at (length (bs ++ ys))) whole) cut.ends;
+          ends = subst (λ k. EndsHere failures new k cut.left e) (counted_still at now (length hand) (length ys) count ∙ ap (counted at) (sym (length-append hand ys)) ∙ ap (λ (bs : List ℕ). counted at (length (bs ++ ys))) whole) cut.ends;
           none = λ is _ _ _. absurd (let never : Some s ≡ None = is in cc);
         }
 
@@ -271,7 +269,7 @@ early_header s before e (inr (inl none)) = inr (inl (0, none.0))
 early_header s before e (inr (inr other)) = inr (inr (inl other.0))
 
 module _ {D : Type 0} (honest : D → Type 0) (history : D → History) (failures : D → ℕ) where
-  early_here : (r : Replica D) (at : ℕ) (left : Option (List ℕ)) (e : Refusal) → EndsHere honest history failures r at left e → JoinsEarly e
+  early_here : (r : Replica D) (at : ℕ) (left : Option (List ℕ)) (e : Refusal) → EndsHere failures r at left e → JoinsEarly e
   early_here r at left e (inl stream) = inl stream
   early_here r at left e (inr (inl work)) = early_work e work
   early_here r at left e (inr (inr out)) = inr (inl (at, out.0))

@@ -20,6 +20,7 @@ use Rattle.rep_types.specs.Transactions.{Transaction}
 use Rattle.rep_types.specs.Order.{Order, items_of, history, verdict}
 use Rattle.rep_types.specs.ByItems.{HistoryByItems}
 use Rattle.rep_disk.specs.History.{History}
+use Rattle.rep_cert.specs.Holdings.{verdict_of}
 use Rattle.rep_layout.specs.Supers.{IsNil}
 use Rattle.rep_log.specs.declared.phase.Phase.{Phase}
 use Rattle.rep_log.specs.declared.phase.Phase.TheVariants.{Resting, Closing, Filling, Filled, Opening}
@@ -29,7 +30,7 @@ use Rattle.rep_steps.specs.declared.answer.Answer.{Answer}
 use Rattle.rep_steps.specs.declared.answer.Answer.TheVariants.{Gave, Refused}
 use Rattle.rep_steps.specs.Standings.{Standing, Flushing, Saving, Ready, SuperFilling, SuperFilled, SuperOpening, Stage, Off, Toward, Retiring, delivered, underway, gathered, refusal, refusal_here, delivery_refusal, log_refusal, check_refusal, flush_refusal}
 use Rattle.rep_steps.specs.Moves.{Found, Moves, Fails, MeetsCorruption, answer, check_answer, after, next_item, opening}
-use Rattle.rep_steps.specs.Nodes.{Node, IsNode, Steps, moved, found, verdict_on, NodesStayNodes}
+use Rattle.rep_steps.specs.Nodes.{Node, IsNode, Steps, moved, found, NodesStayNodes}
 use Rattle.rep_steps.specs.Orders.{IsOf, accepted, answer_of, StepsFollowTheOrder, NodesHoldTheOrder}
 use Rattle.rep_steps.specs.Runs.{Runs, accepted_by, RunsComeTo}
 use Rattle.rep_replica.specs.Replicas.{Replica, facts_of}
@@ -571,15 +572,15 @@ delivery_early s t seqno w e running not next limit few m =
 same_set : (v w : Transaction) → WriteSet v ≡ WriteSet w → v ≡ w
 same_set v w is = cc
 
-module _ {D : Type 0} (honest : D → Type 0) (history_of : D → History) (failures : D → ℕ) (r : Replica D) (j : Judged) (at : ℕ) where
-  pub out_by_seqno : (n : ℕ) → n ≡ delivered (facts_of failures r) → (j.seqno ≡ n + 1 → ⊥) → IsOut honest history_of failures r (Record j) at (Malformed at)
-  out_by_seqno n here other = inr (refl, λ m holds may. other (may.1.seqno ∙ ap (λ (s : Standing). delivered s + 1) holds.facts ∙ ap (λ k. k + 1) (sym here)))
+module _ {D : Type 0} (failures : D → ℕ) (r : Replica D) (j : Judged) (at : ℕ) where
+  pub out_by_seqno : (n : ℕ) → n ≡ delivered (facts_of failures r) → (j.seqno ≡ n + 1 → ⊥) → IsOut failures r (Record j) at (Malformed at)
+  out_by_seqno n here other = inr (refl, λ may. other (may.1.seqno ∙ ap (λ k. k + 1) (sym here)))
 
-  pub out_by_verdict : (w : Transaction) (v : Verdict) → j.item ≡ WriteSet w → ((n : Node) (seqno : ℕ) → Holds honest history_of failures n r → v ≡ verdict_on n (Deliver seqno w)) → (v ≡ j.verdict → ⊥) → IsOut honest history_of failures r (Record j) at (Malformed at)
+  pub out_by_verdict : (w : Transaction) (v : Verdict) → j.item ≡ WriteSet w → v ≡ verdict_of r.certifier.current (WriteSet w) → (v ≡ j.verdict → ⊥) → IsOut failures r (Record j) at (Malformed at)
   out_by_verdict w v is judged other =
       inr (
         refl,
-        λ m holds may.
+        λ may.
             let same : may.1.write_set ≡ w = same_set may.1.write_set w (sym may.1.item ∙ is) in
-            other (judged m j.seqno holds ∙ ap (λ (x : Transaction). verdict_on m (Deliver j.seqno x)) (sym same) ∙ sym may.1.verdict),
+            other (judged ∙ ap (λ (x : Transaction). verdict_of r.certifier.current (WriteSet x)) (sym same) ∙ sym may.1.verdict),
       )

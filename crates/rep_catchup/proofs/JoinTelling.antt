@@ -156,7 +156,7 @@ delivery_tells s t seqno w e (inr failed) = failed_tells s (Deliver seqno w) e t
 module _ {D : Type 0} (honest : D → Type 0) (history : D → History) (failures : D → ℕ) where
   -- nothing was asked of the device, and something else is told
   pub tells_none : (old new : Replica D) (e : Refusal) → e ≢ DiskFault → ((part : Part) → e ≢ Corrupt part) → failures new.engine.disk ≡ failures old.engine.disk → IsToldBy honest history failures old new e
-  tells_none old new e other whole same = record { faults = told_of_none (failures old.engine.disk) (failures new.engine.disk) e other same; whole = λ n holds part. whole part }
+  tells_none old new e other whole same = record { faults = told_of_none (failures old.engine.disk) (failures new.engine.disk) e other same; corrupt = λ is. absurd (whole Pages is); whole = λ n holds part. whole part }
 
   pub tells_malformed : (r : Replica D) (at : ℕ) → IsToldBy honest history failures r r (Malformed at)
   tells_malformed r at = tells_none r r (Malformed at) (malformed_is_none at) (malformed_is_whole at) refl
@@ -176,6 +176,7 @@ module _ {D : Type 0} (honest : D → Type 0) (history : D → History) (failure
   pub told_then : (a b c : Replica D) (e : Refusal) → failures b.engine.disk ≡ failures a.engine.disk → ((n : Node) → Holds honest history failures n a → (m : Node) × Holds honest history failures m b) → IsToldBy honest history failures b c e → IsToldBy honest history failures a c e
   told_then a b c e same goes told = record {
     faults = subst (λ (k : ℕ). IsFaultToldBy k (failures c.engine.disk) e) same told.faults;
+    corrupt = told.corrupt;
     whole = λ n holds part. let on = goes n holds in told.whole on.0 on.1 part;
   }
 
@@ -193,6 +194,7 @@ module _ {D : Type 0} (honest : D → Type 0) (history : D → History) (failure
   settled_tells old new (Ok x) w = runs_count_none w.events w.answers (facts_of failures old) (facts_of failures new) w.ends w.moves
   settled_tells old new (Err e) w = record {
     faults = runs_tell e w.ends.0 w.events (facts_of failures old) (facts_of failures new) w.own w.ends.1 (subst (λ (answers : List Answer). Runs IsDue (facts_of failures old) w.events answers (facts_of failures new)) w.ends.2 w.moves);
+    corrupt = λ is. w.corrupt (ap Err is);
     whole = λ n holds part is.
         let ran = w.ran n holds in
         runs_are_whole part e w.ends.0 w.events n ran.0 w.own is (subst (λ (answers : List Answer). Runs Steps n w.events answers ran.0) w.ends.2 ran.1.runs);
@@ -207,7 +209,7 @@ module _ {D : Type 0} (honest : D → Type 0) (history : D → History) (failure
       let t = facts_of failures new in
       let here : Outcome s (Deliver seqno w) (Refused e) t =
       subst (λ (o : Option Refusal). MatchOption o (Outcome s (Deliver seqno w) (Refused e) t) (λ r. (Refused e ≡ Refused r) × (t ≡ s))) (next_free s seqno w running not next limit few) m in
-      record { faults = delivery_tells s t seqno w e here; whole = λ n holds part. delivery_is_whole s t seqno w e part here }
+      record { faults = delivery_tells s t seqno w e here; corrupt = λ is. absurd (delivery_is_whole s t seqno w e Pages here is); whole = λ n holds part. delivery_is_whole s t seqno w e part here }
 
   -- ---- a snapshot is brought
 
@@ -222,7 +224,7 @@ module _ {D : Type 0} (honest : D → Type 0) (history : D → History) (failure
   bring_told old new front at before result e is told early =
       let here : IsFaultToldBy (failures old.engine.disk) (failures new.engine.disk) e = subst (λ (r : Result (Unit {0}) Refusal). TellsFaults (failures old.engine.disk) (failures new.engine.disk) r) is told in
       let why : BringsEarly (facts_of failures old) front at before e = subst (λ (r : Result (Unit {0}) Refusal). IfErr r (BringsEarly (facts_of failures old) front at before)) is early in
-      record { faults = here; whole = λ n holds part. bring_is_whole (facts_of failures old) front at before e part why }
+      record { faults = here; corrupt = λ is. absurd (bring_is_whole (facts_of failures old) front at before e Pages why is); whole = λ n holds part. bring_is_whole (facts_of failures old) front at before e part why }
 
   pub brought_same : (old new : Replica D) (result : Result (Unit {0}) Refusal) (x : Unit {0}) → result ≡ Ok x → TellsFaults (failures old.engine.disk) (failures new.engine.disk) result → failures new.engine.disk ≡ failures old.engine.disk
   brought_same old new result x is told = subst (λ (r : Result (Unit {0}) Refusal). TellsFaults (failures old.engine.disk) (failures new.engine.disk) r) is told

@@ -4,6 +4,7 @@ use Rattle.rep_types.specs.declared.judged.Judged.{Judged}
 use Rattle.rep_types.specs.declared.refusal.Refusal.{Refusal}
 use Rattle.rep_types.specs.declared.refusal.Refusal.TheVariants.{DiskFault, Corrupt}
 use Rattle.rep_types.specs.declared.refusal.Part.{Part}
+use Rattle.rep_types.specs.declared.refusal.Part.TheVariants.{Pages}
 use Rattle.rep_types.specs.Order.{Order, items_of, history as history_of}
 use Rattle.rep_disk.specs.History.{History}
 use Rattle.rep_steps.specs.declared.event.Event.{Event}
@@ -16,6 +17,7 @@ use Rattle.rep_replica.specs.Replicas.{Replica, facts_of}
 use Rattle.rep_replica.specs.Refusing.{IsFaultToldBy}
 use Rattle.rep_replica.specs.Holding.{Holds}
 use Rattle.rep_replica.specs.Running.{Ran}
+use Rattle.rep_replica.specs.Spelling.{MeetsBadPage}
 use Rattle.rep_replica.specs.Settling.{IsRunning}
 
 -- The node grew by these items: so many more are delivered, and it is of each order that it was of before, with them behind that, where
@@ -48,9 +50,11 @@ abbrev pub EndsRunning : {D T : Type 0} → Result T Refusal → Replica D → T
 EndsRunning (Ok x) r = IsRunning r
 EndsRunning (Err e) r = ((e ≡ DiskFault) × ((r.stopped || is_some r.engine.halted) ≡ true)) ⊎ ((e ≢ DiskFault) × IsRunning r)
 
--- What a refusal tells of the device: its fault, exactly where there was one; and of no device of a node that a page is not of its form.
+-- What a refusal tells of the device: its fault, exactly where there was one; that a page is not of its form only where an honest
+-- device's bytes have none; and that of no device of a node.
 pub record IsToldBy {D : Type 0} (honest : D → Type 0) (history : D → History) (failures : D → ℕ) (old new : Replica D) (e : Refusal) : Type 0 where
   pub faults : IsFaultToldBy (failures old.engine.disk) (failures new.engine.disk) e
+  pub corrupt : e ≡ Corrupt Pages → MeetsBadPage honest history new
   pub whole : (n : Node) → Holds honest history failures n old → (part : Part) → e ≢ Corrupt part
 
 -- so it is of a call, whatever came of it

@@ -11,11 +11,11 @@ use Rattle.rep_types.specs.Settings.{Setting}
 use Rattle.rep_types.specs.Transactions.{Transaction}
 use Rattle.rep_types.specs.Order.{Order, items_of, state, history as history_of}
 use Rattle.rep_record.specs.Records.{IsRecord}
+use Rattle.rep_cert.specs.Holdings.{verdict_of}
 use Rattle.rep_disk.specs.History.{History}
 use Rattle.rep_layout.specs.Supers.{IsNil}
-use Rattle.rep_steps.specs.declared.event.Event.TheVariants.{Deliver}
 use Rattle.rep_steps.specs.Standings.{Standing, delivered}
-use Rattle.rep_steps.specs.Nodes.{Node, verdict_on}
+use Rattle.rep_steps.specs.Nodes.{Node}
 use Rattle.rep_steps.specs.Orders.{IsOf}
 use Rattle.rep_replica.specs.Replicas.{Replica, facts_of}
 use Rattle.rep_replica.specs.Holding.{Holds}
@@ -106,23 +106,23 @@ pub record Joined {D : Type 0} (honest : D → Type 0) (history : D → History)
 
 -- ---- where it is not
 
--- The record is the node's next item, and is judged as the node does.
-pub record IsNext (m : Node) (j : Judged) : Type 0 where
-  pub seqno : j.seqno ≡ delivered m.facts + 1
+-- The record is the replica's next item, and its certifier judges it so: as the node does that the replica stands for, where it stands for one.
+pub record IsNext {D : Type 0} (failures : D → ℕ) (r : Replica D) (j : Judged) : Type 0 where
+  pub seqno : j.seqno ≡ delivered (facts_of failures r) + 1
   pub write_set : Transaction
   pub item : j.item ≡ WriteSet write_set
-  pub verdict : j.verdict ≡ verdict_on m (Deliver j.seqno write_set)
+  pub verdict : j.verdict ≡ verdict_of r.certifier.current (WriteSet write_set)
 
--- The part may come behind what the node took: it is of a cluster; a record is its next item, an end is where it is. No second snapshot
+-- The part may come behind what the replica took: it is of a cluster; a record is its next item, an end is where it is. No second snapshot
 -- comes.
-abbrev pub MayFollow : Node → Part → Type 0
-MayFollow m (OfSnapshot front) = ⊥
-MayFollow m (OfRecord j) = (IsNil m.facts.uuid → ⊥) × IsNext m j
-MayFollow m (OfEnd last) = (IsNil m.facts.uuid → ⊥) × (last ≡ delivered m.facts)
+abbrev pub MayFollow : {D : Type 0} → (D → ℕ) → Replica D → Part → Type 0
+MayFollow failures r (OfSnapshot front) = ⊥
+MayFollow failures r (OfRecord j) = (IsNil (facts_of failures r).uuid → ⊥) × IsNext failures r j
+MayFollow failures r (OfEnd last) = (IsNil (facts_of failures r).uuid → ⊥) × (last ≡ delivered (facts_of failures r))
 
 -- The bytes go on with no part that may come.
-abbrev pub NoneFollows : {D : Type 0} → (D → Type 0) → (D → History) → (D → ℕ) → Replica D → List ℕ → Type 0
-NoneFollows honest history failures r bytes = (m : Node) → Holds honest history failures m r → (part : Part) (rest : List ℕ) → PartFits part → bytes ≡ part_bytes part ++ rest → MayFollow m part → ⊥
+abbrev pub NoneFollows : {D : Type 0} → (D → ℕ) → Replica D → List ℕ → Type 0
+NoneFollows failures r bytes = (part : Part) (rest : List ℕ) → PartFits part → bytes ≡ part_bytes part ++ rest → MayFollow failures r part → ⊥
 
 -- nor with a snapshot that may
 abbrev pub NoSnapshotComes : Standing → List ℕ → Type 0
@@ -130,8 +130,8 @@ NoSnapshotComes s bytes = (y : Snapshot) (rest : List ℕ) → SnapshotFits y �
 
 -- Why no more was taken, behind so many bytes, of what is left: the reader or the device failed, there was no room, the base's page that a
 -- checkpoint flushes is not of its form; or no part goes on there that may come.
-abbrev pub EndsHere : {D : Type 0} → (D → Type 0) → (D → History) → (D → ℕ) → Replica D → ℕ → Option (List ℕ) → Refusal → Type 0
-EndsHere honest history failures r at left e = (e ≡ StreamFault) ⊎ (WorksEarly e ⊎ ((e ≡ Malformed at) × IfSome left (NoneFollows honest history failures r)))
+abbrev pub EndsHere : {D : Type 0} → (D → ℕ) → Replica D → ℕ → Option (List ℕ) → Refusal → Type 0
+EndsHere failures r at left e = (e ≡ StreamFault) ⊎ (WorksEarly e ⊎ ((e ≡ Malformed at) × IfSome left (NoneFollows failures r)))
 
 -- Behind the header, which has so many bytes, a snapshot was taken where one comes, and records, and then no more. What was taken was
 -- done; where not even a snapshot was, none that may come goes on there.
@@ -143,7 +143,7 @@ pub record CutShort {D : Type 0} (honest : D → Type 0) (history : D → Histor
   pub left : Option (List ℕ)
   pub taken : Consumes before left (snapshot_part snapshot ++ flat_map record_part records)
   pub went : Went honest history failures old new uuid snapshot records
-  pub ends : EndsHere honest history failures new (counted start (length (snapshot_part snapshot ++ flat_map record_part records))) left e
+  pub ends : EndsHere failures new (counted start (length (snapshot_part snapshot ++ flat_map record_part records))) left e
   pub none : snapshot ≡ None → records ≡ [] → (at : ℕ) → e ≡ Malformed at → IfSome before (NoSnapshotComes (facts_of failures old))
 
 -- A header was taken that is for the replica: of its cluster, or the replica is of none, and of its shape.
@@ -210,11 +210,11 @@ pub record Cut {D : Type 0} (honest : D → Type 0) (history : D → History) (f
   pub grown : Grown honest history failures old new records
   pub left : Option (List ℕ)
   pub taken : Consumes before left (flat_map record_part records)
-  pub ends : EndsHere honest history failures new (counted start (length (flat_map record_part records))) left e
+  pub ends : EndsHere failures new (counted start (length (flat_map record_part records))) left e
 
 -- This part, which stands at this byte, isn't taken: its own work was refused, or it may not come.
-abbrev pub IsOut : {D : Type 0} → (D → Type 0) → (D → History) → (D → ℕ) → Replica D → Part → ℕ → Refusal → Type 0
-IsOut honest history failures r part at e = WorksEarly e ⊎ ((e ≡ Malformed at) × ((m : Node) → Holds honest history failures m r → MayFollow m part → ⊥))
+abbrev pub IsOut : {D : Type 0} → (D → ℕ) → Replica D → Part → ℕ → Refusal → Type 0
+IsOut failures r part at e = WorksEarly e ⊎ ((e ≡ Malformed at) × (MayFollow failures r part → ⊥))
 
 -- The items behind where it starts make this node, where so many are delivered.
 pub record Continues (n : Node) (snapshot : Option Snapshot) (records : List Judged) (last : ℕ) (m : Node) : Type 0 where

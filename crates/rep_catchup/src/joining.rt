@@ -96,7 +96,7 @@ fn deliver<D: Disk>(replica: &mut Replica<D>, judged: Judged, at: u64) -> Result
     ensures ends { EndsRunning result replica.new }
     ensures tells { Tells D.honest D.history D.failures replica.old replica.new result }
     ensures limit { OnOk result (delivered (facts_of D.failures replica.new) ≤ MAX_SEQNO) }
-    ensures refused { IfErr result (IsOut D.honest D.history D.failures replica.new (Record judged) at) }
+    ensures refused { IfErr result (IsOut D.failures replica.new (Record judged) at) }
 {
     history_by_items();
     nodes_hold_the_order();
@@ -132,7 +132,7 @@ fn take_record<D: Disk>(replica: &mut Replica<D>, judged: Judged, at: u64) -> Re
     ensures ends { EndsRunning result replica.new }
     ensures tells { Tells D.honest D.history D.failures replica.old replica.new result }
     ensures limit { OnOk result (delivered (facts_of D.failures replica.new) ≤ MAX_SEQNO) }
-    ensures refused { IfErr result (IsOut D.honest D.history D.failures replica.new (Record judged) at) }
+    ensures refused { IfErr result (IsOut D.failures replica.new (Record judged) at) }
 {
     history_by_items();
     runs_are_joined::<D>();
@@ -150,7 +150,7 @@ fn take_part<D: Disk>(replica: &mut Replica<D>, part: Part, at: u64) -> Result<O
     ensures kept { OnErr result (Grown D.honest D.history D.failures replica.old replica.new []) }
     ensures ends { EndsRunning result replica.new }
     ensures tells { Tells D.honest D.history D.failures replica.old replica.new result }
-    ensures refused { IfErr result (IsOut D.honest D.history D.failures replica.new part at) }
+    ensures refused { IfErr result (IsOut D.failures replica.new part at) }
 {
     history_by_items();
     runs_are_joined::<D>();

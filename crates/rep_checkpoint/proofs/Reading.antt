@@ -20,8 +20,7 @@ use Rattle.rep_cells.specs.Readings.{IsPlace, reading_of}
 use Rattle.rep_cells.specs.States.{State, States, Stable, Shows, writing}
 use Rattle.rep_cells.specs.Known.{Assigns}
 use Rattle.rep_cells.specs.Calls.{Writes, WritesOnly, WritesIn, StepsAt, Stepped}
-use Rattle.rep_cells.specs.Laws.{ImagesReadAsAllowed}
-use Rattle.rep_cells.proofs.Reading.{shown}
+use Rattle.rep_cells.specs.Laws.{ImagesReadAsAllowed, PlacesReadAsShown}
 use Rattle.rep_versions.specs.Versions.{Kept}
 use Rattle.rep_log.specs.Moves.{fault_of}
 use Rattle.rep_pages.specs.declared.page.Page.{Page as PageBody}
@@ -29,40 +28,40 @@ use Rattle.rep_pages.specs.Slots.{state_of_page, spare_slot}
 use Rattle.rep_pages.specs.Pages.{IsPageBody, IsFirstRow, IsPage, PagesAreTold}
 use Rattle.rep_pages.specs.Images.{row_of, IsImage}
 use Rattle.rep_pool.specs.Pools.{Pooled, IsFree, PoolsGoOn}
-use Rattle.rep_pool.specs.BasePages.{IsBadPage, HasPage, GivesPage, IsPooled, GoesOn, GoesOnIf}
-use Rattle.rep_pool.proofs.Pages.{is_page}
+use Rattle.rep_pool.specs.BasePages.{HasPage, GivesPage, IsPooled, GoesOn, GoesOnIf, PagesArePlaces}
 use Rattle.rep_checkpoint.specs.Calls.{AreAt, WritesImage}
-use Rattle.rep_checkpoint.specs.Pages.{IsStable, AreRows, PutsPage, IsPageAt, MovesPage}
+use Rattle.rep_checkpoint.specs.Laws.{StableBasesAreRead}
+use Rattle.rep_checkpoint.specs.Pages.{AreRows, PutsPage, IsPageAt, MovesPage}
 use Rattle.rep_checkpoint.proofs.GoingOn.{writes_as, reaches_as}
 use Rattle.rep_checkpoint.proofs.Spelled.{not_bad}
 
 -- ---- a page of the base
 
--- what a page's place reads as, where its bytes are stable
-stable_reads : (l : Layout) (h : History) (b : SuperBody) (s : States) (number : ℕ) (slot : Slot) (body bytes : List ℕ) → IsSuper b → l ≡ layout_of b.params → Assigns l h s → state_of_page b number ≡ In slot → s (Page number slot) ≡ Stable body
-    → reading_of l (seen h) (Page number slot) ≡ Some bytes → bytes ≡ body
-stable_reads l h b s number slot body bytes super here assigns there is reads =
-    let place : IsPlace l (Page number slot) = subst (λ (k : Layout). IsPlace k (Page number slot)) (sym here) (is_page b super number slot there) in
-    let shows : Some bytes ≡ Some body = subst (λ (state : State). Shows state (Some bytes)) is (shown l h s (Page number slot) (Some bytes) assigns place (sym reads)) in
-    cc
+module _ (shown : PlacesReadAsShown) (places : PagesArePlaces) where
+  -- what a page's place reads as, where its bytes are stable
+  stable_reads : (l : Layout) (h : History) (b : SuperBody) (s : States) (number : ℕ) (slot : Slot) (body bytes : List ℕ) → IsSuper b → l ≡ layout_of b.params → Assigns l h s → state_of_page b number ≡ In slot → s (Page number slot) ≡ Stable body
+      → reading_of l (seen h) (Page number slot) ≡ Some bytes → bytes ≡ body
+  stable_reads l h b s number slot body bytes super here assigns there is reads =
+      let place : IsPlace l (Page number slot) = subst (λ (k : Layout). IsPlace k (Page number slot)) (sym here) (places b super number slot there) in
+      let shows : Some bytes ≡ Some body = sym reads ∙ subst (λ (state : State). Shows state (reading_of l (seen h) (Page number slot))) is (shown l h s (Page number slot) assigns place) in
+      cc
 
--- what is read of a base that stands
-module _ (told : PagesAreTold) (l : Layout) (h : History) (b : SuperBody) (s : States) (content : Key → Option (List ℕ)) (number : ℕ) (super : IsSuper b) (here : l ≡ layout_of b.params) (assigns : Assigns l h s) (have : IsStable b content s) where
-  -- is its content
-  pub read_rows : (page : PageBody) → HasPage (reading_of l (seen h)) b number page → AreRows b.params.rows number content page
-  read_rows page (inl is) key row there =
-      let stands = have.pages number is.slot is.there in
-      let same : is.body ≡ stands.0 = stable_reads l h b s number is.slot stands.0 is.body super here assigns is.there stands.1 is.shown in
-      let page_is : stands.2.page ≡ page = told b.params.rows stands.2.page page stands.0 stands.2.is_page (subst (IsPageBody b.params.rows page) same is.is_page) in
-      subst (AreRows b.params.rows number content) page_is stands.2.rows key row there
-  read_rows page (inr is) key row there = have.absent key row (ap (state_of_page b) there ∙ is.nowhere) ∙ sym (is.rows (row_place b.params.rows key).index)
-
-  -- and of the form
-  pub never_bad : IsBadPage (reading_of l (seen h)) b number → ⊥
-  never_bad bad =
-      let stands = have.pages number bad.slot bad.there in
-      let same : bad.body ≡ stands.0 = stable_reads l h b s number bad.slot stands.0 bad.body super here assigns bad.there stands.1 bad.shown in
-      bad.none stands.2.page (subst (IsPageBody b.params.rows stands.2.page) (sym same) stands.2.is_page) stands.2.is_it stands.2.earlier
+  -- what is read of a base that stands is its content, and of the form
+  pub stable_read : PagesAreTold → StableBasesAreRead
+  stable_read told = record {
+    rows = λ l h b s content number page super here assigns have has key row there. elim has [
+      | inl is ↦ (
+          let stands = have.pages number is.slot is.there in
+          let same : is.body ≡ stands.0 = stable_reads l h b s number is.slot stands.0 is.body super here assigns is.there stands.1 is.shown in
+          let page_is : stands.2.page ≡ page = told b.params.rows stands.2.page page stands.0 stands.2.is_page (subst (IsPageBody b.params.rows page) same is.is_page) in
+          subst (AreRows b.params.rows number content) page_is stands.2.rows key row there)
+      | inr is ↦ have.absent key row (ap (state_of_page b) there ∙ is.nowhere) ∙ sym (is.rows (row_place b.params.rows key).index)
+    ];
+    whole = λ l h b s content number super here assigns have bad.
+        let stands = have.pages number bad.slot bad.there in
+        let same : bad.body ≡ stands.0 = stable_reads l h b s number bad.slot stands.0 bad.body super here assigns bad.there stands.1 bad.shown in
+        bad.none stands.2.page (subst (IsPageBody b.params.rows stands.2.page) (sym same) stands.2.is_page) stands.2.is_it stands.2.earlier;
+  }
 
 -- ---- a page that is written elsewhere
 
@@ -71,9 +70,9 @@ same_moments h = record { later = omega arith; since = λ t image le since. inl 
 
 -- it wasn't read
 pub not_read :
-    {D : Type 0} → ImagesReadAsAllowed → PagesAreTold → (honest : D → Type 0) (history : D → History) (l : Layout) (b : SuperBody) (kept : Kept) (position number : ℕ) (old new : D) (pool : Pooled) (result : Result PageBody Refusal) (e : Refusal)
+    {D : Type 0} → ImagesReadAsAllowed → StableBasesAreRead → (honest : D → Type 0) (history : D → History) (l : Layout) (b : SuperBody) (kept : Kept) (position number : ℕ) (old new : D) (pool : Pooled) (result : Result PageBody Refusal) (e : Refusal)
     → IsSuper b → l ≡ layout_of b.params → IsPooled honest history b.params.rows l old pool → (honest old → history new ≡ history old) → GivesPage honest history l b number old pool result → result ≡ Err e → MovesPage {T = Unit {0}} honest history l b kept position number old new (Err e)
-not_read allowed told honest history l b kept position number old new pool result e super here pooled same gives is = record {
+not_read allowed stable_base honest history l b kept position number old new pool result e super here pooled same gives is = record {
   written = λ h. record { bytes = replicate 4096 0; size = length-replicate {A = ℕ} 4096 0; writes = record { done = tt; failed = inl (same h) } };
   puts = λ h s x y assigns have at. record {
     states = s;
@@ -85,7 +84,7 @@ not_read allowed told honest history l b kept position number old new pool resul
       moments = subst (λ (k : History). LeavesOnly (history old) k (IsImageOf k)) (sym (same h)) (same_moments (history old));
     };
   };
-  whole = λ h s content assigns have f. never_bad told l (history old) b s content number super here assigns have ((gives h (pooled h)).corrupt (is ∙ ap Err (same_error f)));
+  whole = λ h s content assigns have f. stable_base.whole l (history old) b s content number super here assigns have ((gives h (pooled h)).corrupt (is ∙ ap Err (same_error f)));
   spelled = λ h readable. record {
     done = tt;
     bad = λ bad. refl;
@@ -121,10 +120,10 @@ never_corrupt (Ok x) only e = absurd cc
 never_corrupt (Err e) only f = absurd cc
 
 pub moved :
-    {D : Type 0} → PagesAreTold → (honest : D → Type 0) (history : D → History) (l : Layout) (b : SuperBody) (kept : Kept) (position number : ℕ) (old mid new : D) (pool : Pooled) (read : Result PageBody Refusal) (was page : PageBody) (result : Result (Unit {0}) Refusal)
+    {D : Type 0} → StableBasesAreRead → (honest : D → Type 0) (history : D → History) (l : Layout) (b : SuperBody) (kept : Kept) (position number : ℕ) (old mid new : D) (pool : Pooled) (read : Result PageBody Refusal) (was page : PageBody) (result : Result (Unit {0}) Refusal)
     → IsSuper b → l ≡ layout_of b.params → IsPooled honest history b.params.rows l old pool → (honest old → honest mid) → (honest old → history mid ≡ history old) → was.number ≡ number → GivesPage honest history l b number old pool read → read ≡ Ok was → IsImage b.params.rows kept position was page
     → PutsPage honest history l b page (spare_slot (state_of_page b page.number)) mid new (fault_of result) → IfErr result (λ e. e ≡ DiskFault) → MovesPage honest history l b kept position number old new result
-moved {D} told honest history l b kept position number old mid new pool read was page result super here pooled stays same is_it gives is image puts only =
+moved {D} stable_base honest history l b kept position number old mid new pool read was page result super here pooled stays same is_it gives is image puts only =
     let number_is : page.number ≡ number = image.number ∙ is_it in
     let has : honest old → HasPage (reading_of l (seen (history old))) b number was = λ h.
     subst (λ (r : Result PageBody Refusal). IfOk r (HasPage (reading_of l (seen (history old))) b number)) is (gives h (pooled h)).page in
@@ -140,7 +139,7 @@ moved {D} told honest history l b kept position number old mid new pool read was
           record {
             states = step.after;
             elsewhere = step.moves.elsewhere;
-            there = all_ok result (puts.bytes, step.moves.there, page_at b kept position number x y was page puts.bytes is_it (read_rows told l (history old) b s x number super here assigns have was (has h)) at image puts.is_page);
+            there = all_ok result (puts.bytes, step.moves.there, page_at b kept position number x y was page puts.bytes is_it (stable_base.rows l (history old) b s x number was super here assigns have (has h)) at image puts.is_page);
             reaches = reaches_as l (history old) (history new) step.after step.after result step.reaches;
           };
       whole = λ h s content assigns have. never_corrupt result only;

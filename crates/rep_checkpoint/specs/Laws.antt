@@ -1,16 +1,19 @@
 -- What follows from how a checkpoint stands.
-use Rattle.std.specs.Prelude.{◌≡◌, ◌≢◌, ◌⊎◌, ℕ, Bool, false, is_some, List}
+use Rattle.std.specs.Prelude.{◌≡◌, ◌≢◌, ◌⊎◌, ℕ, Bool, false, is_some, List, Option}
+use Rattle.rep_types.specs.declared.key.Key.{Key}
 use Rattle.rep_types.specs.declared.judged.Judged.{Judged}
 use Rattle.rep_types.specs.Order.{State}
 use Rattle.rep_types.specs.Entries.{Entry}
+use Rattle.rep_disk.specs.History.{History, seen}
 use Rattle.rep_layout.specs.declared.super_body.SuperBody.{SuperBody}
 use Rattle.rep_layout.specs.declared.place.Layout.{Layout}
 use Rattle.rep_layout.specs.declared.place.Place.{Place}
 use Rattle.rep_layout.specs.declared.place.Place.TheVariants.{Super, Log}
 use Rattle.rep_layout.specs.Places.{layout_of}
+use Rattle.rep_layout.specs.Supers.{IsSuper}
 use Rattle.rep_cells.specs.Readings.{Reading, reading_of}
 use Rattle.rep_cells.specs.States.{States, Allowed}
-use Rattle.rep_cells.specs.Known.{found}
+use Rattle.rep_cells.specs.Known.{Assigns, found}
 use Rattle.rep_pages.specs.declared.page.Page.{Page as PageBody}
 use Rattle.rep_pages.specs.Rows.{row_at}
 use Rattle.rep_log.specs.Standing.{Standing as LogStanding, LogIs}
@@ -24,6 +27,7 @@ use Rattle.rep_checkpoint.specs.Next.{Next}
 use Rattle.rep_checkpoint.specs.Standing.{Standing, spare_side, stage_of}
 use Rattle.rep_checkpoint.specs.Moves.{begun, flushed, gone_on, after_sync, is_opening, found_at, next_refusal_at}
 use Rattle.rep_checkpoint.specs.States.{CheckpointIs}
+use Rattle.rep_checkpoint.specs.Pages.{IsStable, AreRows}
 use Rattle.rep_pool.specs.BasePages.{IsBadPage, HasPage}
 
 -- ---- what an image has as its base
@@ -85,3 +89,10 @@ pub record TheStageIsTheFacts : Type 0 where
 pub record BytesTellThePage : Type 0 where
   pub none : (r : Reading) (b : SuperBody) (number : ℕ) (page : PageBody) → HasPage r b number page → IsBadPage r b number → ⊥
   pub rows : (r : Reading) (b : SuperBody) (number : ℕ) (page other : PageBody) → HasPage r b number page → HasPage r b number other → (index : ℕ) → row_at page.rows index ≡ row_at other.rows index
+
+-- What is read of a base that stands is its content: a page that the bytes have has its rows, and none is bad.
+pub record StableBasesAreRead : Type 0 where
+  pub rows : (l : Layout) (h : History) (b : SuperBody) (s : States) (content : Key → Option (List ℕ)) (number : ℕ) (page : PageBody) → IsSuper b → l ≡ layout_of b.params → Assigns l h s → IsStable b content s
+      → HasPage (reading_of l (seen h)) b number page → AreRows b.params.rows number content page
+  pub whole : (l : Layout) (h : History) (b : SuperBody) (s : States) (content : Key → Option (List ℕ)) (number : ℕ) → IsSuper b → l ≡ layout_of b.params → Assigns l h s → IsStable b content s
+      → IsBadPage (reading_of l (seen h)) b number → ⊥

@@ -19,11 +19,12 @@ ghost use Rattle.rep_checkpoint.specs.Pages.{PutsPage, MovesPage};
 
 use crate::checkpoint::Checkpoint;
 use crate::going::is_here;
+use crate::laws::stable_bases_are_read;
 use crate::stage::{Part, Stage, is_in};
 use rep_cells::{Cells, images_read_as_allowed, refusal_of};
 use rep_disk::Disk;
 use rep_layout::{Layout, Place, SuperBody, row_places_are_told};
-use rep_pages::{Page, pages_are_told, spare_of};
+use rep_pages::{Page, spare_of};
 use rep_pool::{Pool, pools_go_on};
 use rep_types::Refusal;
 use rep_versions::Versions;
@@ -70,7 +71,7 @@ fn move_page<D: Disk>(
     ensures refused { IfErr result (λ e. (e ≡ DiskFault) ⊎ (e ≡ Corrupt Pages)) }
 {
     images_read_as_allowed();
-    pages_are_told();
+    stable_bases_are_read();
     pools_go_on();
     let old = match pool.take_page(cells, base, number) {
         Ok(page) => page,

@@ -1,15 +1,17 @@
 //! Laws of the checkpoint, each as the contract of a function that does nothing.
 
 ghost use Rattle.rep_checkpoint.specs.Nodes.{NodesLeaveTheirEnds, NodesLeaveTheirFronts, NodesSettle, VersionsLeadToTheState};
-ghost use Rattle.rep_checkpoint.specs.Laws.{TheBaseInEveryImage, TheBaseStandsStill, TheBaseIsFound, TheLogIsApart, TheCheckpointIsApart, TheStageIsTheFacts, BytesTellThePage};
+ghost use Rattle.rep_checkpoint.specs.Laws.{TheBaseInEveryImage, TheBaseStandsStill, TheBaseIsFound, TheLogIsApart, TheCheckpointIsApart, TheStageIsTheFacts, BytesTellThePage, StableBasesAreRead};
 ghost use Rattle.rep_checkpoint.specs.Windows.{WindowsGoOn};
 ghost use Rattle.rep_checkpoint.specs.Installing.{InstallationsSettle, TheOldBaseOrTheSnapshot};
 ghost use Rattle.rep_checkpoint.specs.Arriving.{InstallationsLeaveTheOldOrTheNew, InstallationsMakeTheNode, InstallationsCanBeDropped, InstallationsStandBeside};
 
+use rep_cells::places_read_as_shown;
 use rep_image::{logs_end_in_their_node, the_synced_log_is_the_facts};
 use rep_layout::{row_places_are_told, turns_are_taken};
 use rep_log::the_log_in_every_image;
 use rep_pages::pages_are_told;
+use rep_pool::pages_are_places;
 use rep_steps::judging_goes_on;
 use rep_versions::versions_follow_the_items;
 
@@ -101,6 +103,15 @@ pub fn windows_go_on()
 pub fn the_bytes_tell_the_page()
     ensures { BytesTellThePage }
 {
+    pages_are_told();
+}
+
+/// What is read of a base that stands is its content: a page that the bytes have has its rows, and none is bad.
+pub fn stable_bases_are_read()
+    ensures { StableBasesAreRead }
+{
+    places_read_as_shown();
+    pages_are_places();
     pages_are_told();
 }
 

@@ -6,21 +6,20 @@ use Rattle.std.proofs.lemmas.Bool.Decides.{nat_tests}
 use Rattle.rep_types.specs.declared.judged.Judged.{Judged}
 use Rattle.rep_types.specs.declared.refusal.Refusal.{Refusal}
 use Rattle.rep_types.specs.declared.refusal.Part.TheVariants.{Log as in_log}
-use Rattle.rep_record.specs.Blocks.{Contents, IsBlock, block_bytes, contents, BlocksAreTold}
+use Rattle.rep_record.specs.Blocks.{Contents, IsBlock, block_bytes, contents}
 use Rattle.rep_disk.specs.History.{History, seen, stable, IsImage}
 use Rattle.rep_layout.specs.declared.place.Layout.{Layout}
 use Rattle.rep_layout.specs.declared.place.Place.{Place}
 use Rattle.rep_layout.specs.declared.super_body.SuperBody.{SuperBody}
-use Rattle.rep_layout.specs.Places.{log_of, layout_of, TurnsAreTaken}
+use Rattle.rep_layout.specs.Places.{log_of, layout_of}
 use Rattle.rep_layout.specs.Supers.{IsSuper}
 use Rattle.rep_cells.specs.Readings.{reading_of}
-use Rattle.rep_cells.specs.States.{States, Allows, IsSure, Shows as ShowsAs}
+use Rattle.rep_cells.specs.States.{States, IsSure, Shows as ShowsAs}
 use Rattle.rep_cells.specs.Known.{Assigns, IsReadable}
 use Rattle.rep_cells.specs.Laws.{ImagesReadAsAllowed}
 use Rattle.rep_log.specs.Standing.{StandsOpen}
-use Rattle.rep_log.specs.Tail.{Stand, Shows}
-use Rattle.rep_log.proofs.Blocks.{stand_moved}
-use Rattle.rep_log.proofs.Told.{begins}
+use Rattle.rep_log.specs.Tail.{Stand}
+use Rattle.rep_log.specs.Laws.{OpenBlocksAreShown, TheLogIsTold}
 use Rattle.rep_steps.specs.Nodes.{Node}
 use Rattle.rep_engine.specs.Engines.{Engine, IsEngine}
 use Rattle.rep_engine.specs.Holding.{Stands, Holds}
@@ -34,11 +33,11 @@ pub is_within : (index count : ℕ) → index < count → true ≡ nat_lt index 
 is_within index count below = sym (grind (arith, nat_tests, below))
 
 -- Two lists of blocks that stand in one image are one, if they are equally long; and what is stable is an image.
-pub tail_told : BlocksAreTold → TheTailIsTold
+pub tail_told : TheLogIsTold → TheTailIsTold
 tail_told told = λ n l h base log a b is other.
     let image : IsImage h (stable h) = record { sized = refl; outside = λ k apart. refl } in
     let same : length a ≡ length b = omega (arith, is.count, other.count) in
-    let front = begins told (reading_of l (stable h)) l log.start (base.position + 1) a b (omega (arith, same)) (is.stand (stable h) image) (other.stand (stable h) image) in
+    let front = told.begins (reading_of l (stable h)) l log.start (base.position + 1) a b (omega (arith, same)) (is.stand (stable h) image) (other.stand (stable h) image) in
     sym front ∙ ap (λ k. take k b) same ∙ take_all (length b) b (omega arith)
 
 -- The block of this index stands where blocks of its number do.
@@ -76,13 +75,12 @@ module _ {D : Type 0} (honest : D → Type 0) (history : D → History) (within 
     live = subst (λ (l : Layout). Stand (StandsOpen there.states l) within.log.start (within.checkpoint.base.position + 1) there.blocks) (sym engine.layout) there.stands.log_is.live
 
     -- The blocks that it has open are those behind its node's base, in every image.
-    tail : ImagesReadAsAllowed → TurnsAreTaken → IsTail n within.layout (history within.disk) within.checkpoint.base within.log there.blocks
-    tail allowed turns = record {
+    tail : ImagesReadAsAllowed → OpenBlocksAreShown → IsTail n within.layout (history within.disk) within.checkpoint.base within.log there.blocks
+    tail allowed shown_open = record {
       items = there.stands.durable;
       count = there.stands.log_is.next;
-      stand = λ image here. stand_moved (StandsOpen there.states within.layout) (Shows (reading_of within.layout image) within.layout) within.log.start (within.checkpoint.base.position + 1) there.blocks
-          (λ m bytes from to opened. subst (λ state. Allows state (reading_of within.layout image (log_of within.layout m))) opened
-          (allowed within.layout (history within.disk) there.states image there.assigns here (log_of within.layout m) (turns.cells within.layout m (some_cell within.layout within.checkpoint.base engine.checkpoint.is_super engine.layout)))) live;
+      stand = λ image here. shown_open within.layout there.states (reading_of within.layout image) within.log.start (within.checkpoint.base.position + 1) there.blocks
+          (some_cell within.layout within.checkpoint.base engine.checkpoint.is_super engine.layout) (allowed within.layout (history within.disk) there.states image there.assigns here) live;
     }
 
     -- What is read is that of this index.
@@ -94,11 +92,11 @@ module _ {D : Type 0} (honest : D → Type 0) (history : D → History) (within 
         only (get_or there.blocks index []) block
         (subst (λ state. ShowsAs state body) opened (shown before.is_honest there.states there.assigns (subst IsSure (sym opened) tt)))
 
-    pub tail_block : ImagesReadAsAllowed → TurnsAreTaken → (b : Contents) → result ≡ Ok b → IsTailBlock n old.layout (history old.disk) old.checkpoint.base old.log index b.records
-    tail_block allowed turns b gave =
+    pub tail_block : ImagesReadAsAllowed → OpenBlocksAreShown → (b : Contents) → result ≡ Ok b → IsTailBlock n old.layout (history old.disk) old.checkpoint.base old.log index b.records
+    tail_block allowed shown_open b gave =
         let here : contents number (get_or there.blocks index []) ≡ b = cc (read, gave) in
         subst (λ (e : Engine D). IsTailBlock n e.layout (history e.disk) e.checkpoint.base e.log index b.records) is
-        (record { blocks = there.blocks; tail = tail allowed turns; here = sym (ap (λ (x : Contents). x.records) here) })
+        (record { blocks = there.blocks; tail = tail allowed shown_open; here = sym (ap (λ (x : Contents). x.records) here) })
 
     -- It is never refused.
     pub tail_whole : (e : Refusal) → result ≡ Err e → ⊥

@@ -19,13 +19,13 @@ use Rattle.rep_cells.specs.Readings.{Reading, reading_of}
 use Rattle.rep_cells.specs.States.{States, IsSure, Shows}
 use Rattle.rep_cells.specs.Known.{Assigns, IsReadable}
 use Rattle.rep_pages.specs.declared.page.Page.{Page as PageBody}
-use Rattle.rep_pages.specs.Pages.{IsPage, PagesAreTold}
+use Rattle.rep_pages.specs.Pages.{IsPage}
 use Rattle.rep_pages.specs.Slots.{state_of_page}
 use Rattle.rep_pool.specs.BasePages.{HasPage, IsPageAsSpelled}
 use Rattle.rep_log.specs.declared.phase.Phase.{Phase}
 use Rattle.rep_log.specs.Moves.{fault_of}
 use Rattle.rep_steps.specs.Nodes.{Node}
-use Rattle.rep_checkpoint.proofs.Reading.{read_rows, never_bad}
+use Rattle.rep_checkpoint.specs.Laws.{StableBasesAreRead}
 use Rattle.rep_engine.specs.Engines.{Engine, IsEngine}
 use Rattle.rep_engine.specs.Holding.{Stands, Holds}
 use Rattle.rep_engine.specs.Reading.{halted_by}
@@ -63,20 +63,20 @@ module _ {D : Type 0} (honest : D → Type 0) (history : D → History) (failure
       (cc (body, ap (λ (x : SuperBody). window_bytes (window x.number x.position n.base.kept.entries)) b_is))
 
   -- What is read of a page is the base's, and it is never corrupt.
-  module _ (told : PagesAreTold) (number : ℕ) (b : SuperBody) (b_is : b ≡ within.checkpoint.base) where
+  module _ (stable : StableBasesAreRead) (number : ℕ) (b : SuperBody) (b_is : b ≡ within.checkpoint.base) where
     page_read : (page : PageBody) → page.number ≡ number → IsPageAsSpelled (reading_of within.layout (seen (history within.disk))) b number (Ok page) → IsBasePage old.checkpoint.base n.base.content number page
     page_read page number_is spelled =
         let here = subst (λ (x : SuperBody). IsPageAsSpelled (reading_of within.layout (seen (history within.disk))) x number (Ok page)) b_is spelled in
         subst (λ (e : Engine D). IsBasePage e.checkpoint.base n.base.content number page) is (record {
           is_it = number_is;
           form = page_form (reading_of within.layout (seen (history within.disk))) within.checkpoint.base number page here.page;
-          rows = read_rows told within.layout (history within.disk) within.checkpoint.base there.states n.base.content number engine.checkpoint.is_super engine.layout there.assigns there.stands.checkpoint.base.content page here.page;
+          rows = stable.rows within.layout (history within.disk) within.checkpoint.base there.states n.base.content number page engine.checkpoint.is_super engine.layout there.assigns there.stands.checkpoint.base.content here.page;
         })
 
     page_whole : IsPageAsSpelled (reading_of within.layout (seen (history within.disk))) b number (Err (Corrupt in_pages)) → ⊥
     page_whole spelled =
         let here = subst (λ (x : SuperBody). IsPageAsSpelled (reading_of within.layout (seen (history within.disk))) x number (Err (Corrupt in_pages))) b_is spelled in
-        never_bad told within.layout (history within.disk) within.checkpoint.base there.states n.base.content number engine.checkpoint.is_super engine.layout there.assigns there.stands.checkpoint.base.content (here.corrupt refl)
+        stable.whole within.layout (history within.disk) within.checkpoint.base there.states n.base.content number engine.checkpoint.is_super engine.layout there.assigns there.stands.checkpoint.base.content (here.corrupt refl)
 
 -- ---- as the bytes have it, whatever stands on the device
 
@@ -143,7 +143,7 @@ pub record GivesPage {D : Type 0} (size failures : D → ℕ) (honest : D → Ty
   pub spelled : honest old.disk → IsBasePageAsSpelled (reading_of old.layout (seen (history old.disk))) old.checkpoint.base number result in_pages
 
 module _ {D : Type 0} (size failures : D → ℕ) (honest : D → Type 0) (history : D → History) (within old : Engine D) (is : within ≡ old) (engine : IsEngine within.layout within.checkpoint within.log within.kept within.block) (runs : within.halted ≡ None)
-    (told : PagesAreTold) (number : ℕ) (b : SuperBody) (b_is : b ≡ within.checkpoint.base) (slot : Slot) (there : In slot ≡ state_of_page b number) (disk : D) (l : Layout) (layout : l ≡ within.layout) (same : honest within.disk → history disk ≡ history within.disk) (halted : Option Phase) where
+    (stable : StableBasesAreRead) (number : ℕ) (b : SuperBody) (b_is : b ≡ within.checkpoint.base) (slot : Slot) (there : In slot ≡ state_of_page b number) (disk : D) (l : Layout) (layout : l ≡ within.layout) (same : honest within.disk → history disk ≡ history within.disk) (halted : Option Phase) where
   abbrev new : Engine D
   new = record within { disk = disk; layout = l; halted = halted }
 
@@ -161,7 +161,7 @@ module _ {D : Type 0} (size failures : D → ℕ) (honest : D → Type 0) (histo
     asks = asks_by size failures honest history in_pages within old disk l halted (Ok (Some page)) is runs layout call same by tt;
     none = ((λ none. absurd cc), λ nowhere. absurd (never nowhere));
     holds = λ n holds other. stays call by n holds;
-    page = λ n holds. page_read honest history failures within old is engine runs n holds told number b b_is page number_is (spelled holds.is_honest);
+    page = λ n holds. page_read honest history failures within old is engine runs n holds stable number b b_is page number_is (spelled holds.is_honest);
     absent = λ n holds on nowhere. absurd (never nowhere);
     whole = λ n holds corrupt. absurd cc;
     spelled = λ honest_is. page_given honest history within old is number b b_is page (spelled honest_is);
@@ -175,6 +175,6 @@ module _ {D : Type 0} (size failures : D → ℕ) (honest : D → Type 0) (histo
     ];
     page = λ n holds. tt;
     absent = λ n holds on nowhere. absurd (never nowhere);
-    whole = λ n holds corrupt. (let same_one : e ≡ Corrupt in_pages = cc in page_whole honest history failures within old is engine runs n holds told number b b_is (subst (λ (r : Refusal). IsPageAsSpelled (reading_of within.layout (seen (history within.disk))) b number (Err r)) same_one (spelled holds.is_honest)));
+    whole = λ n holds corrupt. (let same_one : e ≡ Corrupt in_pages = cc in page_whole honest history failures within old is engine runs n holds stable number b b_is (subst (λ (r : Refusal). IsPageAsSpelled (reading_of within.layout (seen (history within.disk))) b number (Err r)) same_one (spelled holds.is_honest)));
     spelled = λ honest_is. page_refused honest history within old is number b b_is e (spelled honest_is);
   }

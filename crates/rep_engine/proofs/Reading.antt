@@ -21,7 +21,6 @@ use Rattle.rep_cells.specs.Readings.{reading_of}
 use Rattle.rep_cells.specs.States.{States, Stable}
 use Rattle.rep_cells.specs.Known.{Assigns}
 use Rattle.rep_pages.specs.declared.page.Page.{Page as PageBody}
-use Rattle.rep_pages.specs.Pages.{PagesAreTold}
 use Rattle.rep_pages.specs.Rows.{row_at}
 use Rattle.rep_pool.specs.BasePages.{IsPageAsSpelled, row_of_page, IsRowOfPage}
 use Rattle.rep_versions.specs.declared.versions.At.{At}
@@ -36,7 +35,7 @@ use Rattle.rep_steps.specs.Nodes.{Node, Steps, NodesStayNodes, state_at}
 use Rattle.rep_steps.specs.Images.{AreJudgedFrom}
 use Rattle.rep_image.specs.Bases.{HaveContent}
 use Rattle.rep_checkpoint.specs.Nodes.{VersionsLeadToTheState}
-use Rattle.rep_checkpoint.proofs.Reading.{read_rows, never_bad}
+use Rattle.rep_checkpoint.specs.Laws.{StableBasesAreRead}
 use Rattle.rep_engine.specs.Engines.{Engine, facts_of}
 use Rattle.rep_engine.specs.Holding.{Stands, Holds, row}
 use Rattle.rep_engine.specs.Reading.{ReadsRow, halted_by}
@@ -58,18 +57,18 @@ place_of rows key place same found is = by (has_row rows key) refl (subst (λ (s
 
 -- what is read of a base that stands
 pub row_of_base :
-    PagesAreTold → (l : Layout) (h : History) (b : SuperBody) (s : States) (content : Key → Option (List ℕ)) (key : Key) (place : RowPlace) (result : Result (Option (List ℕ)) Refusal)
+    StableBasesAreRead → (l : Layout) (h : History) (b : SuperBody) (s : States) (content : Key → Option (List ℕ)) (key : Key) (place : RowPlace) (result : Result (Option (List ℕ)) Refusal)
     → IsSuper b → l ≡ layout_of b.params → Assigns l h s → HaveContent b (λ number slot body. s (Page number slot) ≡ Stable body) content → IsRow b.params.rows key → place ≡ row_place b.params.rows key → IsRowOfPage (reading_of l (seen h)) b place.page place.index result
     → IfOk result (λ value. value ≡ content key) × (result ≢ Err (Corrupt Pages))
-row_of_base told l h b s content key place result super here assigns have inside at row = by row.page row.spelled row.row
+row_of_base stable l h b s content key place result super here assigns have inside at row = by row.page row.spelled row.row
   where
     by : (page : Result PageBody Refusal) → IsPageAsSpelled (reading_of l (seen h)) b place.page page → result ≡ row_of_page place.index page → IfOk result (λ value. value ≡ content key) × (result ≢ Err (Corrupt Pages))
     by (Ok page) spelled is =
-        let rows = read_rows told l h b s content place.page super here assigns have page spelled.page in
+        let rows = stable.rows l h b s content place.page page super here assigns have spelled.page in
         let value : row_at page.rows place.index ≡ content key = ap (λ (p : RowPlace). row_at page.rows p.index) at ∙ sym (rows key inside (sym (ap (λ (p : RowPlace). p.page) at))) in
         subst (λ (r : Result (Option (List ℕ)) Refusal). IfOk r (λ row. row ≡ content key) × (r ≢ Err (Corrupt Pages))) (sym is) (value, λ e. absurd cc)
     by (Err e) spelled is =
-        subst (λ (r : Result (Option (List ℕ)) Refusal). IfOk r (λ row. row ≡ content key) × (r ≢ Err (Corrupt Pages))) (sym is) (tt, λ f. never_bad told l h b s content place.page super here assigns have (spelled.corrupt (as_page f)))
+        subst (λ (r : Result (Option (List ℕ)) Refusal). IfOk r (λ row. row ≡ content key) × (r ≢ Err (Corrupt Pages))) (sym is) (tt, λ f. stable.whole l h b s content place.page super here assigns have (spelled.corrupt (as_page f)))
       where
         as_page : ◌≡◌ {A = Result (Option (List ℕ)) Refusal} (Err e) (Err (Corrupt Pages)) → ◌≡◌ {A = Result PageBody Refusal} (Err e) (Err (Corrupt Pages))
         as_page f = cc

@@ -12,7 +12,9 @@ use Rattle.rep_record.specs.Blocks.{SeqnosFrom}
 use Rattle.rep_record.specs.Fronts.{fitting}
 use Rattle.rep_disk.specs.History.{History}
 use Rattle.rep_layout.specs.declared.place.Layout.{Layout}
+use Rattle.rep_layout.specs.declared.place.Place.{Place}
 use Rattle.rep_layout.specs.Places.{layout_of}
+use Rattle.rep_cells.specs.Known.{IsReadable}
 use Rattle.rep_versions.specs.Versions.{Kept, Version, version_at, coded_version_key}
 use Rattle.rep_pool.specs.Pools.{Pooled}
 use Rattle.rep_pool.specs.BasePages.{IsPooled}
@@ -37,6 +39,10 @@ pub record Engine (D : Type 0) : Type 0 where
 -- While the device has not failed, the pool agrees with it, if it is honest.
 abbrev pub PoolAgrees : {D : Type 0} → (D → Type 0) → (D → History) → Layout → Checkpoint → D → Option Phase → Pooled → Type 0
 PoolAgrees honest history l c disk halted pages = halted ≡ None → IsPooled honest history c.base.params.rows l disk pages
+
+-- No write that failed lies in any place.
+abbrev pub AreReadable : Layout → History → Type 0
+AreReadable l h = (place : Place) → IsReadable l h place
 
 -- as numbers
 abbrev pub Rest : Type 0

@@ -7,24 +7,21 @@ ghost use Rattle.rep_types.specs.declared.refusal.Part.TheVariants.{Log as in_lo
 ghost use Rattle.rep_types.specs.Entries.{Entry};
 ghost use Rattle.rep_record.specs.Blocks.{IsBlock, block_bytes, contents};
 ghost use Rattle.rep_disk.specs.History.{seen};
-ghost use Rattle.rep_layout.specs.declared.page_state.PageState.TheVariants.{Nowhere};
-ghost use Rattle.rep_layout.specs.declared.place.Place.TheVariants.{Window as in_window_area};
-ghost use Rattle.rep_layout.specs.Places.{log_of, side_of};
 ghost use Rattle.rep_layout.specs.Windows.{window, window_bytes, IsWindowBody};
-ghost use Rattle.rep_cells.specs.Readings.{reading_of};
-ghost use Rattle.rep_cells.specs.Known.{IsReadable};
+ghost use Rattle.rep_layout.specs.declared.page_state.PageState.TheVariants.{Nowhere};
 ghost use Rattle.rep_pages.specs.Slots.{state_of_page};
+ghost use Rattle.rep_cells.specs.Readings.{reading_of};
 ghost use Rattle.rep_steps.specs.Nodes.{Node};
 ghost use Rattle.rep_engine.specs.Holding.{Holds};
 ghost use Rattle.rep_engine.specs.Donating.{Asks, IsTailBlock, IsBlockAsSpelled, IsBasePage, HasNoRow, IsWindowAsSpelled, IsBasePageAsSpelled};
 
 use crate::engine::{Engine, halted_by};
 use rep_cells::images_read_as_allowed;
+use rep_checkpoint::stable_bases_are_read;
 use rep_disk::Disk;
-use rep_layout::{
-    LOG_BODY, PageState, Place, Side, SuperBody, WINDOW_BODY, WindowReader, turns_are_taken,
-};
-use rep_pages::{Page, pages_are_told, slot_of};
+use rep_layout::{LOG_BODY, PageState, Place, Side, SuperBody, WINDOW_BODY, WindowReader};
+use rep_log::open_blocks_are_shown;
+use rep_pages::{Page, slot_of};
 use rep_record::{BlockReader, read_block};
 use rep_types::{Part, Refusal};
 
@@ -78,12 +75,12 @@ impl<D: Disk> Engine<D> {
         ensures holds { (n : Node) → Holds D.honest D.history D.failures n self.old → result ≢ Err Refusal.DiskFault → Holds D.honest D.history D.failures n self.new }
         ensures block { (n : Node) → Holds D.honest D.history D.failures n self.old → IfOk result (λ found. IfSome found (λ b. IsTailBlock n self.old.layout (D.history self.old.disk) self.old.checkpoint.base self.old.log index b.records)) }
         ensures whole { (n : Node) → Holds D.honest D.history D.failures n self.old → result ≢ Err (Corrupt in_log) }
-        // Whatever stands on an honest device: its bytes decide, where no write failed in the block's cell.
-        ensures spelled { D.honest self.old.disk → IsReadable self.old.layout (D.history self.old.disk) (log_of self.old.layout (self.old.log.start + index)) → IsBlockAsSpelled (reading_of self.old.layout (seen (D.history self.old.disk))) self.old.layout (self.old.log.start + index) result in_log }
+        // Whatever stands on an honest device: its bytes decide.
+        ensures spelled { D.honest self.old.disk → IsBlockAsSpelled (reading_of self.old.layout (seen (D.history self.old.disk))) self.old.layout (self.old.log.start + index) result in_log }
     {
         self.running()?;
         images_read_as_allowed();
-        turns_are_taken();
+        open_blocks_are_shown();
         let first = self.log.start();
         if index >= self.log.next() - first {
             return Ok(None);
@@ -115,8 +112,8 @@ impl<D: Disk> Engine<D> {
         ensures holds { (n : Node) → Holds D.honest D.history D.failures n self.old → result ≢ Err Refusal.DiskFault → Holds D.honest D.history D.failures n self.new }
         ensures window { (n : Node) → Holds D.honest D.history D.failures n self.old → IfOk result (λ w. w.entries ≡ n.base.kept.entries) }
         ensures whole { (n : Node) → Holds D.honest D.history D.failures n self.old → result ≢ Err (Corrupt in_window) }
-        // Whatever stands on an honest device: its bytes decide, where no write failed in the window's area.
-        ensures spelled { D.honest self.old.disk → IsReadable self.old.layout (D.history self.old.disk) (in_window_area (side_of self.old.checkpoint.base.number)) → IsWindowAsSpelled (reading_of self.old.layout (seen (D.history self.old.disk))) self.old.checkpoint.base result in_window }
+        // Whatever stands on an honest device: its bytes decide.
+        ensures spelled { D.honest self.old.disk → IsWindowAsSpelled (reading_of self.old.layout (seen (D.history self.old.disk))) self.old.checkpoint.base result in_window }
     {
         self.running()?;
         let base = self.checkpoint.base();
@@ -155,7 +152,7 @@ impl<D: Disk> Engine<D> {
         ensures spelled { D.honest self.old.disk → IsBasePageAsSpelled (reading_of self.old.layout (seen (D.history self.old.disk))) self.old.checkpoint.base page result in_pages }
     {
         self.running()?;
-        pages_are_told();
+        stable_bases_are_read();
         let base = self.checkpoint.base();
         let PageState::In(_) = slot_of(base, page) else {
             return Ok(None);

@@ -13,7 +13,7 @@ ghost use Rattle.rep_steps.specs.Moves.{Moves};
 ghost use Rattle.rep_steps.specs.Nodes.{Node, Steps};
 ghost use Rattle.rep_steps.specs.Images.{IsFrontAt};
 ghost use Rattle.rep_image.specs.Meanings.{Means};
-ghost use Rattle.rep_engine.specs.Engines.{IsEngine, facts_of, phase_at, durable_of, gtid_of};
+ghost use Rattle.rep_engine.specs.Engines.{IsEngine, AreReadable, facts_of, phase_at, durable_of, gtid_of};
 ghost use Rattle.rep_log.specs.Standing.{due_of};
 ghost use Rattle.rep_log.specs.Moves.{after_sync, started, fault_of, SyncsLog, StartsLater};
 ghost use Rattle.rep_checkpoint.specs.Moves.{after_sync as checkpoint_after, is_opening};
@@ -135,6 +135,8 @@ impl<D: Disk> Engine<D> {
     pub(crate) fn running(&self) -> Result<(), Refusal>
         ensures runs { OnOk result (self.now.halted ≡ None) }
         ensures stopped { IfErr result (λ e. (e ≡ Stopped) × (is_some self.now.halted ≡ true)) }
+        // An honest device can be read in each place: none of its writes failed.
+        ensures readable { OnOk result (D.honest self.now.disk → AreReadable self.now.layout (D.history self.now.disk)) }
         // What holds of every engine.
         ensures engine { IsEngine self.now.layout self.now.checkpoint self.now.log self.now.kept self.now.block }
     {

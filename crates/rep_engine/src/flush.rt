@@ -13,7 +13,6 @@ ghost use Rattle.rep_steps.specs.Nodes.{Node, Steps};
 ghost use Rattle.rep_image.specs.Meanings.{Means};
 ghost use Rattle.rep_checkpoint.specs.Moves.{flush_refusal, position_in};
 ghost use Rattle.rep_checkpoint.specs.Calls.{IsRefused, Flushes, FlushesAsSpelled};
-ghost use Rattle.rep_pool.specs.BasePages.{IsPageReadable};
 ghost use Rattle.rep_engine.specs.Engines.{facts_of};
 ghost use Rattle.rep_engine.specs.Holding.{Holds, wrote};
 ghost use Rattle.rep_engine.specs.Reading.{halted_by};
@@ -59,8 +58,8 @@ impl<D: Disk> Engine<D> {
         ensures moves { Moves (facts_of D.failures self.old) (to_flush page) (wrote result) (facts_of D.failures self.new) }
         ensures steps { (n : Node) → Holds D.honest D.history D.failures n self.old → (m : Node) × Steps n (to_flush page) (wrote result) m × Holds D.honest D.history D.failures m self.new }
         ensures leaves { (n : Node) → Holds D.honest D.history D.failures n self.old → LeavesOnly (D.history self.old.disk) (D.history self.new.disk) (IsFrontAt Means n) }
-        // Whatever stands on an honest device: its bytes decide, where no write failed in the base's slot of the page.
-        ensures spelled { D.honest self.old.disk → IsPageReadable self.old.layout (D.history self.old.disk) self.old.checkpoint.base page → FlushesAsSpelled self.old.layout self.old.checkpoint.base self.old.kept (position_in self.old.checkpoint.stage) page (D.history self.old.disk) (D.history self.new.disk) result }
+        // Whatever stands on an honest device: its bytes decide.
+        ensures spelled { D.honest self.old.disk → FlushesAsSpelled self.old.layout self.old.checkpoint.base self.old.kept (position_in self.old.checkpoint.stage) page (D.history self.old.disk) (D.history self.new.disk) result }
         // Where it is refused, nothing changes, but that the device was asked for a page that is not of its form, or
         // failed, and the engine is stopped.
         ensures unchanged { IfErr result (λ e. (e ≡ DiskFault) ⊎ (((e ≡ Corrupt Pages) × (self.new ≡ record (self.old) { disk = self.new.disk })) ⊎ (self.new ≡ self.old))) }

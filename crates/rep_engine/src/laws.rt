@@ -10,7 +10,8 @@ use rep_cells::images_read_as_allowed;
 use rep_cert::gives_its_window;
 use rep_checkpoint::{nodes_leave_their_ends, windows_go_on};
 use rep_disk::Disk;
-use rep_record::{blocks_are_told, fronts_are_determined};
+use rep_log::the_log_is_told;
+use rep_record::fronts_are_determined;
 
 /// Where an engine on an honest device is not stopped, every image of the device means a front of what the
 /// engine stands for that ends exactly at what is durable, or, while the gate of a block is opening, at that with
@@ -45,5 +46,5 @@ pub fn accepted_items_are_a_front()
 pub fn the_tail_is_told()
     ensures { TheTailIsTold }
 {
-    blocks_are_told();
+    the_log_is_told();
 }

@@ -15,7 +15,6 @@ ghost use Rattle.rep_steps.specs.declared.event.Event.TheVariants.{Read};
 ghost use Rattle.rep_steps.specs.Nodes.{Node, Steps};
 ghost use Rattle.rep_versions.specs.Versions.{IsAnswer};
 ghost use Rattle.rep_engine.specs.Holding.{Holds, row};
-ghost use Rattle.rep_pool.specs.BasePages.{IsPageReadable};
 ghost use Rattle.rep_engine.specs.Reading.{ReadsRow, ReadsAt};
 ghost use Rattle.rep_engine.specs.Engines.{facts_of};
 
@@ -81,8 +80,8 @@ impl<D: Disk> Engine<D> {
         ensures moves { Moves (facts_of D.failures self.old) (Read key s) (row result) (facts_of D.failures self.new) }
         ensures steps { (n : Node) → Holds D.honest D.history D.failures n self.old → (m : Node) × Steps n (Read key s) (row result) m × Holds D.honest D.history D.failures m self.new }
         ensures same { D.honest self.old.disk → D.history self.new.disk ≡ D.history self.old.disk }
-        // Whatever stands on an honest device: its bytes decide, where no write failed in the slot of the row's page.
-        ensures spelled { D.honest self.old.disk → IsPageReadable self.old.layout (D.history self.old.disk) self.old.checkpoint.base (row_place self.old.checkpoint.base.params.rows key).page → ReadsAt (reading_of self.old.layout (seen (D.history self.old.disk))) self.old.checkpoint.base self.old.kept key s result }
+        // Whatever stands on an honest device: its bytes decide.
+        ensures spelled { D.honest self.old.disk → ReadsAt (reading_of self.old.layout (seen (D.history self.old.disk))) self.old.checkpoint.base self.old.kept key s result }
         // Where it is refused, nothing changes, but that the device was asked for a page that is not of its form, or
         // failed, and the engine is stopped.
         ensures unchanged { IfErr result (λ e. (e ≡ DiskFault) ⊎ (((e ≡ Corrupt Pages) × (self.new ≡ record (self.old) { disk = self.new.disk })) ⊎ (self.new ≡ self.old))) }

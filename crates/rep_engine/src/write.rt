@@ -16,10 +16,10 @@ ghost use Rattle.rep_pool.specs.BasePages.{IsPooled, GoesOn};
 ghost use Rattle.rep_engine.specs.Writing.{IsWrite, WritesNext, ReadsBase, ReadsAsSpelled};
 
 use rep_cells::Cells;
+use rep_checkpoint::stable_bases_are_read;
 use rep_disk::Disk;
 use rep_layout::{SuperBody, page_of};
 use rep_log::{Log, Step};
-use rep_pages::pages_are_told;
 use rep_pool::Pool;
 use rep_record::BlockBuilder;
 use rep_types::{Key, Refusal, Value};
@@ -64,7 +64,7 @@ pub(crate) fn base_row<D: Disk>(
     ensures agrees { GoesOn D.honest D.history superblock.now.params.rows (layout_of cells.old) (disk_of cells.old) (disk_of cells.new) pool.old pool.new }
     ensures refused { IfErr result (λ e. (e ≡ DiskFault) ⊎ (e ≡ Corrupt Pages)) }
 {
-    pages_are_told();
+    stable_bases_are_read();
     let Some(place) = page_of(superblock.params.schema(), key) else {
         return Ok(None);
     };

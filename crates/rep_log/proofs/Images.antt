@@ -13,7 +13,7 @@ use Rattle.rep_log.specs.declared.phase.Phase.{Phase}
 use Rattle.rep_log.specs.declared.phase.Phase.TheVariants.{Resting, Closing, Filling, Filled, Opening}
 use Rattle.rep_log.specs.Tail.{IsBlockFrom, Shows, seqno_after, cell_in, IsOld, IsLog}
 use Rattle.rep_log.specs.Standing.{stands_at, busy, AtRest, IsDue, IsWritten, StandsOpen}
-use Rattle.rep_log.specs.Laws.{HoldsFrom, TheLogInEveryImage}
+use Rattle.rep_log.specs.Laws.{HoldsFrom, OpenBlocksAreShown, TheLogInEveryImage}
 use Rattle.rep_log.proofs.Blocks.{cell_is, stand_moved, stand_behind, stand_more, stays_below}
 use Rattle.rep_log.proofs.Cells.{log_is, index_small}
 
@@ -77,12 +77,17 @@ holds_from r l from first blocks is k le =
 pub later : (l : Layout) (i m n : ℕ) (body : List ℕ) → m ≤ n → IsOld l i m body → IsOld l i n body
 later l i m n body le old = record { in_place = old.in_place; below = omega (arith, le, old.below) }
 
+-- what stands open is shown
+pub open_shown : TurnsAreTaken → OpenBlocksAreShown
+open_shown turns l s r n seqno blocks some allowed = stand_moved (StandsOpen s l) (Shows r l) n seqno blocks
+    (λ m body from to opened. subst (λ x. Allows x (r (log_of l m))) opened (allowed (log_of l m) (turns.cells l m (omega (arith, some)))))
+
 pub in_every_image : TurnsAreTaken → TheLogInEveryImage
 in_every_image turns l s r log first blocks sealed is allowed =
     let at = log.next % l.cells in
     let small = index_small l log.next is.some in
     let same : log_of l log.next ≡ Log at = log_is l log.next is.some in
-    let shown = stand_moved (StandsOpen s l) (Shows r l) log.start first blocks (λ m body from to stable. subst (λ x. Allows x (r (log_of l m))) stable (allowed (log_of l m) (turns.cells l m (omega (arith, is.some))))) is.live in
+    let shown = open_shown turns l s r log.start first blocks is.some allowed is.live in
     let others : (i : ℕ) (body : List ℕ) → i < l.cells → i ≢ at → r (Log i) ≡ Some body → IsOld l i log.next body =
     λ i body lt other e. rest_is_old (stands_at log i) l i log.next (s (Log i)) (r (Log i)) body (is.rest i lt (λ b. other)) (allowed (Log i) (cell_is_place l i lt)) e in
     let rest : busy log.phase ≡ 0 → AtRest (stands_at log at) l at log.next (s (log_of l log.next)) =

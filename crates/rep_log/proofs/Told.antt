@@ -64,4 +64,5 @@ log_is_told turns told = record {
     ]
   ];
   few = λ r l from first blocks some is. a_lap_at_most turns told r l from first blocks some is.stand;
+  begins = begins told;
 }

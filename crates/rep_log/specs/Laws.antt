@@ -6,8 +6,8 @@ use Rattle.rep_cells.specs.Readings.{Reading}
 use Rattle.rep_cells.specs.States.{States, Allowed}
 use Rattle.rep_log.specs.declared.phase.Phase.{Phase}
 use Rattle.rep_log.specs.declared.phase.Phase.TheVariants.{Opening}
-use Rattle.rep_log.specs.Tail.{IsLog, seqno_after}
-use Rattle.rep_log.specs.Standing.{Standing, LogIs}
+use Rattle.rep_log.specs.Tail.{Stand, Shows, IsLog, seqno_after}
+use Rattle.rep_log.specs.Standing.{Standing, StandsOpen, LogIs}
 
 -- what an image may hold: the durable blocks, or while a gate opens those with the block behind it
 abbrev pub MayHold : Phase → List (List Judged) → List Judged → List (List Judged) → Type 0
@@ -25,7 +25,14 @@ TheLogInEveryImage =
     → LogIs l log first blocks sealed s → Allowed l s r
     → (held : List (List Judged)) × MayHold log.phase blocks sealed held × HoldsFrom r l log.start first held
 
--- A reading has one log at most from a block on, and it has no more blocks than there are cells.
+-- Blocks whose cells stand open are shown by every reading that the states allow.
+abbrev pub OpenBlocksAreShown : Type 0
+OpenBlocksAreShown =
+    (l : Layout) (s : States) (r : Reading) (n seqno : ℕ) (blocks : List (List Judged)) → 0 < l.cells → Allowed l s r → Stand (StandsOpen s l) n seqno blocks → Stand (Shows r l) n seqno blocks
+
+-- A reading has one log at most from a block on, and it has no more blocks than there are cells. Of two runs of blocks that it shows from
+-- one block on the shorter begins the longer.
 pub record TheLogIsTold : Type 0 where
   pub only : (r : Reading) (l : Layout) (from first : ℕ) (a b : List (List Judged)) → 0 < l.cells → IsLog r l from first a → IsLog r l from first b → a ≡ b
   pub few : (r : Reading) (l : Layout) (from first : ℕ) (blocks : List (List Judged)) → 0 < l.cells → IsLog r l from first blocks → length blocks ≤ l.cells
+  pub begins : (r : Reading) (l : Layout) (n seqno : ℕ) (a b : List (List Judged)) → length a ≤ length b → Stand (Shows r l) n seqno a → Stand (Shows r l) n seqno b → take (length a) b ≡ a

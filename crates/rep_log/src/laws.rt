@@ -1,6 +1,6 @@
 //! Laws of the log, each as the contract of a function that does nothing.
 
-ghost use Rattle.rep_log.specs.Laws.{TheLogInEveryImage, TheLogIsTold};
+ghost use Rattle.rep_log.specs.Laws.{TheLogInEveryImage, OpenBlocksAreShown, TheLogIsTold};
 
 use rep_layout::turns_are_taken;
 use rep_record::blocks_are_told;
@@ -13,7 +13,15 @@ pub fn the_log_in_every_image()
     turns_are_taken();
 }
 
-/// A reading has at most one log from a block on, of no more blocks than there are cells.
+/// Blocks whose cells stand open are shown by every image, and by what is read.
+pub fn open_blocks_are_shown()
+    ensures { OpenBlocksAreShown }
+{
+    turns_are_taken();
+}
+
+/// A reading has at most one log from a block on, of no more blocks than there are cells; and of two runs of blocks that it shows
+/// from one block on the shorter begins the longer.
 pub fn the_log_is_told()
     ensures { TheLogIsTold }
 {

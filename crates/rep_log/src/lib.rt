@@ -10,6 +10,6 @@ mod phase;
 mod ring;
 mod scan;
 
-pub use laws::{the_log_in_every_image, the_log_is_told};
+pub use laws::{open_blocks_are_shown, the_log_in_every_image, the_log_is_told};
 pub use phase::{Phase, Step};
 pub use ring::Log;

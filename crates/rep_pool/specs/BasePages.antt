@@ -9,7 +9,9 @@ use Rattle.rep_layout.specs.declared.place.Layout.{Layout}
 use Rattle.rep_layout.specs.declared.place.Slot.{Slot}
 use Rattle.rep_layout.specs.declared.place.Place.TheVariants.{Page}
 use Rattle.rep_layout.specs.declared.page_state.PageState.TheVariants.{Nowhere, In}
-use Rattle.rep_cells.specs.Readings.{Reading, reading_of}
+use Rattle.rep_layout.specs.Places.{layout_of}
+use Rattle.rep_layout.specs.Supers.{IsSuper}
+use Rattle.rep_cells.specs.Readings.{Reading, IsPlace, reading_of}
 use Rattle.rep_cells.specs.Known.{IsReadable}
 use Rattle.rep_pages.specs.declared.page.Page.{Page as PageBody}
 use Rattle.rep_pages.specs.Slots.{state_of_page}
@@ -18,6 +20,10 @@ use Rattle.rep_pages.specs.Rows.{row_at}
 use Rattle.rep_pool.specs.Pools.{Pooled, IsKept, Agrees}
 
 -- ---- what a reading has of a page
+
+-- A page that a superblock has in a slot has a place in its layout.
+abbrev pub PagesArePlaces : Type 0
+PagesArePlaces = (b : SuperBody) → IsSuper b → (number : ℕ) (slot : Slot) → state_of_page b number ≡ In slot → IsPlace (layout_of b.params) (Page number slot)
 
 -- No write that failed lies in the slot in which the superblock has the page.
 abbrev pub IsPageReadable : Layout → History → SuperBody → ℕ → Type 0

@@ -5,5 +5,5 @@
 mod laws;
 mod pool;
 
-pub use laws::pools_go_on;
+pub use laws::{pages_are_places, pools_go_on};
 pub use pool::{Kept, POOL_PAGES, Pool, pool_pages_are_64};

@@ -1,6 +1,6 @@
 -- An item that is delivered.
 use Rattle.std.proofs.Common.{◌≡◌, ℕ, ◌+◌, ◌-◌, ◌<◌, ◌≤◌, ◌⊎◌, inl, inr, Bool, true, false, if◌then◌else◌, List, [], ◌∷◌, ◌++◌, append_assoc, length, length-append, take, drop, Option, None, Some, refl, sym, ap, subst, ◌∙◌, arith}
-use Rattle.std.specs.Prelude.{◌||◌, ◌==◌, nat_le, is_some, MatchOption}
+use Rattle.std.specs.Prelude.{◌↔◌, ◌||◌, ◌==◌, nat_le, is_some, MatchOption}
 use Rattle.std.proofs.lemmas.Bool.{cases_lt}
 use Rattle.std.proofs.lemmas.Bool.Decides.{nat_tests}
 use Rattle.std.proofs.lemmas.List.{take-append-le, drop-append-le, take_all}
@@ -247,6 +247,7 @@ module _ {D : Type 0} (honest : D → Type 0) (history : D → History) (failure
     moves = delivered_moves;
     steps = delivered_holds stay;
     leaves = λ n holds. leaves_none (history old.engine.disk) (history new.engine.disk) (ap (λ (e : Engine D). history e.disk) engine);
+    device = subst (λ (x : Engine D). honest old.engine.disk ↔ honest x.disk) (sym engine) (λ h. h, λ h. h);
     unchanged = tt;
     spelled = tt;
   }

@@ -111,7 +111,7 @@ module _ {D : Type 0} (honest : D → Type 0) (history : D → History) where
 
   -- where it is stopped no page is asked for
   pub stopped_read : (r : Replica D) (key : Key) (s : ℕ) → ReadIsSpelled honest history key s r (Err Stopped)
-  stopped_read r key s on readable = record {
+  stopped_read r key s on = record {
     newest = tt;
     row = λ base. tt;
     bad = λ base bad. refl;
@@ -119,7 +119,7 @@ module _ {D : Type 0} (honest : D → Type 0) (history : D → History) where
   }
 
   stopped_flush : (r : Replica D) (page : ℕ) → FlushIsSpelled honest history page r r (Err Stopped)
-  stopped_flush r page on readable = record { done = tt; bad = λ bad. refl; corrupt = λ is. absurd cc }
+  stopped_flush r page on = record { done = tt; bad = λ bad. refl; corrupt = λ is. absurd cc }
 
   pub spells_stopped : (r : Replica D) (e : Event) → Spells honest history r e (Refused Stopped) r
   spells_stopped r (Deliver seqno w) = tt

@@ -1,14 +1,18 @@
 -- What a replica does by itself, step by step.
 use Rattle.std.proofs.Common.{◌≡◌, ℕ, ◌+◌, ◌<◌, ◌≤◌, ◌⊎◌, inl, inr, Bool, true, false, List, [], ◌∷◌, ◌++◌, append_assoc, length, drop, Option, None, Some, Result, Ok, Err, refl, sym, ap, subst, ◌∙◌, arith}
 use Rattle.std.proofs.lemmas.Bool.Decides.{nat_tests}
-use Rattle.std.specs.Prelude.{OnOk, IfErr, is_some, is_err, ◌||◌, MatchOption, if◌then◌else◌, ◌==◌, not}
+use Rattle.std.specs.Prelude.{IsTrue, OnOk, IfErr, is_some, is_err, ◌||◌, MatchOption, if◌then◌else◌, ◌==◌, not}
 use Rattle.std.specs.List.{filter, list_any}
 use Rattle.std.proofs.lemmas.Option.{same_Some}
 use Rattle.rep_types.specs.declared.reply.Reply.{Reply}
 use Rattle.rep_types.specs.declared.refusal.Refusal.{Refusal}
 use Rattle.rep_types.specs.declared.refusal.Refusal.TheVariants.{Stopped, NotDue, OutOfMemory, DiskFault, Corrupt}
 use Rattle.rep_types.specs.declared.refusal.Part.TheVariants.{Pages}
-use Rattle.rep_disk.specs.History.{History}
+use Rattle.rep_disk.specs.History.{History, seen}
+use Rattle.rep_layout.specs.declared.place.Layout.{Layout}
+use Rattle.rep_layout.specs.declared.super_body.SuperBody.{SuperBody}
+use Rattle.rep_cells.specs.Readings.{reading_of}
+use Rattle.rep_pool.specs.BasePages.{IsBadPage}
 use Rattle.rep_log.specs.declared.phase.Phase.{Phase}
 use Rattle.rep_log.specs.declared.phase.Phase.TheVariants.{Resting}
 use Rattle.rep_steps.specs.declared.event.Event.{Event}
@@ -16,12 +20,14 @@ use Rattle.rep_steps.specs.declared.event.Event.TheVariants.{Deliver, Log, Sync,
 use Rattle.rep_steps.specs.declared.answer.Answer.{Answer}
 use Rattle.rep_steps.specs.declared.answer.Answer.TheVariants.{Gave, Wrote, Began, Synced, Row, Refused}
 use Rattle.rep_steps.specs.Standings.{Standing, refusal, refusal_here, check_refusal, flush_refusal, Goal, Part, Flushing, Saving, Ready, SuperFilling, SuperFilled, SuperOpening, Stage, Off, Toward, Retiring}
-use Rattle.rep_steps.specs.Moves.{Found, Moves, answer, check_answer, after, Fails, MeetsCorruption, checked, flushed, synced_stage, synced_phase, start_after, opening, taken}
+use Rattle.rep_steps.specs.Moves.{Found, Moves, answer, check_answer, after, reads_a_page, Fails, MeetsCorruption, checked, flushed, synced_stage, synced_phase, start_after, opening, taken}
 use Rattle.rep_steps.specs.Runs.{Runs}
 use Rattle.rep_engine.specs.Holding.{wrote, synced}
 use Rattle.rep_replica.specs.Replicas.{Replica, facts_of}
 use Rattle.rep_replica.specs.Holding.{IsStep}
 use Rattle.rep_replica.specs.Running.{RunsAreJoined}
+use Rattle.rep_replica.specs.Refusing.{IsLeft}
+use Rattle.rep_replica.specs.Spelling.{MeetsBadPage}
 use Rattle.rep_replica.specs.Settling.{IsRunning, step_of_part, step_of, due_at, due, IsDue, IsOwn, AreOwn, outcome_of, AreDone, EndsIn, Works, EndsEarly, left_of, start_of, Rests}
 
 -- ---- what came of a step
@@ -133,6 +139,52 @@ runs_then one s t u [] (b ∷ answers) more told r q = absurd r
 runs_then one s t u (e ∷ events) [] more told r q = absurd r
 runs_then one s t u (e ∷ events) (b ∷ answers) more told r q = (r.0, r.1, runs_then one r.0 t u events answers more told r.2 q)
 
+-- ---- a page that is not of its form
+
+-- only a step that reads a page meets one
+corrupt_reads : (s t : Standing) (e : Event) (a : Answer) → refusal s e ≡ None → Moves s e a t → outcome_of a ≡ Err (Corrupt Pages) → IsTrue (reads_a_page e)
+corrupt_reads s t e a none m corrupt = elim (went_by s t e a none m) [
+  | inl went ↦ absurd (let never : ◌≡◌ {A = Result (Unit {0}) Refusal} (Ok tt) (Err (Corrupt Pages)) = sym (answer_done s e went.0) ∙ sym (ap outcome_of went.1) ∙ corrupt in cc)
+  | inr failed ↦ elim failed [
+    | inl why ↦ elim why [
+      | inl hungry ↦ absurd (let never : ◌≡◌ {A = Result (Unit {0}) Refusal} (Err OutOfMemory) (Err (Corrupt Pages)) = sym (ap outcome_of hungry.1) ∙ corrupt in cc)
+      | inr fault ↦ absurd (let never : ◌≡◌ {A = Result (Unit {0}) Refusal} (Err DiskFault) (Err (Corrupt Pages)) = sym (ap outcome_of fault.1) ∙ corrupt in cc)
+    ]
+    | inr met ↦ met.0
+  ]
+]
+
+module _ {D : Type 0} (honest : D → Type 0) (history : D → History) (failures : D → ℕ) (old new : Replica D) where
+  -- the base has it where it had it
+  base_left : (page : ℕ) (r : Refusal) → r ≡ Corrupt Pages → IsLeft (Flush page) r old new → (new.engine.layout ≡ old.engine.layout) × (new.engine.checkpoint.base ≡ old.engine.checkpoint.base)
+  base_left page r is (inl same) = (ap (λ (x : Replica D). x.engine.layout) same, ap (λ (x : Replica D). x.engine.checkpoint.base) same)
+  base_left page r is (inr (inl asked)) = (ap (λ (x : Replica D). x.engine.layout) asked.1, ap (λ (x : Replica D). x.engine.checkpoint.base) asked.1)
+  base_left page r is (inr (inr fault)) = absurd (let never : Corrupt Pages ≡ DiskFault = sym is ∙ fault.0 in cc)
+
+  bad_flush : (page : ℕ) (a : Answer) → IsStep honest history failures old (Flush page) a new → outcome_of a ≡ Err (Corrupt Pages) → MeetsBadPage honest history new
+  bad_flush page (Gave v) step corrupt = absurd cc
+  bad_flush page Wrote step corrupt = absurd cc
+  bad_flush page (Began c) step corrupt = absurd cc
+  bad_flush page (Synced replies) step corrupt = absurd cc
+  bad_flush page (Row row) step corrupt = absurd cc
+  bad_flush page (Refused r) step corrupt = λ is_honest.
+      let same : r ≡ Corrupt Pages = cc in
+      let met = (step.spelled (step.device.1 is_honest)).corrupt (ap Err same) in
+      let left = base_left page r same step.unchanged in (
+        page,
+        subst (λ (h : History). IsBadPage (reading_of new.engine.layout (seen h)) new.engine.checkpoint.base page) (sym met.1)
+            (subst (λ (l : Layout). IsBadPage (reading_of l (seen (history old.engine.disk))) new.engine.checkpoint.base page) (sym left.0)
+            (subst (λ (b : SuperBody). IsBadPage (reading_of old.engine.layout (seen (history old.engine.disk))) b page) (sym left.1) met.0)),
+      )
+
+  bad_page : (e : Event) (a : Answer) → IsOwn e → refusal (facts_of failures old) e ≡ None → IsStep honest history failures old e a new → outcome_of a ≡ Err (Corrupt Pages) → MeetsBadPage honest history new
+  bad_page (Deliver seqno w) a own none step corrupt = absurd own
+  bad_page Log a own none step corrupt = absurd (let never : false ≡ true = corrupt_reads (facts_of failures old) (facts_of failures new) Log a none step.moves corrupt in cc)
+  bad_page Sync a own none step corrupt = absurd (let never : false ≡ true = corrupt_reads (facts_of failures old) (facts_of failures new) Sync a none step.moves corrupt in cc)
+  bad_page Check a own none step corrupt = absurd (let never : false ≡ true = corrupt_reads (facts_of failures old) (facts_of failures new) Check a none step.moves corrupt in cc)
+  bad_page (Flush page) a own none step corrupt = bad_flush page a step corrupt
+  bad_page (Read key at) a own none step corrupt = absurd own
+
 module _ {D : Type 0} (honest : D → Type 0) (history : D → History) (failures : D → ℕ) (joined : RunsAreJoined honest history failures) where
   pub works_none : (r : Replica D) → Works honest history failures r r (Ok tt)
   works_none r = record {
@@ -142,17 +194,21 @@ module _ {D : Type 0} (honest : D → Type 0) (history : D → History) (failure
     ends = tt;
     moves = refl;
     steps = refl;
+    device = (λ h. h, λ h. h);
+    corrupt = λ is. absurd cc;
     ran = joined.no_run r;
   }
 
-  pub works_one : (old new : Replica D) (e : Event) (a : Answer) → IsOwn e → due (facts_of failures old) ≡ Some e → IsStep honest history failures old e a new → Works honest history failures old new (outcome_of a)
-  works_one old new e a own is_due step = record {
+  pub works_one : (old new : Replica D) (e : Event) (a : Answer) → IsOwn e → refusal (facts_of failures old) e ≡ None → due (facts_of failures old) ≡ Some e → IsStep honest history failures old e a new → Works honest history failures old new (outcome_of a)
+  works_one old new e a own none is_due step = record {
     events = e ∷ [];
     answers = a ∷ [];
     own = (own, tt);
     ends = ends_by a;
     moves = (facts_of failures new, (is_due, step.moves), refl);
     steps = (new, step, refl);
+    device = step.device;
+    corrupt = bad_page honest history failures old new e a own none step;
     ran = joined.one_run old new e a step;
   }
 
@@ -164,6 +220,8 @@ module _ {D : Type 0} (honest : D → Type 0) (history : D → History) (failure
     ends = ends_then result w.answers v.answers w.ends v.ends;
     moves = runs_then IsDue (facts_of failures old) (facts_of failures mid) (facts_of failures new) w.events w.answers v.events v.answers w.moves v.moves;
     steps = runs_then (IsStep honest history failures) old mid new w.events w.answers v.events v.answers w.steps v.steps;
+    device = (λ h. v.device.0 (w.device.0 h), λ h. w.device.1 (v.device.1 h));
+    corrupt = v.corrupt;
     ran = joined.both_runs old mid new w.events w.answers v.events v.answers w.ran v.ran;
   }
 
@@ -295,11 +353,11 @@ ok_of (Err e) is = absurd (let never : false ≡ true = is in cc)
 
 module _ {D : Type 0} (honest : D → Type 0) (history : D → History) (failures : D → ℕ) (old new : Replica D) (a : Answer) (result : Result (Unit {0}) Refusal) (is : result ≡ outcome_of a) where
   -- some steps, and one more
-  pub works_on : RunsAreJoined honest history failures → (first : Replica D) (e : Event) → step_of (facts_of failures old).stage ≡ Some e → IsStep honest history failures old e a new → Works honest history failures first old (Ok tt) → Works honest history failures first new result
-  works_on joined first e waits step w =
+  pub works_on : RunsAreJoined honest history failures → IsRunning old → (first : Replica D) (e : Event) → step_of (facts_of failures old).stage ≡ Some e → IsStep honest history failures old e a new → Works honest history failures first old (Ok tt) → Works honest history failures first new result
+  works_on joined running first e waits step w =
       works_then honest history failures joined first old new result w
       (subst (λ (r : Result (Unit {0}) Refusal). Works honest history failures old new r) (sym is)
-      (works_one honest history failures joined old new e a (own_step (facts_of failures old).stage e waits) (under_way (facts_of failures old) (facts_of failures old).stage e waits) step))
+      (works_one honest history failures joined old new e a (own_step (facts_of failures old).stage e waits) (not_refused (facts_of failures old) e (runs_on failures old running) (due_step (facts_of failures old) e waits)) (under_way (facts_of failures old) (facts_of failures old).stage e waits) step))
 
   -- a step that the checkpoint waits for
   pub goes_on : IsRunning old → (due : (e : Event) × (step_of (facts_of failures old).stage ≡ Some e)) → IsStep honest history failures old due.0 a new → false ≡ is_err result → Goes (facts_of failures old) (facts_of failures new)
@@ -312,7 +370,7 @@ module _ {D : Type 0} (honest : D → Type 0) (history : D → History) (failure
 module _ {D : Type 0} (honest : D → Type 0) (history : D → History) (failures : D → ℕ) (old new : Replica D) (e : Event) (a : Answer) (result : Result (Unit {0}) Refusal) (is : result ≡ outcome_of a)
     (own : IsOwn e) (running : IsRunning old) (none : refusal_here (facts_of failures old) e ≡ None) (step : IsStep honest history failures old e a new) where
   pub one_works : RunsAreJoined honest history failures → due (facts_of failures old) ≡ Some e → Works honest history failures old new result
-  one_works joined is_due = subst (λ (r : Result (Unit {0}) Refusal). Works honest history failures old new r) (sym is) (works_one honest history failures joined old new e a own is_due step)
+  one_works joined is_due = subst (λ (r : Result (Unit {0}) Refusal). Works honest history failures old new r) (sym is) (works_one honest history failures joined old new e a own (not_refused (facts_of failures old) e (runs_on failures old running) none) is_due step)
 
   pub one_early : IfErr result EndsEarly
   one_early = subst (λ (r : Result (Unit {0}) Refusal). IfErr r EndsEarly) (sym is) (early_by (facts_of failures old) (facts_of failures new) e a (not_refused (facts_of failures old) e (runs_on failures old running) none) step.moves)

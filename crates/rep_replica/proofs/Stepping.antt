@@ -1,6 +1,6 @@
 -- A step of the engine, as a step of the replica.
 use Rattle.std.proofs.Common.{◌≡◌, inl, inr, ℕ, ◌+◌, ◌-◌, ◌≤◌, true, false, List, [], ◌++◌, length, take, Option, None, Some, refl, sym, ap, subst, ◌∙◌, arith}
-use Rattle.std.specs.Prelude.{◌==◌, ◌||◌, nat_le, is_some, if◌then◌else◌, MatchOption}
+use Rattle.std.specs.Prelude.{◌==◌, ◌↔◌, ◌||◌, nat_le, is_some, if◌then◌else◌, MatchOption}
 use Rattle.std.proofs.lemmas.List.{length-take-le, take-take}
 use Rattle.rep_types.specs.declared.judged.Judged.{Judged}
 use Rattle.rep_types.specs.declared.key.Key.{Key}
@@ -70,6 +70,7 @@ module _ {D : Type 0} (honest : D → Type 0) (history : D → History) (failure
     moves = by_some _ _ (refusal (facts_of failures r) e) refused some (refl, refl);
     steps = λ n holds. (n, by_some _ _ (refusal n.facts e) refused (ap (λ (s : Standing). refusal s e) holds.facts ∙ some) (refl, refl), holds);
     leaves = λ n holds. leaves_none (history r.engine.disk) (history r.engine.disk) refl;
+    device = (λ h. h, λ h. h);
     unchanged = inl refl;
     spelled = spelled;
   }
@@ -83,6 +84,7 @@ module _ {D : Type 0} (honest : D → Type 0) (history : D → History) (failure
         let may : takes_memory n.facts e ≡ true = ap (λ (s : Standing). takes_memory s e) holds.facts ∙ takes in
         (n, by_none _ _ (refusal n.facts e) nothing (inr (inl (may, refl, refl), refl)), holds);
     leaves = λ n holds. leaves_none (history r.engine.disk) (history r.engine.disk) refl;
+    device = (λ h. h, λ h. h);
     unchanged = inl refl;
     spelled = spelled;
   }
@@ -99,8 +101,8 @@ module _ {D : Type 0} (honest : D → Type 0) (history : D → History) (failure
     pub steps : (n : Node) → Holds honest history failures n old → (m : Node) × Steps n e a m × Holds honest history failures m new
     pub leaves : (n : Node) → Holds honest history failures n old → LeavesOnly (history old.engine.disk) (history new.engine.disk) (IsFrontAt Means n)
 
-  pub as_step : (old : Replica D) (e : Event) (a : Answer) (new : Replica D) → IsMoved old e a new → RefusesUnchanged e a old new → Spells honest history old e a new → IsStep honest history failures old e a new
-  as_step old e a new m unchanged spelled = record { moves = m.moves; steps = m.steps; leaves = m.leaves; unchanged = unchanged; spelled = spelled }
+  pub as_step : (old : Replica D) (e : Event) (a : Answer) (new : Replica D) → IsMoved old e a new → (honest old.engine.disk ↔ honest new.engine.disk) → RefusesUnchanged e a old new → Spells honest history old e a new → IsStep honest history failures old e a new
+  as_step old e a new m device unchanged spelled = record { moves = m.moves; steps = m.steps; leaves = m.leaves; device = device; unchanged = unchanged; spelled = spelled }
 
   -- What the engine's call is: its facts move, and it makes a step of its node.
   pub record EngineSteps (e : Event) (a : Answer) (old new : Engine D) : Type 0 where

@@ -1,17 +1,18 @@
 -- What a replica stands for on an honest device, and what a step of it is.
-use Rattle.std.specs.Prelude.{◌≡◌, ℕ, ◌≤◌, false, List, length, drop, None, Result, Ok, Err}
+use Rattle.std.specs.Prelude.{◌≡◌, ◌↔◌, ℕ, ◌≤◌, false, List, length, drop, None, Result, Ok, Err}
 use Rattle.rep_disk.specs.History.{History, IsImage}
 use Rattle.rep_disk.specs.Moments.{LeavesOnly}
 use Rattle.rep_types.specs.declared.item.Item.TheVariants.{WriteSet}
 use Rattle.rep_types.specs.declared.refusal.Refusal.{Refusal}
 use Rattle.rep_types.specs.declared.verdict.Verdict.{Verdict}
+use Rattle.rep_types.specs.Transactions.{Transaction}
 use Rattle.rep_cert.specs.Holdings.{Holding, IsAskable, window_of, verdict_of}
 use Rattle.rep_steps.specs.declared.event.Event.{Event}
 use Rattle.rep_steps.specs.declared.event.Event.TheVariants.{Deliver}
 use Rattle.rep_steps.specs.declared.answer.Answer.{Answer}
 use Rattle.rep_steps.specs.declared.answer.Answer.TheVariants.{Gave, Refused}
 use Rattle.rep_steps.specs.Moves.{Moves}
-use Rattle.rep_steps.specs.Nodes.{Node, IsNode, Steps, window_at}
+use Rattle.rep_steps.specs.Nodes.{Node, IsNode, Steps, verdict_on, window_at}
 use Rattle.rep_steps.specs.Parts.{part_of}
 use Rattle.rep_steps.specs.Images.{IsFrontAt, IsEndOf, AreJudgedFrom}
 use Rattle.rep_image.specs.Meanings.{Means}
@@ -36,12 +37,13 @@ pub record Holds {D : Type 0} (honest : D → Type 0) (history : D → History) 
 
 -- A step of a replica. On any device the facts move, and with them each refusal comes exactly where it says. A replica that stands
 -- for a node makes a step of that node; and a stop at any moment of it leaves images that mean a front of the node with all that is
--- durable. What is refused leaves the replica as it was, but for a page that was asked for in vain and for a device that failed; and
--- the bytes decide which page is corrupt.
+-- durable. A device is honest behind it exactly where it was before. What is refused leaves the replica as it was, but for a page that
+-- was asked for in vain and for a device that failed; and the bytes decide which page is corrupt.
 pub record IsStep {D : Type 0} (honest : D → Type 0) (history : D → History) (failures : D → ℕ) (old : Replica D) (e : Event) (a : Answer) (new : Replica D) : Type 0 where
   pub moves : Moves (facts_of failures old) e a (facts_of failures new)
   pub steps : (n : Node) → Holds honest history failures n old → (m : Node) × Steps n e a m × Holds honest history failures m new
   pub leaves : (n : Node) → Holds honest history failures n old → LeavesOnly (history old.engine.disk) (history new.engine.disk) (IsFrontAt Means n)
+  pub device : honest old.engine.disk ↔ honest new.engine.disk
   pub unchanged : RefusesUnchanged e a old new
   pub spelled : Spells honest history old e a new
 
@@ -59,3 +61,7 @@ IsJudgedBy h e a = Unit {0}
 -- at that with its block. So what was only delivered, and what was only written, doesn't come back.
 abbrev pub LeavesItsEnds : {D : Type 0} → (D → Type 0) → (D → History) → (D → ℕ) → Replica D → Type 0
 LeavesItsEnds honest history failures r = (n : Node) → Holds honest history failures n r → r.engine.halted ≡ None → (image : List ℕ) → IsImage (history r.engine.disk) image → IsEndOf Means n image
+
+-- What its certifier says of an item is what the node that it stands for does.
+abbrev pub JudgesAsItsNode : {D : Type 0} → (D → Type 0) → (D → History) → (D → ℕ) → Replica D → Type 0
+JudgesAsItsNode honest history failures r = (n : Node) → Holds honest history failures n r → (seqno : ℕ) (w : Transaction) → verdict_of r.certifier.current (WriteSet w) ≡ verdict_on n (Deliver seqno w)

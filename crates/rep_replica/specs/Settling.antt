@@ -1,5 +1,5 @@
 -- What a replica does by itself, until nothing is left to do.
-use Rattle.std.specs.Prelude.{◌≡◌, ℕ, ◌+◌, ◌*◌, ◌&&◌, ◌⊎◌, Bool, true, false, nat_le, ◌==◌, if◌then◌else◌, List, [], ◌∷◌, ◌++◌, length, Option, None, Some, Result, Ok, Err}
+use Rattle.std.specs.Prelude.{◌≡◌, ◌↔◌, ℕ, ◌+◌, ◌*◌, ◌&&◌, ◌⊎◌, Bool, true, false, nat_le, ◌==◌, if◌then◌else◌, List, [], ◌∷◌, ◌++◌, length, Option, None, Some, Result, Ok, Err}
 use Rattle.rep_types.specs.declared.refusal.Refusal.{Refusal}
 use Rattle.rep_types.specs.declared.refusal.Refusal.TheVariants.{OutOfMemory, DiskFault, Corrupt}
 use Rattle.rep_types.specs.declared.refusal.Part.TheVariants.{Pages}
@@ -17,6 +17,7 @@ use Rattle.rep_steps.specs.Runs.{Runs}
 use Rattle.rep_replica.specs.Replicas.{Replica, facts_of}
 use Rattle.rep_replica.specs.Holding.{IsStep}
 use Rattle.rep_replica.specs.Running.{Ran}
+use Rattle.rep_replica.specs.Spelling.{MeetsBadPage}
 
 -- All that was delivered is durable, and no checkpoint is under way.
 abbrev pub is_quiet : Standing → Bool
@@ -94,8 +95,8 @@ EndsIn (Ok x) answers = AreDone answers
 EndsIn (Err e) answers = (done : List Answer) × AreDone done × (answers ≡ done ++ Refused e ∷ [])
 
 -- The replica took some steps of its own one after another, each the one that is due, none of which was refused but the last one, where
--- it ended early: a run on any device, and one of the node that it stands for. So a corrupt page is one that its last step flushed, where
--- the bytes have none; and what a refusal leaves is what that step left.
+-- it ended early: a run on any device, and one of the node that it stands for. A device is honest behind it exactly where it was before;
+-- a corrupt page is one that its last step flushed, where the bytes have none; and what a refusal leaves is what that step left.
 pub record Works {D : Type 0} (honest : D → Type 0) (history : D → History) (failures : D → ℕ) (old new : Replica D) (result : Result (Unit {0}) Refusal) : Type 0 where
   pub events : List Event
   pub answers : List Answer
@@ -103,6 +104,8 @@ pub record Works {D : Type 0} (honest : D → Type 0) (history : D → History) 
   pub ends : EndsIn result answers
   pub moves : Runs IsDue (facts_of failures old) events answers (facts_of failures new)
   pub steps : Runs (IsStep honest history failures) old events answers new
+  pub device : honest old.engine.disk ↔ honest new.engine.disk
+  pub corrupt : result ≡ Err (Corrupt Pages) → MeetsBadPage honest history new
   pub ran : Ran honest history failures old new events answers
 
 -- why a step of its own is refused that is due

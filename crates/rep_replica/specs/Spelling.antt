@@ -3,30 +3,27 @@ use Rattle.std.specs.Prelude.{ℕ, List, Option, Result, Ok, Err}
 use Rattle.rep_types.specs.declared.key.Key.{Key}
 use Rattle.rep_types.specs.declared.refusal.Refusal.{Refusal}
 use Rattle.rep_disk.specs.History.{History, seen}
-use Rattle.rep_layout.specs.Rows.{row_place}
 use Rattle.rep_cells.specs.Readings.{reading_of}
 use Rattle.rep_steps.specs.declared.event.Event.{Event}
 use Rattle.rep_steps.specs.declared.event.Event.TheVariants.{Flush, Read}
 use Rattle.rep_steps.specs.declared.answer.Answer.{Answer}
 use Rattle.rep_steps.specs.declared.answer.Answer.TheVariants.{Wrote, Row, Refused}
+use Rattle.rep_pool.specs.BasePages.{IsBadPage}
 use Rattle.rep_checkpoint.specs.Moves.{position_in}
-use Rattle.rep_pool.specs.BasePages.{IsPageReadable}
 use Rattle.rep_checkpoint.specs.Calls.{FlushesAsSpelled}
 use Rattle.rep_engine.specs.Reading.{ReadsAt}
 use Rattle.rep_replica.specs.Replicas.{Replica}
 
--- A page was flushed, or not. On an honest device its bytes decide, where no write failed in the base's slot of the page: where they
--- have the page, it was written as it is at the checkpoint's position; where they have none, nothing was; and it is corrupt only there.
+-- A page was flushed, or not. On an honest device its bytes decide: where they have the page, it was written as it is at the checkpoint's
+-- position; where they have none, nothing was; and it is corrupt only there.
 abbrev pub FlushIsSpelled : {D : Type 0} → (D → Type 0) → (D → History) → ℕ → Replica D → Replica D → Result (Unit {0}) Refusal → Type 0
 FlushIsSpelled honest history page old new result =
-    honest old.engine.disk → IsPageReadable old.engine.layout (history old.engine.disk) old.engine.checkpoint.base page
-    → FlushesAsSpelled old.engine.layout old.engine.checkpoint.base old.engine.kept (position_in old.engine.checkpoint.stage) page (history old.engine.disk) (history new.engine.disk) result
+    honest old.engine.disk → FlushesAsSpelled old.engine.layout old.engine.checkpoint.base old.engine.kept (position_in old.engine.checkpoint.stage) page (history old.engine.disk) (history new.engine.disk) result
 
--- A row was read, or not. On an honest device its bytes decide it below all versions, where no write failed in the slot of its page.
+-- A row was read, or not. On an honest device its bytes decide it below all versions.
 abbrev pub ReadIsSpelled : {D : Type 0} → (D → Type 0) → (D → History) → Key → ℕ → Replica D → Result (Option (List ℕ)) Refusal → Type 0
 ReadIsSpelled honest history key s r result =
-    honest r.engine.disk → IsPageReadable r.engine.layout (history r.engine.disk) r.engine.checkpoint.base (row_place r.engine.checkpoint.base.params.rows key).page
-    → ReadsAt (reading_of r.engine.layout (seen (history r.engine.disk))) r.engine.checkpoint.base r.engine.kept key s result
+    honest r.engine.disk → ReadsAt (reading_of r.engine.layout (seen (history r.engine.disk))) r.engine.checkpoint.base r.engine.kept key s result
 
 -- So it is of the two events that read a page.
 abbrev pub Spells : {D : Type 0} → (D → Type 0) → (D → History) → Replica D → Event → Answer → Replica D → Type 0
@@ -35,3 +32,8 @@ Spells honest history old (Flush page) (Refused r) new = FlushIsSpelled honest h
 Spells honest history old (Read key s) (Row row) new = ReadIsSpelled honest history key s old (Ok row)
 Spells honest history old (Read key s) (Refused r) new = ReadIsSpelled honest history key s old (Err r)
 Spells honest history old e a new = Unit {0}
+
+-- On an honest device the base's bytes of some page are bad: in the slot in which the base has it they spell none.
+abbrev pub MeetsBadPage : {D : Type 0} → (D → Type 0) → (D → History) → Replica D → Type 0
+MeetsBadPage honest history r =
+    honest r.engine.disk → (number : ℕ) × IsBadPage (reading_of r.engine.layout (seen (history r.engine.disk))) r.engine.checkpoint.base number

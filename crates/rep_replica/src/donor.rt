@@ -6,11 +6,8 @@ ghost use Rattle.rep_types.specs.declared.refusal.Part.TheVariants.{Log as in_lo
 ghost use Rattle.rep_record.specs.Blocks.{IsBlock};
 ghost use Rattle.rep_disk.specs.History.{seen};
 ghost use Rattle.rep_layout.specs.declared.page_state.PageState.TheVariants.{Nowhere};
-ghost use Rattle.rep_layout.specs.declared.place.Place.TheVariants.{Window as in_window_area};
-ghost use Rattle.rep_layout.specs.Places.{log_of, side_of};
 ghost use Rattle.rep_layout.specs.Windows.{window, IsWindowBody};
 ghost use Rattle.rep_cells.specs.Readings.{reading_of};
-ghost use Rattle.rep_cells.specs.Known.{IsReadable};
 ghost use Rattle.rep_pages.specs.Slots.{state_of_page};
 ghost use Rattle.rep_steps.specs.Nodes.{Node};
 ghost use Rattle.rep_engine.specs.Donating.{IsTailBlock, IsBlockAsSpelled, IsBasePage, HasNoRow, IsWindowAsSpelled, IsBasePageAsSpelled};
@@ -44,8 +41,8 @@ impl<D: Disk> Replica<D> {
         ensures holds { (n : Node) → Holds D.honest D.history D.failures n self.old → result ≢ Err Refusal.DiskFault → Holds D.honest D.history D.failures n self.new }
         ensures block { (n : Node) → Holds D.honest D.history D.failures n self.old → IfOk result (λ found. IfSome found (λ b. IsTailBlock n self.old.engine.layout (D.history self.old.engine.disk) self.old.engine.checkpoint.base self.old.engine.log index b.records)) }
         ensures whole { (n : Node) → Holds D.honest D.history D.failures n self.old → result ≢ Err (Corrupt in_log) }
-        // Whatever stands on an honest device: its bytes decide, where no write failed in the block's cell.
-        ensures spelled { D.honest self.old.engine.disk → IsReadable self.old.engine.layout (D.history self.old.engine.disk) (log_of self.old.engine.layout (self.old.engine.log.start + index)) → IsBlockAsSpelled (reading_of self.old.engine.layout (seen (D.history self.old.engine.disk))) self.old.engine.layout (self.old.engine.log.start + index) result in_log }
+        // Whatever stands on an honest device: its bytes decide.
+        ensures spelled { D.honest self.old.engine.disk → IsBlockAsSpelled (reading_of self.old.engine.layout (seen (D.history self.old.engine.disk))) self.old.engine.layout (self.old.engine.log.start + index) result in_log }
     {
         if self.is_stopped() {
             return Err(Refusal::Stopped);
@@ -68,8 +65,8 @@ impl<D: Disk> Replica<D> {
         ensures holds { (n : Node) → Holds D.honest D.history D.failures n self.old → result ≢ Err Refusal.DiskFault → Holds D.honest D.history D.failures n self.new }
         ensures window { (n : Node) → Holds D.honest D.history D.failures n self.old → IfOk result (λ w. w.entries ≡ n.base.kept.entries) }
         ensures whole { (n : Node) → Holds D.honest D.history D.failures n self.old → result ≢ Err (Corrupt in_window) }
-        // Whatever stands on an honest device: its bytes decide, where no write failed in the window's area.
-        ensures spelled { D.honest self.old.engine.disk → IsReadable self.old.engine.layout (D.history self.old.engine.disk) (in_window_area (side_of self.old.engine.checkpoint.base.number)) → IsWindowAsSpelled (reading_of self.old.engine.layout (seen (D.history self.old.engine.disk))) self.old.engine.checkpoint.base result in_window }
+        // Whatever stands on an honest device: its bytes decide.
+        ensures spelled { D.honest self.old.engine.disk → IsWindowAsSpelled (reading_of self.old.engine.layout (seen (D.history self.old.engine.disk))) self.old.engine.checkpoint.base result in_window }
     {
         if self.is_stopped() {
             return Err(Refusal::Stopped);

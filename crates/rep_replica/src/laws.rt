@@ -1,6 +1,6 @@
 //! Laws of replicas, each as the contract of a function that does nothing.
 
-ghost use Rattle.rep_replica.specs.Holding.{LeavesItsEnds};
+ghost use Rattle.rep_replica.specs.Holding.{LeavesItsEnds, JudgesAsItsNode};
 ghost use Rattle.rep_replica.specs.Running.{RunsAreJoined, RunsFollowTheOrder};
 ghost use Rattle.rep_replica.specs.Reading.{ReadsForgetNothing};
 ghost use Rattle.rep_replica.specs.Stopping.{StoppedReplicasHold, StopsLeaveWhatHolds};
@@ -80,6 +80,14 @@ pub fn running_replicas_leave_their_ends<D: Disk>(replica: &Replica<D>)
     ensures { LeavesItsEnds D.honest D.history D.failures replica.now }
 {
     running_engines_leave_their_ends(&replica.engine);
+}
+
+/// What the certifier of a replica says of an item is what the node does that the replica stands for.
+pub fn certifiers_judge_as_nodes<D: Disk>(replica: &Replica<D>)
+    ensures { JudgesAsItsNode D.honest D.history D.failures replica.now }
+{
+    // For its clause: what holds of every replica.
+    replica.durable();
 }
 
 /// A replica that stands for a node keeps, also where its device failed, that each image of the device means a front

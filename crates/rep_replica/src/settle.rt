@@ -138,8 +138,8 @@ impl<D: Disk> Replica<D> {
     pub fn settle(&mut self) -> Result<(), Refusal>
         ensures quiet { OnOk result (is_quiet (facts_of D.failures self.new) ≡ true) }
         // It did some steps of its own, each the one that was due, and each of which was done but the last one, where it ended
-        // early. So it begins no checkpoint but where the log's next cell is live, and syncs nothing but what awaits it; and what
-        // a refusal leaves, and which page is corrupt, is what the last step says.
+        // early. So it begins no checkpoint but where the log's next cell is live, and syncs nothing but what awaits it; what a
+        // refusal leaves is what the last step says; and a page is corrupt only where the bytes have none.
         ensures works { (self.old.stopped || is_some self.old.engine.halted) ≡ false → Works D.honest D.history D.failures self.old self.new result }
         ensures refused { IfErr result (λ e. (e ≡ Refusal.Stopped) ⊎ EndsEarly e) }
         // Where it is stopped, nothing changes.

@@ -226,7 +226,7 @@ impl<D: Disk> Replica<D> {
         ensures call { IsCall D.size D.failures D.honest self.old.engine.disk self.new.engine.disk (fault_of result) }
         ensures rest { self.new ≡ record (self.old) { engine = record (self.old.engine) { disk = self.new.engine.disk; halted = self.new.engine.halted } } }
         ensures same { D.honest self.old.engine.disk → D.history self.new.engine.disk ≡ D.history self.old.engine.disk }
-        // Whatever stands on an honest device: its bytes decide, where no write failed in the slot of the row's page.
+        // Whatever stands on an honest device: its bytes decide.
         ensures spelled { ReadIsSpelled D.honest D.history key s self.old result }
         // Where it is stopped, nothing changes.
         ensures stopped { (self.old.stopped || is_some self.old.engine.halted) ≡ true → (result ≡ Err Refusal.Stopped) × (self.new ≡ self.old) }

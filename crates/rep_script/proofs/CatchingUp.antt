@@ -6,6 +6,7 @@ use Rattle.std.proofs.KnownBytes.{Appends-nil}
 use Rattle.rep_types.specs.declared.refusal.Refusal.{Refusal}
 use Rattle.rep_types.specs.declared.refusal.Refusal.TheVariants.{DiskFault, Corrupt, StreamFault}
 use Rattle.rep_types.specs.declared.refusal.Part.{Part}
+use Rattle.rep_types.specs.declared.refusal.Part.TheVariants.{Pages}
 use Rattle.rep_disk.specs.History.{History}
 use Rattle.rep_steps.specs.Nodes.{Node}
 use Rattle.rep_replica.specs.Replicas.{Replica, facts_of}
@@ -72,5 +73,6 @@ module _ {D : Type 0} (honest : D → Type 0) (history : D → History) (failure
   line_tells (Ok x) told same = same
   line_tells (Err e) told same = record {
     faults = record { fault = λ is. absurd (stream_is_none (sym told ∙ is)); no_fault = λ not. same };
+    corrupt = λ is. absurd (stream_is_whole Pages (sym told ∙ is));
     whole = λ n holds part is. stream_is_whole part (sym told ∙ is);
   }

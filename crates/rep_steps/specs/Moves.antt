@@ -162,7 +162,6 @@ is_off Off = true
 is_off stage = false
 
 abbrev pub takes_memory : Standing → Event → Bool
-takes_memory s (Deliver seqno w) = true
 takes_memory s Log = is_at_rest s.phase
 takes_memory s Check = is_off s.stage
 takes_memory s e = false

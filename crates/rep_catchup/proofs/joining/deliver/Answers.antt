@@ -15,10 +15,10 @@ pub returns-then-seqno-delivered-clause-refused : goal.returns-then-seqno-delive
 returns-then-seqno-delivered-clause-refused g c =
     elim c.then-seqno-delivered.branch [
       | then-seqno-delivered-via-then-seqno-delivered w ↦
-          out_by_seqno g.D.Disk.honest g.D.Disk.history g.D.Disk.failures c.args.replica.now c.args.judged c.args.at c.delivered.result (c.delivered.ensures.facts c.requires.running.inside)
+          out_by_seqno g.D.Disk.failures c.args.replica.now c.args.judged c.args.at c.delivered.result (c.delivered.ensures.facts c.requires.running.inside)
           (let other : c.args.judged.seqno ≡ c.delivered.result + 1 → ⊥ = search rules in other)
       | then-seqno-delivered-via-else-seqno-delivered+then-ne w ↦
-          out_by_verdict g.D.Disk.honest g.D.Disk.history g.D.Disk.failures c.args.replica.now c.args.judged c.args.at c.in-WriteSet.item w.judge.result c.in-WriteSet.is w.judge.ensures.node
+          out_by_verdict g.D.Disk.failures c.args.replica.now c.args.judged c.args.at c.in-WriteSet.item w.judge.result c.in-WriteSet.is w.judge.ensures.certifier
           (let other : w.judge.result ≡ c.args.judged.verdict → ⊥ = search rules in other)
     ]
 

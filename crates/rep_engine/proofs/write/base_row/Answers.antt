@@ -6,7 +6,7 @@ use Rattle.rep_engine.proofs.write.base_row.Goals as goal
 pub returns-clause-read : goal.returns-clause-read
 returns-clause-read g c = λ pooled honest s content assigns have.
     let is = place_of c.args.superblock.now.params.rows c.args.key c.in-Some.place c.schema.ensures c.page_of.ensures c.in-Some.is in
-    row_of_base c.pages_are_told.ensures (layout_of c.args.cells.now) (g.D.Disk.history (disk_of c.args.cells.now)) c.args.superblock.now s content c.args.key c.in-Some.place c.row.result c.requires.super_body c.requires.layout assigns have is.0 is.1 (c.row.ensures.row honest (pooled honest))
+    row_of_base c.stable_bases_are_read.ensures (layout_of c.args.cells.now) (g.D.Disk.history (disk_of c.args.cells.now)) c.args.superblock.now s content c.args.key c.in-Some.place c.row.result c.requires.super_body c.requires.layout assigns have is.0 is.1 (c.row.ensures.row honest (pooled honest))
 
 pub returns-clause-spelled : goal.returns-clause-spelled
 returns-clause-spelled g c = λ pooled honest readable.

@@ -47,7 +47,7 @@ comes : (g : _) (c : goal.Joined-outcome g) → GivesPage g.D.Disk.size g.D.Disk
 comes g c =
     subst (GivesPage g.D.Disk.size g.D.Disk.failures g.D.Disk.honest g.D.Disk.history c.args.self.now (inside c.take_page-outcome.new.cells c.self.inside.checkpoint c.self.inside.log c.self.inside.versions c.self.inside.block c.halted_by-self-inside.result) c.args.page) (given g c)
     (page_comes g.D.Disk.size g.D.Disk.failures g.D.Disk.honest g.D.Disk.history (inside c.self.inside.cells c.self.inside.checkpoint c.self.inside.log c.self.inside.versions c.self.inside.block c.self.inside.halted) c.args.self.now c.self.view_is c.self.invariant.0
-    (runs_within c.self.view_is c.in_ok-running.ensures.runs) c.pages_are_told.ensures c.args.page c.base-base.result.now c.base-base.ensures.base c.in-In.field-0 c.in-In.ensures (disk_of c.take_page-outcome.new.cells) (layout_of c.take_page-outcome.new.cells) c.take_page-outcome.ensures.layout
+    (runs_within c.self.view_is c.in_ok-running.ensures.runs) c.stable_bases_are_read.ensures c.args.page c.base-base.result.now c.base-base.ensures.base c.in-In.field-0 c.in-In.ensures (disk_of c.take_page-outcome.new.cells) (layout_of c.take_page-outcome.new.cells) c.take_page-outcome.ensures.layout
     c.take_page-outcome.ensures.same c.halted_by-self-inside.result c.take_page-outcome.result c.take_page-outcome.ensures.call (c.halted_by-self-inside.ensures ∙ ap (λ (p : Phase). halted_by p c.take_page-outcome.result) c.phase.ensures) c.take_page-outcome.ensures.refused
     c.take_page-outcome.ensures.number (spelled g c))
 

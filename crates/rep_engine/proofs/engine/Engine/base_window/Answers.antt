@@ -3,6 +3,7 @@ use Rattle.rep_types.specs.declared.refusal.Refusal.{Refusal}
 use Rattle.rep_types.specs.declared.refusal.Refusal.TheVariants.{Stopped, DiskFault}
 use Rattle.rep_layout.specs.declared.place.Place.TheVariants.{Window as in_window_area}
 use Rattle.rep_layout.specs.declared.place.Layout.{Layout}
+use Rattle.rep_layout.specs.Places.{side_of}
 use Rattle.rep_layout.specs.declared.super_body.SuperBody.{SuperBody}
 use Rattle.rep_layout.specs.Windows.{Window, window, IsWindowBody}
 use Rattle.rep_cells.specs.Device.{disk_of, layout_of}
@@ -46,8 +47,8 @@ returns g c =
       holds = λ n holds other. holds_read g.D.Disk.size g.D.Disk.failures g.D.Disk.honest g.D.Disk.history _ c.args.self.now _ _ c.read_area.result c.self.view_is (runs_within c.self.view_is c.in_ok-running.ensures.runs) c.read_area.ensures.layout c.read_area.ensures.call ok c.read_area.ensures.same n holds;
       window = λ n holds. subst (λ (r : Result Window Refusal). IfOk r (λ w. w.entries ≡ n.base.kept.entries)) (sym (read g c n holds)) refl;
       whole = λ n holds corrupt. (let was = read g c n holds in absurd cc);
-      spelled = window_spelled g.D.Disk.honest g.D.Disk.history _ c.args.self.now c.self.view_is c.base-base.result.now (in_window_area c.of.result) c.read_area.new.room c.window_in.result c.base-base.ensures.base (ap in_window_area c.of.ensures)
-          (λ honest readable. if_read c.read_area.result ok (c.read_area.ensures.read honest readable)) c.window_in.ensures.only c.window_in.ensures.found;
+      spelled = λ is_honest. window_spelled g.D.Disk.honest g.D.Disk.history _ c.args.self.now c.self.view_is c.base-base.result.now (in_window_area c.of.result) c.read_area.new.room c.window_in.result c.base-base.ensures.base (ap in_window_area c.of.ensures)
+          (λ honest readable. if_read c.read_area.result ok (c.read_area.ensures.read honest readable)) c.window_in.ensures.only c.window_in.ensures.found is_honest (c.in_ok-running.ensures.readable is_honest (in_window_area (side_of c.args.self.now.checkpoint.base.number)));
     }
 
 -- ---- where the device fails
@@ -61,7 +62,7 @@ returns-then-is_err g c =
       holds = λ n holds other. absurd (other refl);
       window = λ n holds. tt;
       whole = λ n holds corrupt. absurd cc;
-      spelled = λ honest readable. window_elsewise _ c.args.self.now.checkpoint.base DiskFault (λ is. absurd cc);
+      spelled = λ honest. window_elsewise _ c.args.self.now.checkpoint.base DiskFault (λ is. absurd cc);
     }
 
 -- ---- where the device has failed before
@@ -74,5 +75,5 @@ returns-in_err-running g c =
       holds = λ n holds other. holds;
       window = λ n holds. tt;
       whole = λ n holds corrupt. absurd cc;
-      spelled = λ honest readable. window_elsewise _ c.args.self.now.checkpoint.base Stopped (λ is. absurd cc);
+      spelled = λ honest. window_elsewise _ c.args.self.now.checkpoint.base Stopped (λ is. absurd cc);
     })

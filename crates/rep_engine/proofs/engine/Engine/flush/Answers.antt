@@ -1,13 +1,13 @@
 use Rattle.std.proofs.Common.{◌≡◌, ◌⊎◌, ℕ, Some, IfErr, refl, sym, subst, arith, inr, ap, ◌∙◌}
 use Rattle.rep_types.specs.declared.refusal.Refusal.TheVariants.{DiskFault, Corrupt, NotDue, Stopped}
 use Rattle.rep_types.specs.declared.refusal.Part.TheVariants.{Pages}
+use Rattle.rep_layout.specs.declared.place.Place.TheVariants.{Page}
 use Rattle.rep_steps.specs.declared.event.Event.TheVariants.{Flush as to_flush}
 use Rattle.rep_steps.specs.Moves.{Moves}
 use Rattle.rep_steps.specs.Nodes.{Steps}
 use Rattle.rep_steps.specs.Standings.{flush_refusal, Standing}
 use Rattle.rep_checkpoint.specs.Standing.{stage_of}
 use Rattle.rep_checkpoint.specs.Moves.{position_in}
-use Rattle.rep_pool.specs.BasePages.{IsPageReadable}
 use Rattle.rep_checkpoint.specs.Calls.{FlushesAsSpelled}
 use Rattle.rep_engine.specs.Engines.{Engine, facts_of}
 use Rattle.rep_engine.specs.Holding.{Holds, wrote}
@@ -65,12 +65,11 @@ returns-in-Ok-clause-fault g c =
 pub returns-in-Ok-clause-spelled : goal.returns-in-Ok-clause-spelled
 returns-in-Ok-clause-spelled g c =
     let old : Engine g.row.D.Denot = c.args.self.now in
-    subst (λ (page : ℕ). g.D.Disk.honest old.disk → IsPageReadable old.layout (g.D.Disk.history old.disk) old.checkpoint.base page
-    → FlushesAsSpelled old.layout old.checkpoint.base old.kept (position_in old.checkpoint.stage) page (g.D.Disk.history old.disk) (g.D.Disk.history c.flush_page.new.self.disk) c.flush_page.result) c.in-Ok.ensures.1
-    (flush_spelled g.D.Disk.honest g.D.Disk.history g.D.Disk.size g.D.Disk.failures g.met.D.Disk.sized c.checkpoints_go_on.ensures.facts c.args.self.now c.flush_page.new.self.disk c.flush_page.new.self.checkpoint c.flush_page.new.self.halted c.in-Ok.page c.flush_page.result (flushed_out g c))
+    subst (λ (page : ℕ). g.D.Disk.honest old.disk → FlushesAsSpelled old.layout old.checkpoint.base old.kept (position_in old.checkpoint.stage) page (g.D.Disk.history old.disk) (g.D.Disk.history c.flush_page.new.self.disk) c.flush_page.result) c.in-Ok.ensures.1
+    (λ honest. flush_spelled g.D.Disk.honest g.D.Disk.history g.D.Disk.size g.D.Disk.failures g.met.D.Disk.sized c.checkpoints_go_on.ensures.facts c.args.self.now c.flush_page.new.self.disk c.flush_page.new.self.checkpoint c.flush_page.new.self.halted c.in-Ok.page c.flush_page.result (flushed_out g c) honest (λ slot there. c.in_ok-running.ensures.readable honest (Page c.in-Ok.page slot)))
 
 pub returns-in-Err-clause-spelled : goal.returns-in-Err-clause-spelled
-returns-in-Err-clause-spelled g c = λ honest readable. refused_spelled _ _ _ _ _ _ _ NotDue (λ e. absurd cc)
+returns-in-Err-clause-spelled g c = λ honest. refused_spelled _ _ _ _ _ _ _ NotDue (λ e. absurd cc)
 
 -- ---- where the device has failed before
 
@@ -82,7 +81,7 @@ returns-in_err-running g c =
       moves = stopped_moves (facts_of g.D.Disk.failures c.args.self.now) (to_flush c.args.page) c.in_err-running.ensures.stopped.1;
       steps = λ n holds. (n, stopped_steps n (to_flush c.args.page) (ap (λ (s : Standing). s.stopped) holds.facts ∙ c.in_err-running.ensures.stopped.1), holds);
       leaves = λ n holds. leaves_none _ _ refl;
-      spelled = λ honest readable. refused_spelled _ _ _ _ _ _ _ Stopped (λ e. absurd cc);
+      spelled = λ honest. refused_spelled _ _ _ _ _ _ _ Stopped (λ e. absurd cc);
       unchanged = inr (inr refl);
       fault = λ e. absurd cc;
     })

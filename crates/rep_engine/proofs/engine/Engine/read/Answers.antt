@@ -1,5 +1,7 @@
 use Rattle.std.proofs.Common.{◌∙◌, None, Some, refl, sym, ap, subst, inr}
 use Rattle.rep_types.specs.declared.refusal.Refusal.TheVariants.{Stopped}
+use Rattle.rep_layout.specs.declared.place.Place.TheVariants.{Page}
+use Rattle.rep_layout.specs.Rows.{row_place}
 use Rattle.rep_versions.specs.declared.versions.At.{At}
 use Rattle.rep_versions.specs.Versions.{IsAnswer, told}
 use Rattle.rep_engine.specs.Engines.{facts_of}
@@ -52,12 +54,12 @@ returns-in-Below-clause-steps g c = λ n holds.
 -- ---- what the bytes say
 
 pub returns-in-Some-clause-spelled : goal.returns-in-Some-clause-spelled
-returns-in-Some-clause-spelled g c = λ honest readable.
+returns-in-Some-clause-spelled g c = λ honest.
     read_refused _ c.args.self.now.checkpoint.base c.args.self.now.kept c.args.key c.args.s c.in-Some.refusal
     (refused_elsewise (facts_of g.D.Disk.failures c.args.self.now) c.args.key c.args.s c.in-Some.refusal (sym c.read_refusal.ensures ∙ c.in-Some.is))
 
 pub returns-in-Found-clause-spelled : goal.returns-in-Found-clause-spelled
-returns-in-Found-clause-spelled g c = λ honest readable.
+returns-in-Found-clause-spelled g c = λ honest.
     let is : IsAnswer c.args.self.now.kept c.args.key c.args.s c.version_of.result = c.version_of.ensures in
     let found = subst (IsAnswer c.args.self.now.kept c.args.key c.args.s) c.in-Found.is is in
     read_newest c.versions_follow_the_items.ensures _ c.args.self.now.checkpoint.base c.args.self.now.kept c.args.key c.args.s c.version_of.result (Some c.copied.result) is
@@ -65,7 +67,7 @@ returns-in-Found-clause-spelled g c = λ honest readable.
     (found_above c.args.self.now.kept c.args.key c.args.s found.0 _ found.1)
 
 pub returns-in-Deleted-clause-spelled : goal.returns-in-Deleted-clause-spelled
-returns-in-Deleted-clause-spelled g c = λ honest readable.
+returns-in-Deleted-clause-spelled g c = λ honest.
     let is : IsAnswer c.args.self.now.kept c.args.key c.args.s c.version_of.result = c.version_of.ensures in
     let found = subst (IsAnswer c.args.self.now.kept c.args.key c.args.s) c.in-Deleted.is is in
     read_newest c.versions_follow_the_items.ensures _ c.args.self.now.checkpoint.base c.args.self.now.kept c.args.key c.args.s c.version_of.result None is
@@ -73,10 +75,10 @@ returns-in-Deleted-clause-spelled g c = λ honest readable.
     (found_above c.args.self.now.kept c.args.key c.args.s found.0 None found.1)
 
 pub returns-in-Below-clause-spelled : goal.returns-in-Below-clause-spelled
-returns-in-Below-clause-spelled g c = λ honest readable.
+returns-in-Below-clause-spelled g c = λ honest.
     let none = subst (IsAnswer c.args.self.now.kept c.args.key c.args.s) c.in-Below.is c.version_of.ensures in
     let inside = row_inside (facts_of g.D.Disk.failures c.args.self.now) c.args.key c.args.s (sym c.read_refusal.ensures ∙ c.in_default.is) in
-    read_below c.the_bytes_tell_the_page.ensures _ c.args.self.now.checkpoint.base c.args.self.now.kept c.args.key c.args.s c.read_base.result inside none (c.read_base.ensures.read.spelled honest readable)
+    read_below c.the_bytes_tell_the_page.ensures _ c.args.self.now.checkpoint.base c.args.self.now.kept c.args.key c.args.s c.read_base.result inside none (c.read_base.ensures.read.spelled honest (λ slot there. c.in_ok-running.ensures.readable honest (Page (row_place c.args.self.now.checkpoint.base.params.rows c.args.key).page slot)))
 
 -- ---- what a refusal leaves
 
@@ -98,7 +100,7 @@ returns-in_err-running g c =
       moves = stopped_moves (facts_of g.D.Disk.failures c.args.self.now) (Read c.args.key c.args.s) c.in_err-running.ensures.stopped.1;
       steps = λ n holds. (n, stopped_steps n (Read c.args.key c.args.s) (ap (λ (s : Standing). s.stopped) holds.facts ∙ c.in_err-running.ensures.stopped.1), holds);
       same = λ honest. refl;
-      spelled = λ honest readable. read_refused _ c.args.self.now.checkpoint.base c.args.self.now.kept c.args.key c.args.s Stopped (λ e. absurd cc);
+      spelled = λ honest. read_refused _ c.args.self.now.checkpoint.base c.args.self.now.kept c.args.key c.args.s Stopped (λ e. absurd cc);
       unchanged = inr (inr refl);
       fault = λ e. absurd cc;
     })

@@ -39,7 +39,7 @@ returns-then-index-next g c =
       holds = λ n holds other. holds;
       block = λ n holds. tt;
       whole = λ n holds corrupt. absurd cc;
-      spelled = λ honest readable. record { block = tt; corrupt = λ gave. absurd cc };
+      spelled = λ honest. record { block = tt; corrupt = λ gave. absurd cc };
     }
 
 -- ---- there is one
@@ -58,9 +58,9 @@ returns-in-Ok-block_in g c =
         subst (λ k. IsBlock k c.in-Ok-block_in.block.records) (sym form.0) form.1,
       );
       holds = λ n holds other. holds_read g.D.Disk.size g.D.Disk.failures g.D.Disk.honest g.D.Disk.history _ c.args.self.now _ _ (Ok c.in-Ok.body) c.self.view_is (runs_within c.self.view_is c.in_ok-running.ensures.runs) c.read_cell.ensures.layout c.in-Ok.ensures.call refl c.read_cell.ensures.same n holds;
-      block = λ n holds. tail_block g.D.Disk.honest g.D.Disk.history _ c.args.self.now c.self.view_is c.args.index (c.start-first.result + c.args.index) (ap (λ first. first + c.args.index) c.start-first.ensures) c.log_of-cell.result (lies g at) _ c.block_in.result c.block_in.ensures.only g.D.Disk.failures c.self.invariant.0 (runs_within c.self.view_is c.in_ok-running.ensures.runs) (due g at) c.in-Ok.ensures.shown n holds c.images_read_as_allowed.ensures c.turns_are_taken.ensures c.in-Ok-block_in.block c.in-Ok-block_in.is;
+      block = λ n holds. tail_block g.D.Disk.honest g.D.Disk.history _ c.args.self.now c.self.view_is c.args.index (c.start-first.result + c.args.index) (ap (λ first. first + c.args.index) c.start-first.ensures) c.log_of-cell.result (lies g at) _ c.block_in.result c.block_in.ensures.only g.D.Disk.failures c.self.invariant.0 (runs_within c.self.view_is c.in_ok-running.ensures.runs) (due g at) c.in-Ok.ensures.shown n holds c.images_read_as_allowed.ensures c.open_blocks_are_shown.ensures c.in-Ok-block_in.block c.in-Ok-block_in.is;
       whole = λ n holds corrupt. absurd cc;
-      spelled = λ honest readable. block_spelled g.D.Disk.honest g.D.Disk.history _ c.args.self.now c.self.view_is c.args.index (c.start-first.result + c.args.index) (ap (λ first. first + c.args.index) c.start-first.ensures) c.log_of-cell.result (lies g at) _ c.block_in.result c.block_in.ensures.only c.block_in.ensures.found c.in-Ok.ensures.read honest readable c.in-Ok-block_in.block c.in-Ok-block_in.is;
+      spelled = λ honest. block_spelled g.D.Disk.honest g.D.Disk.history _ c.args.self.now c.self.view_is c.args.index (c.start-first.result + c.args.index) (ap (λ first. first + c.args.index) c.start-first.ensures) c.log_of-cell.result (lies g at) _ c.block_in.result c.block_in.ensures.only c.block_in.ensures.found c.in-Ok.ensures.read honest (c.in_ok-running.ensures.readable honest (log_of c.args.self.now.layout (c.args.self.now.log.start + c.args.index))) c.in-Ok-block_in.block c.in-Ok-block_in.is;
     }
 
 pub returns-in-Err : goal.returns-in-Err
@@ -75,7 +75,7 @@ returns-in-Err g c =
       holds = λ n holds other. holds_read g.D.Disk.size g.D.Disk.failures g.D.Disk.honest g.D.Disk.history _ c.args.self.now _ _ (Ok c.in-Ok.body) c.self.view_is (runs_within c.self.view_is c.in_ok-running.ensures.runs) c.read_cell.ensures.layout c.in-Ok.ensures.call refl c.read_cell.ensures.same n holds;
       block = λ n holds. tt;
       whole = λ n holds corrupt. tail_whole g.D.Disk.honest g.D.Disk.history _ c.args.self.now c.self.view_is c.args.index (c.start-first.result + c.args.index) (ap (λ first. first + c.args.index) c.start-first.ensures) c.log_of-cell.result (lies g at) _ c.block_in.result c.block_in.ensures.only g.D.Disk.failures c.self.invariant.0 (runs_within c.self.view_is c.in_ok-running.ensures.runs) (due g at) c.in-Ok.ensures.shown n holds c.in-Err.refusal c.in-Err.is;
-      spelled = λ honest readable. none_spelled g.D.Disk.honest g.D.Disk.history _ c.args.self.now c.self.view_is c.args.index (c.start-first.result + c.args.index) (ap (λ first. first + c.args.index) c.start-first.ensures) c.log_of-cell.result (lies g at) _ c.block_in.result c.block_in.ensures.only c.block_in.ensures.found c.in-Ok.ensures.read honest readable c.in-Err.refusal c.in-Err.is;
+      spelled = λ honest. none_spelled g.D.Disk.honest g.D.Disk.history _ c.args.self.now c.self.view_is c.args.index (c.start-first.result + c.args.index) (ap (λ first. first + c.args.index) c.start-first.ensures) c.log_of-cell.result (lies g at) _ c.block_in.result c.block_in.ensures.only c.block_in.ensures.found c.in-Ok.ensures.read honest (c.in_ok-running.ensures.readable honest (log_of c.args.self.now.layout (c.args.self.now.log.start + c.args.index))) c.in-Err.refusal c.in-Err.is;
     }
 
 -- ---- where the device fails
@@ -92,7 +92,7 @@ returns-in_default g c =
       holds = λ n holds other. absurd (other refl);
       block = λ n holds. tt;
       whole = λ n holds corrupt. absurd cc;
-      spelled = λ honest readable. record { block = tt; corrupt = λ gave. absurd cc };
+      spelled = λ honest. record { block = tt; corrupt = λ gave. absurd cc };
     }
 
 -- ---- where the device has failed before
@@ -107,5 +107,5 @@ returns-in_err-running g c =
       holds = λ n holds other. holds;
       block = λ n holds. tt;
       whole = λ n holds corrupt. absurd cc;
-      spelled = λ honest readable. record { block = tt; corrupt = λ gave. absurd cc };
+      spelled = λ honest. record { block = tt; corrupt = λ gave. absurd cc };
     })

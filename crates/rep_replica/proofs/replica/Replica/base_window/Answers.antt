@@ -27,4 +27,4 @@ returns-clause-whole g c n holds =
     base_of_all g.D.Disk.honest g.D.Disk.history g.D.Disk.failures (within g c) c.args.self.now c.self.view_is n holds (λ _. c.base_window.result ≢ Err (Corrupt in_window)) c.base_window.ensures.whole
 
 pub returns-then-is_stopped-clause-spelled : goal.returns-then-is_stopped-clause-spelled
-returns-then-is_stopped-clause-spelled g c honest readable = no_window _ c.args.self.now.engine.checkpoint.base in_window
+returns-then-is_stopped-clause-spelled g c honest = no_window _ c.args.self.now.engine.checkpoint.base in_window

@@ -42,5 +42,5 @@ returns g c =
     block c.check.ensures.moves (λ n holds window. c.check.ensures.steps n holds (λ off. window)) c.check.ensures.leaves c.self.invariant.askable in
     subst (λ (r : Replica g.row.D.Denot). IsStep g.D.Disk.honest g.D.Disk.history g.D.Disk.failures r Check c.checked.result (new g c)) c.self.view_is
     (subst (λ (a : Answer). IsStep g.D.Disk.honest g.D.Disk.history g.D.Disk.failures (old g c) Check a (new g c)) (sym c.checked.ensures)
-    (as_step g.D.Disk.honest g.D.Disk.history g.D.Disk.failures (old g c) Check (checked c.check.result) (new g c) step
+    (as_step g.D.Disk.honest g.D.Disk.history g.D.Disk.failures (old g c) Check (checked c.check.result) (new g c) step (c.check.ensures.call.stays_honest, c.check.ensures.call.was_honest)
     (left_by_checked Check (old g c) (new g c) c.check.result (refused_left Check (old g c) c.check.new.self (λ fault. fault) c.check.result c.check.ensures.unchanged c.check.ensures.fault)) tt))

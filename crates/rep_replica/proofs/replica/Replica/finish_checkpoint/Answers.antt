@@ -16,7 +16,7 @@ loop-event-init g c = record {
 
 pub returns-then-is_err-clause-works : goal.returns-then-is_err-clause-works
 returns-then-is_err-clause-works g c =
-    works_on g.D.Disk.honest g.D.Disk.history g.D.Disk.failures c.loop-event.self c.step-answer.new.self c.step-answer.result c.outcome-ended.result c.outcome-ended.ensures c.runs_are_joined.ensures c.args.self.now
+    works_on g.D.Disk.honest g.D.Disk.history g.D.Disk.failures c.loop-event.self c.step-answer.new.self c.step-answer.result c.outcome-ended.result c.outcome-ended.ensures c.runs_are_joined.ensures c.loop-event.invariant.running c.args.self.now
     c.in-Some.event (sym c.checkpoint_event.ensures ∙ c.in-Some.is) c.step-answer.ensures.step c.loop-event.invariant.works
 
 pub returns-then-is_err-clause-early : goal.returns-then-is_err-clause-early
@@ -36,7 +36,7 @@ pub loop-event-preserved : goal.loop-event-preserved
 loop-event-preserved g c = record {
   works =
       subst (λ (r : Result (Unit {0}) Refusal). Works g.D.Disk.honest g.D.Disk.history g.D.Disk.failures c.args.self.now c.step-answer.new.self r) (ok_of c.outcome-ended.result c.if-is_err.ensures.value)
-      (works_on g.D.Disk.honest g.D.Disk.history g.D.Disk.failures c.loop-event.self c.step-answer.new.self c.step-answer.result c.outcome-ended.result c.outcome-ended.ensures c.runs_are_joined.ensures c.args.self.now
+      (works_on g.D.Disk.honest g.D.Disk.history g.D.Disk.failures c.loop-event.self c.step-answer.new.self c.step-answer.result c.outcome-ended.result c.outcome-ended.ensures c.runs_are_joined.ensures c.loop-event.invariant.running c.args.self.now
       c.in-Some.event (sym c.checkpoint_event.ensures ∙ c.in-Some.is) c.step-answer.ensures.step c.loop-event.invariant.works);
   running = is_running g.D.Disk.failures c.step-answer.new.self (goes g c).running;
   rests = λ rests.

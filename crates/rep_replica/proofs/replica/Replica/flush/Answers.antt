@@ -30,7 +30,7 @@ returns g c =
     block (record { moves = c.flush.ensures.moves; steps = c.flush.ensures.steps; leaves = c.flush.ensures.leaves }) in
     subst (λ (r : Replica g.row.D.Denot). IsStep g.D.Disk.honest g.D.Disk.history g.D.Disk.failures r (Flush c.args.page) c.wrote.result (new g c)) c.self.view_is
     (subst (λ (a : Answer). IsStep g.D.Disk.honest g.D.Disk.history g.D.Disk.failures (old g c) (Flush c.args.page) a (new g c)) (sym c.wrote.ensures)
-    (as_step g.D.Disk.honest g.D.Disk.history g.D.Disk.failures (old g c) (Flush c.args.page) (wrote c.flush.result) (new g c) step
+    (as_step g.D.Disk.honest g.D.Disk.history g.D.Disk.failures (old g c) (Flush c.args.page) (wrote c.flush.result) (new g c) step (c.flush.ensures.call.stays_honest, c.flush.ensures.call.was_honest)
     (left_by_wrote (Flush c.args.page) (old g c) (new g c) c.flush.result
     (asked_left (Flush c.args.page) (old g c) c.flush.new.self (λ fault. fault) c.flush.result c.flush.ensures.unchanged c.flush.ensures.fault))
     (flush_spells g.D.Disk.honest g.D.Disk.history c.args.page (old g c) (new g c) c.flush.result c.flush.ensures.spelled)))

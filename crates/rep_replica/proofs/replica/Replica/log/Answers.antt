@@ -1,5 +1,5 @@
 use Rattle.std.proofs.Common.{◌≡◌, [], ◌++◌, None, Some, true, false, List, take, refl, sym, ap, subst, ◌∙◌}
-use Rattle.std.specs.Prelude.{if◌then◌else◌, ◌||◌, is_some, length}
+use Rattle.std.specs.Prelude.{◌↔◌, if◌then◌else◌, ◌||◌, is_some, length}
 use Rattle.rep_types.specs.declared.judged.Judged.{Judged}
 use Rattle.rep_types.specs.declared.refusal.Refusal.{Refusal}
 use Rattle.rep_types.specs.declared.refusal.Refusal.TheVariants.{OutOfMemory, NotDue, Stopped}
@@ -123,7 +123,8 @@ returns-clause-step g c =
     let disk = ap (λ (e : Engine g.row.D.Denot). e.disk) c.in_default-gather.ensures.engine in
     subst (λ (a : Answer). IsStep honest history failures c.args.self.now Log a (new g c)) (sym c.wrote.ensures)
     (as_step honest history failures c.args.self.now Log (wrote c.log.result) (new g c)
-    (step_from honest history failures c.args.self.now c.gather.new.self (new g c) Log (wrote c.log.result) c.in_default-gather.ensures.facts c.in_default-gather.ensures.holds disk from) (left g c) tt)
+    (step_from honest history failures c.args.self.now c.gather.new.self (new g c) Log (wrote c.log.result) c.in_default-gather.ensures.facts c.in_default-gather.ensures.holds disk from)
+    (subst (λ (d : g.row.D.Denot). honest d ↔ honest c.log.new.self.disk) (ap (λ (x : Replica g.row.D.Denot). x.engine.disk) c.self-2.view_is ∙ disk) (c.log.ensures.call.stays_honest, c.log.ensures.call.was_honest)) (left g c) tt)
 
 -- ---- the log after it
 

@@ -35,7 +35,7 @@ returns-clause-step g c =
       leaves = λ n holds. leaves_none (g.D.Disk.history e.disk) (g.D.Disk.history c.read.new.self.disk) (c.read.ensures.same holds.is_honest);
     }) in
     subst (λ (r : Replica g.row.D.Denot). IsStep g.D.Disk.honest g.D.Disk.history g.D.Disk.failures r (Read c.args.key c.args.s) (row c.read.result) (new g c)) c.self.view_is
-    (as_step g.D.Disk.honest g.D.Disk.history g.D.Disk.failures (old g c) (Read c.args.key c.args.s) (row c.read.result) (new g c) step
+    (as_step g.D.Disk.honest g.D.Disk.history g.D.Disk.failures (old g c) (Read c.args.key c.args.s) (row c.read.result) (new g c) step (c.read.ensures.call.stays_honest, c.read.ensures.call.was_honest)
     (left_by_row (Read c.args.key c.args.s) (old g c) (new g c) c.read.result
     (asked_left (Read c.args.key c.args.s) (old g c) c.read.new.self (λ fault. fault) c.read.result c.read.ensures.unchanged c.read.ensures.fault))
     (read_spells g.D.Disk.honest g.D.Disk.history c.args.key c.args.s (old g c) (new g c) c.read.result c.read.ensures.spelled))

@@ -41,7 +41,7 @@ returns-clause-step g c =
     (record { moves = c.sync.ensures.moves; steps = c.sync.ensures.steps; leaves = c.sync.ensures.leaves }) in
     subst (λ (r : Replica g.row.D.Denot). IsStep g.D.Disk.honest g.D.Disk.history g.D.Disk.failures r Sync c.synced.result (new g c)) c.self.view_is
     (subst (λ (a : Answer). IsStep g.D.Disk.honest g.D.Disk.history g.D.Disk.failures (old g c) Sync a (new g c)) (sym c.synced.ensures)
-    (as_step g.D.Disk.honest g.D.Disk.history g.D.Disk.failures (old g c) Sync (synced c.sync.result) (new g c) step
+    (as_step g.D.Disk.honest g.D.Disk.history g.D.Disk.failures (old g c) Sync (synced c.sync.result) (new g c) step (c.sync.ensures.call.stays_honest, c.sync.ensures.call.was_honest)
     (left_by_synced Sync (old g c) (new g c) c.sync.result (refused_left Sync (old g c) c.sync.new.self (λ fault. fault) c.sync.result c.sync.ensures.unchanged c.sync.ensures.fault)) tt))
 
 pub returns-clause-log : goal.returns-clause-log

@@ -26,4 +26,4 @@ returns-clause-whole g c n holds =
     base_of_all g.D.Disk.honest g.D.Disk.history g.D.Disk.failures (within g c) c.args.self.now c.self.view_is n holds (λ _. c.tail_block.result ≢ Err (Corrupt in_log)) c.tail_block.ensures.whole
 
 pub returns-then-is_stopped-clause-spelled : goal.returns-then-is_stopped-clause-spelled
-returns-then-is_stopped-clause-spelled g c honest readable = no_block _ _ _ _
+returns-then-is_stopped-clause-spelled g c honest = no_block _ _ _ _
