@@ -269,18 +269,32 @@ def first_lap():
     return script
 
 
-def two_laps():
-    """Two laps with a checkpoint behind each, and a block of a third up to its body."""
+def on_from_the_first_lap(last):
+    """A lap with a checkpoint behind it, and blocks of a second up to this item's."""
     script = first_lap()
     script.checkpoint(4)
-    for seqno in range(5, 9):
+    for seqno in range(5, last + 1):
         script.commit(seqno, 1, 70)
         script.make_durable_again(*replies_to(seqno, seqno))
+    return script
+
+
+def two_laps():
+    """Two laps with a checkpoint behind each, and a block of a third up to its body."""
+    script = on_from_the_first_lap(8)
     script.checkpoint(8)
     script.commit(9, 1, 70)
     script.push("log", "wrote")
     script.push("sync", "synced 0")
     script.push("log", "wrote")
+    return script
+
+
+def full_again():
+    """A second lap behind which the log is full over a base that is not the first."""
+    script = on_from_the_first_lap(8)
+    script.commit(9, 1, 70)
+    script.push("log", "refused 6 log-full")
     return script
 
 
@@ -320,10 +334,7 @@ def of_one_page():
 
 def second_lap():
     """A second lap whose first block is durable, with an item that waits for the next: its cell stands open."""
-    script = first_lap()
-    script.checkpoint(4)
-    script.commit(5, 1, 70)
-    script.make_durable_again(*replies_to(5, 5))
+    script = on_from_the_first_lap(5)
     script.commit(6, 1, 70)
     return script
 

@@ -2,7 +2,7 @@
 a checkpoint; and a node at its limits, that settles, and that is taken apart."""
 from node_model import CLUSTER, LOSSES, Item
 from trials import (
-    BEFORE, Life, Trial, answers, before_items, beside_an_item, conflicting, full_log,
+    BEFORE, Life, Trial, answers, before_items, beside_an_item, conflicting, full_again, full_log,
     of_each_kind, of_one_page, one_item, put, putting, replies_to, second_lap, two_items, two_laps,
 )
 
@@ -204,16 +204,17 @@ def settled_on_all_ways(_):
 
 
 def full_log_settles(_):
-    """A full log settles by a checkpoint, whatever a stop loses then."""
-    for loss in LOSSES:
-        trial, script = Trial("a full log settles, " + loss), full_log()
-        life = script.play(trial, BEFORE)
-        trial.say("node", "node 5 4 0 busy running")
-        life.settle()
-        opens_at(trial, 4, 5, [2, 3, 4, 5])
-        life.stop(loss)
-        opens_at(trial, 4, 5, [2, 3, 4, 5])
-        yield trial
+    """A full log settles by a checkpoint, over the first base and over a later one, whatever a stop loses then."""
+    for script, events, base in (full_log(), BEFORE, 0), (full_again(), None, 4):
+        for loss in LOSSES:
+            trial = Trial("a full log over a base at %d settles, %s" % (base, loss))
+            life = script.play(trial, events)
+            trial.say("node", "node %d %d %d busy running" % (base + 5, base + 4, base))
+            life.settle()
+            opens_at(trial, base + 4, base + 5, range(base + 2, base + 6))
+            life.stop(loss)
+            opens_at(trial, base + 4, base + 5, range(base + 2, base + 6))
+            yield trial
 
 
 def quiet_nodes_stay(program):
