@@ -1,5 +1,5 @@
 -- What a script asks for, and what running it does to a replica.
-use Rattle.std.specs.Prelude.{◌≡◌, ℕ, ◌<◌, ◌⊎◌, List, [], ◌∷◌, ◌++◌, take, replicate, Option, None, Some, Result, Ok, Err, IfOk, IfErr, MatchResult}
+use Rattle.std.specs.Prelude.{◌≡◌, ℕ, ◌<◌, ◌⊎◌, List, [], ◌∷◌, ◌++◌, take, Option, None, Some, Result, Ok, Err, IfOk, IfErr, MatchResult}
 use Rattle.rep_types.specs.declared.refusal.Refusal.{Refusal}
 use Rattle.rep_types.specs.declared.refusal.Refusal.TheVariants.{OutOfMemory, DiskFault, Malformed, NotFormatted, StreamFault}
 use Rattle.rep_types.specs.Settings.{Setting}
@@ -7,8 +7,8 @@ use Rattle.rep_record.specs.Lines.{raw_lines}
 use Rattle.rep_disk.specs.declared.memory.Loss.{Loss}
 use Rattle.rep_disk.specs.History.{History, Begins, IsImage, seen}
 use Rattle.rep_disk.specs.Memory.{Memory, IsAfterLoss}
-use Rattle.rep_disk.specs.Calls.{IsCall, Rises}
-use Rattle.rep_layout.specs.Places.{need_of, layout_of}
+use Rattle.rep_disk.specs.Calls.{IsCall}
+use Rattle.rep_layout.specs.Places.{need_of}
 use Rattle.rep_steps.specs.declared.answer.Answer.{Answer}
 use Rattle.rep_recover.specs.Looking.{fault_in}
 use Rattle.rep_recover.specs.Formatting.{ImagesStandFor}
@@ -63,17 +63,10 @@ Opened size failures honest history disk (Err refusal) = (left : _) × IsOpening
 abbrev pub script_uuid : List ℕ
 script_uuid = 0x11 ∷ 0x11 ∷ 0x11 ∷ 0x11 ∷ 0x11 ∷ 0x11 ∷ 0x41 ∷ 0x11 ∷ 0x81 ∷ 0x11 ∷ 0x11 ∷ 0x11 ∷ 0x11 ∷ 0x11 ∷ 0x11 ∷ 0x11 ∷ []
 
--- A disk of zeros failed while it was formatted: how often it had failed rose.
-pub record FailsToFormat {D : Type 0} (failures : D → ℕ) (history : D → History) (p : Setting) : Type 0 where
-  pub blank : D
-  pub zeros : history blank ≡ Begins (replicate (need_of (layout_of p)) 0)
-  pub disk : D
-  pub rises : Rises (failures blank) (failures disk)
-
--- A disk that was formatted with these parameters was opened, or refused so; or there was no memory for one, or it failed meanwhile.
+-- A disk that was formatted with these parameters was opened, or refused so; or there was no memory for one, or it failed.
 abbrev pub OnNewDisk : {D : Type 0} → (D → ℕ) → (D → ℕ) → (D → Type 0) → (D → History) → Setting → Result (Replica D) Refusal → Type 0
 OnNewDisk {D} size failures honest history p result =
-    ((disk : D) × ImagesStandFor script_uuid p [] (history disk) × Opened size failures honest history disk result) ⊎ ((result ≡ Err OutOfMemory) ⊎ ((result ≡ Err DiskFault) × FailsToFormat failures history p))
+    ((disk : D) × ImagesStandFor script_uuid p [] (history disk) × Opened size failures honest history disk result) ⊎ ((result ≡ Err OutOfMemory) ⊎ (result ≡ Err DiskFault))
 
 -- What a crash makes of a disk in memory.
 pub record Crashes (loss : Loss) (old new : Memory) : Type 0 where
