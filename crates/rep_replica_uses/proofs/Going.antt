@@ -1,16 +1,28 @@
 -- Lives one after another, with one more.
-use Rattle.std.proofs.Common.{◌≡◌, ℕ, List, [], ◌∷◌, ◌++◌, refl, sym, subst, ◌∙◌}
+use Rattle.std.proofs.Common.{◌≡◌, ◌⊎◌, inl, inr, ℕ, List, [], ◌∷◌, ◌++◌, ◌+◌, ◌<◌, length, get_or, take, refl, sym, ap, subst, ◌∙◌}
+use Rattle.std.specs.Prelude.{⊤}
 use Rattle.std.specs.declared.vec.Vec.{Vec}
+use Rattle.std.proofs.lemmas.List.{take_more}
+use Rattle.rep_types.specs.declared.refusal.Refusal.{Refusal}
+use Rattle.rep_types.specs.declared.refusal.Refusal.TheVariants.{OutOfMemory, DiskFault}
+use Rattle.rep_types.specs.declared.reply.Reply.{Reply}
+use Rattle.rep_types.specs.Settings.{Setting}
+use Rattle.rep_types.specs.Order.{Order}
 use Rattle.rep_disk.specs.History.{History, seen}
 use Rattle.rep_disk.specs.Laws.{ImagesOfAMoment, MomentsOfCalls}
 use Rattle.rep_steps.specs.declared.event.Event.{Event}
 use Rattle.rep_steps.specs.declared.answer.Answer.{Answer}
-use Rattle.rep_replica.specs.Replicas.{Replica}
+use Rattle.rep_steps.specs.Standings.{delivered}
+use Rattle.rep_steps.specs.Runs.{acknowledged}
+use Rattle.rep_steps.specs.Images.{Meaning}
+use Rattle.rep_image.specs.Meanings.{Means}
+use Rattle.rep_recover.specs.Opening.{RefusesToOpen, ReasonsExcludeMeanings}
+use Rattle.rep_replica.specs.Replicas.{Replica, facts_of}
 use Rattle.rep_replica.specs.Opening.{Opens}
 use Rattle.rep_replica.specs.Running.{Ran, RunsAreJoined}
 use Rattle.rep_replica.specs.Stopping.{StoppedReplicasHold}
-use Rattle.rep_replica.specs.Lives.{Life, IsLife, Lives, LivesFollowTheOrder}
-use Rattle.rep_replica_uses.specs.Living.{Did, DidEach, left_by, LivesOnce, LivesOn}
+use Rattle.rep_replica.specs.Lives.{Life, IsLife, Lives, LivesFollow, LivesFollowTheOrder}
+use Rattle.rep_replica_uses.specs.Living.{Did, DidEach, left_by, LivesOnce, IsUnlived, LivesOn, LivesUntil}
 
 -- ---- one life
 
@@ -71,5 +83,48 @@ module _ {D Z : Type 0} (honest : D → Type 0) (history : D → History) (failu
     is_honest = once.is_honest;
   }
 
+  -- with the next of all of them
+  pub going_on : (all : List (Vec Event Z)) (i : ℕ) (told : List (Vec Answer Z)) (mid new : D) (es : Vec Event Z) (given : List Event) (bs : Vec Answer Z) → i < length all → es ≡ get_or all i es → given ≡ es.items → Going honest history failures old (take i all) told mid
+      → LivesOnce honest history failures mid given bs.items new → Going honest history failures old (take (i + 1) all) (told ++ bs ∷ []) new
+  going_on all i told mid new es given bs here is value g once =
+      let front : take (i + 1) all ≡ take i all ++ es ∷ [] = take_more all i es here ∙ ap (λ (e : Vec Event Z). take i all ++ e ∷ []) (sym is) in
+      rw front (going_more (take i all) told mid new es bs g (subst (λ (l : List Event). LivesOnce honest history failures mid l bs.items new) value once))
+
   pub gone : LivesFollowTheOrder honest history failures → (events : List (Vec Event Z)) (told : List (Vec Answer Z)) (now : D) → Going honest history failures old events told now → LivesOn honest history failures old events told now
   gone law events told now g = record { lives = g.lives; did = g.did; are_lives = g.are; left = g.left; is_honest = g.is_honest; follow = λ uuid p O d h front fed. law uuid p O d h (seen (history old)) g.lives front g.are fed }
+
+-- ---- a refusal
+
+-- what lives that follow an order leave means something
+means_left : {D : Type 0} (honest : D → Type 0) (history : D → History) (failures : D → ℕ) (uuid : List ℕ) (p : Setting) (O : Order) (d h : ℕ) (given : List Reply) (image : List ℕ) (lives : List (Life D)) (m : Meaning) → Means image m
+    → LivesFollow honest history failures uuid p O d h given lives → (z : Meaning) × Means (left_by image lives) z
+means_left honest history failures uuid p O d h given image [] m means all = (m, means)
+means_left honest history failures uuid p O d h given image (life ∷ lives) m means all = means_left honest history failures uuid p O (facts_of failures life.mid).durable (delivered (facts_of failures life.last)) (given ++ acknowledged life.answers) life.left lives all.0.front.meaning all.0.front.reads all.1
+
+not_of_bytes : ReasonsExcludeMeanings → (bytes : List ℕ) (e : Refusal) (m : Meaning) → Means bytes m → RefusesToOpen ⊤ bytes e → (e ≡ OutOfMemory) ⊎ (e ≡ DiskFault)
+not_of_bytes exclude bytes e m means (inl memory) = inl memory
+not_of_bytes exclude bytes e m means (inr (inl fault)) = inr fault
+not_of_bytes exclude bytes e m means (inr (inr of_bytes)) = absurd (exclude bytes e m (of_bytes.1 tt) means)
+
+module _ {D Z : Type 0} (honest : D → Type 0) (history : D → History) (failures : D → ℕ) (old : D) where
+  pub gone_until : LivesFollowTheOrder honest history failures → ReasonsExcludeMeanings → (events : List (Vec Event Z)) (count : ℕ) (told : List (Vec Answer Z)) (mid new : D) (e : Refusal) → Going honest history failures old (take count events) told mid
+      → IsUnlived honest history mid e new → LivesUntil honest history failures old events e new
+  unfolding gone
+  gone_until law exclude events count told mid new e g unlived =
+      let here : Going honest history failures old (take count events) told new = record { lives = g.lives; did = g.did; are = g.are; left = g.left ∙ sym unlived.same; is_honest = unlived.is_honest } in
+      let lived = gone honest history failures old law (take count events) told new here in
+      let reason : RefusesToOpen ⊤ (seen (history new)) e = subst (λ (bytes : List ℕ). RefusesToOpen ⊤ bytes e) (sym unlived.same) unlived.reason in
+      record {
+        count = count;
+        answers = told;
+        lived = lived;
+        reason = reason;
+        sound = λ uuid p O d h front fed.
+            let left = means_left honest history failures uuid p O d h [] (seen (history old)) g.lives front.meaning front.reads (lived.follow uuid p O d h front fed) in
+            not_of_bytes exclude (seen (history new)) e left.0 (subst (λ (bytes : List ℕ). Means bytes left.0) here.left left.1) reason;
+      }
+
+  -- of memory, for the answers of a life that was lived
+  pub gone_untold : LivesFollowTheOrder honest history failures → ReasonsExcludeMeanings → (events : List (Vec Event Z)) (count : ℕ) (told : List (Vec Answer Z)) (new : D) → Going honest history failures old (take count events) told new
+      → LivesUntil honest history failures old events OutOfMemory new
+  gone_untold law exclude events count told new g = gone_until law exclude events count told new new OutOfMemory g (record { same = refl; is_honest = g.is_honest; reason = inl refl })

@@ -1,6 +1,8 @@
 -- A disk that is opened, used and taken out again, any number of times.
-use Rattle.std.specs.Prelude.{◌≡◌, ℕ, List, [], ◌∷◌, take}
+use Rattle.std.specs.Prelude.{◌≡◌, ◌⊎◌, ℕ, List, [], ◌∷◌, take, ⊤}
 use Rattle.std.specs.declared.vec.Vec.{Vec}
+use Rattle.rep_types.specs.declared.refusal.Refusal.{Refusal}
+use Rattle.rep_types.specs.declared.refusal.Refusal.TheVariants.{OutOfMemory, DiskFault}
 use Rattle.rep_types.specs.Settings.{Setting}
 use Rattle.rep_types.specs.Order.{Order}
 use Rattle.rep_disk.specs.History.{History, seen}
@@ -8,6 +10,7 @@ use Rattle.rep_steps.specs.declared.event.Event.{Event}
 use Rattle.rep_steps.specs.declared.answer.Answer.{Answer}
 use Rattle.rep_steps.specs.Images.{IsFrontOf}
 use Rattle.rep_image.specs.Meanings.{Means}
+use Rattle.rep_recover.specs.Opening.{RefusesToOpen}
 use Rattle.rep_replica.specs.Lives.{Life, IsLife, Lives, AreFed, LivesFollow}
 
 -- The life did these events and answered them so; nothing had begun when it ended.
@@ -47,3 +50,19 @@ pub record LivesOn {D Z : Type 0} (honest : D → Type 0) (history : D → Histo
   pub left : left_by (seen (history old)) lives ≡ seen (history new)
   pub is_honest : honest new
   pub follow : (uuid : List ℕ) (p : Setting) (O : Order) (d h : ℕ) → IsFrontOf Means uuid p (take h O) d (seen (history old)) → AreFed failures O lives → LivesFollow honest history failures uuid p O d h [] lives
+
+-- A refusal in whose life nothing was done: the disk reads as it did. Where it is of the bytes, the reason stands there.
+pub record IsUnlived {D : Type 0} (honest : D → Type 0) (history : D → History) (old : D) (refusal : Refusal) (new : D) : Type 0 where
+  pub same : seen (history new) ≡ seen (history old)
+  pub is_honest : honest new
+  pub reason : RefusesToOpen ⊤ (seen (history old)) refusal
+
+-- Some of the lives were lived before the refusal, from the first on, with answers that nobody is given, and the disk is handed back as the
+-- last of them left it. Where the refusal is of the bytes, the reason stands there; and where the disk stood for a front of an order, and
+-- these lives were fed it, it is not of the bytes.
+pub record LivesUntil {D Z : Type 0} (honest : D → Type 0) (history : D → History) (failures : D → ℕ) (old : D) (events : List (Vec Event Z)) (refusal : Refusal) (new : D) : Type 0 where
+  pub count : ℕ
+  pub answers : List (Vec Answer Z)
+  pub lived : LivesOn honest history failures old (take count events) answers new
+  pub reason : RefusesToOpen ⊤ (seen (history new)) refusal
+  pub sound : (uuid : List ℕ) (p : Setting) (O : Order) (d h : ℕ) → IsFrontOf Means uuid p (take h O) d (seen (history old)) → AreFed failures O lived.lives → (refusal ≡ OutOfMemory) ⊎ (refusal ≡ DiskFault)

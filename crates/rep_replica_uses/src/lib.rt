@@ -4,23 +4,28 @@
 
 mod install;
 
-ghost use Rattle.std.specs.Prelude.{IfOk};
-ghost use Rattle.rep_replica_uses.specs.Living.{LivesOnce, LivesOn};
+ghost use Rattle.std.specs.Prelude.{IfOk, IfErr};
+ghost use Rattle.rep_replica_uses.specs.Living.{LivesOnce, IsUnlived, LivesOn, LivesUntil};
 
 pub use install::{Pages, bring, installed_nodes_go_on};
 use rep_disk::{Disk, images_of_a_moment, moments_of_calls};
+use rep_recover::reasons_exclude_meanings;
 use rep_replica::{Replica, lives_follow_the_order, runs_are_joined, stopped_replicas_hold};
 use rep_steps::{Answer, Event};
 use rep_types::Refusal;
 use std::alloc::Global;
 
 /// Opens the disk, does these events, and takes the disk out again.
+///
+/// Refuses what `Replica::open` refuses, and with `OutOfMemory` where there is no room for the answers. Then none of the
+/// events was done, and the disk comes back as it was.
 pub fn live_once<D: Disk>(
     alloc: Global,
     disk: D,
     events: &[Event],
 ) -> Result<(D, Vec<Answer>), (D, Refusal)>
-    ensures { D.honest disk → IfOk result (λ r. LivesOnce D.honest D.history D.failures disk events.now r.1.items r.0) }
+    ensures lived { D.honest disk → IfOk result (λ r. LivesOnce D.honest D.history D.failures disk events.now r.1.items r.0) }
+    ensures refused { D.honest disk → IfErr result (λ x. IsUnlived D.honest D.history disk x.1 x.0) }
 {
     runs_are_joined::<D>();
     stopped_replicas_hold::<D>();
@@ -39,14 +44,20 @@ pub fn live_once<D: Disk>(
 /// rest of the order delivered from where each opening stands: each opening gives the rows, the GTID and the window
 /// after a front of that order with each item that was replied to, and verdicts, replies and rows are those
 /// of a node that never stopped.
+///
+/// Refuses what `Replica::open` refuses, at the first opening that is refused, and with `OutOfMemory` where there is no
+/// room for the answers. The disk comes back as the last life that was lived left it. On such a disk, with the order so
+/// delivered, an opening is refused for memory or a failing device alone, never for what it reads.
 pub fn live<D: Disk>(
     alloc: Global,
     disk: D,
     lives: &[Vec<Event>],
 ) -> Result<(D, Vec<Vec<Answer>>), (D, Refusal)>
-    ensures { D.honest disk → IfOk result (λ r. LivesOn D.honest D.history D.failures disk lives.now r.1.items r.0) }
+    ensures lived { D.honest disk → IfOk result (λ r. LivesOn D.honest D.history D.failures disk lives.now r.1.items r.0) }
+    ensures refused { D.honest disk → IfErr result (λ x. LivesUntil D.honest D.history D.failures disk lives.now x.1 x.0) }
 {
     lives_follow_the_order::<D>();
+    reasons_exclude_meanings();
     let mut disk = disk;
     let mut told = Vec::new(alloc);
     for events in lives {
