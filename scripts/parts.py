@@ -20,6 +20,7 @@ import wrong_bodies
 # The memory that there has to be for a check, in bytes: the most that one took was 3,000 million (docs/gate.md).
 CHECK = 4_000_000_000
 
+GATE = "rt ci"
 EDITS = "scripts/edits --gate"
 # Behind the gate: those of a row go one after another, beside the other rows.
 ROWS = (("scripts/lives",), ("scripts/edits --fit", "scripts/program", "scripts/shown", "scripts/growths", "scripts/served"))
@@ -36,6 +37,16 @@ def counts_of(text):
     """How many checks passed and how many failed, by the last line."""
     found = re.search(r"^(\d+) passed, (\d+) failed$", text.rstrip("\n").rpartition("\n")[2])
     return (int(found[1]), int(found[2])) if found else (0, 1)
+
+
+def tell(process, line):
+    """Hands the process a line."""
+    try:
+        process.stdin.write(line)
+        process.stdin.flush()
+    except BrokenPipeError:
+        # (it ended, and says why)
+        pass
 
 
 class Ended:
@@ -74,13 +85,8 @@ class Parts:
 
     def hear(self, line):
         """Hears a line that the gate says."""
-        try:
-            if self.edits:
-                self.edits.process.stdin.write(line)
-                self.edits.process.stdin.flush()
-        except BrokenPipeError:
-            # (it ended, and says why)
-            pass
+        if self.edits:
+            tell(self.edits.process, line)
 
     def behind(self):
         """Runs what is left once the gate has ended, and gives each part, one after another."""

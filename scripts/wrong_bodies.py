@@ -90,6 +90,11 @@ def outside_brackets(text):
         text = less
 
 
+def params_of(given):
+    """The names of the parameters of an impl, of the text `<..>` behind that word."""
+    return [word for it in given.strip()[1:-1].split(",") for word in words_of(it)[:1]]
+
+
 def homes_of(crate):
     """The types and traits of a crate, each with the module that declares it: the prover names their functions by that one."""
     found = {}
@@ -102,29 +107,37 @@ def homes_of(crate):
 
 
 def holders_of(code):
-    """The impls and traits of a file: where each lies, the type's name, and what the prover calls it in a function's name."""
+    """The impls and traits of a file: where each lies, what the prover calls it in a function's name, and the type where it is an impl of that
+    type alone, of no trait."""
     found = []
     for it in re.finditer(r"^(?:pub(?:\([^)]*\))? )?(?:unsafe )?(impl|trait)\b([^{;]*)\{", code, re.M):
         head = re.split(r"\bwhere\b", it[2])[0]
-        if it[1] == "impl":
-            head = re.sub(r"^\s*<(?:[^<>]|<(?:[^<>]|<[^<>]*>)*>)*>", "", head)
-        trait, _, kind = head.rpartition(" for ")
-        name = kind = words_of(outside_brackets(kind))[-1] if it[1] == "impl" else words_of(outside_brackets(head))[0]
-        if trait:
-            name += "".join([words_of(outside_brackets(trait))[-1]] + words_of("".join(re.findall(r"<(.*)>", trait, re.S))))
-        found.append((it.start(), behind_brace(code, it.end() - 1), kind, name))
+        given = re.match(r"\s*<(?:[^<>]|<(?:[^<>]|<[^<>]*>)*>)*>", head) if it[1] == "impl" else None
+        trait, _, whole = head[given.end() if given else 0 :].rpartition(" for ")
+        free = params_of(given[0]) if given else []
+        args = lambda text: [word for word in words_of("".join(re.findall(r"<(.*)>", text, re.S))) if word not in free]
+        kind = None
+        if it[1] == "trait":
+            name = words_of(outside_brackets(whole))[0]
+        elif trait:
+            of, its = words_of(outside_brackets(whole))[-1], words_of(outside_brackets(trait))[-1]
+            name = "".join([of[:1].upper() + of[1:], *args(whole), its, *args(trait)])
+        else:
+            kind = words_of(outside_brackets(whole))[-1]
+            name = "+".join([kind, *args(whole)])
+        found.append((it.start(), behind_brace(code, it.end() - 1), name, kind))
     return found
 
 
 def functions_of(file, text, homes):
-    """The functions of a file that have a body: where head and body begin and the body ends, and its name. What stands in an impl has the
-    module of the impl's type."""
+    """The functions of a file that have a body: where head and body begin and the body ends, and its name. What stands in an impl of a type
+    has the type's module, and what stands in one of a trait the file's."""
     code = code_of(text)
     holders, found = holders_of(code), []
     for it in re.finditer(r"\bfn (\w+)", code):
         body = body_of(code, it.end())
         if body:
-            holder = [(kind, name) for start, end, kind, name in holders if start <= it.start() < end][-1:]
+            holder = [(kind, name) for start, end, name, kind in holders if start <= it.start() < end][-1:]
             parts = [homes.get(holder[0][0], module_of(file)), holder[0][1], it[1]] if holder else [module_of(file), it[1]]
             found.append((it.start(), *body, "::".join(it for it in parts if it)))
     return found
@@ -148,7 +161,7 @@ def brings_more(old, new):
 
 def span_of(file, text, function, homes):
     """Where a function of a file lies, with its attributes. None where it is one of a trait, or is proved with others."""
-    traits = [it[:2] for it in holders_of(code_of(text)) if it[2] != it[3] or text.startswith(("trait", "pub trait"), it[0])]
+    traits = [(start, end) for start, end, _, kind in holders_of(code_of(text)) if not kind]
     found = [(start, end) for start, _, end, name in functions_of(file, text, homes) if name == function]
     if len(found) != 1 or any(start <= found[0][0] < end for start, end in traits):
         return None
@@ -323,7 +336,7 @@ class Tries:
         self.refused, self.missed, self.passed, self.spent, self.rounds = 0, set(), set(), 0.0, 0
 
     def all(self):
-        """Tries them all. What one run proved of the functions that these call serves the next."""
+        """Tries them all. What one run proved of the functions that these call serves the next, and those that are tried alone."""
         with tempfile.TemporaryDirectory(prefix="wrong-bodies-kept-") as self.kept:
             return self.in_rounds()
 
@@ -414,9 +427,10 @@ class Tries:
         return process.returncode
 
     def alone(self, edit):
-        """Tries the edit by itself, by the code of the gate. What it took is told by the clock: a processor's seconds, or more."""
+        """Tries the edit by itself, by the code of the gate, over what earlier runs proved. What it took is told by the clock: a processor's seconds,
+        or more."""
         began = time.monotonic()
-        kind, told = self.kit.must_fail(self.crate, edit.path, ["--jobs", "1"])
+        kind, told = self.kit.must_fail(self.crate, edit.path, ["--jobs", "1"], self.kept)
         self.spent += time.monotonic() - began
         self.rounds += 1
         # (a kit tells it by a name of its own, or by whether it is so)
