@@ -373,6 +373,10 @@ class Tries:
     def round(self, planted):
         """One run with all of these. Gives what refused those that it refused, and those to be tried alone; what is neither waits for others."""
         said = self.checked(planted)
+        if not said.of and len(planted) > 1:
+            # (with one of them the crate can't be compiled: halves say with which)
+            (found, others), (more, apart) = self.round(planted[::2]), self.round(planted[1::2])
+            return {**found, **more}, others + apart
         why = {it: said.why(it) for it in said.of}
         found = {}
         for edit in planted:
