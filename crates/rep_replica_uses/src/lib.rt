@@ -47,7 +47,7 @@ pub fn live_once<D: Disk>(
 ///
 /// Refuses what `Replica::open` refuses, at the first opening that is refused, and with `OutOfMemory` where there is no
 /// room for the answers. The disk comes back as the last life that was lived left it. On such a disk, with the order so
-/// delivered, an opening is refused for memory or a failing device alone, never for what it reads.
+/// delivered, it refuses with `OutOfMemory` or `DiskFault` alone, never for what the disk reads.
 pub fn live<D: Disk>(
     alloc: Global,
     disk: D,
