@@ -18,7 +18,7 @@ use std::alloc::Global;
 /// Opens the disk, does these events, and takes the disk out again.
 ///
 /// Refuses what `Replica::open` refuses, and with `OutOfMemory` where there is no room for the answers. Then none of the
-/// events was done, and the disk comes back as it was.
+/// events was done, and an honest disk comes back reading as it did.
 pub fn live_once<D: Disk>(
     alloc: Global,
     disk: D,
@@ -46,8 +46,8 @@ pub fn live_once<D: Disk>(
 /// of a node that never stopped.
 ///
 /// Refuses what `Replica::open` refuses, at the first opening that is refused, and with `OutOfMemory` where there is no
-/// room for the answers. The disk comes back as the last life that was lived left it. On such a disk, with the order so
-/// delivered, it refuses with `OutOfMemory` or `DiskFault` alone, never for what the disk reads.
+/// room for the answers. An honest disk comes back as the last life that was lived left it. On such a disk, with the order
+/// so delivered, it refuses with `OutOfMemory` or `DiskFault` alone, never for what the disk reads.
 pub fn live<D: Disk>(
     alloc: Global,
     disk: D,
