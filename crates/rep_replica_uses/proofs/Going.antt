@@ -108,23 +108,22 @@ not_of_bytes exclude bytes e m means (inr (inr of_bytes)) = absurd (exclude byte
 
 module _ {D Z : Type 0} (honest : D → Type 0) (history : D → History) (failures : D → ℕ) (old : D) where
   pub gone_until : LivesFollowTheOrder honest history failures → ReasonsExcludeMeanings → (events : List (Vec Event Z)) (count : ℕ) (told : List (Vec Answer Z)) (mid new : D) (e : Refusal) → Going honest history failures old (take count events) told mid
-      → IsUnlived honest history mid e new → LivesUntil honest history failures old events e new
+      → IsUnlived honest history failures mid e new → LivesUntil honest history failures old events e new
   unfolding gone
   gone_until law exclude events count told mid new e g unlived =
-      let here : Going honest history failures old (take count events) told new = record { lives = g.lives; did = g.did; are = g.are; left = g.left ∙ sym unlived.same; is_honest = unlived.is_honest } in
-      let lived = gone honest history failures old law (take count events) told new here in
-      let reason : RefusesToOpen ⊤ (seen (history new)) e = subst (λ (bytes : List ℕ). RefusesToOpen ⊤ bytes e) (sym unlived.same) unlived.reason in
+      let lived = gone honest history failures old law (take count events) told mid g in
       record {
         count = count;
         answers = told;
+        mid = mid;
         lived = lived;
-        reason = reason;
+        refused = unlived;
         sound = λ uuid p O d h front fed.
             let left = means_left honest history failures uuid p O d h [] (seen (history old)) g.lives front.meaning front.reads (lived.follow uuid p O d h front fed) in
-            not_of_bytes exclude (seen (history new)) e left.0 (subst (λ (bytes : List ℕ). Means bytes left.0) here.left left.1) reason;
+            not_of_bytes exclude (seen (history mid)) e left.0 (subst (λ (bytes : List ℕ). Means bytes left.0) g.left left.1) unlived.reason;
       }
 
   -- of memory, for the answers of a life that was lived
   pub gone_untold : LivesFollowTheOrder honest history failures → ReasonsExcludeMeanings → (events : List (Vec Event Z)) (count : ℕ) (told : List (Vec Answer Z)) (new : D) → Going honest history failures old (take count events) told new
       → LivesUntil honest history failures old events OutOfMemory new
-  gone_untold law exclude events count told new g = gone_until law exclude events count told new new OutOfMemory g (record { same = refl; is_honest = g.is_honest; reason = inl refl })
+  gone_untold law exclude events count told new g = gone_until law exclude events count told new new OutOfMemory g (record { same = refl; is_honest = g.is_honest; reason = inl refl; fault = λ is. absurd cc })

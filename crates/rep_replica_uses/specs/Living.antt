@@ -6,6 +6,7 @@ use Rattle.rep_types.specs.declared.refusal.Refusal.TheVariants.{OutOfMemory, Di
 use Rattle.rep_types.specs.Settings.{Setting}
 use Rattle.rep_types.specs.Order.{Order}
 use Rattle.rep_disk.specs.History.{History, seen}
+use Rattle.rep_disk.specs.Calls.{Rises}
 use Rattle.rep_steps.specs.declared.event.Event.{Event}
 use Rattle.rep_steps.specs.declared.answer.Answer.{Answer}
 use Rattle.rep_steps.specs.Images.{IsFrontOf}
@@ -51,18 +52,21 @@ pub record LivesOn {D Z : Type 0} (honest : D → Type 0) (history : D → Histo
   pub is_honest : honest new
   pub follow : (uuid : List ℕ) (p : Setting) (O : Order) (d h : ℕ) → IsFrontOf Means uuid p (take h O) d (seen (history old)) → AreFed failures O lives → LivesFollow honest history failures uuid p O d h [] lives
 
--- A refusal in whose life nothing was done: the disk reads as it did. Where it is of the bytes, the reason stands there.
-pub record IsUnlived {D : Type 0} (honest : D → Type 0) (history : D → History) (old : D) (refusal : Refusal) (new : D) : Type 0 where
+-- A refusal in whose life nothing was done: the disk reads as it did. Where it is of the bytes, the reason stands there; where it is a
+-- disk fault, the disk's count of failures rose.
+pub record IsUnlived {D : Type 0} (honest : D → Type 0) (history : D → History) (failures : D → ℕ) (old : D) (refusal : Refusal) (new : D) : Type 0 where
   pub same : seen (history new) ≡ seen (history old)
   pub is_honest : honest new
   pub reason : RefusesToOpen ⊤ (seen (history old)) refusal
+  pub fault : refusal ≡ DiskFault → Rises (failures old) (failures new)
 
--- Some of the lives were lived before the refusal, from the first on, with answers that nobody is given, and the disk is handed back as the
--- last of them left it. Where the refusal is of the bytes, the reason stands there; and where the disk stood for a front of an order, and
--- these lives were fed it, it is not of the bytes.
+-- Some of the lives were lived, from the first on, with answers that nobody is given; and on the disk as the last of them left it came the
+-- refusal, in whose life nothing was done. Where the disk stood for a front of an order, and these lives were fed it, the refusal is not
+-- of the bytes.
 pub record LivesUntil {D Z : Type 0} (honest : D → Type 0) (history : D → History) (failures : D → ℕ) (old : D) (events : List (Vec Event Z)) (refusal : Refusal) (new : D) : Type 0 where
   pub count : ℕ
   pub answers : List (Vec Answer Z)
-  pub lived : LivesOn honest history failures old (take count events) answers new
-  pub reason : RefusesToOpen ⊤ (seen (history new)) refusal
+  pub mid : D
+  pub lived : LivesOn honest history failures old (take count events) answers mid
+  pub refused : IsUnlived honest history failures mid refusal new
   pub sound : (uuid : List ℕ) (p : Setting) (O : Order) (d h : ℕ) → IsFrontOf Means uuid p (take h O) d (seen (history old)) → AreFed failures O lived.lives → (refusal ≡ OutOfMemory) ⊎ (refusal ≡ DiskFault)

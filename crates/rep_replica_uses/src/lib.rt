@@ -25,7 +25,7 @@ pub fn live_once<D: Disk>(
     events: &[Event],
 ) -> Result<(D, Vec<Answer>), (D, Refusal)>
     ensures lived { D.honest disk → IfOk result (λ r. LivesOnce D.honest D.history D.failures disk events.now r.1.items r.0) }
-    ensures refused { D.honest disk → IfErr result (λ x. IsUnlived D.honest D.history disk x.1 x.0) }
+    ensures refused { D.honest disk → IfErr result (λ x. IsUnlived D.honest D.history D.failures disk x.1 x.0) }
 {
     runs_are_joined::<D>();
     stopped_replicas_hold::<D>();
