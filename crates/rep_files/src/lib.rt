@@ -1,19 +1,21 @@
 //! What the program does on files: disks, saved states, and what nodes say to one another.
 #![tactic(auto)]
 
-use rep_catchup::donation_refusal;
-use rep_disk::FileDisk;
-use rep_layout::need;
-use rep_replica::Replica;
+mod disk_file;
+mod name;
+mod new_file;
+mod target;
+
+pub use disk_file::{OnFile, format_file, opened_file};
+use disk_file::{disk_at, opened_to_read};
+use rep_catchup::{donate, donation_refusal};
 use rep_saved::SavedState;
-use rep_script::{
-    donate_text, format_text, join_text, opened, read_saved, run_on_disk, state_text, write_have,
-};
+use rep_script::{donated_text, join_text, read_saved, run_on_disk, state_text, write_have};
 use rep_transfer::{Have, read_have};
-use rep_types::{Params, Refusal};
+use rep_types::Refusal;
 use std::fs::{File, Files};
 use std::io;
-use uuid::Uuid;
+use target::Target;
 
 /// The file at this path, which is there.
 ///
@@ -45,59 +47,6 @@ impl Taken {
     }
 }
 
-/// A replica on a disk that is a file.
-pub type OnFile = Replica<FileDisk<File>>;
-
-/// The disk at this path.
-///
-/// Refuses with `DiskFault` one that cannot be opened as a file.
-fn disk_at<R: Files<File = File>>(rt: &R, path: &str) -> Result<FileDisk<File>, Refusal> {
-    match FileDisk::open(rt, path) {
-        Ok(disk) => Ok(disk),
-        Err(_) => Err(Refusal::DiskFault),
-    }
-}
-
-/// The replica on the disk at this path.
-///
-/// Refuses with `DiskFault` a file that cannot be opened, and else as `Replica::open` does.
-pub fn opened_file<R: Files<File = File> + AllocGlobal>(
-    rt: &R,
-    path: &str,
-) -> Result<OnFile, Refusal> {
-    opened(rt.alloc(), disk_at(rt, path)?)
-}
-
-/// The replica on the disk at this path, which is opened to read alone.
-///
-/// Refuses as `opened_file` does.
-fn opened_to_read<R: Files<File = File> + AllocGlobal>(
-    rt: &R,
-    path: &str,
-) -> Result<OnFile, Refusal> {
-    match FileDisk::open_to_read(rt, path) {
-        Ok(disk) => opened(rt.alloc(), disk),
-        Err(_) => Err(Refusal::DiskFault),
-    }
-}
-
-/// Makes the file at this path a disk with these parameters.
-///
-/// Refuses with `DiskFault` a file that cannot be made or is there already; and else as `format_text` does, and then the file
-/// is there.
-pub fn format_file<R: Files<File = File> + Print>(
-    rt: &R,
-    path: &str,
-    params: &Params,
-    uuid: Option<Uuid>,
-) -> Result<(), Refusal> {
-    let Ok(disk) = FileDisk::create(rt, path, need(params) as usize) else {
-        return Err(Refusal::DiskFault);
-    };
-    let (_, outcome) = format_text(disk, params, uuid, &mut io::writer(rt));
-    outcome
-}
-
 /// Runs a script from standard input on the disk at this path.
 ///
 /// Refuses with `DiskFault` a file that cannot be opened, and else as `run_on_disk` does.
@@ -124,40 +73,33 @@ fn saved_in_file<R: Files<File = File> + AllocGlobal>(
     Ok(Some(read_saved(rt.alloc(), &mut file)?))
 }
 
-/// The file at this path, made anew: what it had is gone.
+/// Prints the state of the replica on the disk at this path. Then what the node has is written to the file at the other one, where there is
+/// one: it has its name only once it is whole.
 ///
-/// Refuses with `StreamFault` one that cannot be made.
-fn new_file<R: Files<File = File>>(rt: &R, path: &str) -> Result<File, Refusal> {
-    match File::create(rt, path) {
-        Ok(file) => Ok(file),
-        Err(_) => Err(Refusal::StreamFault),
-    }
-}
-
-/// Prints the replica's state. Then what the node has is written to the file at this path, where there is one, which is made
-/// anew.
-///
-/// Refuses as `state_text` does, and with `StreamFault` a file that cannot be made or written.
-fn tell_state<R: Files<File = File> + Print>(
+/// Refuses as `state_text` does; and then with `OutOfMemory`, and with `StreamFault` a file that may be a disk or that cannot be written.
+fn tell_state<R: Files<File = File> + Print + AllocGlobal>(
     rt: &R,
+    path: &str,
     replica: &OnFile,
     saved: Option<&SavedState>,
     have: Option<&str>,
 ) -> Result<(), Refusal> {
     state_text(replica, saved, &mut io::writer(rt))?;
-    match have {
-        Some(path) => write_have(replica, &mut new_file(rt, path)?),
-        None => Ok(()),
-    }
+    let Some(have) = have else {
+        return Ok(());
+    };
+    let mut target = Target::open(rt, have, path)?;
+    let written = write_have(replica, &mut target);
+    target.end(rt, written)
 }
 
-/// Prints the state of the disk at this path, and writes what the node has to the file at the last one, where there is one, which is
-/// made anew. The saved state in the file at the other path, where there is one, is read before the disk is looked at, which is
+/// Prints the state of the disk at this path, and writes what the node has to the file at the last one, where there is one: it has its name
+/// only once it is whole. The saved state in the file at the other path, where there is one, is read before the disk is looked at, which is
 /// opened to read alone.
 ///
 /// Refuses with `StreamFault` a saved state's file that cannot be opened, and else as `read_saved` does; then the disk with `DiskFault`
-/// where it cannot be opened, and else as `Replica::open` does; then as `state_text` does; and with `StreamFault` a file that cannot
-/// be made or written.
+/// where it cannot be opened, and else as `Replica::open` does; then as `state_text` does; then with `OutOfMemory`, and with `StreamFault` a
+/// file that may be a disk or that cannot be written, which stays as it is.
 pub fn print_state<R: Files<File = File> + Print + AllocGlobal>(
     rt: &R,
     path: &str,
@@ -166,7 +108,7 @@ pub fn print_state<R: Files<File = File> + Print + AllocGlobal>(
 ) -> Result<(), Refusal> {
     let saved = saved_in_file(rt, saved)?;
     let replica = opened_to_read(rt, path)?;
-    tell_state(rt, &replica, saved.as_ref(), have)
+    tell_state(rt, path, &replica, saved.as_ref(), have)
 }
 
 /// What a joiner has, in the file at this path.
@@ -176,30 +118,32 @@ fn have_in_file<R: Files<File = File>>(rt: &R, path: &str) -> Result<Have, Refus
     read_have(&mut file_at(rt, path)?)
 }
 
-/// Writes for the joiner what it lacks of the replica's order into the file at this path, which is made anew, once nothing
-/// else refuses it.
+/// Writes for the joiner what it lacks of the order of the replica on the disk at this path into the file at the last one, once nothing else
+/// refuses it, and answers the position that it then has. The file has its name only once it is whole.
 ///
-/// Refuses as `donate` does, and with `StreamFault` a file that cannot be made or written.
-fn donate_from<R: Files<File = File> + Print>(
+/// Refuses as `donate` does, and with `OutOfMemory` or `StreamFault` a file that may be a disk or that cannot be written.
+fn donate_from<R: Files<File = File> + Print + AllocGlobal>(
     rt: &R,
+    path: &str,
     replica: &mut OnFile,
     have: &Have,
     out: &str,
-) -> Result<(), Refusal> {
+) -> Result<u64, Refusal> {
     if let Some(refusal) = donation_refusal(replica, have) {
         return Err(refusal);
     }
-    let mut file = new_file(rt, out)?;
-    donate_text(replica, have, &mut file, &mut io::writer(rt))
+    let mut target = Target::open(rt, out, path)?;
+    let written = donate(replica, have, &mut target);
+    target.end(rt, written)
 }
 
-/// Writes for the joiner what it lacks of the order on the disk at this path, into the file at the last one, which is made anew, once
-/// nothing else refuses it. What the joiner has is read from the file at the other path before the disk is looked at, which is opened
-/// to read alone.
+/// Writes for the joiner what it lacks of the order on the disk at this path, into the file at the last one, once nothing else refuses it; and
+/// prints the line of that once the file has its name, which it has only once it is whole. What the joiner has is read from the file at the
+/// other path before the disk is looked at, which is opened to read alone.
 ///
 /// Refuses with `StreamFault` a joiner's file that cannot be opened, and else as `read_have` does; then the disk with `DiskFault` where
-/// it cannot be opened, and else as `Replica::open` does; then as `donate` does; and with `StreamFault` a file that cannot be made or
-/// written.
+/// it cannot be opened, and else as `Replica::open` does; then as `donate` does; with `OutOfMemory`, and with `StreamFault` a file that may be
+/// a disk or that cannot be written, which stays as it is; and with `StreamFault` where the line cannot be written.
 pub fn donate_to_file<R: Files<File = File> + Print + AllocGlobal>(
     rt: &R,
     path: &str,
@@ -208,7 +152,8 @@ pub fn donate_to_file<R: Files<File = File> + Print + AllocGlobal>(
 ) -> Result<(), Refusal> {
     let have = have_in_file(rt, have)?;
     let mut replica = opened_to_read(rt, path)?;
-    donate_from(rt, &mut replica, &have, out)
+    let donated = donate_from(rt, path, &mut replica, &have, out);
+    donated_text(donated, &mut io::writer(rt))
 }
 
 /// Brings the node on the disk at this path up to date by the transfer in the file at the other one, which is opened first.

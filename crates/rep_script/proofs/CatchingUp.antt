@@ -1,7 +1,6 @@
 -- What a donor and a joiner say.
-use Rattle.std.proofs.Common.{◌≡◌, inl, ℕ, true, List, Option, None, Some, Result, Ok, Err, sym, ap, subst, ◌∙◌}
+use Rattle.std.proofs.Common.{◌≡◌, ℕ, true, List, Option, None, Some, Result, Ok, Err, sym, ◌∙◌}
 use Rattle.std.specs.Prelude.{◌≢◌, IfOk, IfErr, IfSome, OnOk}
-use Rattle.std.specs.Io.KnownBytes.{Appends}
 use Rattle.std.proofs.KnownBytes.{Appends-nil}
 use Rattle.rep_types.specs.declared.refusal.Refusal.{Refusal}
 use Rattle.rep_types.specs.declared.refusal.Refusal.TheVariants.{DiskFault, Corrupt, StreamFault}
@@ -12,34 +11,15 @@ use Rattle.rep_steps.specs.Nodes.{Node}
 use Rattle.rep_replica.specs.Replicas.{Replica, facts_of}
 use Rattle.rep_replica.specs.Holding.{Holds}
 use Rattle.rep_replica.specs.Settling.{is_quiet}
-use Rattle.rep_transfer.specs.declared.have.Have.{Have}
-use Rattle.rep_transfer.specs.Transfers.{Transfer, transfer_bytes}
-use Rattle.rep_catchup.specs.Donating.{IsDonated}
 use Rattle.rep_catchup.specs.Growing.{Tells as TellsOfDevice}
 use Rattle.rep_catchup.specs.Joining.{Joined, TookTransfer}
 use Rattle.rep_script.specs.Answering.{Tells}
-use Rattle.rep_script.specs.CatchingUp.{donated_line, Donated, Donates, Taken}
+use Rattle.rep_script.specs.CatchingUp.{Taken}
 
 -- where it is refused before, nothing of the line is written
 pub nothing_told : (line : List ℕ) (at : Option (List ℕ)) (e : Refusal) → Tells line at at (Err e)
 nothing_told line at StreamFault = (0, Appends-nil at)
 nothing_told line at e = Appends-nil at
-
--- ---- a donor
-
--- what is refused is what came before
-pub refused_so : (came : Result ℕ Refusal) (result : Result (Unit {0}) Refusal) (e : Refusal) → came ≡ Err e → (y : Refusal) × (result ≡ Err y) × (y ≡ e) → (k : Refusal) → (came ≡ Err k → result ≡ Err k) × (result ≡ Err k → came ≡ Err k)
-refused_so came result e is (y, gives, same) k =
-    (λ was. (let here : e ≡ k = cc in gives ∙ ap Err (same ∙ here)), λ was. (let here : e ≡ k = cc in is ∙ ap Err here))
-
--- a transfer was written up to this position, and then its line, as far as that could be
-module _ (n : Node) (have : Have) (old new before after : Option (List ℕ)) (last : ℕ) where
-  told_behind : (result : Result (Unit {0}) Refusal) → (t : Transfer) × IsDonated n have t × (t.last ≡ last) × Appends old new (transfer_bytes t) → Tells (donated_line last) before after result → Donated n have old new before after result
-  told_behind result (t, is, same, written) told = record { transfer = t; donated = is; written = written; told = subst (λ k. Tells (donated_line k) before after result) (sym same) told }
-
-  pub donates : (result : Result (Unit {0}) Refusal) → (t : Transfer) × IsDonated n have t × (t.last ≡ last) × Appends old new (transfer_bytes t) → Tells (donated_line last) before after result → Donates n have old new before after result
-  donates (Ok x) written told = told_behind (Ok x) written told
-  donates (Err e) written told = inl (told_behind (Err e) written told)
 
 -- ---- a joiner
 

@@ -1,27 +1,24 @@
 //! What a donor, a joiner and who asks a node for its state say.
 
-ghost use Rattle.std.specs.Prelude.{◌≡◌, ◌≢◌, ◌||◌, ◌⊎◌, ℕ, true, false, is_some, take, Option, None, Err, IfErr, IfSome, OnOk, OnErr};
+ghost use Rattle.std.specs.Prelude.{◌≡◌, ◌||◌, ◌⊎◌, ℕ, true, false, is_some, take, List, Option, Err, IfErr, IfOk, OnOk, OnErr};
 ghost use Rattle.std.specs.Io.KnownBytes.{Appends, Keeps};
-ghost use Rattle.rep_types.specs.declared.refusal.Part.{Part};
-ghost use Rattle.rep_disk.specs.Calls.{Rises};
 ghost use Rattle.rep_engine.specs.Engines.{gtid_of};
 ghost use Rattle.rep_steps.specs.Nodes.{Node};
-ghost use Rattle.rep_replica.specs.Replicas.{facts_of};
-ghost use Rattle.rep_replica.specs.Holding.{Holds};
+ghost use Rattle.rep_transfer.specs.declared.have.Have.{Have};
 ghost use Rattle.rep_transfer.specs.Haves.{have_bytes};
+ghost use Rattle.rep_transfer.specs.Transfers.{Transfer, transfer_bytes};
 ghost use Rattle.rep_catchup.specs.Growing.{EndsRunning, Tells as TellsOfDevice};
-ghost use Rattle.rep_catchup.specs.Donating.{IsFirstRefusal, EndsEarly, ReadsAlone};
+ghost use Rattle.rep_catchup.specs.Donating.{IsDonated};
 ghost use Rattle.rep_catchup.specs.Haves.{have_of};
 ghost use Rattle.rep_catchup.specs.Joining.{Lived, Ended};
 ghost use Rattle.rep_script.specs.Answering.{Tells};
 ghost use Rattle.rep_script.specs.CatchingUp.{donated_line, joined_line, Donates, Taken};
 
 use crate::answers::write_line;
-use rep_catchup::{donate, have, join};
+use rep_catchup::{have, join};
 use rep_disk::Disk;
 use rep_record::put_all;
 use rep_replica::Replica;
-use rep_transfer::Have;
 use rep_types::Refusal;
 use std::alloc::Global;
 use std::io::{Read, Write};
@@ -40,28 +37,19 @@ pub fn write_have<D: Disk, W: Write>(replica: &Replica<D>, writer: &mut W) -> Re
     }
 }
 
-/// Writes the transfer for the joiner, and then the line `donated <position>`, of the position that it brings the joiner to.
+/// Writes the line `donated <position>` of what `donate` answered: of the position that the transfer, which was written, brings the joiner
+/// to.
 ///
-/// Refuses as `donate` does, and then writes no line; and with `StreamFault` where the line's writer fails, which has then taken a
-/// front of it: the transfer is whole then.
-pub fn donate_text<D: Disk, T: Write, W: Write>(
-    replica: &mut Replica<D>,
-    have: &Have,
-    transfer: &mut T,
-    writer: &mut W,
-) -> Result<(), Refusal>
+/// Refuses as `donate` did, and then writes no line; and with `StreamFault` where the writer fails, which has then taken a front of it:
+/// the transfer is whole then.
+pub fn donated_text<W: Write>(donated: Result<u64, Refusal>, writer: &mut W) -> Result<(), Refusal>
     ensures told { (last : ℕ) × Tells (donated_line last) (W.contents writer.old) (W.contents writer.new) result }
-    ensures refusal { (o : Option Refusal) → IsFirstRefusal (facts_of D.failures replica.old) have.now o → IfSome o (λ e. (result ≡ Err e) × (replica.new ≡ replica.old) × Keeps (T.contents transfer.old) (T.contents transfer.new) × Keeps (W.contents writer.old) (W.contents writer.new)) }
-    ensures early { IsFirstRefusal (facts_of D.failures replica.old) have.now None → IfErr result EndsEarly }
-    ensures reads { ReadsAlone D.honest D.history replica.old replica.new }
-    ensures holds { (n : Node) → Holds D.honest D.history D.failures n replica.old → result ≢ Err Refusal.DiskFault → Holds D.honest D.history D.failures n replica.new }
-    ensures whole { (n : Node) → Holds D.honest D.history D.failures n replica.old → (part : Part) → result ≢ Err (Refusal.Corrupt part) }
-    ensures fault { result ≡ Err Refusal.DiskFault → Rises (D.failures replica.old.engine.disk) (D.failures replica.new.engine.disk) × (is_some replica.new.engine.halted ≡ true) }
-    ensures no_fault { result ≢ Err Refusal.DiskFault → D.failures replica.new.engine.disk ≡ D.failures replica.old.engine.disk }
-    // On an honest device of a node what is written is what the joiner lacks, whole, and then the line of that transfer.
-    ensures donated { (n : Node) → Holds D.honest D.history D.failures n replica.old → Donates n have.now (T.contents transfer.old) (T.contents transfer.new) (W.contents writer.old) (W.contents writer.new) result }
+    ensures written { IfOk donated (λ last. Tells (donated_line last) (W.contents writer.old) (W.contents writer.new) result × IfErr result (λ refusal. refusal ≡ Refusal.StreamFault)) }
+    ensures refused { IfErr donated (λ e. (result ≡ Err e) × Keeps (W.contents writer.old) (W.contents writer.new)) }
+    // Where what was written is what the joiner lacks, whole, as `donate` says on an honest device of a node, the line is that of this transfer.
+    ensures whole { (n : Node) → (joiner : Have) → (before : Option (List ℕ)) → (after : Option (List ℕ)) → IfOk donated (λ last. (t : Transfer) × IsDonated n joiner t × (t.last ≡ last) × Appends before after (transfer_bytes t)) → Donates n joiner before after (W.contents writer.old) (W.contents writer.new) result }
 {
-    let last = donate(replica, have, transfer)?;
+    let last = donated?;
     write_line(writer, format_args!("donated {last}"))
 }
 

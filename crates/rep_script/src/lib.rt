@@ -16,7 +16,7 @@ mod script_line;
 mod state;
 
 pub use answers::{write_answer, write_line, write_open, write_refused, write_state};
-pub use catchup::{donate_text, join_text, write_have};
+pub use catchup::{donated_text, join_text, write_have};
 pub use exchange::{Waiting, send};
 pub use format::format_text;
 pub use judge::{judge_text, read_params};
