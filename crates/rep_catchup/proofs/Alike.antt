@@ -7,7 +7,6 @@ use Rattle.rep_types.specs.declared.verdict.Verdict.{Verdict}
 use Rattle.rep_types.specs.declared.key.Key.{Key}
 use Rattle.rep_types.specs.Entries.{Entry}
 use Rattle.rep_types.specs.Settings.{Setting, setting}
-use Rattle.rep_types.specs.Windows.{fixed}
 use Rattle.rep_types.specs.Reaches.{resized, size, floor}
 use Rattle.rep_types.specs.Order.{Order, State, items_of, verdict_among, verdict_on, entries, joined, history, effects, row_in, recent, state}
 use Rattle.rep_checkpoint.specs.Coming.{blank}
@@ -44,4 +43,4 @@ module _ (p q : Setting) (window : p.window ≡ q.window) (tables : p.rows ≡ q
       ap (λ s. of s (floor p L (length L)) (history p L)) (size_alike L) ∙ ap (λ f. of (size q L) f (history p L)) (floor_alike L (length L)) ∙ ap (λ h. of (size q L) (floor q L (length L)) h) (history_alike L)
 
   pub snapshot_alike : (s : Snapshot) → state_of p s ≡ state_of q s
-  snapshot_alike s = ap (λ (x : List ℕ). with_pages x s.pages (blank s.position (fixed p.window s.position s.entries))) tables ∙ ap (λ n. with_pages q.rows s.pages (blank s.position (fixed n s.position s.entries))) window
+  snapshot_alike s = ap (λ (x : List ℕ). with_pages x s.pages (blank s.position s.kept)) tables

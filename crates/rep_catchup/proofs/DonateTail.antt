@@ -14,10 +14,9 @@ use Rattle.rep_types.specs.declared.verdict.Verdict.{Verdict}
 use Rattle.rep_types.specs.declared.verdict.Verdict.TheVariants.{Commit, Conflict, Stale, Future, BadKey}
 use Rattle.rep_types.specs.declared.item.Item.{Item}
 use Rattle.rep_types.specs.declared.item.Item.TheVariants.{WriteSet, SetWindow}
-use Rattle.rep_types.specs.Items.{is_write_set}
 use Rattle.rep_types.specs.declared.limits.TheConstants.{MAX_SEQNO, MAX_CELLS}
 use Rattle.rep_types.specs.Settings.{Setting, is_setting}
-use Rattle.rep_record.specs.Records.{IsRecord, IsVerdictAt, is_verdict_at, HasSpelling, is_placed}
+use Rattle.rep_record.specs.Records.{IsRecord, IsVerdictAt, is_verdict_at, Suits, suits, is_placed}
 use Rattle.rep_disk.specs.History.{History}
 use Rattle.rep_log.specs.Tail.{records_of}
 use Rattle.rep_steps.specs.Nodes.{Node, IsNode}
@@ -54,13 +53,13 @@ placed_verdict seqno Stale is = refl
 placed_verdict seqno Future is = refl
 placed_verdict seqno BadKey is = refl
 
-placed_item : (item : Item) → HasSpelling item → is_write_set item ≡ true
-placed_item (WriteSet w) is = refl
-placed_item (SetWindow c) is = absurd is
+placed_item : (item : Item) (v : Verdict) → Suits item v → suits item v ≡ true
+placed_item (WriteSet w) v is = refl
+placed_item (SetWindow c) v is = rw is refl
 
 pub is_placed_record : (j : Judged) → IsRecord j → is_placed j ≡ true
 is_placed_record j is =
-    rw (placed_item j.item is.item, le-leb 1 j.seqno is.positive, le-leb j.seqno MAX_SEQNO is.seqno, placed_verdict j.seqno j.verdict is.verdict)
+    rw (le-leb 1 j.seqno is.positive, le-leb j.seqno MAX_SEQNO is.seqno, placed_verdict j.seqno j.verdict is.verdict, placed_item j.item j.verdict is.suits)
 
 -- So many of the blocks were written: none yet, or those of a tail.
 pub record WroteBlocks {D : Type 0} (history : D → History) (n : Node) (e : Engine D) (position index : ℕ) (old new : Option (List ℕ)) : Type 0 where

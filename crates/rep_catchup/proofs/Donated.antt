@@ -1,10 +1,10 @@
 -- What a donor writes is what the joiner needs.
 use Rattle.std.proofs.Common.{◌≡◌, ℕ, zero, suc, ◌+◌, ◌-◌, ◌≤◌, ◌<◌, ◌^◌, true, false, List, [], ◌∷◌, ◌++◌, length, map, take, Option, None, Some, inl, inr, refl, sym, ap, subst, ◌∙◌, append_assoc, arith}
-use Rattle.std.specs.Prelude.{nat_lt, slice_index}
+use Rattle.std.specs.Prelude.{nat_lt, slice_index, IfSome}
 use Rattle.std.specs.List.{flat_map, range_with_len, AllByRecursion}
 use Rattle.std.specs.List.Sorted.{IsStrictlyIncreasing}
 use Rattle.std.specs.Io.KnownBytes.{Appends}
-use Rattle.std.proofs.KnownBytes.{Appends-trans}
+use Rattle.std.proofs.KnownBytes.{Appends-nil, Appends-trans}
 use Rattle.std.proofs.Math.Path.{fun_ext}
 use Rattle.std.proofs.lemmas.Bool.{cases_lt, lt-ltb, le-ltb}
 use Rattle.std.proofs.lemmas.List.FromFn.{get_or-range_with_len, length-range_with_len}
@@ -13,33 +13,33 @@ use Rattle.rep_types.specs.declared.key.Key.{Key}
 use Rattle.rep_types.specs.declared.judged.Judged.{Judged}
 use Rattle.rep_types.specs.declared.limits.TheConstants.{MAX_SEQNO}
 use Rattle.rep_types.specs.Settings.{Setting, IsRow, pages_of}
-use Rattle.rep_types.specs.Windows.{fixed}
 use Rattle.rep_types.specs.Order.{State}
 use Rattle.rep_forms.specs.Forms.{number_bytes}
-use Rattle.rep_forms.specs.Entries.{entry_bytes}
 use Rattle.rep_record.specs.Records.{IsRecord}
 use Rattle.rep_disk.specs.History.{History}
+use Rattle.rep_layout.specs.declared.format.Format.{Format}
+use Rattle.rep_layout.specs.declared.format.Format.TheVariants.{Two}
 use Rattle.rep_layout.specs.declared.super_body.SuperBody.{SuperBody}
 use Rattle.rep_layout.specs.Rows.{row_place, RowPlacesAreTold}
-use Rattle.rep_layout.specs.Windows.{window as window_of}
+use Rattle.rep_layout.specs.Windows.{IsOfFormat, IsWindowAt}
 use Rattle.rep_pages.specs.Slots.{state_of_page}
 use Rattle.rep_steps.specs.Standings.{Standing}
 use Rattle.rep_steps.specs.Nodes.{Node, advanced}
 use Rattle.rep_steps.specs.Images.{AreJudgedFrom}
 use Rattle.rep_checkpoint.specs.Coming.{blank, with_page}
-use Rattle.rep_checkpoint.specs.Windows.{WindowsGoOn}
 use Rattle.rep_replica.specs.Replicas.{Replica}
 use Rattle.rep_replica.specs.Holding.{Holds}
 use Rattle.rep_transfer.specs.declared.have.Have.{Have}
 use Rattle.rep_transfer.specs.declared.header.Header.{Header}
 use Rattle.rep_transfer.specs.Haves.{IsHeader, header_bytes}
-use Rattle.rep_transfer.specs.Shapes.{shape_of}
+use Rattle.rep_transfer.specs.Shapes.{shape_of, least_of}
 use Rattle.rep_transfer.specs.declared.pieces.NumberedPage.{NumberedPage}
-use Rattle.rep_transfer.specs.Pieces.{front_bytes, page_bytes}
-use Rattle.rep_transfer.specs.Transfers.{Snapshot, Transfer, SnapshotFits, snapshot_bytes, snapshot_part, record_part, end_bytes, transfer_bytes}
+use Rattle.rep_transfer.specs.Pieces.{page_bytes}
+use Rattle.rep_transfer.specs.Transfers.{Snapshot, Transfer, SnapshotFits, IsTold, kept_bytes, snapshot_bytes, snapshot_part, record_part, end_bytes, transfer_bytes}
 use Rattle.rep_catchup.specs.Snapshots.{with_pages, state_of, number_of, IsSnapshot}
-use Rattle.rep_catchup.specs.Donating.{IsRunning, front_at, is_in_slot, held_below, rows_below, WroteWindow, WrotePages, IsSnapshotOf, IsDonated, NeedsSnapshot, Begins, Brings, WroteBase, above, durable_items}
+use Rattle.rep_catchup.specs.Donating.{IsRunning, is_in_slot, held_below, rows_below, WroteWindow, WrotePages, IsSnapshotOf, IsDonated, NeedsSnapshot, Begins, Brings, WroteBase, above, durable_items}
 use Rattle.rep_catchup.proofs.DonateReads.{not_halted}
+use Rattle.rep_catchup.proofs.WindowLimits.{kept_fits}
 
 -- ---- the base of a node
 
@@ -49,7 +49,6 @@ pub record IsBaseOf (n : Node) (b : SuperBody) : Type 0 where
   pub facts : n.facts.base ≡ b.position
   pub position : n.base.position ≡ b.position
   pub limit : b.position ≤ MAX_SEQNO
-  pub is_fixed : n.base.kept ≡ fixed b.params.window b.position n.base.kept.entries
   pub outside : (key : Key) → (IsRow b.params.rows key → ⊥) → n.base.content key ≡ None
 
 pub base_of : {D : Type 0} (honest : D → Type 0) (history : D → History) (failures : D → ℕ) (n : Node) (r : Replica D) → Holds honest history failures n r → IsRunning r → IsBaseOf n r.engine.checkpoint.base
@@ -62,7 +61,6 @@ base_of honest history failures n r holds runs =
       facts = at;
       position = base.position;
       limit = omega (arith, at, holds.node.facts.based, holds.node.facts.limit);
-      is_fixed = base.is_fixed;
       outside = base.content.outside;
     }
 
@@ -101,29 +99,36 @@ length_map : (pages : List NumberedPage) → length (map number_of pages) ≡ le
 length_map [] = refl
 length_map (p ∷ pages) = ap suc (length_map pages)
 
-module _ (windows : WindowsGoOn) (places : RowPlacesAreTold) (n : Node) (b : SuperBody) (base : IsBaseOf n b) (old one two new : Option (List ℕ)) (window : WroteWindow b n.base.kept.entries old one)
+module _ (places : RowPlacesAreTold) (n : Node) (b : SuperBody) (base : IsBaseOf n b) (old one two new : Option (List ℕ)) (window : WroteWindow b n.base.kept old one)
     (count : ℕ) (few : count < 2 ^ 16) (count_is : count ≡ length (held_below b (pages_of b.params.rows))) (counted : Appends one two (number_bytes 2 count)) (wrote : WrotePages b n.base.content (pages_of b.params.rows) two new) where
   snapshot : Snapshot
-  snapshot = record { position = b.position; entries = n.base.kept.entries; pages = wrote.pages }
+  snapshot = record { position = b.position; kept = n.base.kept; pages = wrote.pages }
 
   same_count : count ≡ length wrote.pages
   same_count = count_is ∙ ap length (sym wrote.are_pages.numbers) ∙ length_map wrote.pages
 
+  is_window : IsWindowAt b.params b.position n.base.kept
+  is_window = window.is_window.kept
+
   fits : SnapshotFits snapshot
   unfolding snapshot
-  fits = record {
-    position = window.front.position;
-    few = window.front.count;
-    entries = window.fit;
-    some = omega (arith, few, same_count);
-    pages = wrote.are_pages.fit;
-  }
+  fits =
+      let kept = kept_fits b.params b.position n.base.kept window.is_window.position is_window in
+      record {
+        position = window.is_window.position;
+        size = kept.0;
+        floor = kept.1;
+        few = kept.2;
+        entries = window.fit;
+        some = omega (arith, few, same_count);
+        pages = wrote.are_pages.fit;
+      }
 
   is_snapshot : IsSnapshot b.params snapshot
   unfolding snapshot
   is_snapshot = record {
     limit = base.limit;
-    window = windows.at b.params (window_of b.number b.position n.base.kept.entries) window.is_window;
+    window = is_window;
     ascend = subst IsStrictlyIncreasing (sym wrote.are_pages.numbers) (held_increase b (pages_of b.params.rows));
     pages = wrote.are_pages.are_pages;
   }
@@ -131,22 +136,21 @@ module _ (windows : WindowsGoOn) (places : RowPlacesAreTold) (n : Node) (b : Sup
   brings : state_of b.params snapshot ≡ n.base
   unfolding snapshot
   brings =
-      let v = fixed b.params.window b.position n.base.kept.entries in
+      let v = n.base.kept in
       let rest = with_pages_rest b.params.rows wrote.pages (blank b.position v) in
-      same_state (state_of b.params snapshot) n.base (rest.0 ∙ sym base.position)
-      (fun_ext (λ key. wrote.are_pages.rows b.position v key ∙ all_rows places b n.base.content base.outside key)) (rest.1 ∙ sym base.is_fixed)
+      same_state (state_of b.params snapshot) n.base (rest.0 ∙ sym base.position) (fun_ext (λ key. wrote.are_pages.rows b.position v key ∙ all_rows places b n.base.content base.outside key)) rest.1
 
-  written : Appends old new (snapshot_bytes snapshot)
+  written : Appends old new (snapshot_bytes Two snapshot)
   unfolding snapshot
   written =
-      let front = front_bytes (front_at b n.base.kept.entries) in
-      let entries = flat_map entry_bytes n.base.kept.entries in
+      let front = 83 ∷ number_bytes 8 b.position in
+      let kept = kept_bytes Two n.base.kept in
       let pages = flat_map page_bytes wrote.pages in
       let rest : Appends one new (number_bytes 2 (length wrote.pages) ++ pages) = subst (λ k. Appends one new (number_bytes 2 k ++ pages)) same_count (Appends-trans one two new (number_bytes 2 count) pages counted wrote.written) in
-      subst (Appends old new) (ap (λ (bytes : List ℕ). 83 ∷ bytes) (append_assoc front entries (number_bytes 2 (length wrote.pages) ++ pages)))
-      (Appends-trans old one new (83 ∷ (front ++ entries)) (number_bytes 2 (length wrote.pages) ++ pages) window.written rest)
+      subst (Appends old new) (append_assoc front kept (number_bytes 2 (length wrote.pages) ++ pages))
+      (Appends-trans old one new (front ++ kept) (number_bytes 2 (length wrote.pages) ++ pages) window.written rest)
 
-  pub snapshot_written : (s : Snapshot) × SnapshotFits s × IsSnapshotOf n s × Appends old new (snapshot_bytes s)
+  pub snapshot_written : (s : Snapshot) × SnapshotFits s × IsSnapshotOf n s × Appends old new (snapshot_bytes Two s)
   snapshot_written = (
     snapshot,
     fits,
@@ -181,7 +185,12 @@ brings_of n have position (Some s) (needs, is, same) all = (needs, is, ap (λ (k
 
 -- ---- all of it
 
-module _ (n : Node) (have : Have) (header : Header) (position last : ℕ) (a b c d e : Option (List ℕ)) (is_header : IsHeader header) (uuid : header.uuid ≡ n.facts.uuid) (shape : header.shape ≡ shape_of n.facts.setting) (base : WroteBase n have position b c)
+-- format 2 tells each window
+told_by_two : (h : Header) (o : Option Snapshot) → h.format ≡ Two → IfSome o (IsTold h)
+told_by_two h None two = tt
+told_by_two h (Some s) two = subst (λ (format : Format). IsOfFormat format (least_of h.shape) s.position s.kept) (sym two) tt
+
+module _ (n : Node) (have : Have) (header : Header) (position last : ℕ) (a b c d e : Option (List ℕ)) (is_header : IsHeader header) (two : header.format ≡ Two) (uuid : header.uuid ≡ n.facts.uuid) (shape : header.shape ≡ shape_of n.facts.setting) (base : WroteBase n have position b c)
     (all : above n.facts.base (durable_items n) ≡ durable_items n) (records : AllByRecursion IsRecord (above position (durable_items n)) × Appends c d (flat_map record_part (above position (durable_items n)))) (last_is : last ≡ n.facts.durable) (fits : last < 2 ^ 64)
     (began : Appends a b (header_bytes header)) (ended : Appends d e (end_bytes last)) where
   transfer : Transfer
@@ -192,21 +201,31 @@ module _ (n : Node) (have : Have) (header : Header) (position last : ℕ) (a b c
   transfer_written = (
     transfer,
     record {
-      is_transfer = record { header = is_header; snapshot = base.fits; records = records.0; last = fits };
+      is_transfer = record { header = is_header; snapshot = base.fits; told = told_by_two header base.snapshot two; records = records.0; last = fits };
+      format = two;
       uuid = uuid;
       shape = shape;
       brings = brings_of n have position base.snapshot base.begins all;
       last = last_is;
     },
     refl,
-    Appends-trans a b e (header_bytes header) (snapshot_part base.snapshot ++ (flat_map record_part (above position (durable_items n)) ++ end_bytes last)) began
-        (Appends-trans b c e (snapshot_part base.snapshot) (flat_map record_part (above position (durable_items n)) ++ end_bytes last) base.written
+    Appends-trans a b e (header_bytes header) (snapshot_part header.format base.snapshot ++ (flat_map record_part (above position (durable_items n)) ++ end_bytes last)) began
+        (Appends-trans b c e (snapshot_part header.format base.snapshot) (flat_map record_part (above position (durable_items n)) ++ end_bytes last)
+        (subst (λ (format : Format). Appends b c (snapshot_part format base.snapshot)) (sym two) base.written)
         (Appends-trans c d e (flat_map record_part (above position (durable_items n))) (end_bytes last) records.1 ended)),
   )
 
 -- ---- what comes before the records
 
-pub base_with : (n : Node) (s : Standing) (have : Have) (position : ℕ) (a b : Option (List ℕ)) → n.facts ≡ s → NeedsSnapshot s have → position ≡ s.base → (x : Snapshot) × SnapshotFits x × IsSnapshotOf n x × Appends a b (snapshot_bytes x) → WroteBase n have position a b
+pub base_without : (n : Node) (s : Standing) (have : Have) (a : Option (List ℕ)) → n.facts ≡ s → (NeedsSnapshot s have → ⊥) → WroteBase n have have.position a a
+base_without n s have a same enough = record {
+  snapshot = None;
+  fits = tt;
+  begins = (λ needs. enough (subst (λ (t : Standing). NeedsSnapshot t have) same needs), refl);
+  written = Appends-nil a;
+}
+
+pub base_with : (n : Node) (s : Standing) (have : Have) (position : ℕ) (a b : Option (List ℕ)) → n.facts ≡ s → NeedsSnapshot s have → position ≡ s.base → (x : Snapshot) × SnapshotFits x × IsSnapshotOf n x × Appends a b (snapshot_bytes Two x) → WroteBase n have position a b
 base_with n s have position a b same needs here (x, fits, is, written) = record {
   snapshot = Some x;
   fits = fits;

@@ -1,5 +1,5 @@
 -- A snapshot that is taken piece by piece.
-use Rattle.std.proofs.Common.{◌≡◌, ◌⊎◌, inl, inr, ℕ, zero, suc, ◌+◌, ◌≤◌, ◌<◌, ◌^◌, true, List, [], ◌∷◌, ◌++◌, length, get_or, Option, None, Some, Result, Ok, Err, refl, sym, ap, subst, ◌∙◌, append_assoc, append-nil, arith, length-append, All, replicate}
+use Rattle.std.proofs.Common.{◌≡◌, ◌⊎◌, inl, inr, ℕ, zero, suc, ◌+◌, ◌≤◌, ◌<◌, ◌^◌, true, List, [], ◌∷◌, ◌++◌, length, get_or, Option, None, Some, Result, Ok, Err, refl, sym, ap, subst, ◌∙◌, append_assoc, arith, length-append, All, replicate}
 use Rattle.std.specs.Prelude.{IfErr, IfSome, OnOk, map}
 use Rattle.std.specs.List.{flat_map, AllByRecursion}
 use Rattle.std.specs.List.Sorted.{IsStrictlyIncreasing}
@@ -10,26 +10,22 @@ use Rattle.std.proofs.lemmas.List.Kept.{AllPairs-from_increasing}
 use Rattle.rep_types.specs.declared.refusal.Refusal.{Refusal}
 use Rattle.rep_types.specs.declared.refusal.Refusal.TheVariants.{DiskFault, Malformed, StreamFault}
 use Rattle.rep_types.specs.Settings.{Setting}
-use Rattle.rep_types.specs.Entries.{Entry}
-use Rattle.rep_types.specs.declared.limits.TheConstants.{MAX_SEQNO}
 use Rattle.rep_types.specs.Order.{State}
-use Rattle.rep_types.specs.Windows.{Window, fixed}
+use Rattle.rep_types.specs.Windows.{Window}
 use Rattle.rep_forms.specs.Forms.{number, number_bytes}
 use Rattle.rep_forms.specs.FormLaws.{number_is_form}
-use Rattle.rep_forms.specs.Entries.{EntryFits, entry_bytes, entry_form}
-use Rattle.rep_forms.specs.EntryLaws.{entry_is_form}
 use Rattle.rep_disk.specs.History.{History}
 use Rattle.rep_disk.specs.Moments.{LeavesOnly}
 use Rattle.rep_disk.specs.Leaving.{leaves_none, leaves_weaker, leaves_both, leaves_then}
+use Rattle.rep_layout.specs.declared.format.Format.{Format}
 use Rattle.rep_layout.specs.Supers.{IsNil}
-use Rattle.rep_layout.specs.Windows.{IsWindowBody, window}
+use Rattle.rep_layout.specs.Windows.{IsWindowAt, IsOfFormat}
 use Rattle.rep_layout.specs.declared.super_body.SuperBody.{SuperBody}
 use Rattle.rep_layout.specs.declared.page_state.PageState.TheVariants.{Nowhere, In}
 use Rattle.rep_pages.specs.Slots.{state_of_page, spare_slot}
 use Rattle.rep_log.specs.declared.phase.Phase.{Phase}
 use Rattle.rep_checkpoint.specs.Next.{Next}
 use Rattle.rep_checkpoint.specs.Coming.{Coming, IsNewPage, blank, coming, placed, with_page}
-use Rattle.rep_checkpoint.specs.Windows.{IsWindowAt, WindowsGoOn}
 use Rattle.rep_steps.specs.Standings.{Standing, delivered}
 use Rattle.rep_steps.specs.Nodes.{Node}
 use Rattle.rep_steps.specs.Images.{IsFrontAt}
@@ -43,109 +39,63 @@ use Rattle.rep_replica.specs.Holding.{Holds}
 use Rattle.rep_replica.specs.Settling.{is_quiet}
 use Rattle.rep_replica.specs.Installing.{Bringing, HoldsBoth, IsInstalled, Installs, Lands, given_up}
 use Rattle.rep_replica.specs.Episodes.{MeansOneOf, CanCome, brought_by, Brought as BroughtAt, Broke as BrokeAt}
-use Rattle.rep_transfer.specs.declared.pieces.Front.{Front}
 use Rattle.rep_transfer.specs.declared.pieces.NumberedPage.{NumberedPage}
-use Rattle.rep_transfer.specs.Pieces.{PageFits, page_bytes, page_form, FrontFits}
+use Rattle.rep_transfer.specs.Pieces.{PageFits, page_bytes, page_form}
 use Rattle.rep_transfer.specs.Taking.{BeginWithNone}
 use Rattle.rep_transfer.specs.TransferLaws.{page_is_form}
-use Rattle.rep_transfer.specs.Transfers.{Snapshot, rest_of}
+use Rattle.rep_transfer.specs.Transfers.{Snapshot, SnapshotFits, kept_bytes}
 use Rattle.rep_catchup.specs.Growing.{EndsRunning}
-use Rattle.rep_catchup.specs.Snapshots.{with_pages, state_of, number_of, IsPageOf, Took, TakesEntries, NoEntriesCome, TakesWindow, TakesPages, LeavesPages, NoPagesCome, TakesSnapshot, Brought, GivenUp, NoneComes, BringsEarly, LeavesSnapshot}
+use Rattle.rep_catchup.specs.Snapshots.{with_pages, state_of, number_of, IsPageOf, IsSnapshot, CanTell, Took, IsKept, TakesKept, NoneKeptComes, TakesWindow, TakesPages, LeavesPages, NoPagesCome, TakesSnapshot, Brought, GivenUp, NoneComes, BringsEarly, LeavesSnapshot}
 use Rattle.rep_catchup.proofs.JoinGrowing.{is_running}
 use Rattle.rep_catchup.proofs.JoinTaking.{took_none, took_then, same_first, same_front, none_more, all_behind, all_push, flat_push}
+use Rattle.rep_catchup.proofs.WindowLimits.{kept_fits}
+use Rattle.rep_catchup.proofs.JoinWindow.{same_kept}
 use Rattle.rep_catchup.proofs.JoinFollowing.{none_ahead}
 use Rattle.rep_catchup.proofs.JoinWent.{state_position}
 
--- ---- entries
-
-pub entries_none : (start : ℕ) (before : Option (List ℕ)) → TakesEntries 0 [] start start before before
-entries_none start before = record { size = refl; fit = tt; took = took_none start before }
-
-pub entries_push : (count : ℕ) (entries : List Entry) (e : Entry) (from mid now : ℕ) (start before left : Option (List ℕ)) → TakesEntries count entries from mid start before → EntryFits e → Took mid now before left (entry_bytes e)
-    → TakesEntries (count + 1) (entries ++ e ∷ []) from now start left
-entries_push count entries e from mid now start before left t fits took = record {
-  size = length_push entries e ∙ ap (λ n. n + 1) t.size;
-  fit = all_push EntryFits entries e t.fit fits;
-  took = subst (Took from now start left) (sym (flat_push entry_bytes entries e)) (took_then from mid now start before left (flat_map entry_bytes entries) (entry_bytes e) t.took took);
-}
-
--- no more of them stand there
-pub entries_cut : (index count : ℕ) (entries : List Entry) (from now : ℕ) (start before : Option (List ℕ)) → index < count → TakesEntries index entries from now start before → IfSome before (BeginWithNone EntryFits entry_bytes) → IfSome start (NoEntriesCome count)
-entries_cut index count entries from now start before few t none = none_more entry_form entry_is_form entries count start before t.took.taken t.fit (omega (arith, few, t.size)) none
-
 -- ---- the window
 
-pub window_says : WindowsGoOn → (p : Setting) (position : ℕ) (entries : List Entry) → position < 2 ^ 64 → (IsWindowBody p (window 0 position entries) → IsWindowAt p position (fixed p.window position entries)) × (IsWindowAt p position (fixed p.window position entries) → IsWindowBody p (window 0 position entries))
-window_says go p position entries small = (λ body. go.at p (window 0 position entries) body, λ is. go.body p 0 position (fixed p.window position entries) (omega arith) small is)
+-- the pages behind their number
+abbrev page_run : Snapshot → List ℕ
+page_run y = number_bytes 2 (length y.pages) ++ flat_map page_bytes y.pages
 
--- so many entries are too many, or their window is none that can stand there, or none can come at all
-pub no_window : (s : Standing) (front : Front) (before : Option (List ℕ)) → ((v : Window) → IsWindowAt s.setting front.position v → length v.entries ≡ front.count → (s.durable < front.position) ⊎ IsNil s.uuid → front.position ≤ MAX_SEQNO → ⊥) → IfSome before (NoneComes s front)
-no_window s front None never = tt
-no_window s front (Some bytes) never = λ y rest fits same is snapshot later.
-    let at : y.position ≡ front.position = ap (λ (f : Front). f.position) same in
-    never (fixed s.setting.window front.position y.entries) (subst (λ n. IsWindowAt s.setting n (fixed s.setting.window n y.entries)) at snapshot.window) (ap (λ (f : Front). f.count) same) (durable_later y at later) (omega (arith, at, snapshot.limit))
+-- the window of a snapshot that can come is one that can
+kept_of : (format : Format) (s : Standing) (position : ℕ) (y : Snapshot) → SnapshotFits y → CanTell format s.setting y → y.position ≡ position → IsSnapshot s.setting y → IsKept format s.setting position y.kept
+kept_of format s position y fits told at is = record {
+  told = subst (λ n. IsOfFormat format s.setting n y.kept) at told;
+  is_window = subst (λ n. IsWindowAt s.setting n y.kept) at is.window;
+  fit = fits.entries;
+}
+
+-- its window does not come
+pub no_kept : (format : Format) (s : Standing) (position : ℕ) (before : Option (List ℕ)) → IfSome before (NoneKeptComes format s.setting position) → IfSome before (NoneComes format s position)
+no_kept format s position None none = tt
+no_kept format s position (Some bytes) none = λ y rest fits told at is snapshot later.
+    none y.kept (page_run y ++ rest) (kept_of format s position y fits told at snapshot) (is ∙ append_assoc (kept_bytes format y.kept) (page_run y) rest)
+
+-- behind the window that was taken stands no number of pages
+pub no_number : (format : Format) (s : Standing) (position : ℕ) (v : Window) (from now : ℕ) (start before : Option (List ℕ)) → position < 2 ^ 64 → TakesKept format s.setting position v from now start before → IfSome before (BeginWithNone (λ n. n < 2 ^ 16) (number_bytes 2))
+    → IfSome start (NoneComes format s position)
+no_number format s position v from now start before small t none = by start before t.took.taken none
   where
-    durable_later : (y : Snapshot) → y.position ≡ front.position → (delivered s < y.position) ⊎ IsNil s.uuid → (s.durable < front.position) ⊎ IsNil s.uuid
-    durable_later y at (inl below) = inl (omega (arith, at, below))
-    durable_later y at (inr nil) = inr nil
-
--- the entries of the snapshot are those that were taken
-same_entries : (entries : List Entry) (y : Snapshot) (behind rest : List ℕ) → length entries ≡ length y.entries → AllByRecursion EntryFits entries → AllByRecursion EntryFits y.entries → flat_map entry_bytes entries ++ behind ≡ rest_of y ++ rest
-    → (y.entries ≡ entries) × (behind ≡ number_bytes 2 (length y.pages) ++ (flat_map page_bytes y.pages ++ rest))
-same_entries entries y behind rest size fit fits is =
-    let front = same_front entry_form entry_is_form entries y.entries behind ((number_bytes 2 (length y.pages) ++ flat_map page_bytes y.pages) ++ rest) fit fits (omega (arith, size))
-    (is ∙ append_assoc (flat_map entry_bytes y.entries) (number_bytes 2 (length y.pages) ++ flat_map page_bytes y.pages) rest) in
-    let none : front.0 ≡ [] = no_length front.0 (omega (arith, size, ap length front.1, length-append entries front.0)) in (
-      front.1 ∙ ap (λ (zs : List Entry). entries ++ zs) none ∙ append-nil entries,
-      front.2 ∙ ap (λ (zs : List Entry). flat_map entry_bytes zs ++ ((number_bytes 2 (length y.pages) ++ flat_map page_bytes y.pages) ++ rest)) none ∙ append_assoc (number_bytes 2 (length y.pages)) (flat_map page_bytes y.pages) rest,
-    )
-  where
-    no_length : (zs : List Entry) → length zs ≡ 0 → zs ≡ []
-    no_length [] none = refl
-    no_length (z ∷ zs) none = absurd (omega (arith, none))
-
-module _ (s : Standing) (front : Front) (entries : List Entry) (from now : ℕ) (start before : Option (List ℕ)) (t : TakesEntries front.count entries from now start before) where
-  -- the entries that stand there are no window of the position
-  pub no_window_of : (IsWindowAt s.setting front.position (fixed s.setting.window front.position entries) → ⊥) → IfSome start (NoneComes s front)
-  no_window_of never = by start before t.took.taken
-    where
-      by : (a b : Option (List ℕ)) → Consumes a b (flat_map entry_bytes entries) → IfSome a (NoneComes s front)
-      by None b taken = tt
-      by (Some bytes) None taken = absurd taken
-      by (Some bytes) (Some behind) taken = λ y rest fits same is snapshot later.
-          let size : length entries ≡ length y.entries = t.size ∙ sym (ap (λ (f : Front). f.count) same) in
-          let are = same_entries entries y behind rest size t.fit fits.entries (sym taken ∙ is) in
-          never (subst (λ n. IsWindowAt s.setting n (fixed s.setting.window n entries)) (ap (λ (f : Front). f.position) same) (subst (λ (es : List Entry). IsWindowAt s.setting y.position (fixed s.setting.window y.position es)) are.0 snapshot.window))
-
-  -- no number of pages stands behind them
-  pub no_number : IfSome before (BeginWithNone (λ n. n < 2 ^ 16) (number_bytes 2)) → IfSome start (NoneComes s front)
-  no_number none = by start before t.took.taken none
-    where
-      by : (a b : Option (List ℕ)) → Consumes a b (flat_map entry_bytes entries) → IfSome b (BeginWithNone (λ n. n < 2 ^ 16) (number_bytes 2)) → IfSome a (NoneComes s front)
-      by None b taken none = tt
-      by (Some bytes) None taken none = absurd taken
-      by (Some bytes) (Some behind) taken none = λ y rest fits same is snapshot later.
-          let size : length entries ≡ length y.entries = t.size ∙ sym (ap (λ (f : Front). f.count) same) in
-          let are = same_entries entries y behind rest size t.fit fits.entries (sym taken ∙ is) in
-          none (length y.pages) (flat_map page_bytes y.pages ++ rest) fits.some are.1
-      -- no entries of so many stand there
-
-pub no_entries : (s : Standing) (front : Front) (start : Option (List ℕ)) → IfSome start (NoEntriesCome front.count) → IfSome start (NoneComes s front)
-no_entries s front None none = tt
-no_entries s front (Some bytes) none = λ y rest fits same is snapshot later.
-    none y.entries ((number_bytes 2 (length y.pages) ++ flat_map page_bytes y.pages) ++ rest) (ap (λ (f : Front). f.count) same) fits.entries (is ∙ append_assoc (flat_map entry_bytes y.entries) (number_bytes 2 (length y.pages) ++ flat_map page_bytes y.pages) rest)
-
--- behind the window and the number of pages not so many pages stand
-pub no_pages : (s : Standing) (front : Front) (v : Window) (count from now : ℕ) (start before : Option (List ℕ)) → count < 2 ^ 16 → TakesWindow s front v count from now start before → IfSome before (NoPagesCome s.setting.rows count) → IfSome start (NoneComes s front)
-no_pages s front v count from now start before small w none = by start before w.took.taken none
-  where
-    by : (a b : Option (List ℕ)) → Consumes a b (flat_map entry_bytes w.entries ++ number_bytes 2 count) → IfSome b (NoPagesCome s.setting.rows count) → IfSome a (NoneComes s front)
+    by : (a b : Option (List ℕ)) → Consumes a b (kept_bytes format v) → IfSome b (BeginWithNone (λ n. n < 2 ^ 16) (number_bytes 2)) → IfSome a (NoneComes format s position)
     by None b taken none = tt
     by (Some bytes) None taken none = absurd taken
-    by (Some bytes) (Some behind) taken none = λ y rest fits same is snapshot later.
-        let size : length w.entries ≡ length y.entries = w.size ∙ sym (ap (λ (f : Front). f.count) same) in
-        let are = same_entries w.entries y (number_bytes 2 count ++ behind) rest size w.fit fits.entries (sym (append_assoc (flat_map entry_bytes w.entries) (number_bytes 2 count) behind) ∙ sym taken ∙ is) in
-        let one = same_first (number 2) (number_is_form 2) count (length y.pages) behind (flat_map page_bytes y.pages ++ rest) small fits.some are.1 in
+    by (Some bytes) (Some behind) taken none = λ y rest fits told at is snapshot later.
+        let same = same_kept format s.setting position v y.kept behind (page_run y ++ rest) small t.kept (kept_of format s position y fits told at snapshot) (sym taken ∙ is ∙ append_assoc (kept_bytes format y.kept) (page_run y) rest) in
+        none (length y.pages) (flat_map page_bytes y.pages ++ rest) fits.some (same.1 ∙ append_assoc (number_bytes 2 (length y.pages)) (flat_map page_bytes y.pages) rest)
+
+-- behind the window and the number of pages not so many pages stand
+pub no_pages : (format : Format) (s : Standing) (position : ℕ) (v : Window) (count from now : ℕ) (start before : Option (List ℕ)) → TakesWindow format s position v count from now start before → IfSome before (NoPagesCome s.setting.rows count) → IfSome start (NoneComes format s position)
+no_pages format s position v count from now start before w none = by start before w.took.taken none
+  where
+    by : (a b : Option (List ℕ)) → Consumes a b (kept_bytes format v ++ number_bytes 2 count) → IfSome b (NoPagesCome s.setting.rows count) → IfSome a (NoneComes format s position)
+    by None b taken none = tt
+    by (Some bytes) None taken none = absurd taken
+    by (Some bytes) (Some behind) taken none = λ y rest fits told at is snapshot later.
+        let same = same_kept format s.setting position v y.kept (number_bytes 2 count ++ behind) (page_run y ++ rest) (omega (arith, w.limit)) w.kept (kept_of format s position y fits told at snapshot)
+        (sym (append_assoc (kept_bytes format v) (number_bytes 2 count) behind) ∙ sym taken ∙ is ∙ append_assoc (kept_bytes format y.kept) (page_run y) rest) in
+        let one = same_first (number 2) (number_is_form 2) count (length y.pages) behind (flat_map page_bytes y.pages ++ rest) w.few fits.some (same.1 ∙ append_assoc (number_bytes 2 (length y.pages)) (flat_map page_bytes y.pages) rest) in
         none y.pages rest (sym one.0) fits.pages one.1 snapshot.ascend snapshot.pages
 
 -- ---- pages
@@ -327,8 +277,8 @@ all_nowhere zero k = refl
 all_nowhere (suc n) zero = refl
 all_nowhere (suc n) (suc k) = all_nowhere n k
 
-pub none_came : (b : SuperBody) (uuid : List ℕ) (position start : ℕ) (entries : List Entry) (i : Coming) → i ≡ coming b uuid position start entries → (page : ℕ) → state_of_page i.next.super page ≡ Nowhere
-none_came b uuid position start entries i is page = ap (λ (c : Coming). state_of_page c.next.super page) is ∙ all_nowhere (length b.pages.items) page
+pub none_came : (b : SuperBody) (uuid : List ℕ) (position start : ℕ) (v : Window) (i : Coming) → i ≡ coming b uuid position start v → (page : ℕ) → state_of_page i.next.super page ≡ Nowhere
+none_came b uuid position start v i is page = ap (λ (c : Coming). state_of_page c.next.super page) is ∙ all_nowhere (length b.pages.items) page
 
 -- what a snapshot that is given up leaves
 
@@ -352,14 +302,14 @@ module _ {D : Type 0} (honest : D → Type 0) (history : D → History) (failure
 
 -- what one image means
 
-module _ {D : Type 0} (honest : D → Type 0) (history : D → History) (failures : D → ℕ) (old new : Replica D) (i k : Bringing D) (uuid : List ℕ) (front : Front) (v : Window) (count from mid now : ℕ) (start before left : Option (List ℕ)) (window : TakesWindow (facts_of failures old) front v count from mid start before)
-    (begun : (i.engine ≡ old.engine) × (i.coming ≡ coming old.engine.checkpoint.base uuid front.position old.engine.log.next v.entries)) where
+module _ {D : Type 0} (honest : D → Type 0) (history : D → History) (failures : D → ℕ) (old new : Replica D) (i k : Bringing D) (format : Format) (uuid : List ℕ) (position : ℕ) (v : Window) (count from mid now : ℕ) (start before left : Option (List ℕ))
+    (window : TakesWindow format (facts_of failures old) position v count from mid start before) (begun : (i.engine ≡ old.engine) × (i.coming ≡ coming old.engine.checkpoint.base uuid position old.engine.log.next v)) where
   setting_is : i.engine.checkpoint.base.params ≡ old.engine.checkpoint.base.params
   setting_is = ap (λ (e : Engine D). e.checkpoint.base.params) begun.0
 
-  module _ (fits : FrontFits front) (quiet : is_quiet (facts_of failures old) ≡ true) (pages : List NumberedPage) (size : length pages ≡ count) (t : TakesPages honest history failures i k pages mid now before left) where
+  module _ (quiet : is_quiet (facts_of failures old) ≡ true) (pages : List NumberedPage) (size : length pages ≡ count) (t : TakesPages honest history failures i k pages mid now before left) where
     abbrev snapshot : Snapshot
-    snapshot = record { position = front.position; entries = window.entries; pages = pages }
+    snapshot = record { position = position; kept = v; pages = pages }
 
     params_are : k.coming.next.super.params ≡ old.engine.checkpoint.base.params
     params_are = t.params ∙ ap (λ (c : Coming). c.next.super.params) begun.1
@@ -367,22 +317,31 @@ module _ {D : Type 0} (honest : D → Type 0) (history : D → History) (failure
     uuid_are : k.coming.next.super.uuid ≡ uuid
     uuid_are = t.uuid ∙ ap (λ (c : Coming). c.next.super.uuid) begun.1
 
-    takes : TakesSnapshot (facts_of failures old) front snapshot from now start left
+    small : position < 2 ^ 64
+    small = omega (arith, window.limit)
+
+    fits : SnapshotFits snapshot
+    fits =
+        let kept = kept_fits old.engine.checkpoint.base.params position v small window.kept.is_window in
+        record { position = small; size = kept.0; floor = kept.1; few = kept.2; entries = window.kept.fit; some = subst (λ n. n < 2 ^ 16) (sym size) window.few; pages = t.fit }
+
+    takes : TakesSnapshot format (facts_of failures old) position snapshot from now start left
     takes = record {
-      fits = record { position = fits.position; few = subst (λ n. n < 2 ^ 16) (sym window.size) fits.count; entries = window.fit; some = subst (λ n. n < 2 ^ 16) (sym size) window.few; pages = t.fit };
-      front_is = ap (λ n. record { position = front.position; count = n }) (sym window.size);
+      fits = fits;
+      told = window.kept.told;
+      position_is = refl;
       is_snapshot = record {
         limit = window.limit;
-        window = subst (IsWindowAt old.engine.checkpoint.base.params front.position) window.window_is window.is_window;
+        window = window.kept.is_window;
         ascend = t.ascend;
         pages = subst (λ (p : Setting). AllByRecursion (IsPageOf p.rows) pages) setting_is t.of_schema;
       };
       later = later window.later;
-      took = subst (Took from now start left) (append_assoc (flat_map entry_bytes window.entries) (number_bytes 2 count) (flat_map page_bytes pages) ∙ ap (λ n. flat_map entry_bytes window.entries ++ (number_bytes 2 n ++ flat_map page_bytes pages)) (sym size))
-          (took_then from mid now start before left (flat_map entry_bytes window.entries ++ number_bytes 2 count) (flat_map page_bytes pages) window.took t.took);
+      took = subst (Took from now start left) (append_assoc (kept_bytes format v) (number_bytes 2 count) (flat_map page_bytes pages) ∙ ap (λ n. kept_bytes format v ++ (number_bytes 2 n ++ flat_map page_bytes pages)) (sym size))
+          (took_then from mid now start before left (kept_bytes format v ++ number_bytes 2 count) (flat_map page_bytes pages) window.took t.took);
     }
       where
-        later : ((facts_of failures old).durable < front.position) ⊎ IsNil (facts_of failures old).uuid → (delivered (facts_of failures old) < front.position) ⊎ IsNil (facts_of failures old).uuid
+        later : ((facts_of failures old).durable < position) ⊎ IsNil (facts_of failures old).uuid → (delivered (facts_of failures old) < position) ⊎ IsNil (facts_of failures old).uuid
         later (inl below) = inl (omega (arith, below, ap length (none_ahead (facts_of failures old) quiet)))
         later (inr nil) = inr nil
 
@@ -390,15 +349,13 @@ module _ {D : Type 0} (honest : D → Type 0) (history : D → History) (failure
     state = state_of old.engine.checkpoint.base.params snapshot
 
     -- the state that came is the snapshot's
-    state_is : with_pages i.engine.checkpoint.base.params.rows pages (blank front.position v) ≡ state
-    state_is =
-        ap (λ (p : Setting). with_pages p.rows pages (blank front.position v)) setting_is
-        ∙ ap (λ (w : Window). with_pages old.engine.checkpoint.base.params.rows pages (blank front.position w)) window.window_is
+    state_is : with_pages i.engine.checkpoint.base.params.rows pages (blank position v) ≡ state
+    state_is = ap (λ (p : Setting). with_pages p.rows pages (blank position v)) setting_is
 
-    position_is : state.position ≡ front.position
+    position_is : state.position ≡ position
     position_is = state_position old.engine.checkpoint.base.params snapshot
 
-    module _ (cluster : (uuid ≡ (facts_of failures old).uuid) ⊎ IsNil (facts_of failures old).uuid) (both : (n : Node) → Holds honest history failures n old → HoldsBoth honest history failures n (blank front.position v) i) (n : Node) (holds : Holds honest history failures n old) where
+    module _ (cluster : (uuid ≡ (facts_of failures old).uuid) ⊎ IsNil (facts_of failures old).uuid) (both : (n : Node) → Holds honest history failures n old → HoldsBoth honest history failures n (blank position v) i) (n : Node) (holds : Holds honest history failures n old) where
       can : CanCome n uuid state
       can = record { cluster = of cluster; later = behind takes.later }
         where
@@ -406,12 +363,12 @@ module _ {D : Type 0} (honest : D → Type 0) (history : D → History) (failure
           of (inl same) = inl (same ∙ sym (ap (λ (s : Standing). s.uuid) holds.facts))
           of (inr nil) = inr (subst IsNil (sym (ap (λ (s : Standing). s.uuid) holds.facts)) nil)
 
-          behind : (delivered (facts_of failures old) < front.position) ⊎ IsNil (facts_of failures old).uuid → (delivered n.facts < state.position) ⊎ IsNil n.facts.uuid
+          behind : (delivered (facts_of failures old) < position) ⊎ IsNil (facts_of failures old).uuid → (delivered n.facts < state.position) ⊎ IsNil n.facts.uuid
           behind (inl below) = inl (omega (arith, below, position_is, ap delivered holds.facts))
           behind (inr nil) = inr (subst IsNil (sym (ap (λ (s : Standing). s.uuid) holds.facts)) nil)
 
       stood : HoldsBoth honest history failures n state k
-      stood = subst (λ (y : State). HoldsBoth honest history failures n y k) state_is (t.holds n (blank front.position v) (both n holds))
+      stood = subst (λ (y : State). HoldsBoth honest history failures n y k) state_is (t.holds n (blank position v) (both n holds))
 
       setting_of : n.facts.setting ≡ old.engine.checkpoint.base.params
       setting_of = ap (λ (s : Standing). s.setting) holds.facts
@@ -427,7 +384,7 @@ module _ {D : Type 0} (honest : D → Type 0) (history : D → History) (failure
       leaves : LeavesOnly (history k.engine.disk) (history new.engine.disk) (MeansEither n k.coming.next.super state) → LeavesOnly (history old.engine.disk) (history new.engine.disk) (MeansOneOf n uuid state)
       leaves last =
           leaves_then (history old.engine.disk) (history k.engine.disk) (history new.engine.disk)
-          (leaves_weaker (history old.engine.disk) (history k.engine.disk) (λ image f. inl f) (subst (λ (e : Engine D). LeavesOnly (history e.disk) (history k.engine.disk) (IsFrontAt Means n)) begun.0 (t.leaves n (blank front.position v) (both n holds))))
+          (leaves_weaker (history old.engine.disk) (history k.engine.disk) (λ image f. inl f) (subst (λ (e : Engine D). LeavesOnly (history e.disk) (history k.engine.disk) (IsFrontAt Means n)) begun.0 (t.leaves n (blank position v) (both n holds))))
           last either
 
       came_whole : (m : Node) × IsInstalled k.coming.next.super state m × Holds honest history failures m new → LeavesOnly (history k.engine.disk) (history new.engine.disk) (MeansEither n k.coming.next.super state) → BroughtAt honest history failures n uuid state old new
@@ -444,9 +401,9 @@ module _ {D : Type 0} (honest : D → Type 0) (history : D → History) (failure
 
     -- where it took the base's place, or the device failed while it did
     pub brought_on : (uuid ≡ (facts_of failures old).uuid) ⊎ IsNil (facts_of failures old).uuid → (at : ℕ) (result : Result (Unit {0}) Refusal) → Lands failures k new result
-        → ((n : Node) → Holds honest history failures n old → HoldsBoth honest history failures n (blank front.position v) i) → ((n : Node) (y : State) → HoldsBoth honest history failures n y k → Installs honest history failures n y k new result)
-        → OnOk result (Brought honest history failures old new uuid front from now start left) × IfErr result (LeavesSnapshot honest history failures old new uuid front from start)
-        × EndsRunning result new × IfErr result (BringsEarly (facts_of failures old) front at start)
+        → ((n : Node) → Holds honest history failures n old → HoldsBoth honest history failures n (blank position v) i) → ((n : Node) (y : State) → HoldsBoth honest history failures n y k → Installs honest history failures n y k new result)
+        → OnOk result (Brought honest history failures old new format uuid position from now start left) × IfErr result (LeavesSnapshot honest history failures old new format uuid position from start)
+        × EndsRunning result new × IfErr result (BringsEarly format (facts_of failures old) position at start)
     brought_on cluster at (Ok x) lands both installs = (
       record {
         snapshot = snapshot;
@@ -470,7 +427,7 @@ module _ {D : Type 0} (honest : D → Type 0) (history : D → History) (failure
     )
 
   -- why it wasn't taken
-  pub early_pages : (at : ℕ) (e : Refusal) → count < 2 ^ 16 → (e ≡ StreamFault) ⊎ ((e ≡ DiskFault) ⊎ ((e ≡ Malformed at) × IfSome before (NoPagesCome i.engine.checkpoint.base.params.rows count))) → BringsEarly (facts_of failures old) front at start e
-  early_pages at e small (inl stream) = inl stream
-  early_pages at e small (inr (inl fault)) = inr (inr (inl fault))
-  early_pages at e small (inr (inr (is, none))) = inr (inr (inr (is, no_pages (facts_of failures old) front v count from mid start before small window (subst (λ (p : Setting). IfSome before (NoPagesCome p.rows count)) setting_is none))))
+  pub early_pages : (at : ℕ) (e : Refusal) → (e ≡ StreamFault) ⊎ ((e ≡ DiskFault) ⊎ ((e ≡ Malformed at) × IfSome before (NoPagesCome i.engine.checkpoint.base.params.rows count))) → BringsEarly format (facts_of failures old) position at start e
+  early_pages at e (inl stream) = inl stream
+  early_pages at e (inr (inl fault)) = inr (inr (inl fault))
+  early_pages at e (inr (inr (is, none))) = inr (inr (inr (is, no_pages format (facts_of failures old) position v count from mid start before window (subst (λ (p : Setting). IfSome before (NoPagesCome p.rows count)) setting_is none))))

@@ -1,5 +1,5 @@
 -- What stands where a transfer is not taken to its end.
-use Rattle.std.proofs.Common.{◌≡◌, ◌⊎◌, inl, inr, ℕ, ◌+◌, List, [], ◌∷◌, ◌++◌, length, Option, None, Some, Result, Ok, Err, refl, sym, ap, subst, ◌∙◌, append_assoc, append-nil, arith, length-append}
+use Rattle.std.proofs.Common.{◌≡◌, ◌⊎◌, inl, inr, ℕ, ◌+◌, ◌<◌, ◌^◌, List, [], ◌∷◌, ◌++◌, length, Option, None, Some, Result, Ok, Err, refl, sym, ap, subst, ◌∙◌, append_assoc, append-nil, arith, length-append}
 use Rattle.std.specs.Prelude.{IfErr, IfSome}
 use Rattle.std.specs.List.{flat_map}
 use Rattle.std.specs.Io.KnownBytes.{Consumes}
@@ -7,18 +7,19 @@ use Rattle.std.proofs.KnownBytes.{Consumes-nil, Consumes-trans}
 use Rattle.rep_types.specs.declared.refusal.Refusal.{Refusal}
 use Rattle.rep_types.specs.declared.refusal.Refusal.TheVariants.{Stopped, OutOfMemory, DiskFault, Malformed, StreamFault}
 use Rattle.rep_types.specs.ByItems.{HistoryByItems}
+use Rattle.rep_forms.specs.Forms.{number_bytes}
 use Rattle.rep_record.specs.Records.{IsRecord}
 use Rattle.rep_disk.specs.History.{History}
+use Rattle.rep_layout.specs.declared.format.Format.{Format}
 use Rattle.rep_layout.specs.Supers.{IsNil}
 use Rattle.rep_steps.specs.Standings.{Standing}
 use Rattle.rep_replica.specs.Replicas.{Replica, facts_of}
 use Rattle.rep_replica.specs.Running.{RunsAreJoined}
-use Rattle.rep_transfer.specs.declared.pieces.Front.{Front}
+use Rattle.rep_transfer.specs.declared.header.Header.{Header}
 use Rattle.rep_transfer.specs.declared.part.Part.{Part}
 use Rattle.rep_transfer.specs.declared.part.Part.TheVariants.{Snapshot as OfSnapshot, Record as OfRecord, End as OfEnd}
-use Rattle.rep_transfer.specs.Pieces.{FrontFits, front_bytes}
 use Rattle.rep_transfer.specs.Taking.{counted, BeginWithNone}
-use Rattle.rep_transfer.specs.Transfers.{Snapshot, SnapshotFits, front_of, rest_of, snapshot_bytes, snapshot_part, record_part, PartFits, part_bytes}
+use Rattle.rep_transfer.specs.Transfers.{Snapshot, rest_of, snapshot_bytes, snapshot_part, record_part, PartFits, part_bytes}
 use Rattle.rep_catchup.specs.Snapshots.{Brought, NoneComes, BringsEarly, LeavesSnapshot}
 use Rattle.rep_catchup.specs.Growing.{Grown}
 use Rattle.rep_catchup.specs.Joining.{JoinsEarly, Went, Follows, Followed, MayFollow, NoneFollows, NoSnapshotComes, EndsHere, IsOut, Cut, CutShort, TakesHeader, RefusesHeader, Ended}
@@ -35,15 +36,12 @@ known_front P None left bs taken h = tt
 known_front P (Some bytes) None bs taken h = absurd taken
 known_front P (Some bytes) (Some rest) bs taken h = subst P (sym taken) (h rest)
 
--- a snapshot begins with its front
-fronted : (y : Snapshot) (rest : List ℕ) → snapshot_bytes y ++ rest ≡ part_bytes (OfSnapshot (front_of y)) ++ (rest_of y ++ rest)
-fronted y rest = append_assoc (83 ∷ front_bytes (front_of y)) (rest_of y) rest
+-- a snapshot begins with its position
+fronted : (format : Format) (y : Snapshot) (rest : List ℕ) → snapshot_bytes format y ++ rest ≡ part_bytes (OfSnapshot y.position) ++ (rest_of format y ++ rest)
+fronted format y rest = append_assoc (83 ∷ number_bytes 8 y.position) (rest_of format y) rest
 
-fits_front : (y : Snapshot) → SnapshotFits y → FrontFits (front_of y)
-fits_front y fits = record { position = fits.position; count = fits.few }
-
-front_same : (f g : Front) → OfSnapshot f ≡ OfSnapshot g → f ≡ g
-front_same f g is = cc
+position_same : (m n : ℕ) → OfSnapshot m ≡ OfSnapshot n → m ≡ n
+position_same m n is = cc
 
 -- how many bytes were taken then
 counted_still : (at now n m : ℕ) → counted now 0 ≡ counted at n → counted now m ≡ counted at (n + m)
@@ -53,15 +51,15 @@ counted_from : (at now n m : ℕ) → now ≡ counted at n → counted now m ≡
 counted_from at now n m is = omega (arith, is)
 
 -- what a snapshot begins with, and its rest
-all_bytes : {front : Front} (s : Snapshot) → front ≡ front_of s → part_bytes (OfSnapshot front) ++ rest_of s ≡ snapshot_bytes s
-all_bytes s is = ap (λ (f : Front). (83 ∷ front_bytes f) ++ rest_of s) is
+all_bytes : (format : Format) (position : ℕ) (s : Snapshot) → position ≡ s.position → part_bytes (OfSnapshot position) ++ rest_of format s ≡ snapshot_bytes format s
+all_bytes format position s is = ap (λ n. (83 ∷ number_bytes 8 n) ++ rest_of format s) is
 
 behind : (bs xs ys : List ℕ) → bs ++ xs ≡ bs ++ ys → xs ≡ ys
 behind [] xs ys is = is
 behind (b ∷ bs) xs ys is = behind bs xs ys (let rest : bs ++ xs ≡ bs ++ ys = cc in rest)
 
-behind_same : (f g : Front) (xs ys : List ℕ) → f ≡ g → part_bytes (OfSnapshot f) ++ xs ≡ part_bytes (OfSnapshot g) ++ ys → xs ≡ ys
-behind_same f g xs ys is same = behind (part_bytes (OfSnapshot g)) xs ys (ap (λ (h : Front). part_bytes (OfSnapshot h) ++ xs) (sym is) ∙ same)
+behind_same : (m n : ℕ) (xs ys : List ℕ) → m ≡ n → part_bytes (OfSnapshot m) ++ xs ≡ part_bytes (OfSnapshot n) ++ ys → xs ≡ ys
+behind_same m n xs ys is same = behind (part_bytes (OfSnapshot n)) xs ys (ap (λ k. part_bytes (OfSnapshot k) ++ xs) (sym is) ∙ same)
 
 module _ {D : Type 0} (honest : D → Type 0) (history : D → History) (failures : D → ℕ) where
   -- where no part stands none follows
@@ -69,9 +67,9 @@ module _ {D : Type 0} (honest : D → Type 0) (history : D → History) (failure
   none_stands r None none = tt
   none_stands r (Some bytes) none = λ part rest fits is may. none part rest fits is
 
-  pub no_snapshot_stands : (s : Standing) (before : Option (List ℕ)) → IfSome before (BeginWithNone PartFits part_bytes) → IfSome before (NoSnapshotComes s)
-  no_snapshot_stands s None none = tt
-  no_snapshot_stands s (Some bytes) none = λ y rest fits is snapshot later. none (OfSnapshot (front_of y)) (rest_of y ++ rest) (fits_front y fits) (is ∙ fronted y rest)
+  pub no_snapshot_stands : (format : Format) (s : Standing) (before : Option (List ℕ)) → IfSome before (BeginWithNone PartFits part_bytes) → IfSome before (NoSnapshotComes format s)
+  no_snapshot_stands format s None none = tt
+  no_snapshot_stands format s (Some bytes) none = λ y rest fits told is snapshot later. none (OfSnapshot y.position) (rest_of format y ++ rest) fits.position (is ∙ fronted format y rest)
 
   pub ends_at_none : (r : Replica D) (at : ℕ) (before : Option (List ℕ)) → IfSome before (BeginWithNone PartFits part_bytes) → EndsHere failures r at before (Malformed at)
   ends_at_none r at before none = inr (inr (refl, none_stands r before none))
@@ -87,16 +85,16 @@ module _ {D : Type 0} (honest : D → Type 0) (history : D → History) (failure
   nil_is_out r part at nil = inr (refl, never part)
     where
       never : (p : Part) → MayFollow failures r p → ⊥
-      never (OfSnapshot front) may = may
+      never (OfSnapshot position) may = may
       never (OfRecord j) may = may.0 nil
       never (OfEnd last) may = may.0 nil
 
   -- ---- records that were taken
 
   -- where nothing was taken
-  short_nothing : (old new : Replica D) (uuid : List ℕ) (at : ℕ) (before : Option (List ℕ)) (e : Refusal) → counted at 0 ≡ at → Went honest history failures old new uuid None [] → EndsHere failures new at before e
-      → ((k : ℕ) → e ≡ Malformed k → IfSome before (NoSnapshotComes (facts_of failures old))) → CutShort honest history failures old new uuid before at e
-  short_nothing old new uuid at before e small went ends none = record {
+  short_nothing : (old new : Replica D) (format : Format) (uuid : List ℕ) (at : ℕ) (before : Option (List ℕ)) (e : Refusal) → counted at 0 ≡ at → Went honest history failures old new uuid None [] → EndsHere failures new at before e
+      → ((k : ℕ) → e ≡ Malformed k → IfSome before (NoSnapshotComes format (facts_of failures old))) → CutShort honest history failures old new format uuid before at e
+  short_nothing old new format uuid at before e small went ends none = record {
     snapshot = None;
     comes = tt;
     records = [];
@@ -170,96 +168,96 @@ module _ {D : Type 0} (honest : D → Type 0) (history : D → History) (failure
     cut_behind_on a b c at now before left ended hand (Err e) is counts taken first cut = cut_behind a b c at now before left hand e counts taken (subst (λ (o : Option ℕ). Follows honest history failures a b o hand) is first) cut
 
     -- nothing was taken
-    pub short_none : (old : Replica D) (uuid : List ℕ) (at : ℕ) (before : Option (List ℕ)) (e : Refusal) → counted at 0 ≡ at → EndsHere failures old at before e → ((k : ℕ) → e ≡ Malformed k → IfSome before (NoSnapshotComes (facts_of failures old)))
-        → CutShort honest history failures old old uuid before at e
-    short_none old uuid at before e small ends none = short_nothing old old uuid at before e small (went_records honest history failures old old uuid [] (grown_none by_items honest history failures joined old)) ends none
+    pub short_none : (old : Replica D) (format : Format) (uuid : List ℕ) (at : ℕ) (before : Option (List ℕ)) (e : Refusal) → counted at 0 ≡ at → EndsHere failures old at before e → ((k : ℕ) → e ≡ Malformed k → IfSome before (NoSnapshotComes format (facts_of failures old)))
+        → CutShort honest history failures old old format uuid before at e
+    short_none old format uuid at before e small ends none = short_nothing old old format uuid at before e small (went_records honest history failures old old uuid [] (grown_none by_items honest history failures joined old)) ends none
 
   -- records alone were taken
-  pub short_records : (old new : Replica D) (uuid : List ℕ) (at : ℕ) (before : Option (List ℕ)) (e : Refusal) → Cut honest history failures old new before at e → IfSome before (NoSnapshotComes (facts_of failures old)) → CutShort honest history failures old new uuid before at e
-  short_records old new uuid at before e cut other =
+  pub short_records : (old new : Replica D) (format : Format) (uuid : List ℕ) (at : ℕ) (before : Option (List ℕ)) (e : Refusal) → Cut honest history failures old new before at e → IfSome before (NoSnapshotComes format (facts_of failures old)) → CutShort honest history failures old new format uuid before at e
+  short_records old new format uuid at before e cut other =
       let nothing : Option Snapshot = None in
-      let none : nothing ≡ None → cut.records ≡ [] → (from : ℕ) → e ≡ Malformed from → IfSome before (NoSnapshotComes (facts_of failures old)) = λ _ _ _ _. other in
+      let none : nothing ≡ None → cut.records ≡ [] → (from : ℕ) → e ≡ Malformed from → IfSome before (NoSnapshotComes format (facts_of failures old)) = λ _ _ _ _. other in
       search (cut, went_records honest history failures old new uuid cut.records cut.grown)
 
-  pub short_records_on : (old new : Replica D) (uuid : List ℕ) (at : ℕ) (before : Option (List ℕ)) (result : Result ℕ Refusal) → IfErr result (Cut honest history failures old new before at) → IfSome before (NoSnapshotComes (facts_of failures old))
-      → IfErr result (CutShort honest history failures old new uuid before at)
-  short_records_on old new uuid at before (Ok last) cut other = tt
-  short_records_on old new uuid at before (Err e) cut other = short_records old new uuid at before e cut other
+  pub short_records_on : (old new : Replica D) (format : Format) (uuid : List ℕ) (at : ℕ) (before : Option (List ℕ)) (result : Result ℕ Refusal) → IfErr result (Cut honest history failures old new before at) → IfSome before (NoSnapshotComes format (facts_of failures old))
+      → IfErr result (CutShort honest history failures old new format uuid before at)
+  short_records_on old new format uuid at before (Ok last) cut other = tt
+  short_records_on old new format uuid at before (Err e) cut other = short_records old new format uuid at before e cut other
 
   -- a part that is none of a snapshot stands there
-  pub no_front : (s : Standing) (part : Part) (before left : Option (List ℕ)) → PartFits part → Consumes before left (part_bytes part) → ((f : Front) → part ≡ OfSnapshot f → ⊥) → IfSome before (NoSnapshotComes s)
-  no_front s part before left fits taken other =
-      known_front (NoSnapshotComes s) before left (part_bytes part) taken
-      (λ rest y more fit is snapshot later. other (front_of y) (same_part part (OfSnapshot (front_of y)) rest (rest_of y ++ more) fits (fits_front y fit) (is ∙ fronted y more)))
+  pub no_front : (format : Format) (s : Standing) (part : Part) (before left : Option (List ℕ)) → PartFits part → Consumes before left (part_bytes part) → ((n : ℕ) → part ≡ OfSnapshot n → ⊥) → IfSome before (NoSnapshotComes format s)
+  no_front format s part before left fits taken other =
+      known_front (NoSnapshotComes format s) before left (part_bytes part) taken
+      (λ rest y more fit told is snapshot later. other y.position (same_part part (OfSnapshot y.position) rest (rest_of format y ++ more) fits fit.position (is ∙ fronted format y more)))
 
   -- ---- a snapshot
 
   -- what it begins with was taken, and the rest of it not
-  module _ (by_items : HistoryByItems) (old new : Replica D) (uuid : List ℕ) (front : Front) (at start : ℕ) (before left : Option (List ℕ)) (e : Refusal) (fits : FrontFits front) (small : counted at 0 ≡ at) (counts : start ≡ counted at (length (part_bytes (OfSnapshot front)))) (taken : Consumes before left (part_bytes (OfSnapshot front))) where
+  module _ (by_items : HistoryByItems) (old new : Replica D) (format : Format) (uuid : List ℕ) (position at start : ℕ) (before left : Option (List ℕ)) (e : Refusal) (fits : position < 2 ^ 64) (small : counted at 0 ≡ at) (counts : start ≡ counted at (length (part_bytes (OfSnapshot position)))) (taken : Consumes before left (part_bytes (OfSnapshot position))) where
     -- no other part stands there, and none of a second snapshot may come
     none_else : IfSome before (NoneFollows failures new)
-    none_else = known_front (NoneFollows failures new) before left (part_bytes (OfSnapshot front)) taken (λ rest q more fit is may. subst (MayFollow failures new) (sym (same_part (OfSnapshot front) q rest more fits fit is)) may)
+    none_else = known_front (NoneFollows failures new) before left (part_bytes (OfSnapshot position)) taken (λ rest q more fit is may. subst (MayFollow failures new) (sym (same_part (OfSnapshot position) q rest more fits fit is)) may)
 
-    ends_early : BringsEarly (facts_of failures old) front at left e → EndsHere failures new at before e
+    ends_early : BringsEarly format (facts_of failures old) position at left e → EndsHere failures new at before e
     ends_early (inl stream) = inl stream
     ends_early (inr (inl memory)) = inr (inl (inl memory))
     ends_early (inr (inr (inl fault))) = inr (inl (inr (inl fault)))
     ends_early (inr (inr (inr (is, none)))) = inr (inr (is, none_else))
 
-    none_here : (k : ℕ) → e ≡ Malformed k → BringsEarly (facts_of failures old) front at left e → IfSome before (NoSnapshotComes (facts_of failures old))
+    none_here : (k : ℕ) → e ≡ Malformed k → BringsEarly format (facts_of failures old) position at left e → IfSome before (NoSnapshotComes format (facts_of failures old))
     none_here k is (inl stream) = absurd (let never : Malformed k ≡ StreamFault = sym is ∙ stream in cc)
     none_here k is (inr (inl memory)) = absurd (let never : Malformed k ≡ OutOfMemory = sym is ∙ memory in cc)
     none_here k is (inr (inr (inl fault))) = absurd (let never : Malformed k ≡ DiskFault = sym is ∙ fault in cc)
     none_here k is (inr (inr (inr (same, none)))) = by before left taken none
       where
-        by : (b l : Option (List ℕ)) → Consumes b l (part_bytes (OfSnapshot front)) → IfSome l (NoneComes (facts_of failures old) front) → IfSome b (NoSnapshotComes (facts_of failures old))
+        by : (b l : Option (List ℕ)) → Consumes b l (part_bytes (OfSnapshot position)) → IfSome l (NoneComes format (facts_of failures old) position) → IfSome b (NoSnapshotComes format (facts_of failures old))
         by None l taken none = tt
         by (Some bytes) None taken none = absurd taken
-        by (Some bytes) (Some behind) taken none = λ y rest fit is snapshot later.
-            let same = sym taken ∙ is ∙ fronted y rest in
-            let part : front ≡ front_of y = front_same front (front_of y) (same_part (OfSnapshot front) (OfSnapshot (front_of y)) behind (rest_of y ++ rest) fits (fits_front y fit) same) in
-            none y rest fit (sym part) (behind_same front (front_of y) behind (rest_of y ++ rest) part same) snapshot later
+        by (Some bytes) (Some behind) taken none = λ y rest fit told is snapshot later.
+            let same = sym taken ∙ is ∙ fronted format y rest in
+            let part : position ≡ y.position = position_same position y.position (same_part (OfSnapshot position) (OfSnapshot y.position) behind (rest_of format y ++ rest) fits fit.position same) in
+            none y rest fit told (sym part) (behind_same position y.position behind (rest_of format y ++ rest) part same) snapshot later
 
-    pub short_left : BringsEarly (facts_of failures old) front at left e → LeavesSnapshot honest history failures old new uuid front start left e → CutShort honest history failures old new uuid before at e
-    short_left early (inl given) = short_nothing old new uuid at before e small (went_nowhere honest history failures by_items old new uuid given) (ends_early early) (λ k is. none_here k is early)
+    pub short_left : BringsEarly format (facts_of failures old) position at left e → LeavesSnapshot honest history failures old new format uuid position start left e → CutShort honest history failures old new format uuid before at e
+    short_left early (inl given) = short_nothing old new format uuid at before e small (went_nowhere honest history failures by_items old new uuid given) (ends_early early) (λ k is. none_here k is early)
     short_left early (inr (fault, b)) = record {
       snapshot = Some b.snapshot;
-      comes = (b.takes.fits, b.takes.is_snapshot, b.takes.later);
+      comes = (b.takes.fits, b.takes.told, b.takes.is_snapshot, b.takes.later);
       records = [];
       are_records = tt;
       left = b.left;
-      taken = subst (Consumes before b.left) (all_bytes b.snapshot b.takes.front_is ∙ sym (append-nil (snapshot_bytes b.snapshot))) (Consumes-trans before left b.left (part_bytes (OfSnapshot front)) (rest_of b.snapshot) taken b.takes.took.taken);
-      went = went_broken honest history failures by_items old new uuid front start left b;
+      taken = subst (Consumes before b.left) (all_bytes format position b.snapshot b.takes.position_is ∙ sym (append-nil (snapshot_bytes format b.snapshot))) (Consumes-trans before left b.left (part_bytes (OfSnapshot position)) (rest_of format b.snapshot) taken b.takes.took.taken);
+      went = went_broken honest history failures by_items old new format uuid position start left b;
       ends = inr (inl (inr (inl fault)));
       none = λ is _ _ _. absurd (let never : Some b.snapshot ≡ None = is in cc);
     }
 
     -- all of it was taken, and some records
-    pub short_behind : (mid : Replica D) (now : ℕ) (second : Option (List ℕ)) → Brought honest history failures old mid uuid front start now left second → Cut honest history failures mid new second now e → CutShort honest history failures old new uuid before at e
+    pub short_behind : (mid : Replica D) (now : ℕ) (second : Option (List ℕ)) → Brought honest history failures old mid format uuid position start now left second → Cut honest history failures mid new second now e → CutShort honest history failures old new format uuid before at e
     short_behind mid now second b cut =
         let s = b.snapshot in
         let ys = flat_map record_part cut.records in
-        let hand = part_bytes (OfSnapshot front) ++ rest_of s in
-        let whole : hand ≡ snapshot_bytes s = all_bytes s b.takes.front_is in
-        let count : counted now 0 ≡ counted at (length hand) = b.takes.took.counts ∙ counted_from at start (length (part_bytes (OfSnapshot front))) (length (rest_of s)) counts ∙ ap (counted at) (sym (length-append (part_bytes (OfSnapshot front)) (rest_of s))) in
+        let hand = part_bytes (OfSnapshot position) ++ rest_of format s in
+        let whole : hand ≡ snapshot_bytes format s = all_bytes format position s b.takes.position_is in
+        let count : counted now 0 ≡ counted at (length hand) = b.takes.took.counts ∙ counted_from at start (length (part_bytes (OfSnapshot position))) (length (rest_of format s)) counts ∙ ap (counted at) (sym (length-append (part_bytes (OfSnapshot position)) (rest_of format s))) in
         record {
           snapshot = Some s;
-          comes = (b.takes.fits, b.takes.is_snapshot, b.takes.later);
+          comes = (b.takes.fits, b.takes.told, b.takes.is_snapshot, b.takes.later);
           records = cut.records;
           are_records = cut.are_records;
           left = cut.left;
           taken =
               subst (Consumes before cut.left) (ap (λ (bs : List ℕ). bs ++ ys) whole)
-              (Consumes-trans before second cut.left hand ys (Consumes-trans before left second (part_bytes (OfSnapshot front)) (rest_of s) taken b.takes.took.taken) cut.taken);
-          went = went_snapshot honest history failures by_items old mid new uuid front start now left second cut.records b cut.grown;
+              (Consumes-trans before second cut.left hand ys (Consumes-trans before left second (part_bytes (OfSnapshot position)) (rest_of format s) taken b.takes.took.taken) cut.taken);
+          went = went_snapshot honest history failures by_items old mid new format uuid position start now left second cut.records b cut.grown;
           ends = subst (λ k. EndsHere failures new k cut.left e) (counted_still at now (length hand) (length ys) count ∙ ap (counted at) (sym (length-append hand ys)) ∙ ap (λ (bs : List ℕ). counted at (length (bs ++ ys))) whole) cut.ends;
           none = λ is _ _ _. absurd (let never : Some s ≡ None = is in cc);
         }
 
-  pub short_behind_on : HistoryByItems → (old new : Replica D) (uuid : List ℕ) (front : Front) (at start : ℕ) (before left : Option (List ℕ)) (result : Result ℕ Refusal) → FrontFits front → counted at 0 ≡ at → start ≡ counted at (length (part_bytes (OfSnapshot front))) → Consumes before left (part_bytes (OfSnapshot front))
-      → (mid : Replica D) (now : ℕ) (second : Option (List ℕ)) → Brought honest history failures old mid uuid front start now left second → IfErr result (Cut honest history failures mid new second now) → IfErr result (CutShort honest history failures old new uuid before at)
-  short_behind_on by_items old new uuid front at start before left (Ok last) fits small counts taken mid now second b cut = tt
-  short_behind_on by_items old new uuid front at start before left (Err e) fits small counts taken mid now second b cut = short_behind by_items old new uuid front at start before left e fits small counts taken mid now second b cut
+  pub short_behind_on : HistoryByItems → (old new : Replica D) (format : Format) (uuid : List ℕ) (position at start : ℕ) (before left : Option (List ℕ)) (result : Result ℕ Refusal) → position < 2 ^ 64 → counted at 0 ≡ at → start ≡ counted at (length (part_bytes (OfSnapshot position))) → Consumes before left (part_bytes (OfSnapshot position))
+      → (mid : Replica D) (now : ℕ) (second : Option (List ℕ)) → Brought honest history failures old mid format uuid position start now left second → IfErr result (Cut honest history failures mid new second now) → IfErr result (CutShort honest history failures old new format uuid before at)
+  short_behind_on by_items old new format uuid position at start before left (Ok last) fits small counts taken mid now second b cut = tt
+  short_behind_on by_items old new format uuid position at start before left (Err e) fits small counts taken mid now second b cut = short_behind by_items old new format uuid position at start before left e fits small counts taken mid now second b cut
 
 -- ---- where a join ends
 
@@ -274,14 +272,14 @@ module _ {D : Type 0} (honest : D → Type 0) (history : D → History) (failure
   early_here r at left e (inr (inl work)) = early_work e work
   early_here r at left e (inr (inr out)) = inr (inl (at, out.0))
 
-  pub early_parts : (old new : Replica D) (uuid : List ℕ) (before : Option (List ℕ)) (start : ℕ) (result : Result ℕ Refusal) → IfErr result (CutShort honest history failures old new uuid before start) → IfErr result JoinsEarly
-  early_parts old new uuid before start (Ok last) cut = tt
-  early_parts old new uuid before start (Err e) cut = early_here new (counted start (length (snapshot_part cut.snapshot ++ flat_map record_part cut.records))) cut.left e cut.ends
+  pub early_parts : (old new : Replica D) (format : Format) (uuid : List ℕ) (before : Option (List ℕ)) (start : ℕ) (result : Result ℕ Refusal) → IfErr result (CutShort honest history failures old new format uuid before start) → IfErr result JoinsEarly
+  early_parts old new format uuid before start (Ok last) cut = tt
+  early_parts old new format uuid before start (Err e) cut = early_here new (counted start (length (snapshot_part format cut.snapshot ++ flat_map record_part cut.records))) cut.left e cut.ends
 
-  pub ended_parts : (old mid new : Replica D) (uuid : List ℕ) (first before : Option (List ℕ)) (start : ℕ) (result : Result ℕ Refusal) → Grown honest history failures old mid [] → TakesHeader (facts_of failures mid) uuid first before → start ≡ 59
-      → IfErr result (CutShort honest history failures mid new uuid before start) → IfErr result (Ended honest history failures old new first)
-  ended_parts old mid new uuid first before start (Ok last) grown header at cut = tt
-  ended_parts old mid new uuid first before start (Err e) grown header at cut = record { settled = mid; grown = grown; why = inr (uuid, before, header, subst (λ k. CutShort honest history failures mid new uuid before k e) at cut) }
+  pub ended_parts : (old mid new : Replica D) (header : Header) (first before : Option (List ℕ)) (start : ℕ) (result : Result ℕ Refusal) → Grown honest history failures old mid [] → TakesHeader (facts_of failures mid) header first before → start ≡ 59
+      → IfErr result (CutShort honest history failures mid new header.format header.uuid before start) → IfErr result (Ended honest history failures old new first)
+  ended_parts old mid new header first before start (Ok last) grown head at cut = tt
+  ended_parts old mid new header first before start (Err e) grown head at cut = record { settled = mid; grown = grown; why = inr (header, before, head, subst (λ k. CutShort honest history failures mid new header.format header.uuid before k e) at cut) }
 
 pub or_stopped : (result : Result ℕ Refusal) → IfErr result JoinsEarly → IfErr result (λ e. (e ≡ Stopped) ⊎ JoinsEarly e)
 or_stopped (Ok last) early = tt

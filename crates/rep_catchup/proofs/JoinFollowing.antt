@@ -10,9 +10,13 @@ use Rattle.rep_types.specs.declared.refusal.Refusal.{Refusal}
 use Rattle.rep_types.specs.Settings.{Setting}
 use Rattle.rep_types.specs.Order.{Order, items_of, state, history as history_of}
 use Rattle.rep_types.specs.ByItems.{HistoryByItems}
+use Rattle.rep_forms.specs.Forms.{number_bytes}
 use Rattle.rep_record.specs.Records.{IsRecord}
 use Rattle.rep_disk.specs.History.{History}
+use Rattle.rep_layout.specs.declared.format.Format.{Format}
+use Rattle.rep_layout.specs.declared.format.Format.TheVariants.{One, Two}
 use Rattle.rep_layout.specs.Supers.{IsNil}
+use Rattle.rep_layout.specs.Windows.{IsOfFormat}
 use Rattle.rep_steps.specs.Standings.{Standing, delivered}
 use Rattle.rep_steps.specs.Moves.{is_off}
 use Rattle.rep_steps.specs.Nodes.{Node}
@@ -21,16 +25,15 @@ use Rattle.rep_replica.specs.Replicas.{Replica, facts_of}
 use Rattle.rep_replica.specs.Holding.{Holds}
 use Rattle.rep_replica.specs.Running.{RunsAreJoined}
 use Rattle.rep_replica.specs.Settling.{is_quiet}
-use Rattle.rep_transfer.specs.declared.pieces.Front.{Front}
+use Rattle.rep_transfer.specs.declared.header.Header.{Header}
 use Rattle.rep_transfer.specs.declared.part.Part.{Part}
 use Rattle.rep_transfer.specs.Haves.{header_bytes}
-use Rattle.rep_transfer.specs.Shapes.{shape_of}
-use Rattle.rep_transfer.specs.Pieces.{front_bytes}
+use Rattle.rep_transfer.specs.Shapes.{Shape, shape_of, least_of}
 use Rattle.rep_transfer.specs.Taking.{counted, TakesOne}
-use Rattle.rep_transfer.specs.Transfers.{Snapshot, Transfer, front_of, rest_of, snapshot_bytes, record_part, end_bytes, PartFits, part_bytes}
-use Rattle.rep_catchup.specs.Snapshots.{Brought, IsSnapshot, Took, state_of}
+use Rattle.rep_transfer.specs.Transfers.{Snapshot, Transfer, rest_of, snapshot_bytes, record_part, end_bytes, PartFits, part_bytes}
+use Rattle.rep_catchup.specs.Snapshots.{Brought, IsSnapshot, CanTell, Took, state_of}
 use Rattle.rep_catchup.specs.Growing.{Grown}
-use Rattle.rep_catchup.specs.Joining.{Follows, Followed, FollowedFrom, MayCome, TakesAll, TakesHeader, EndsAt, Joined, Went, end_part, TookTransfer}
+use Rattle.rep_catchup.specs.Joining.{Follows, Followed, FollowedFrom, MayCome, TakesAll, TakesHeader, EndsAt, Joined, end_part, TookTransfer}
 use Rattle.rep_catchup.proofs.JoinGrowing.{grown_none, grown_then}
 use Rattle.rep_catchup.proofs.JoinTaking.{took_none, took_then, took_piece}
 use Rattle.rep_catchup.proofs.JoinWent.{stands_is, starts_there, went_records, went_snapshot, went_behind}
@@ -131,16 +134,17 @@ module _ {D : Type 0} (honest : D → Type 0) (history : D → History) (failure
 
   -- ---- all parts
 
-  module _ (old new : Replica D) (uuid : List ℕ) (last : ℕ) where
+  module _ (old new : Replica D) (format : Format) (uuid : List ℕ) (last : ℕ) where
     -- where no snapshot comes
     pub takes_records : (hand : List ℕ) (before left : Option (List ℕ)) → (uuid ≡ (facts_of failures old).uuid) ⊎ IsNil (facts_of failures old).uuid → (IsNil (facts_of failures old).uuid → ⊥)
-        → FollowedFrom honest history failures old new hand before left last → TakesAll honest history failures old new uuid last hand before left
+        → FollowedFrom honest history failures old new hand before left last → TakesAll honest history failures old new format uuid last hand before left
     takes_records hand before left (inr nil) defined f = absurd (defined nil)
     takes_records hand before left (inl same) defined f =
         let h = f.2 in
         record {
           snapshot = None;
           fits = tt;
+          told = tt;
           comes = defined;
           records = h.records;
           are_records = h.are_records;
@@ -160,22 +164,24 @@ module _ {D : Type 0} (honest : D → Type 0) (history : D → History) (failure
         }
 
     -- where one comes
-    module _ (by_items : HistoryByItems) (front : Front) (start between now : ℕ) (before mid left : Option (List ℕ)) (second : Replica D) where
-      pub takes_snapshot : Brought honest history failures old second uuid front start between before mid → Followed honest history failures second new between now mid left (Some last)
-          → TakesAll honest history failures old new uuid last (83 ∷ front_bytes front) before left
+    module _ (by_items : HistoryByItems) (position start between now : ℕ) (before mid left : Option (List ℕ)) (second : Replica D) where
+      pub takes_snapshot : Brought honest history failures old second format uuid position start between before mid → Followed honest history failures second new between now mid left (Some last)
+          → TakesAll honest history failures old new format uuid last (83 ∷ number_bytes 8 position) before left
       takes_snapshot b f =
           let h = f.2 in
           let s : Snapshot = b.snapshot in
           record {
             snapshot = Some s;
             fits = b.takes.fits;
+            told = b.takes.told;
             comes = (b.takes.is_snapshot, b.takes.later);
             records = h.records;
             are_records = h.are_records;
-            bytes = rest_of s ++ f.0;
-            taken = Consumes-trans before mid left (rest_of s) f.0 b.takes.took.taken f.1.taken;
+            bytes = rest_of format s ++ f.0;
+            taken = Consumes-trans before mid left (rest_of format s) f.0 b.takes.took.taken f.1.taken;
             spelled =
-                ap (λ (x : Front). (83 ∷ front_bytes x) ++ (rest_of s ++ f.0)) b.takes.front_is ∙ sym (append_assoc (83 ∷ front_bytes (front_of s)) (rest_of s) f.0) ∙ ap (λ (bs : List ℕ). snapshot_bytes s ++ bs) h.spelled;
+                ap (λ n. (83 ∷ number_bytes 8 n) ++ (rest_of format s ++ f.0)) b.takes.position_is ∙ sym (append_assoc (83 ∷ number_bytes 8 s.position) (rest_of format s) f.0)
+                ∙ ap (λ (bs : List ℕ). snapshot_bytes format s ++ bs) h.spelled;
             uuid_is = h.grown.uuid ∙ b.uuid_is;
             setting = h.grown.setting ∙ b.setting;
             quiet = h.ends.quiet;
@@ -196,14 +202,15 @@ module _ {D : Type 0} (honest : D → Type 0) (history : D → History) (failure
                   },
                   one.2,
                 );
-            went = went_snapshot honest history failures by_items old second new uuid front start between before mid h.records b h.grown;
+            went = went_snapshot honest history failures by_items old second new format uuid position start between before mid h.records b h.grown;
           }
 
     -- with what was taken before
-    pub all_taken : (hand : List ℕ) (before mid left : Option (List ℕ)) → Consumes before mid hand → TakesAll honest history failures old new uuid last hand mid left → TakesAll honest history failures old new uuid last [] before left
+    pub all_taken : (hand : List ℕ) (before mid left : Option (List ℕ)) → Consumes before mid hand → TakesAll honest history failures old new format uuid last hand mid left → TakesAll honest history failures old new format uuid last [] before left
     all_taken hand before mid left first t = record {
       snapshot = t.snapshot;
       fits = t.fits;
+      told = t.told;
       comes = t.comes;
       records = t.records;
       are_records = t.are_records;
@@ -234,25 +241,31 @@ module _ {D : Type 0} (honest : D → Type 0) (history : D → History) (failure
   part_goes_on by_items joined a b c start now before left ended hand (Ok last) is took rest =
       from_then honest history failures by_items joined a b c start now before left last hand (subst (λ (e : Option ℕ). Follows honest history failures a b e hand) is took) rest
 
-  pub after_snapshot : HistoryByItems → (old second new : Replica D) (uuid : List ℕ) (front : Front) (start between now : ℕ) (before mid left : Option (List ℕ)) (result : Result ℕ Refusal) → Brought honest history failures old second uuid front start between before mid
-      → IfOk result (λ last. Followed honest history failures second new between now mid left (Some last)) → IfOk result (λ last. TakesAll honest history failures old new uuid last (83 ∷ front_bytes front) before left)
-  after_snapshot by_items old second new uuid front start between now before mid left (Err e) b f = tt
-  after_snapshot by_items old second new uuid front start between now before mid left (Ok last) b f = takes_snapshot honest history failures old new uuid last by_items front start between now before mid left second b f
+  pub after_snapshot : HistoryByItems → (old second new : Replica D) (format : Format) (uuid : List ℕ) (position start between now : ℕ) (before mid left : Option (List ℕ)) (result : Result ℕ Refusal) → Brought honest history failures old second format uuid position start between before mid
+      → IfOk result (λ last. Followed honest history failures second new between now mid left (Some last)) → IfOk result (λ last. TakesAll honest history failures old new format uuid last (83 ∷ number_bytes 8 position) before left)
+  after_snapshot by_items old second new format uuid position start between now before mid left (Err e) b f = tt
+  after_snapshot by_items old second new format uuid position start between now before mid left (Ok last) b f = takes_snapshot honest history failures old new format uuid last by_items position start between now before mid left second b f
 
-  pub all_behind : (old new : Replica D) (uuid hand : List ℕ) (before mid left : Option (List ℕ)) (result : Result ℕ Refusal) → Consumes before mid hand
-      → IfOk result (λ last. TakesAll honest history failures old new uuid last hand mid left) → IfOk result (λ last. TakesAll honest history failures old new uuid last [] before left)
-  all_behind old new uuid hand before mid left (Err e) first all = tt
-  all_behind old new uuid hand before mid left (Ok last) first all = all_taken honest history failures old new uuid last hand before mid left first all
+  pub all_behind : (old new : Replica D) (format : Format) (uuid hand : List ℕ) (before mid left : Option (List ℕ)) (result : Result ℕ Refusal) → Consumes before mid hand
+      → IfOk result (λ last. TakesAll honest history failures old new format uuid last hand mid left) → IfOk result (λ last. TakesAll honest history failures old new format uuid last [] before left)
+  all_behind old new format uuid hand before mid left (Err e) first all = tt
+  all_behind old new format uuid hand before mid left (Ok last) first all = all_taken honest history failures old new format uuid last hand before mid left first all
 
-  pub no_snapshot : (old new : Replica D) (uuid hand : List ℕ) (before mid left : Option (List ℕ)) (result : Result ℕ Refusal) → Consumes before mid hand → (uuid ≡ (facts_of failures old).uuid) ⊎ IsNil (facts_of failures old).uuid
-      → OnOk result (IsNil (facts_of failures old).uuid → ⊥) → IfOk result (FollowedFrom honest history failures old new hand mid left) → IfOk result (λ last. TakesAll honest history failures old new uuid last [] before left)
-  no_snapshot old new uuid hand before mid left (Err e) first cluster defined rest = tt
-  no_snapshot old new uuid hand before mid left (Ok last) first cluster defined rest =
-      all_taken honest history failures old new uuid last hand before mid left first (takes_records honest history failures old new uuid last hand mid left cluster defined rest)
+  pub no_snapshot : (old new : Replica D) (format : Format) (uuid hand : List ℕ) (before mid left : Option (List ℕ)) (result : Result ℕ Refusal) → Consumes before mid hand → (uuid ≡ (facts_of failures old).uuid) ⊎ IsNil (facts_of failures old).uuid
+      → OnOk result (IsNil (facts_of failures old).uuid → ⊥) → IfOk result (FollowedFrom honest history failures old new hand mid left) → IfOk result (λ last. TakesAll honest history failures old new format uuid last [] before left)
+  no_snapshot old new format uuid hand before mid left (Err e) first cluster defined rest = tt
+  no_snapshot old new format uuid hand before mid left (Ok last) first cluster defined rest =
+      all_taken honest history failures old new format uuid last hand before mid left first (takes_records honest history failures old new format uuid last hand mid left cluster defined rest)
 
 -- ---- a whole transfer
 
-module _ {D : Type 0} (honest : D → Type 0) (history : D → History) (failures : D → ℕ) (old mid new : Replica D) (uuid : List ℕ) (last : ℕ) (settled : Grown honest history failures old mid []) where
+-- the window that the format tells among nodes of this shape
+told_at : (format : Format) (shape : Shape) (p : Setting) (o : Option Snapshot) → shape ≡ shape_of p → IfSome o (CanTell format p) → IfSome o (λ s. IsOfFormat format (least_of shape) s.position s.kept)
+told_at format shape p None same told = tt
+told_at One shape p (Some s) same told = subst (λ (t : Shape). IsOfFormat One (least_of t) s.position s.kept) (sym same) told
+told_at Two shape p (Some s) same told = tt
+
+module _ {D : Type 0} (honest : D → Type 0) (history : D → History) (failures : D → ℕ) (old mid new : Replica D) (header : Header) (last : ℕ) (settled : Grown honest history failures old mid []) where
   may_come : (n : Node) (snapshot : Option Snapshot) → Holds honest history failures n old → MayCome (facts_of failures mid) snapshot → MatchOption snapshot (IsNil n.facts.uuid → ⊥) (λ s. IsSnapshot n.facts.setting s × ((delivered n.facts < s.position) ⊎ IsNil n.facts.uuid))
   may_come n None holds comes = λ nil. comes (subst IsNil (ap (λ (s : Standing). s.uuid) holds.facts ∙ sym settled.uuid) nil)
   may_come n (Some s) holds comes = (subst (λ (p : Setting). IsSnapshot p s) (settled.setting ∙ ap (λ (x : Standing). x.setting) (sym holds.facts)) comes.0, later comes.1)
@@ -261,16 +274,16 @@ module _ {D : Type 0} (honest : D → Type 0) (history : D → History) (failure
       later (inl below) = let here : delivered n.facts ≡ delivered (facts_of failures old) = ap delivered holds.facts in inl (omega (arith, here, settled.count, below))
       later (inr nil) = inr (subst IsNil (settled.uuid ∙ ap (λ (x : Standing). x.uuid) (sym holds.facts)) nil)
 
-  pub joined : (n : Node) (start before left : Option (List ℕ)) → Holds honest history failures n old → TakesHeader (facts_of failures mid) uuid start before → TakesAll honest history failures mid new uuid last [] before left
+  pub joined : (n : Node) (start before left : Option (List ℕ)) → Holds honest history failures n old → TakesHeader (facts_of failures mid) header start before → TakesAll honest history failures mid new header.format header.uuid last [] before left
       → IfSome start (λ bytes. Joined honest history failures n bytes left old new last)
-  joined n None before left holds header all = tt
-  joined n (Some bytes) before left holds header all =
-      by_left left (Consumes-trans (Some bytes) before left (header_bytes header.header) all.bytes header.taken all.taken)
+  joined n None before left holds head all = tt
+  joined n (Some bytes) before left holds head all =
+      by_left left (Consumes-trans (Some bytes) before left (header_bytes header) all.bytes head.taken all.taken)
     where
       transfer : Transfer
-      transfer = record { header = header.header; snapshot = all.snapshot; records = all.records; last = last }
+      transfer = record { header = header; snapshot = all.snapshot; records = all.records; last = last }
 
-      by_left : (end : Option (List ℕ)) → Consumes (Some bytes) end (header_bytes header.header ++ all.bytes) → Joined honest history failures n bytes end old new last
+      by_left : (end : Option (List ℕ)) → Consumes (Some bytes) end (header_bytes header ++ all.bytes) → Joined honest history failures n bytes end old new last
       by_left None taken = absurd taken
       by_left (Some rest) taken =
           let m = settled.node n holds in
@@ -279,19 +292,25 @@ module _ {D : Type 0} (honest : D → Type 0) (history : D → History) (failure
           let none : k.0.facts.ahead ≡ [] = ap (λ (x : Standing). x.ahead) k.2.facts ∙ none_ahead (facts_of failures new) all.quiet in
           record {
             transfer = transfer;
-            is_transfer = record { header = header.is_header; snapshot = all.fits; records = all.are_records; last = all.limit };
+            is_transfer = record {
+              header = head.is_header;
+              snapshot = all.fits;
+              told = told_at header.format header.shape (facts_of failures mid).setting all.snapshot head.shape all.told;
+              records = all.are_records;
+              last = all.limit;
+            };
             is_for = record {
-              cluster = cluster header.cluster;
-              shape = header.shape ∙ ap shape_of (settled.setting ∙ ap (λ (x : Standing). x.setting) (sym holds.facts));
+              cluster = cluster head.cluster;
+              shape = head.shape ∙ ap shape_of (settled.setting ∙ ap (λ (x : Standing). x.setting) (sym holds.facts));
               snapshot = may_come n all.snapshot holds all.comes;
             };
             rest = rest;
-            front = taken ∙ ap (λ (bs : List ℕ). (header_bytes header.header ++ bs) ++ rest) all.spelled;
+            front = taken ∙ ap (λ (bs : List ℕ). (header_bytes header ++ bs) ++ rest) all.spelled;
             left_is = refl;
             last_is = refl;
             node = k.0;
             becomes = record {
-              uuid = ap (λ (x : Standing). x.uuid) k.2.facts ∙ all.uuid_is ∙ sym header.uuid_is;
+              uuid = ap (λ (x : Standing). x.uuid) k.2.facts ∙ all.uuid_is;
               setting = ap (λ (x : Standing). x.setting) k.2.facts ∙ all.setting ∙ settled.setting ∙ ap (λ (x : Standing). x.setting) (sym holds.facts);
               durable = omega (arith, k.1.count, ap length none);
               none = none;
@@ -300,10 +319,10 @@ module _ {D : Type 0} (honest : D → Type 0) (history : D → History) (failure
             };
             holds = k.2;
             quiet = all.quiet;
-            went = subst (λ (u : List ℕ). Went honest history failures old new u all.snapshot all.records) (sym header.uuid_is) (went_behind honest history failures old mid new uuid all.snapshot all.records settled all.went);
+            went = went_behind honest history failures old mid new header.uuid all.snapshot all.records settled all.went;
           }
         where
-          cluster : (header.header.uuid ≡ (facts_of failures mid).uuid) ⊎ IsNil (facts_of failures mid).uuid → (header.header.uuid ≡ n.facts.uuid) ⊎ IsNil n.facts.uuid
+          cluster : (header.uuid ≡ (facts_of failures mid).uuid) ⊎ IsNil (facts_of failures mid).uuid → (header.uuid ≡ n.facts.uuid) ⊎ IsNil n.facts.uuid
           cluster (inl same) = inl (same ∙ settled.uuid ∙ ap (λ (x : Standing). x.uuid) (sym holds.facts))
           cluster (inr nil) = inr (subst IsNil (settled.uuid ∙ ap (λ (x : Standing). x.uuid) (sym holds.facts)) nil)
 
@@ -312,16 +331,16 @@ pub not_joined : (start : Option (List ℕ)) (P : List ℕ → ℕ → Type 0) (
 not_joined None P e = tt
 not_joined (Some bytes) P e = tt
 
-module _ {D : Type 0} (honest : D → Type 0) (history : D → History) (failures : D → ℕ) (old mid new : Replica D) (uuid : List ℕ) where
-  pub joined_on : (n : Node) (start before left : Option (List ℕ)) (result : Result ℕ Refusal) → Grown honest history failures old mid [] → Holds honest history failures n old → TakesHeader (facts_of failures mid) uuid start before
-      → IfOk result (λ last. TakesAll honest history failures mid new uuid last [] before left) → IfSome start (λ bytes. IfOk result (Joined honest history failures n bytes left old new))
-  joined_on n None before left result settled holds header all = tt
-  joined_on n (Some bytes) before left (Err e) settled holds header all = tt
-  joined_on n (Some bytes) before left (Ok last) settled holds header all = joined honest history failures old mid new uuid last settled n (Some bytes) before left holds header all
+module _ {D : Type 0} (honest : D → Type 0) (history : D → History) (failures : D → ℕ) (old mid new : Replica D) (header : Header) where
+  pub joined_on : (n : Node) (start before left : Option (List ℕ)) (result : Result ℕ Refusal) → Grown honest history failures old mid [] → Holds honest history failures n old → TakesHeader (facts_of failures mid) header start before
+      → IfOk result (λ last. TakesAll honest history failures mid new header.format header.uuid last [] before left) → IfSome start (λ bytes. IfOk result (Joined honest history failures n bytes left old new))
+  joined_on n None before left result settled holds head all = tt
+  joined_on n (Some bytes) before left (Err e) settled holds head all = tt
+  joined_on n (Some bytes) before left (Ok last) settled holds head all = joined honest history failures old mid new header last settled n (Some bytes) before left holds head all
 
 -- ---- the same on any device
 
-module _ {D : Type 0} (honest : D → Type 0) (history : D → History) (failures : D → ℕ) (old mid new : Replica D) (uuid : List ℕ) (settled : Grown honest history failures old mid []) where
+module _ {D : Type 0} (honest : D → Type 0) (history : D → History) (failures : D → ℕ) (old mid new : Replica D) (header : Header) (settled : Grown honest history failures old mid []) where
   came_at : (snapshot : Option Snapshot) → MayCome (facts_of failures mid) snapshot → MayCome (facts_of failures old) snapshot
   came_at None comes = λ nil. comes (subst IsNil (sym settled.uuid) nil)
   came_at (Some s) comes = (subst (λ (p : Setting). IsSnapshot p s) settled.setting comes.0, later comes.1)
@@ -330,37 +349,43 @@ module _ {D : Type 0} (honest : D → Type 0) (history : D → History) (failure
       later (inl below) = inl (omega (arith, settled.count, below))
       later (inr nil) = inr (subst IsNil settled.uuid nil)
 
-  took : (last : ℕ) (start before left : Option (List ℕ)) → TakesHeader (facts_of failures mid) uuid start before → TakesAll honest history failures mid new uuid last [] before left → IfSome start (λ bytes. TookTransfer failures bytes left old new last)
-  took last None before left header all = tt
-  took last (Some bytes) before left header all =
-      by_left left (Consumes-trans (Some bytes) before left (header_bytes header.header) all.bytes header.taken all.taken)
+  took : (last : ℕ) (start before left : Option (List ℕ)) → TakesHeader (facts_of failures mid) header start before → TakesAll honest history failures mid new header.format header.uuid last [] before left → IfSome start (λ bytes. TookTransfer failures bytes left old new last)
+  took last None before left head all = tt
+  took last (Some bytes) before left head all =
+      by_left left (Consumes-trans (Some bytes) before left (header_bytes header) all.bytes head.taken all.taken)
     where
       transfer : Transfer
-      transfer = record { header = header.header; snapshot = all.snapshot; records = all.records; last = last }
+      transfer = record { header = header; snapshot = all.snapshot; records = all.records; last = last }
 
-      cluster : (header.header.uuid ≡ (facts_of failures mid).uuid) ⊎ IsNil (facts_of failures mid).uuid → (header.header.uuid ≡ (facts_of failures old).uuid) ⊎ IsNil (facts_of failures old).uuid
+      cluster : (header.uuid ≡ (facts_of failures mid).uuid) ⊎ IsNil (facts_of failures mid).uuid → (header.uuid ≡ (facts_of failures old).uuid) ⊎ IsNil (facts_of failures old).uuid
       cluster (inl same) = inl (same ∙ settled.uuid)
       cluster (inr nil) = inr (subst IsNil settled.uuid nil)
 
-      by_left : (end : Option (List ℕ)) → Consumes (Some bytes) end (header_bytes header.header ++ all.bytes) → TookTransfer failures bytes end old new last
+      by_left : (end : Option (List ℕ)) → Consumes (Some bytes) end (header_bytes header ++ all.bytes) → TookTransfer failures bytes end old new last
       by_left None taken = absurd taken
       by_left (Some rest) taken = record {
         transfer = transfer;
-        is_transfer = record { header = header.is_header; snapshot = all.fits; records = all.are_records; last = all.limit };
-        cluster = cluster header.cluster;
-        shape = header.shape ∙ ap shape_of settled.setting;
+        is_transfer = record {
+          header = head.is_header;
+          snapshot = all.fits;
+          told = told_at header.format header.shape (facts_of failures mid).setting all.snapshot head.shape all.told;
+          records = all.are_records;
+          last = all.limit;
+        };
+        cluster = cluster head.cluster;
+        shape = head.shape ∙ ap shape_of settled.setting;
         snapshot = came_at all.snapshot all.comes;
         rest = rest;
-        front = taken ∙ ap (λ (bs : List ℕ). (header_bytes header.header ++ bs) ++ rest) all.spelled;
+        front = taken ∙ ap (λ (bs : List ℕ). (header_bytes header ++ bs) ++ rest) all.spelled;
         left_is = refl;
         last_is = refl;
         durable = all.durable;
-        uuid = all.uuid_is ∙ sym header.uuid_is;
+        uuid = all.uuid_is;
         setting = all.setting ∙ settled.setting;
       }
 
-  pub took_on : (start before left : Option (List ℕ)) (result : Result ℕ Refusal) → TakesHeader (facts_of failures mid) uuid start before → IfOk result (λ last. TakesAll honest history failures mid new uuid last [] before left)
+  pub took_on : (start before left : Option (List ℕ)) (result : Result ℕ Refusal) → TakesHeader (facts_of failures mid) header start before → IfOk result (λ last. TakesAll honest history failures mid new header.format header.uuid last [] before left)
       → IfSome start (λ bytes. IfOk result (TookTransfer failures bytes left old new))
-  took_on None before left result header all = tt
-  took_on (Some bytes) before left (Err e) header all = tt
-  took_on (Some bytes) before left (Ok last) header all = took last (Some bytes) before left header all
+  took_on None before left result head all = tt
+  took_on (Some bytes) before left (Err e) head all = tt
+  took_on (Some bytes) before left (Ok last) head all = took last (Some bytes) before left head all

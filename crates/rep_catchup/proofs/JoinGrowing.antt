@@ -576,11 +576,11 @@ module _ {D : Type 0} (failures : D → ℕ) (r : Replica D) (j : Judged) (at : 
   pub out_by_seqno : (n : ℕ) → n ≡ delivered (facts_of failures r) → (j.seqno ≡ n + 1 → ⊥) → IsOut failures r (Record j) at (Malformed at)
   out_by_seqno n here other = inr (refl, λ may. other (may.1.seqno ∙ ap (λ k. k + 1) (sym here)))
 
-  pub out_by_verdict : (w : Transaction) (v : Verdict) → j.item ≡ WriteSet w → v ≡ verdict_of r.certifier.current (WriteSet w) → (v ≡ j.verdict → ⊥) → IsOut failures r (Record j) at (Malformed at)
-  out_by_verdict w v is judged other =
+  pub out_by_verdict : (w : Transaction) → j.item ≡ WriteSet w → (verdict_of r.certifier.current (WriteSet w) ≡ j.verdict → ⊥) → IsOut failures r (Record j) at (Malformed at)
+  out_by_verdict w is other =
       inr (
         refl,
         λ may.
             let same : may.1.write_set ≡ w = same_set may.1.write_set w (sym may.1.item ∙ is) in
-            other (judged ∙ ap (λ (x : Transaction). verdict_of r.certifier.current (WriteSet x)) (sym same) ∙ sym may.1.verdict),
+            other (ap (λ (x : Transaction). verdict_of r.certifier.current (WriteSet x)) (sym same) ∙ sym may.1.verdict),
       )

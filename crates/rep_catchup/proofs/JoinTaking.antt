@@ -11,9 +11,7 @@ use Rattle.rep_record.specs.Records.{record_form, record_bytes}
 use Rattle.rep_record.specs.RecordLaws.{record_is_form}
 use Rattle.rep_transfer.specs.declared.part.Part.{Part}
 use Rattle.rep_transfer.specs.declared.part.Part.TheVariants.{Snapshot, Record, End}
-use Rattle.rep_transfer.specs.Pieces.{front_form, front_bytes}
 use Rattle.rep_transfer.specs.Taking.{counted, BeginWithNone, Takes, TakesOne}
-use Rattle.rep_transfer.specs.TransferLaws.{front_is_form}
 use Rattle.rep_transfer.specs.Transfers.{PartFits, part_bytes}
 use Rattle.rep_catchup.specs.Snapshots.{Took}
 
@@ -126,12 +124,12 @@ module _ {A : Type 0} (F : Form A) (form : IsForm F) where
 
 -- a part is the one that stands there
 pub same_part : (p q : Part) (rest more : List ℕ) → PartFits p → PartFits q → part_bytes p ++ rest ≡ part_bytes q ++ more → p ≡ q
-same_part (Snapshot f) (Snapshot g) rest more one two is = ap Snapshot (same_first front_form front_is_form f g rest more one two (tail_same 83 83 (front_bytes f ++ rest) (front_bytes g ++ more) is)).0
-same_part (Snapshot f) (Record j) rest more one two is = absurd (omega (arith, head_same 83 73 (front_bytes f ++ rest) (record_bytes j ++ more) is))
-same_part (Snapshot f) (End n) rest more one two is = absurd (omega (arith, head_same 83 69 (front_bytes f ++ rest) (number_bytes 8 n ++ more) is))
-same_part (Record i) (Snapshot g) rest more one two is = absurd (omega (arith, head_same 73 83 (record_bytes i ++ rest) (front_bytes g ++ more) is))
+same_part (Snapshot m) (Snapshot n) rest more one two is = ap Snapshot (same_first (number 8) (number_is_form 8) m n rest more one two (tail_same 83 83 (number_bytes 8 m ++ rest) (number_bytes 8 n ++ more) is)).0
+same_part (Snapshot m) (Record j) rest more one two is = absurd (omega (arith, head_same 83 73 (number_bytes 8 m ++ rest) (record_bytes j ++ more) is))
+same_part (Snapshot m) (End n) rest more one two is = absurd (omega (arith, head_same 83 69 (number_bytes 8 m ++ rest) (number_bytes 8 n ++ more) is))
+same_part (Record i) (Snapshot m) rest more one two is = absurd (omega (arith, head_same 73 83 (record_bytes i ++ rest) (number_bytes 8 m ++ more) is))
 same_part (Record i) (Record j) rest more one two is = ap Record (same_first record_form record_is_form i j rest more one two (tail_same 73 73 (record_bytes i ++ rest) (record_bytes j ++ more) is)).0
 same_part (Record i) (End n) rest more one two is = absurd (omega (arith, head_same 73 69 (record_bytes i ++ rest) (number_bytes 8 n ++ more) is))
-same_part (End n) (Snapshot g) rest more one two is = absurd (omega (arith, head_same 69 83 (number_bytes 8 n ++ rest) (front_bytes g ++ more) is))
+same_part (End n) (Snapshot m) rest more one two is = absurd (omega (arith, head_same 69 83 (number_bytes 8 n ++ rest) (number_bytes 8 m ++ more) is))
 same_part (End n) (Record j) rest more one two is = absurd (omega (arith, head_same 69 73 (number_bytes 8 n ++ rest) (record_bytes j ++ more) is))
 same_part (End m) (End n) rest more one two is = ap End (same_first (number 8) (number_is_form 8) m n rest more one two (tail_same 69 69 (number_bytes 8 m ++ rest) (number_bytes 8 n ++ more) is)).0

@@ -11,6 +11,7 @@ use Rattle.rep_types.specs.declared.limits.TheConstants.{MAX_SEQNO, MAX_AHEAD}
 use Rattle.rep_types.specs.Transactions.{Transaction}
 use Rattle.rep_disk.specs.History.{History}
 use Rattle.rep_disk.specs.Calls.{Rises, IsCall}
+use Rattle.rep_layout.specs.declared.format.Format.{Format}
 use Rattle.rep_layout.specs.Supers.{IsNil}
 use Rattle.rep_log.specs.Moves.{fault_of}
 use Rattle.rep_steps.specs.declared.event.Event.{Event}
@@ -26,7 +27,6 @@ use Rattle.rep_replica.specs.Replicas.{Replica, facts_of}
 use Rattle.rep_replica.specs.Refusing.{IsFaultToldBy, TellsFaults}
 use Rattle.rep_replica.specs.Holding.{Holds}
 use Rattle.rep_replica.specs.Settling.{IsDue, IsOwn, AreOwn, AreDone, outcome_of, Works}
-use Rattle.rep_transfer.specs.declared.pieces.Front.{Front}
 use Rattle.rep_catchup.specs.Growing.{Grown, IsToldBy, Tells}
 use Rattle.rep_catchup.specs.Joining.{RefusesHeader}
 use Rattle.rep_catchup.specs.Snapshots.{BringsEarly}
@@ -213,18 +213,18 @@ module _ {D : Type 0} (honest : D → Type 0) (history : D → History) (failure
 
   -- ---- a snapshot is brought
 
-  bring_is_whole : (s : Standing) (front : Front) (at : ℕ) (before : Option (List ℕ)) (e : Refusal) (part : Part) → BringsEarly s front at before e → e ≢ Corrupt part
-  bring_is_whole s front at before e part (inl stream) is = stream_is_whole part (sym stream ∙ is)
-  bring_is_whole s front at before e part (inr (inl memory)) is = memory_is_whole part (sym memory ∙ is)
-  bring_is_whole s front at before e part (inr (inr (inl fault))) is = fault_is_whole part (sym fault ∙ is)
-  bring_is_whole s front at before e part (inr (inr (inr malformed))) is = malformed_is_whole at part (sym malformed.0 ∙ is)
+  bring_is_whole : (format : Format) (s : Standing) (position at : ℕ) (before : Option (List ℕ)) (e : Refusal) (part : Part) → BringsEarly format s position at before e → e ≢ Corrupt part
+  bring_is_whole format s position at before e part (inl stream) is = stream_is_whole part (sym stream ∙ is)
+  bring_is_whole format s position at before e part (inr (inl memory)) is = memory_is_whole part (sym memory ∙ is)
+  bring_is_whole format s position at before e part (inr (inr (inl fault))) is = fault_is_whole part (sym fault ∙ is)
+  bring_is_whole format s position at before e part (inr (inr (inr malformed))) is = malformed_is_whole at part (sym malformed.0 ∙ is)
 
-  pub bring_told : (old new : Replica D) (front : Front) (at : ℕ) (before : Option (List ℕ)) (result : Result (Unit {0}) Refusal) (e : Refusal) → result ≡ Err e → TellsFaults (failures old.engine.disk) (failures new.engine.disk) result
-      → IfErr result (BringsEarly (facts_of failures old) front at before) → IsToldBy honest history failures old new e
-  bring_told old new front at before result e is told early =
+  pub bring_told : (old new : Replica D) (format : Format) (position at : ℕ) (before : Option (List ℕ)) (result : Result (Unit {0}) Refusal) (e : Refusal) → result ≡ Err e → TellsFaults (failures old.engine.disk) (failures new.engine.disk) result
+      → IfErr result (BringsEarly format (facts_of failures old) position at before) → IsToldBy honest history failures old new e
+  bring_told old new format position at before result e is told early =
       let here : IsFaultToldBy (failures old.engine.disk) (failures new.engine.disk) e = subst (λ (r : Result (Unit {0}) Refusal). TellsFaults (failures old.engine.disk) (failures new.engine.disk) r) is told in
-      let why : BringsEarly (facts_of failures old) front at before e = subst (λ (r : Result (Unit {0}) Refusal). IfErr r (BringsEarly (facts_of failures old) front at before)) is early in
-      record { faults = here; corrupt = λ is. absurd (bring_is_whole (facts_of failures old) front at before e Pages why is); whole = λ n holds part. bring_is_whole (facts_of failures old) front at before e part why }
+      let why : BringsEarly format (facts_of failures old) position at before e = subst (λ (r : Result (Unit {0}) Refusal). IfErr r (BringsEarly format (facts_of failures old) position at before)) is early in
+      record { faults = here; corrupt = λ is. absurd (bring_is_whole format (facts_of failures old) position at before e Pages why is); whole = λ n holds part. bring_is_whole format (facts_of failures old) position at before e part why }
 
   pub brought_same : (old new : Replica D) (result : Result (Unit {0}) Refusal) (x : Unit {0}) → result ≡ Ok x → TellsFaults (failures old.engine.disk) (failures new.engine.disk) result → failures new.engine.disk ≡ failures old.engine.disk
   brought_same old new result x is told = subst (λ (r : Result (Unit {0}) Refusal). TellsFaults (failures old.engine.disk) (failures new.engine.disk) r) is told

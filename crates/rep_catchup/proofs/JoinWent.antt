@@ -15,7 +15,7 @@ use Rattle.rep_steps.specs.Orders.{IsOf}
 use Rattle.rep_steps.specs.Runs.{accepted_by}
 use Rattle.rep_replica.specs.Replicas.{Replica, facts_of}
 use Rattle.rep_replica.specs.Episodes.{Runs, GivesUp, Brings, Breaks, FedFrom, StandsAt, reached_by}
-use Rattle.rep_transfer.specs.declared.pieces.Front.{Front}
+use Rattle.rep_layout.specs.declared.format.Format.{Format}
 use Rattle.rep_transfer.specs.declared.pieces.NumberedPage.{NumberedPage}
 use Rattle.rep_transfer.specs.Transfers.{Snapshot}
 use Rattle.rep_catchup.specs.Snapshots.{Brought, Broken, GivenUp, state_of, with_pages}
@@ -69,9 +69,9 @@ module _ {D : Type 0} (honest : D → Type 0) (history : D → History) (failure
   }
 
   -- by a snapshot, and records behind it
-  pub went_snapshot : HistoryByItems → (old mid new : Replica D) (uuid : List ℕ) (front : Front) (start now : ℕ) (before left : Option (List ℕ)) (records : List Judged) (b : Brought honest history failures old mid uuid front start now before left) → Grown honest history failures mid new records
+  pub went_snapshot : HistoryByItems → (old mid new : Replica D) (format : Format) (uuid : List ℕ) (position start now : ℕ) (before left : Option (List ℕ)) (records : List Judged) (b : Brought honest history failures old mid format uuid position start now before left) → Grown honest history failures mid new records
       → Went honest history failures old new uuid (Some b.snapshot) records
-  went_snapshot by_items old mid new uuid front start now before left records b g =
+  went_snapshot by_items old mid new format uuid position start now before left records b g =
       let p : Setting = (facts_of failures old).setting in
       record {
         episodes = Brings uuid (state_of p b.snapshot) mid ∷ (Runs g.events g.answers new ∷ []);
@@ -96,8 +96,8 @@ module _ {D : Type 0} (honest : D → Type 0) (history : D → History) (failure
   }
 
   -- by a snapshot while whose coming the device failed
-  pub went_broken : HistoryByItems → (old new : Replica D) (uuid : List ℕ) (front : Front) (start : ℕ) (before : Option (List ℕ)) (b : Broken honest history failures old new uuid front start before) → Went honest history failures old new uuid (Some b.snapshot) []
-  went_broken by_items old new uuid front start before b = record {
+  pub went_broken : HistoryByItems → (old new : Replica D) (format : Format) (uuid : List ℕ) (position start : ℕ) (before : Option (List ℕ)) (b : Broken honest history failures old new format uuid position start before) → Went honest history failures old new uuid (Some b.snapshot) []
+  went_broken by_items old new format uuid position start before b = record {
     episodes = Breaks uuid (state_of (facts_of failures old).setting b.snapshot) new ∷ [];
     are = (b.node, refl, refl);
     reaches = λ k. state_position (facts_of failures old).setting b.snapshot ∙ omega arith;
@@ -134,7 +134,7 @@ module _ {D : Type 0} (honest : D → Type 0) (history : D → History) (failure
   lived_settling old new grown = ([], None, [], went_records old new [] [] grown)
 
   -- and a transfer was taken behind them, or some of it
-  pub lived_parts : (old mid new : Replica D) (uuid : List ℕ) (before left : Option (List ℕ)) (start : ℕ) (result : Result ℕ Refusal) → Grown honest history failures old mid [] → IfOk result (λ last. TakesAll honest history failures mid new uuid last [] before left)
-      → IfErr result (CutShort honest history failures mid new uuid before start) → Lived honest history failures old new
-  lived_parts old mid new uuid before left start (Ok last) grown all cut = (uuid, all.snapshot, all.records, went_behind old mid new uuid all.snapshot all.records grown all.went)
-  lived_parts old mid new uuid before left start (Err e) grown all cut = (uuid, cut.snapshot, cut.records, went_behind old mid new uuid cut.snapshot cut.records grown cut.went)
+  pub lived_parts : (old mid new : Replica D) (format : Format) (uuid : List ℕ) (before left : Option (List ℕ)) (start : ℕ) (result : Result ℕ Refusal) → Grown honest history failures old mid [] → IfOk result (λ last. TakesAll honest history failures mid new format uuid last [] before left)
+      → IfErr result (CutShort honest history failures mid new format uuid before start) → Lived honest history failures old new
+  lived_parts old mid new format uuid before left start (Ok last) grown all cut = (uuid, all.snapshot, all.records, went_behind old mid new uuid all.snapshot all.records grown all.went)
+  lived_parts old mid new format uuid before left start (Err e) grown all cut = (uuid, cut.snapshot, cut.records, went_behind old mid new uuid cut.snapshot cut.records grown cut.went)

@@ -1,5 +1,6 @@
 mod Alike
 mod Orders
+mod WindowLimits
 mod DonateReads
 mod DonateWrites
 mod DonateWindow
@@ -7,6 +8,7 @@ mod DonatePages
 mod DonateTail
 mod Donated
 mod JoinTaking
+mod JoinWindow
 mod JoinGrowing
 mod JoinTelling
 mod JoinWent

@@ -1,5 +1,5 @@
 -- What a donor gives to a joiner, and whom it refuses.
-use Rattle.std.specs.Prelude.{◌≡◌, ◌≢◌, ◌⊎◌, ℕ, ◌-◌, ◌<◌, ◌≤◌, ◌&&◌, ◌||◌, Bool, true, false, nat_lt, is_some, List, [], ◌∷◌, ◌++◌, filter, map, take, length, Option, None, Some, if◌then◌else◌, Result, Err, IfErr, IfSome, OnOk}
+use Rattle.std.specs.Prelude.{◌≡◌, ◌≢◌, ◌⊎◌, ℕ, ◌-◌, ◌<◌, ◌≤◌, ◌&&◌, ◌||◌, Bool, true, false, nat_lt, is_some, List, [], ◌∷◌, ◌++◌, filter, map, take, Option, None, Some, if◌then◌else◌, Result, Err, IfErr, IfSome, OnOk}
 use Rattle.std.specs.List.{flat_map, range_with_len, AllByRecursion}
 use Rattle.std.specs.Io.KnownBytes.{Appends}
 use Rattle.rep_types.specs.declared.key.Key.{Key}
@@ -8,17 +8,18 @@ use Rattle.rep_types.specs.declared.refusal.Refusal.{Refusal}
 use Rattle.rep_types.specs.declared.refusal.Refusal.TheVariants.{Stopped, Undefined, WrongCluster, Ahead, StreamFault, DiskFault, Corrupt}
 use Rattle.rep_types.specs.declared.refusal.Part.{Part}
 use Rattle.rep_types.specs.Settings.{IsRow, has_row}
-use Rattle.rep_types.specs.Entries.{Entry}
 use Rattle.rep_types.specs.Windows.{Window as Kept}
-use Rattle.rep_forms.specs.Entries.{EntryFits, entry_bytes}
+use Rattle.rep_forms.specs.Forms.{number_bytes}
+use Rattle.rep_forms.specs.Entries.{EntryFits}
 use Rattle.rep_disk.specs.History.{History}
 use Rattle.rep_disk.specs.Calls.{Rises}
+use Rattle.rep_layout.specs.declared.format.Format.TheVariants.{Two}
 use Rattle.rep_layout.specs.declared.page_state.PageState.{PageState}
 use Rattle.rep_layout.specs.declared.page_state.PageState.TheVariants.{Nowhere, In}
 use Rattle.rep_layout.specs.declared.super_body.SuperBody.{SuperBody}
 use Rattle.rep_layout.specs.Rows.{row_place}
 use Rattle.rep_layout.specs.Supers.{IsNil}
-use Rattle.rep_layout.specs.Windows.{window, IsWindowBody}
+use Rattle.rep_layout.specs.Windows.{IsWindowBody, beside}
 use Rattle.rep_pages.specs.Images.{row_of}
 use Rattle.rep_pages.specs.Slots.{state_of_page}
 use Rattle.rep_steps.specs.Standings.{Standing}
@@ -28,11 +29,10 @@ use Rattle.rep_replica.specs.Replicas.{Replica}
 use Rattle.rep_replica.specs.Holding.{Holds}
 use Rattle.rep_checkpoint.specs.Coming.{blank}
 use Rattle.rep_transfer.specs.declared.have.Have.{Have}
-use Rattle.rep_transfer.specs.declared.pieces.Front.{Front}
 use Rattle.rep_transfer.specs.declared.pieces.NumberedPage.{NumberedPage}
 use Rattle.rep_transfer.specs.Shapes.{shape_of}
-use Rattle.rep_transfer.specs.Pieces.{FrontFits, front_bytes, PageFits, page_bytes}
-use Rattle.rep_transfer.specs.Transfers.{Snapshot, Transfer, IsTransfer, SnapshotFits, snapshot_part}
+use Rattle.rep_transfer.specs.Pieces.{PageFits, page_bytes}
+use Rattle.rep_transfer.specs.Transfers.{Snapshot, Transfer, IsTransfer, SnapshotFits, kept_bytes, snapshot_part}
 use Rattle.rep_catchup.specs.Snapshots.{with_pages, state_of, number_of, IsPageOf, IsSnapshot}
 
 -- ---- whom it refuses
@@ -93,7 +93,7 @@ above position items = filter (λ (j : Judged). nat_lt position j.seqno) items
 abbrev pub durable_items : Node → List Judged
 durable_items n = take (n.facts.durable - n.facts.base) n.items
 
--- A snapshot of the node's base: what it brings is that, whole.
+-- A snapshot of the node's base: what it brings is that, whole, its window with size and floor.
 pub record IsSnapshotOf (n : Node) (s : Snapshot) : Type 0 where
   pub is_snapshot : IsSnapshot n.facts.setting s
   pub state : state_of n.facts.setting s ≡ n.base
@@ -104,9 +104,10 @@ abbrev pub Brings : Node → Have → Option Snapshot → List Judged → Type 0
 Brings n have None records = (IsNil have.uuid → ⊥) × (n.facts.base ≤ have.position) × (records ≡ above have.position (durable_items n))
 Brings n have (Some s) records = (IsNil have.uuid ⊎ (have.position < n.facts.base)) × IsSnapshotOf n s × (records ≡ durable_items n)
 
--- A transfer for the joiner, from the node.
+-- A transfer for the joiner, from the node: in format 2, whatever format the node's base is of on its disk.
 pub record IsDonated (n : Node) (have : Have) (t : Transfer) : Type 0 where
   pub is_transfer : IsTransfer t
+  pub format : t.header.format ≡ Two
   pub uuid : t.header.uuid ≡ n.facts.uuid
   pub shape : t.header.shape ≡ shape_of n.facts.setting
   pub brings : Brings n have t.snapshot t.records
@@ -114,16 +115,11 @@ pub record IsDonated (n : Node) (have : Have) (t : Transfer) : Type 0 where
 
 -- ---- the parts that it writes
 
--- the position of a base, and how many entries its window has
-abbrev pub front_at : SuperBody → List Entry → Front
-front_at b entries = record { position = b.position; count = length entries }
-
--- The base's window was written, behind its position.
-pub record WroteWindow (b : SuperBody) (entries : List Entry) (old new : Option (List ℕ)) : Type 0 where
-  pub is_window : IsWindowBody b.params (window b.number b.position entries)
-  pub front : FrontFits (front_at b entries)
-  pub fit : AllByRecursion EntryFits entries
-  pub written : Appends old new (83 ∷ (front_bytes (front_at b entries) ++ flat_map entry_bytes entries))
+-- The base's window was written, whole, behind the letter and the position of a snapshot.
+pub record WroteWindow (b : SuperBody) (v : Kept) (old new : Option (List ℕ)) : Type 0 where
+  pub is_window : IsWindowBody b.params (beside b v)
+  pub fit : AllByRecursion EntryFits v.entries
+  pub written : Appends old new ((83 ∷ number_bytes 8 b.position) ++ kept_bytes Two v)
 
 -- whether a page stands in a slot
 abbrev pub is_in_slot : PageState → Bool
@@ -179,4 +175,4 @@ pub record WroteBase (n : Node) (have : Have) (position : ℕ) (old new : Option
   pub snapshot : Option Snapshot
   pub fits : IfSome snapshot SnapshotFits
   pub begins : Begins n have snapshot position
-  pub written : Appends old new (snapshot_part snapshot)
+  pub written : Appends old new (snapshot_part Two snapshot)

@@ -13,6 +13,7 @@ use Rattle.rep_types.specs.Order.{Order, items_of, state, history as history_of}
 use Rattle.rep_record.specs.Records.{IsRecord}
 use Rattle.rep_cert.specs.Holdings.{verdict_of}
 use Rattle.rep_disk.specs.History.{History}
+use Rattle.rep_layout.specs.declared.format.Format.{Format}
 use Rattle.rep_layout.specs.Supers.{IsNil}
 use Rattle.rep_steps.specs.Standings.{Standing, delivered}
 use Rattle.rep_steps.specs.Nodes.{Node}
@@ -28,7 +29,7 @@ use Rattle.rep_transfer.specs.Haves.{IsHeader, header_bytes}
 use Rattle.rep_transfer.specs.Shapes.{shape_of}
 use Rattle.rep_transfer.specs.Taking.{counted, BeginWithNone}
 use Rattle.rep_transfer.specs.Transfers.{Snapshot, Transfer, SnapshotFits, IsTransfer, snapshot_bytes, snapshot_part, record_part, end_bytes, transfer_bytes, PartFits, part_bytes}
-use Rattle.rep_catchup.specs.Snapshots.{state_of, IsSnapshot, Took}
+use Rattle.rep_catchup.specs.Snapshots.{state_of, IsSnapshot, CanTell, Took}
 use Rattle.rep_catchup.specs.Growing.{Grown}
 
 -- Why a transfer isn't taken to its end, besides `Stopped`: the reader failed, a part is not of its form or not the one that may come
@@ -116,7 +117,7 @@ pub record IsNext {D : Type 0} (failures : D → ℕ) (r : Replica D) (j : Judge
 -- The part may come behind what the replica took: it is of a cluster; a record is its next item, an end is where it is. No second snapshot
 -- comes.
 abbrev pub MayFollow : {D : Type 0} → (D → ℕ) → Replica D → Part → Type 0
-MayFollow failures r (OfSnapshot front) = ⊥
+MayFollow failures r (OfSnapshot position) = ⊥
 MayFollow failures r (OfRecord j) = (IsNil (facts_of failures r).uuid → ⊥) × IsNext failures r j
 MayFollow failures r (OfEnd last) = (IsNil (facts_of failures r).uuid → ⊥) × (last ≡ delivered (facts_of failures r))
 
@@ -124,33 +125,36 @@ MayFollow failures r (OfEnd last) = (IsNil (facts_of failures r).uuid → ⊥) �
 abbrev pub NoneFollows : {D : Type 0} → (D → ℕ) → Replica D → List ℕ → Type 0
 NoneFollows failures r bytes = (part : Part) (rest : List ℕ) → PartFits part → bytes ≡ part_bytes part ++ rest → MayFollow failures r part → ⊥
 
--- nor with a snapshot that may
-abbrev pub NoSnapshotComes : Standing → List ℕ → Type 0
-NoSnapshotComes s bytes = (y : Snapshot) (rest : List ℕ) → SnapshotFits y → bytes ≡ snapshot_bytes y ++ rest → IsSnapshot s.setting y → (delivered s < y.position) ⊎ IsNil s.uuid → ⊥
+-- nor with a snapshot of the format that may
+abbrev pub NoSnapshotComes : Format → Standing → List ℕ → Type 0
+NoSnapshotComes format s bytes =
+    (y : Snapshot) (rest : List ℕ) → SnapshotFits y → CanTell format s.setting y → bytes ≡ snapshot_bytes format y ++ rest → IsSnapshot s.setting y → (delivered s < y.position) ⊎ IsNil s.uuid → ⊥
 
 -- Why no more was taken, behind so many bytes, of what is left: the reader or the device failed, there was no room, the base's page that a
 -- checkpoint flushes is not of its form; or no part goes on there that may come.
 abbrev pub EndsHere : {D : Type 0} → (D → ℕ) → Replica D → ℕ → Option (List ℕ) → Refusal → Type 0
 EndsHere failures r at left e = (e ≡ StreamFault) ⊎ (WorksEarly e ⊎ ((e ≡ Malformed at) × IfSome left (NoneFollows failures r)))
 
+-- The snapshot, where one was taken, is of the transfer's format, and was one that could come to the replica.
+abbrev pub Came : Format → Standing → Option Snapshot → Type 0
+Came format s snapshot = IfSome snapshot (λ y. SnapshotFits y × CanTell format s.setting y × IsSnapshot s.setting y × ((delivered s < y.position) ⊎ IsNil s.uuid))
+
 -- Behind the header, which has so many bytes, a snapshot was taken where one comes, and records, and then no more. What was taken was
 -- done; where not even a snapshot was, none that may come goes on there.
-pub record CutShort {D : Type 0} (honest : D → Type 0) (history : D → History) (failures : D → ℕ) (old new : Replica D) (uuid : List ℕ) (before : Option (List ℕ)) (start : ℕ) (e : Refusal) : Type 0 where
+pub record CutShort {D : Type 0} (honest : D → Type 0) (history : D → History) (failures : D → ℕ) (old new : Replica D) (format : Format) (uuid : List ℕ) (before : Option (List ℕ)) (start : ℕ) (e : Refusal) : Type 0 where
   pub snapshot : Option Snapshot
-  pub comes : IfSome snapshot (λ y. SnapshotFits y × IsSnapshot (facts_of failures old).setting y × ((delivered (facts_of failures old) < y.position) ⊎ IsNil (facts_of failures old).uuid))
+  pub comes : Came format (facts_of failures old) snapshot
   pub records : List Judged
   pub are_records : AllByRecursion IsRecord records
   pub left : Option (List ℕ)
-  pub taken : Consumes before left (snapshot_part snapshot ++ flat_map record_part records)
+  pub taken : Consumes before left (snapshot_part format snapshot ++ flat_map record_part records)
   pub went : Went honest history failures old new uuid snapshot records
-  pub ends : EndsHere failures new (counted start (length (snapshot_part snapshot ++ flat_map record_part records))) left e
-  pub none : snapshot ≡ None → records ≡ [] → (at : ℕ) → e ≡ Malformed at → IfSome before (NoSnapshotComes (facts_of failures old))
+  pub ends : EndsHere failures new (counted start (length (snapshot_part format snapshot ++ flat_map record_part records))) left e
+  pub none : snapshot ≡ None → records ≡ [] → (at : ℕ) → e ≡ Malformed at → IfSome before (NoSnapshotComes format (facts_of failures old))
 
--- A header was taken that is for the replica: of its cluster, or the replica is of none, and of its shape.
-pub record TakesHeader (s : Standing) (uuid : List ℕ) (before left : Option (List ℕ)) : Type 0 where
-  pub header : Header
+-- This header was taken, which is for the replica: of its cluster, or the replica is of none, and of its shape.
+pub record TakesHeader (s : Standing) (header : Header) (before left : Option (List ℕ)) : Type 0 where
   pub is_header : IsHeader header
-  pub uuid_is : header.uuid ≡ uuid
   pub cluster : (header.uuid ≡ s.uuid) ⊎ IsNil s.uuid
   pub shape : header.shape ≡ shape_of s.setting
   pub taken : Consumes before left (header_bytes header)
@@ -169,7 +173,7 @@ pub record Ended {D : Type 0} (honest : D → Type 0) (history : D → History) 
   pub grown : Grown honest history failures old settled []
   pub why :
       ((WorksEarly e ⊎ RefusesHeader (facts_of failures settled) before e) × (settled ≡ new))
-      ⊎ ((uuid : List ℕ) × (left : Option (List ℕ)) × TakesHeader (facts_of failures settled) uuid before left × CutShort honest history failures settled new uuid left 59 e)
+      ⊎ ((header : Header) × (left : Option (List ℕ)) × TakesHeader (facts_of failures settled) header before left × CutShort honest history failures settled new header.format header.uuid left 59 e)
 
 -- ---- how it is taken, part by part
 
@@ -227,15 +231,16 @@ abbrev pub MayCome : Standing → Option Snapshot → Type 0
 MayCome s snapshot = MatchOption snapshot (IsNil s.uuid → ⊥) (λ y. IsSnapshot s.setting y × ((delivered s < y.position) ⊎ IsNil s.uuid))
 
 -- All that comes behind the header was taken, some of it before: a snapshot where one comes, the records, the end.
-pub record TakesAll {D : Type 0} (honest : D → Type 0) (history : D → History) (failures : D → ℕ) (old new : Replica D) (uuid : List ℕ) (last : ℕ) (hand : List ℕ) (before left : Option (List ℕ)) : Type 0 where
+pub record TakesAll {D : Type 0} (honest : D → Type 0) (history : D → History) (failures : D → ℕ) (old new : Replica D) (format : Format) (uuid : List ℕ) (last : ℕ) (hand : List ℕ) (before left : Option (List ℕ)) : Type 0 where
   pub snapshot : Option Snapshot
   pub fits : IfSome snapshot SnapshotFits
+  pub told : IfSome snapshot (CanTell format (facts_of failures old).setting)
   pub comes : MayCome (facts_of failures old) snapshot
   pub records : List Judged
   pub are_records : AllByRecursion IsRecord records
   pub bytes : List ℕ
   pub taken : Consumes before left bytes
-  pub spelled : hand ++ bytes ≡ snapshot_part snapshot ++ (flat_map record_part records ++ end_bytes last)
+  pub spelled : hand ++ bytes ≡ snapshot_part format snapshot ++ (flat_map record_part records ++ end_bytes last)
   pub uuid_is : (facts_of failures new).uuid ≡ uuid
   pub setting : (facts_of failures new).setting ≡ (facts_of failures old).setting
   pub quiet : is_quiet (facts_of failures new) ≡ true

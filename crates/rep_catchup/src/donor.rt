@@ -10,6 +10,7 @@ ghost use Rattle.rep_disk.specs.Calls.{Rises};
 ghost use Rattle.rep_forms.specs.Entries.{EntryFits, entry_bytes};
 ghost use Rattle.rep_record.specs.Records.{IsRecord};
 ghost use Rattle.rep_record.specs.Blocks.{IsBlock};
+ghost use Rattle.rep_layout.specs.declared.format.Format.TheVariants.{Two};
 ghost use Rattle.rep_layout.specs.Supers.{IsNil};
 ghost use Rattle.rep_steps.specs.Nodes.{Node};
 ghost use Rattle.rep_replica.specs.Replicas.{facts_of};
@@ -18,14 +19,13 @@ ghost use Rattle.rep_transfer.specs.Writing.{Wrote};
 ghost use Rattle.rep_catchup.specs.Donating.{IsOfCluster, IsFirstRefusal, ComesFirst, EndsEarly, ReadsAlone, IsRunning, Leaves, IsSnapshotOf, IsDonated, NeedsSnapshot, WroteWindow, WrotePage, WrotePages, WroteBase, held_below, above, durable_items};
 ghost use Rattle.rep_transfer.specs.Transfers.{Transfer, Snapshot, SnapshotFits, snapshot_bytes, record_part, transfer_bytes};
 
-use rep_checkpoint::windows_go_on;
 use rep_disk::Disk;
 use rep_engine::the_tail_is_told;
-use rep_layout::{LOG_BODY, WINDOW_BODY, WindowReader, row_places_are_told};
+use rep_layout::{Format, LOG_BODY, WINDOW_BODY, WindowReader, row_places_are_told};
 use rep_record::BlockReader;
 use rep_replica::Replica;
 use rep_transfer::{
-    Front, Have, Header, NumberedPage, Shape, write_count, write_end, write_entry, write_front,
+    Have, Header, NumberedPage, Shape, write_count, write_end, write_entry, write_front,
     write_header, write_page, write_record,
 };
 use rep_types::{Judged, Refusal};
@@ -94,8 +94,8 @@ fn count_pages<D: Disk>(replica: &Replica<D>) -> u16
 
 /// Writes the entries that a window still hands out.
 fn write_entries<W: Write>(window: WindowReader<'_>, writer: &mut W) -> Result<(), Refusal>
-    ensures written { Wrote (W.contents writer.old) (W.contents writer.new) (flat_map entry_bytes window.entry.entries) result }
-    ensures fit { OnOk result (AllByRecursion EntryFits window.entry.entries) }
+    ensures written { Wrote (W.contents writer.old) (W.contents writer.new) (flat_map entry_bytes window.entry.kept.entries) result }
+    ensures fit { OnOk result (AllByRecursion EntryFits window.entry.kept.entries) }
 {
     let mut window = window;
     while let Some(entry) = window.next_entry() {
@@ -104,22 +104,17 @@ fn write_entries<W: Write>(window: WindowReader<'_>, writer: &mut W) -> Result<(
     Ok(())
 }
 
-/// Writes the position of the base, how many entries its window has, and these.
+/// Writes the position of the base, and its window: size and floor, how many entries it has, and these.
 fn write_window<D: Disk, W: Write>(replica: &mut Replica<D>, writer: &mut W) -> Result<(), Refusal>
     requires { IsRunning replica.old }
     ensures leaves { Leaves D.honest D.history D.failures replica.old replica.new result }
-    ensures written { (n : Node) → Holds D.honest D.history D.failures n replica.old → OnOk result (WroteWindow replica.old.engine.checkpoint.base n.base.kept.entries (W.contents writer.old) (W.contents writer.new)) }
+    ensures written { (n : Node) → Holds D.honest D.history D.failures n replica.old → OnOk result (WroteWindow replica.old.engine.checkpoint.base n.base.kept (W.contents writer.old) (W.contents writer.new)) }
 {
     let mut room = [0; WINDOW_BODY];
-    // For its clause: the limits of parameters.
-    replica.params().window();
     let position = replica.base();
     let window = replica.base_window(&mut room)?;
-    let front = Front {
-        position,
-        count: window.len() as u16,
-    };
-    write_front(writer, &front)?;
+    write_front(writer, position, window.size(), window.floor())?;
+    write_count(writer, window.len() as u16)?;
     write_entries(window, writer)
 }
 
@@ -164,9 +159,8 @@ fn write_snapshot<D: Disk, W: Write>(
 ) -> Result<(), Refusal>
     requires { IsRunning replica.old }
     ensures leaves { Leaves D.honest D.history D.failures replica.old replica.new result }
-    ensures written { (n : Node) → Holds D.honest D.history D.failures n replica.old → OnOk result ((s : Snapshot) × SnapshotFits s × IsSnapshotOf n s × Appends (W.contents writer.old) (W.contents writer.new) (snapshot_bytes s)) }
+    ensures written { (n : Node) → Holds D.honest D.history D.failures n replica.old → OnOk result ((s : Snapshot) × SnapshotFits s × IsSnapshotOf n s × Appends (W.contents writer.old) (W.contents writer.new) (snapshot_bytes Two s)) }
 {
-    windows_go_on();
     row_places_are_told();
     write_window(replica, writer)?;
     let count = count_pages(replica);
@@ -252,6 +246,7 @@ fn write_transfer<D: Disk, W: Write>(
     ensures donated { (n : Node) → Holds D.honest D.history D.failures n replica.old → IfOk result (λ last. (t : Transfer) × IsDonated n have.now t × (t.last ≡ last) × Appends (W.contents writer.old) (W.contents writer.new) (transfer_bytes t)) }
 {
     let header = Header {
+        format: Format::Two,
         uuid: replica.uuid(),
         shape: Shape::of(replica.params()),
     };
@@ -265,10 +260,11 @@ fn write_transfer<D: Disk, W: Write>(
 
 /// Writes what the joiner lacks, and answers the position that it then has: what is durable at the donor. Where the joiner is of the
 /// donor's cluster and at or past the donor's base, that is the durable items above its position; else a snapshot of the base, and all
-/// durable items behind it. Nothing changes at the donor.
+/// durable items behind it. Nothing changes at the donor. The transfer is of format 2, whichever format its base is of on its disk: a
+/// snapshot has the base's window with size and floor.
 ///
 /// Refuses, in this order, with `Stopped`; with `Undefined` where the donor belongs to no cluster; with `WrongCluster` a joiner of
-/// another cluster, or of another window or schema; and with `Ahead` one that has more of the order than is durable here: so far nothing
+/// another cluster, or of another first window size or schema; and with `Ahead` one that has more of the order than is durable here: so far nothing
 /// is written. Then with `StreamFault` where the writer fails; with `DiskFault` where the device fails, and then the replica is stopped;
 /// and with `Corrupt` where the device shows what is not of its form: what was written is then no transfer.
 pub fn donate<D: Disk, W: Write>(

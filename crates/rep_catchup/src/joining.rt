@@ -1,11 +1,12 @@
 //! How a joiner takes a transfer.
 
-ghost use Rattle.std.specs.Prelude.{◌≡◌, ◌||◌, ◌⊎◌, ℕ, ◌<◌, ◌≤◌, List, [], ◌∷◌, true, false, is_some, length, Option, None, Some, Ok, Err, IfOk, IfErr, IfSome, OnOk, OnErr};
+ghost use Rattle.std.specs.Prelude.{◌≡◌, ◌↔◌, ◌||◌, ◌⊎◌, ℕ, ◌<◌, ◌≤◌, List, [], ◌∷◌, true, false, is_some, length, Option, None, Some, Ok, Err, IfOk, IfErr, IfSome, OnOk, OnErr};
 ghost use Rattle.std.specs.Io.KnownBytes.{Consumes};
 ghost use Rattle.rep_types.specs.declared.refusal.Refusal.TheVariants.{Stopped};
 ghost use Rattle.rep_types.specs.declared.limits.TheConstants.{MAX_SEQNO, MAX_AHEAD};
-ghost use Rattle.rep_forms.specs.Forms.{IsPart};
+ghost use Rattle.rep_types.specs.declared.item.Item.TheVariants.{WriteSet as OfWriteSet};
 ghost use Rattle.rep_record.specs.Records.{IsRecord};
+ghost use Rattle.rep_cert.specs.Holdings.{verdict_of};
 ghost use Rattle.rep_layout.specs.Supers.{IsNil};
 ghost use Rattle.rep_steps.specs.Standings.{delivered};
 ghost use Rattle.rep_steps.specs.Nodes.{Node};
@@ -14,7 +15,7 @@ ghost use Rattle.rep_replica.specs.Holding.{Holds};
 ghost use Rattle.rep_replica.specs.Settling.{is_quiet, IsRunning, EndsEarly};
 ghost use Rattle.rep_transfer.specs.declared.part.Part.TheVariants.{Snapshot, Record};
 ghost use Rattle.rep_transfer.specs.Taking.{counted};
-ghost use Rattle.rep_transfer.specs.Pieces.{FrontFits};
+ghost use Rattle.rep_transfer.specs.Haves.{IsHeader};
 ghost use Rattle.rep_transfer.specs.Transfers.{PartFits, part_bytes};
 ghost use Rattle.rep_catchup.specs.Growing.{Grown, where_ok, EndsRunning, Tells};
 ghost use Rattle.rep_catchup.specs.Joining.{JoinsEarly, Lived, Joined, TookTransfer, TakesHeader, RefusesHeader, Follows, Followed, FollowedFrom, IsOut, Cut, TakesAll, CutShort, Ended};
@@ -25,13 +26,12 @@ use rep_replica::{Replica, runs_are_joined};
 use rep_steps::{
     Answer, Event, nodes_hold_the_order, nodes_stay_nodes, runs_come_to, steps_follow_the_order,
 };
-use rep_transfer::{Front, Header, Part, TransferReader, next_part};
-use rep_types::{Item, Judged, MAX_AHEAD, Refusal, history_by_items};
+use rep_transfer::{Header, Part, TransferReader, next_part};
+use rep_types::{Item, Judged, MAX_AHEAD, Refusal, Verdict, WriteSet, history_by_items};
 use std::alloc::Global;
 use std::io::Read;
-use uuid::Uuid;
 
-/// Takes the header, and answers the cluster that the transfer is of.
+/// Takes the header: what cluster the transfer is of, and in which format a snapshot is spelled in it.
 ///
 /// Refuses with `StreamFault` where the reader fails, with `Malformed` what is no header, and with `WrongCluster` one of another cluster
 /// than the replica's, or of another window or schema.
@@ -39,8 +39,8 @@ fn take_header<D: Disk, R: Read>(
     replica: &Replica<D>,
     transfer: &mut TransferReader,
     reader: &mut R,
-) -> Result<Uuid, Refusal>
-    ensures taken { IfOk result (λ uuid. TakesHeader (facts_of D.failures replica.now) uuid (R.remaining reader.old) (R.remaining reader.new)) }
+) -> Result<Header, Refusal>
+    ensures taken { IfOk result (λ header. TakesHeader (facts_of D.failures replica.now) header (R.remaining reader.old) (R.remaining reader.new)) }
     ensures refused { IfErr result (RefusesHeader (facts_of D.failures replica.now) (R.remaining reader.old)) }
     ensures counted { OnOk result (transfer.new ≡ counted transfer.old 59) }
 {
@@ -51,7 +51,7 @@ fn take_header<D: Disk, R: Read>(
     if !header.shape.is_of(replica.params()) || (!own.is_nil() && own != header.uuid) {
         return Err(Refusal::WrongCluster);
     }
-    Ok(header.uuid)
+    Ok(header)
 }
 
 /// Lets the replica do what is due, until all that was delivered is durable.
@@ -86,11 +86,18 @@ fn make_room<D: Disk>(replica: &mut Replica<D>) -> Result<(), Refusal>
     Ok(())
 }
 
+/// Whether the replica judges the write set so, were it the next item.
+fn judges_so<D: Disk>(replica: &Replica<D>, item: &WriteSet, verdict: Verdict) -> bool
+    ensures { (result ≡ true) ↔ (verdict_of replica.now.certifier.current (OfWriteSet item.now) ≡ verdict) }
+{
+    replica.judge(item) == verdict
+}
+
 /// Delivers the item, which stands at `at` of the transfer, where it is the next one and is judged as the transfer says.
 fn deliver<D: Disk>(replica: &mut Replica<D>, judged: Judged, at: u64) -> Result<(), Refusal>
     requires running { IsRunning replica.old }
     requires defined { IsNil (facts_of D.failures replica.old).uuid → ⊥ }
-    requires fits { IsRecord judged }
+    requires within { judged.seqno ≤ MAX_SEQNO }
     requires room { length (facts_of D.failures replica.old).ahead < MAX_AHEAD }
     ensures grown { Grown D.honest D.history D.failures replica.old replica.new (where_ok result (judged ∷ [])) }
     ensures ends { EndsRunning result replica.new }
@@ -113,7 +120,7 @@ fn deliver<D: Disk>(replica: &mut Replica<D>, judged: Judged, at: u64) -> Result
     let Item::WriteSet(item) = item else {
         return Err(malformed);
     };
-    if seqno != replica.delivered() + 1 || replica.judge(&item) != verdict {
+    if seqno != replica.delivered() + 1 || !judges_so(replica, &item, verdict) {
         return Err(malformed);
     }
     match replica.step(Event::Deliver(seqno, item)) {
@@ -222,30 +229,29 @@ fn follow_from<D: Disk, R: Read>(
     }
 }
 
-/// Takes the rest of a snapshot that begins so, which stands at `at` of the transfer, and the parts behind it, to the transfer's end.
+/// Takes the rest of a snapshot of this position, which stands at `at` of the transfer that begins so, and the parts behind it, to the
+/// transfer's end.
 fn take_snapshot<D: Disk, R: Read>(
     alloc: Global,
     replica: Replica<D>,
-    uuid: Uuid,
-    front: Front,
+    header: &Header,
+    position: u64,
     at: u64,
     transfer: &mut TransferReader,
     reader: &mut R,
 ) -> (Replica<D>, Result<u64, Refusal>)
     requires running { IsRunning replica }
     requires quiet { is_quiet (facts_of D.failures replica) ≡ true }
-    requires sixteen { IsPart 16 uuid }
-    requires named { IsNil uuid → ⊥ }
-    requires cluster { (uuid ≡ (facts_of D.failures replica).uuid) ⊎ IsNil (facts_of D.failures replica).uuid }
-    requires fits { FrontFits front }
-    requires counted { transfer.old ≡ counted at (length (part_bytes (Snapshot front))) }
-    ensures taken { IfOk result.1 (λ last. TakesAll D.honest D.history D.failures replica result.0 uuid last (part_bytes (Snapshot front)) (R.remaining reader.old) (R.remaining reader.new)) }
+    requires header { IsHeader header.now }
+    requires cluster { (header.now.uuid ≡ (facts_of D.failures replica).uuid) ⊎ IsNil (facts_of D.failures replica).uuid }
+    requires counted { transfer.old ≡ counted at (length (part_bytes (Snapshot position))) }
+    ensures taken { IfOk result.1 (λ last. TakesAll D.honest D.history D.failures replica result.0 header.now.format header.now.uuid last (part_bytes (Snapshot position)) (R.remaining reader.old) (R.remaining reader.new)) }
     ensures ends { EndsRunning result.1 result.0 }
     ensures tells { Tells D.honest D.history D.failures replica result.0 result.1 }
-    ensures cut { (before : Option (List ℕ)) → Consumes before (R.remaining reader.old) (part_bytes (Snapshot front)) → IfErr result.1 (CutShort D.honest D.history D.failures replica result.0 uuid before at) }
+    ensures cut { (before : Option (List ℕ)) → Consumes before (R.remaining reader.old) (part_bytes (Snapshot position)) → IfErr result.1 (CutShort D.honest D.history D.failures replica result.0 header.now.format header.now.uuid before at) }
 {
     history_by_items();
-    let (mut replica, brought) = bring(alloc, replica, uuid, front, at, transfer, reader);
+    let (mut replica, brought) = bring(alloc, replica, header, position, at, transfer, reader);
     match brought {
         Ok(()) => {
             let followed = follow(&mut replica, transfer, reader);
@@ -259,19 +265,18 @@ fn take_snapshot<D: Disk, R: Read>(
 fn take_parts<D: Disk, R: Read>(
     alloc: Global,
     replica: Replica<D>,
-    uuid: Uuid,
+    header: &Header,
     transfer: &mut TransferReader,
     reader: &mut R,
 ) -> (Replica<D>, Result<u64, Refusal>)
     requires running { IsRunning replica }
     requires quiet { is_quiet (facts_of D.failures replica) ≡ true }
-    requires sixteen { IsPart 16 uuid }
-    requires named { IsNil uuid → ⊥ }
-    requires cluster { (uuid ≡ (facts_of D.failures replica).uuid) ⊎ IsNil (facts_of D.failures replica).uuid }
-    ensures taken { IfOk result.1 (λ last. TakesAll D.honest D.history D.failures replica result.0 uuid last [] (R.remaining reader.old) (R.remaining reader.new)) }
+    requires header { IsHeader header.now }
+    requires cluster { (header.now.uuid ≡ (facts_of D.failures replica).uuid) ⊎ IsNil (facts_of D.failures replica).uuid }
+    ensures taken { IfOk result.1 (λ last. TakesAll D.honest D.history D.failures replica result.0 header.now.format header.now.uuid last [] (R.remaining reader.old) (R.remaining reader.new)) }
     ensures ends { EndsRunning result.1 result.0 }
     ensures tells { Tells D.honest D.history D.failures replica result.0 result.1 }
-    ensures cut { IfErr result.1 (CutShort D.honest D.history D.failures replica result.0 uuid (R.remaining reader.old) transfer.old) }
+    ensures cut { IfErr result.1 (CutShort D.honest D.history D.failures replica result.0 header.now.format header.now.uuid (R.remaining reader.old) transfer.old) }
 {
     history_by_items();
     runs_are_joined::<D>();
@@ -281,8 +286,8 @@ fn take_parts<D: Disk, R: Read>(
         Ok(None) => return (replica, Err(Refusal::Malformed { at })),
         Err(refusal) => return (replica, Err(refusal)),
     };
-    if let Part::Snapshot(front) = part {
-        return take_snapshot(alloc, replica, uuid, front, at, transfer, reader);
+    if let Part::Snapshot(position) = part {
+        return take_snapshot(alloc, replica, header, position, at, transfer, reader);
     }
     let mut replica = replica;
     let followed = follow_from(&mut replica, part, at, transfer, reader);
@@ -292,10 +297,15 @@ fn take_parts<D: Disk, R: Read>(
 /// Takes a transfer, and answers the position that the replica then has, all of it durable. Each item is judged again. Nothing behind
 /// the transfer's end is read, and its length takes no memory.
 ///
+/// The transfer is of either format, as its header says. A snapshot of format 2 brings its window with size and floor; one of format 1
+/// tells neither: the size is that of the parameters, and the floor the least seqno that this size spans at the position, 1 or more.
+/// The items are write sets: a record of a change of the window's size may not come yet.
+///
 /// It settles first and last. Refuses with `Stopped`; and else with the first that the transfer meets: `StreamFault` where the reader
 /// fails; `Malformed`, `at` being the number of bytes before the part that is not of its form, is cut short, or may not come there: a
-/// snapshot that is not above what was delivered, an item that is not the next one or is judged otherwise, an end at another position,
-/// no snapshot where the replica belongs to no cluster; `WrongCluster` a transfer of another cluster, window or schema; and
+/// snapshot that is not above what was delivered, whose window is none of its position, or whose pages are none of the schema; an item
+/// that is not the next one or is judged otherwise; an end at another position; no snapshot where the replica belongs to no cluster;
+/// `WrongCluster` a transfer of another cluster, first window size or schema; and
 /// `OutOfMemory`, `DiskFault` and `Corrupt` as settling, installing and delivering do. The items before the refusal stay delivered; a
 /// snapshot that was not taken whole leaves the replica as it was; after `DiskFault` it is stopped.
 pub fn join<D: Disk, R: Read>(
@@ -326,7 +336,7 @@ pub fn join<D: Disk, R: Read>(
     }
     let mut transfer = TransferReader::new();
     match take_header(&replica, &mut transfer, reader) {
-        Ok(uuid) => take_parts(alloc, replica, uuid, &mut transfer, reader),
+        Ok(header) => take_parts(alloc, replica, &header, &mut transfer, reader),
         Err(refusal) => (replica, Err(refusal)),
     }
 }

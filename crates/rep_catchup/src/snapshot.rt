@@ -1,14 +1,15 @@
 //! How a joiner is brought a snapshot.
 
-ghost use Rattle.std.specs.Prelude.{◌≡◌, ◌↔◌, ◌⊎◌, ℕ, ◌<◌, List, None, length, true, IfOk, IfErr, IfSome, OnOk, OnErr};
+ghost use Rattle.std.specs.Prelude.{◌≡◌, ◌↔◌, ◌⊎◌, ℕ, ◌+◌, ◌-◌, ◌<◌, List, None, length, max, true, IfOk, IfErr, IfSome, OnOk, OnErr};
 ghost use Rattle.rep_types.specs.declared.refusal.Refusal.TheVariants.{OutOfMemory, DiskFault, Malformed, StreamFault};
 ghost use Rattle.rep_types.specs.Order.{State};
-ghost use Rattle.rep_types.specs.Windows.{fixed};
+ghost use Rattle.rep_types.specs.Settings.{Setting};
 ghost use Rattle.rep_forms.specs.Forms.{IsPart};
+ghost use Rattle.rep_layout.specs.declared.format.Format.TheVariants.{Two};
 ghost use Rattle.rep_layout.specs.declared.page_state.PageState.TheVariants.{Nowhere};
 ghost use Rattle.rep_layout.specs.Supers.{IsNil};
+ghost use Rattle.rep_layout.specs.Windows.{IsWindowAt};
 ghost use Rattle.rep_pages.specs.Slots.{state_of_page};
-ghost use Rattle.rep_checkpoint.specs.Windows.{IsWindowAt};
 ghost use Rattle.rep_steps.specs.Nodes.{Node};
 ghost use Rattle.rep_replica.specs.Replicas.{facts_of};
 ghost use Rattle.rep_replica.specs.Refusing.{TellsFaults};
@@ -16,19 +17,69 @@ ghost use Rattle.rep_replica.specs.Holding.{Holds};
 ghost use Rattle.rep_replica.specs.Settling.{is_quiet, IsRunning};
 ghost use Rattle.rep_replica.specs.Installing.{HoldsBoth, given_up};
 ghost use Rattle.rep_transfer.specs.declared.pieces.NumberedPage.{NumberedPage as Page};
-ghost use Rattle.rep_transfer.specs.Pieces.{FrontFits};
-ghost use Rattle.rep_catchup.specs.Snapshots.{TakesEntries, NoEntriesCome, TakesWindow, TakesPages, LeavesPages, NoPagesCome, NoneComes, BringsEarly, Brought, LeavesSnapshot};
+ghost use Rattle.rep_transfer.specs.Haves.{IsHeader};
+ghost use Rattle.rep_catchup.specs.Snapshots.{TakesReach, NoReachComes, TakesEntries, NoEntriesCome, TakesKept, NoneKeptComes, TakesWindow, TakesPages, LeavesPages, NoPagesCome, NoneComes, BringsEarly, Brought, LeavesSnapshot};
 ghost use Rattle.rep_catchup.specs.Growing.{EndsRunning};
 
-use rep_checkpoint::windows_go_on;
 use rep_disk::Disk;
-use rep_layout::WindowBody;
+use rep_layout::{Format, WindowBody};
 use rep_replica::{Installation, Replica};
-use rep_transfer::{Front, NumberedPage, TransferReader};
-use rep_types::{Entry, MAX_SEQNO, Params, Refusal, Window, history_by_items};
+use rep_transfer::{Header, NumberedPage, TransferReader};
+use rep_types::{Entry, MAX_SEQNO, Params, Reach, Refusal, Window, WindowSize, history_by_items};
 use std::alloc::Global;
 use std::io::Read;
-use uuid::Uuid;
+
+/// How far back the window of a snapshot of format 1 reaches, which that does not tell: its size is that of the parameters, and was so from
+/// the first item on.
+fn fixed_reach(params: &Params, position: u64) -> Reach
+    ensures { result ≡ record { size = params.now.window; floor = max 1 (position + 1 - params.now.window) } }
+{
+    let size = params.window_size();
+    Reach {
+        size,
+        floor: size.lowest_at(position).max(1),
+    }
+}
+
+/// Takes the size and the floor of a window, as format 2 tells them.
+fn read_reach<R: Read>(
+    at: u64,
+    transfer: &mut TransferReader,
+    reader: &mut R,
+) -> Result<Reach, Refusal>
+    ensures taken { (p : Setting) → (position : ℕ) → IfOk result (λ r. TakesReach Two p position r transfer.old transfer.new (R.remaining reader.old) (R.remaining reader.new)) }
+    ensures refused { (p : Setting) → (position : ℕ) → IfErr result (λ e. (e ≡ StreamFault) ⊎ ((e ≡ Malformed at) × IfSome (R.remaining reader.old) (NoReachComes Two p position))) }
+{
+    let malformed = Refusal::Malformed { at };
+    let Some(seqnos) = transfer.next::<u16, R>(reader)? else {
+        return Err(malformed);
+    };
+    let Ok(size) = WindowSize::new(u64::from(seqnos)) else {
+        return Err(malformed);
+    };
+    match transfer.next::<u64, R>(reader)? {
+        Some(floor) => Ok(Reach { size, floor }),
+        None => Err(malformed),
+    }
+}
+
+/// Takes how far back the window of a snapshot of this format and position reaches. Nothing else depends on the format.
+fn take_reach<R: Read>(
+    format: Format,
+    params: &Params,
+    position: u64,
+    at: u64,
+    transfer: &mut TransferReader,
+    reader: &mut R,
+) -> Result<Reach, Refusal>
+    ensures taken { IfOk result (λ r. TakesReach format params.now position r transfer.old transfer.new (R.remaining reader.old) (R.remaining reader.new)) }
+    ensures refused { IfErr result (λ e. (e ≡ StreamFault) ⊎ ((e ≡ Malformed at) × IfSome (R.remaining reader.old) (NoReachComes format params.now position))) }
+{
+    match format {
+        Format::One => Ok(fixed_reach(params, position)),
+        Format::Two => read_reach(at, transfer, reader),
+    }
+}
 
 /// Takes so many entries of a window.
 fn take_entries<R: Read>(
@@ -51,17 +102,41 @@ fn take_entries<R: Read>(
     Ok(entries)
 }
 
-/// Whether the entries can be those of the window at the position.
-fn is_window(params: &Params, position: u64, entries: &[Entry]) -> bool
-    ensures { (result ≡ true) ↔ IsWindowAt params.now position (fixed params.now.window position entries.now) }
+/// Whether it can be the window of the position under the parameters.
+fn is_window_at(params: &Params, position: u64, window: &Window) -> bool
+    ensures { (result ≡ true) ↔ IsWindowAt params.now position window.now }
 {
-    windows_go_on();
-    let window = WindowBody {
-        number: 0,
-        position,
-        entries,
+    WindowBody::of(Format::Two, 0, position, window).fits(params)
+}
+
+/// Takes the window of a snapshot of this format and position.
+fn take_kept<R: Read>(
+    alloc: Global,
+    format: Format,
+    params: &Params,
+    position: u64,
+    at: u64,
+    transfer: &mut TransferReader,
+    reader: &mut R,
+) -> Result<Window, Refusal>
+    ensures taken { IfOk result (λ v. TakesKept format params.now position v transfer.old transfer.new (R.remaining reader.old) (R.remaining reader.new)) }
+    ensures refused { IfErr result (λ e. (e ≡ StreamFault) ⊎ ((e ≡ OutOfMemory) ⊎ ((e ≡ Malformed at) × IfSome (R.remaining reader.old) (NoneKeptComes format params.now position)))) }
+{
+    let malformed = Refusal::Malformed { at };
+    let reach = take_reach(format, params, position, at, transfer, reader)?;
+    let Some(count) = transfer.next::<u16, R>(reader)? else {
+        return Err(malformed);
     };
-    window.write_body(params).is_some()
+    if u64::from(count) > reach.size.get() {
+        return Err(malformed);
+    }
+    let entries = take_entries(alloc, count, at, transfer, reader)?;
+    let window = Window::new(reach.size, reach.floor, entries);
+    if is_window_at(params, position, &window) {
+        Ok(window)
+    } else {
+        Err(malformed)
+    }
 }
 
 /// Takes so many pages, and puts each beside the base.
@@ -102,38 +177,33 @@ fn may_come<D: Disk>(replica: &Replica<D>, position: u64) -> bool
     replica.uuid().is_nil() || replica.durable() < position
 }
 
-/// Takes the window of a snapshot that begins so, and how many pages come behind it.
+/// Takes the window of a snapshot of this format and position, and how many pages come behind it. In format 1 the window's size is that of
+/// the parameters, and its floor the least seqno that this size spans at the position, 1 or more; in format 2 they are told.
 fn take_window<D: Disk, R: Read>(
     alloc: Global,
     replica: &Replica<D>,
-    front: Front,
+    format: Format,
+    position: u64,
     at: u64,
     transfer: &mut TransferReader,
     reader: &mut R,
 ) -> Result<(Window, u16), Refusal>
-    ensures taken { IfOk result (λ x. TakesWindow (facts_of D.failures replica.now) front x.0 x.1 transfer.old transfer.new (R.remaining reader.old) (R.remaining reader.new)) }
-    ensures refused { IfErr result (λ e. (e ≡ StreamFault) ⊎ ((e ≡ OutOfMemory) ⊎ ((e ≡ Malformed at) × IfSome (R.remaining reader.old) (NoneComes (facts_of D.failures replica.now) front)))) }
+    ensures taken { IfOk result (λ x. TakesWindow format (facts_of D.failures replica.now) position x.0 x.1 transfer.old transfer.new (R.remaining reader.old) (R.remaining reader.new)) }
+    ensures refused { IfErr result (λ e. (e ≡ StreamFault) ⊎ ((e ≡ OutOfMemory) ⊎ ((e ≡ Malformed at) × IfSome (R.remaining reader.old) (NoneComes format (facts_of D.failures replica.now) position)))) }
 {
     let malformed = Refusal::Malformed { at };
-    if !may_come(replica, front.position) || front.position > MAX_SEQNO {
+    if !may_come(replica, position) || position > MAX_SEQNO {
         return Err(malformed);
     }
     let params = replica.params();
-    if u32::from(front.count) > params.window() {
-        return Err(malformed);
+    let window = take_kept(alloc, format, params, position, at, transfer, reader)?;
+    match transfer.next::<u16, R>(reader)? {
+        Some(count) => Ok((window, count)),
+        None => Err(malformed),
     }
-    let entries = take_entries(alloc, front.count, at, transfer, reader)?;
-    if !is_window(params, front.position, &entries) {
-        return Err(malformed);
-    }
-    let Some(count) = transfer.next::<u16, R>(reader)? else {
-        return Err(malformed);
-    };
-    let window = Window::fixed(params.window_size(), front.position, entries);
-    Ok((window, count))
 }
 
-/// Takes the rest of a snapshot that begins so, which stands at `at` of the transfer, and lets it take the base's place.
+/// Takes the rest of a snapshot of this position, which stands at `at` of the transfer that begins so, and lets it take the base's place.
 ///
 /// Refuses with `Malformed` what is no snapshot for the replica, with `OutOfMemory`, and with `StreamFault` where the reader fails: the
 /// replica is then as it was. Refuses with `DiskFault` where the device fails: the replica is then stopped, and what is opened on its
@@ -141,30 +211,31 @@ fn take_window<D: Disk, R: Read>(
 pub(crate) fn bring<D: Disk, R: Read>(
     alloc: Global,
     replica: Replica<D>,
-    uuid: Uuid,
-    front: Front,
+    header: &Header,
+    position: u64,
     at: u64,
     transfer: &mut TransferReader,
     reader: &mut R,
 ) -> (Replica<D>, Result<(), Refusal>)
     requires running { IsRunning replica }
     requires quiet { is_quiet (facts_of D.failures replica) ≡ true }
-    requires sixteen { IsPart 16 uuid }
-    requires named { IsNil uuid → ⊥ }
-    requires cluster { (uuid ≡ (facts_of D.failures replica).uuid) ⊎ IsNil (facts_of D.failures replica).uuid }
-    requires fits { FrontFits front }
-    ensures brought { OnOk result.1 (Brought D.honest D.history D.failures replica result.0 uuid front transfer.old transfer.new (R.remaining reader.old) (R.remaining reader.new)) }
-    ensures left { IfErr result.1 (LeavesSnapshot D.honest D.history D.failures replica result.0 uuid front transfer.old (R.remaining reader.old)) }
+    requires header { IsHeader header.now }
+    requires cluster { (header.now.uuid ≡ (facts_of D.failures replica).uuid) ⊎ IsNil (facts_of D.failures replica).uuid }
+    ensures brought { OnOk result.1 (Brought D.honest D.history D.failures replica result.0 header.now.format header.now.uuid position transfer.old transfer.new (R.remaining reader.old) (R.remaining reader.new)) }
+    ensures left { IfErr result.1 (LeavesSnapshot D.honest D.history D.failures replica result.0 header.now.format header.now.uuid position transfer.old (R.remaining reader.old)) }
     ensures ends { EndsRunning result.1 result.0 }
     ensures told { TellsFaults (D.failures replica.engine.disk) (D.failures result.0.engine.disk) result.1 }
-    ensures refused { IfErr result.1 (BringsEarly (facts_of D.failures replica) front at (R.remaining reader.old)) }
+    ensures refused { IfErr result.1 (BringsEarly header.now.format (facts_of D.failures replica) position at (R.remaining reader.old)) }
 {
     history_by_items();
-    let (window, count) = match take_window(alloc, &replica, front, at, transfer, reader) {
+    let format = header.format;
+    let (window, count) = match take_window(
+        alloc, &replica, format, position, at, transfer, reader,
+    ) {
         Ok(taken) => taken,
         Err(refusal) => return (replica, Err(refusal)),
     };
-    match replica.install(alloc, uuid, front.position, window) {
+    match replica.install(alloc, header.uuid, position, window) {
         Ok(mut installation) => {
             match take_pages(&mut installation, count, at, transfer, reader) {
                 Ok(()) => installation.end(),

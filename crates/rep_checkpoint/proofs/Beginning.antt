@@ -2,7 +2,7 @@
 use Rattle.std.proofs.Common.{◌≡◌, refl, sym, ap, subst, ◌∙◌, ℕ, ◌<◌, ◌≤◌, ◌⊎◌, inl, inr, Bool, true, false, List, length, Option, None, Some, IsSome, arith}
 use Rattle.std.proofs.lemmas.Bool.{cases_lt}
 use Rattle.rep_types.specs.declared.key.Key.{Key}
-use Rattle.rep_types.specs.Entries.{Entry}
+use Rattle.rep_types.specs.Windows.{Window as WindowOf}
 use Rattle.rep_types.specs.Settings.{pages_of, IsRow}
 use Rattle.rep_types.specs.Order.{State}
 use Rattle.rep_layout.specs.declared.super_body.SuperBody.{SuperBody}
@@ -24,9 +24,9 @@ use Rattle.rep_checkpoint.specs.Calls.{AreAt, AreBehind, Begins}
 use Rattle.rep_checkpoint.proofs.Pages.{contains_in, in_contains, length_turned, turned_state, stays, first_row}
 
 -- the next base can follow
-pub follows : RowPlacesAreTold → (kept : Kept) (c : Standing) (position start : ℕ) (entries : List Entry) (left : List ℕ) → IsSuper c.base → CanBegin c position start entries → ArePages kept c.base.params.rows c.base.position position left
-    → IsNext c.base (next_of c.base position start entries left)
-follows told kept c position start entries left super can pages = record {
+pub follows : RowPlacesAreTold → (kept : Kept) (c : Standing) (position start : ℕ) (window : WindowOf) (left : List ℕ) → IsSuper c.base → CanBegin c position start window → ArePages kept c.base.params.rows c.base.position position left
+    → IsNext c.base (next_of c.base position start window left)
+follows told kept c position start window left super can pages = record {
   is_super = record {
     number = omega (arith, super.number, can.later);
     uuid = super.uuid;
@@ -56,7 +56,7 @@ follows told kept c position start entries left super can pages = record {
     within : (page : ℕ) → is_in left page ≡ true → page < pages_of c.base.params.rows
     within page is = let change = changed page is in subst (λ n. n < pages_of c.base.params.rows) change.there (told.within c.base.params.rows change.version.key change.within.row)
 
-module _ (kept : Kept) (c : Standing) (position start : ℕ) (entries : List Entry) (left : List ℕ) (next : IsNext c.base (next_of c.base position start entries left)) (pages : ArePages kept c.base.params.rows c.base.position position left)
+module _ (kept : Kept) (c : Standing) (position start : ℕ) (window : WindowOf) (left : List ℕ) (next : IsNext c.base (next_of c.base position start window left)) (pages : ArePages kept c.base.params.rows c.base.position position left)
     (x y : State) (behind : AreBehind c.base.position kept) (at : AreAt c.base.params.rows kept position x.content y.content) where
   abbrev rows : List ℕ
   rows = c.base.params.rows
@@ -89,7 +89,7 @@ module _ (kept : Kept) (c : Standing) (position start : ℕ) (entries : List Ent
       by true is = let no = sym nowhere ∙ next.turned page is in absurd cc
       by false is = is
 
-  pub flushing : (s : States) → (size : ℕ) (z : State) → CheckpointIs size c x z s → IsFlushing (next_of c.base position start entries left) y s
+  pub flushing : (s : States) → (size : ℕ) (z : State) → CheckpointIs size c x z s → IsFlushing (next_of c.base position start window left) y s
   flushing s size z is = record {
     pages = λ number slot out there.
         let page = is.base.content.pages number slot (sym (stays c.base position start left number out) ∙ there) in (
@@ -113,42 +113,42 @@ module _ (kept : Kept) (c : Standing) (position start : ℕ) (entries : List Ent
 pub beside_as : (size : ℕ) (base : SuperBody) (y : State) (s : States) (a b : Stage) → a ≡ b → StandsBeside size base a y s → StandsBeside size base b y s
 beside_as size base y s a b e h = subst (λ (stage : Stage). StandsBeside size base stage y s) e h
 
-pub begins : (kept : Kept) (c : Standing) (position start : ℕ) (entries : List Entry) (left : List ℕ) → c.stage ≡ Off → IsNext c.base (next_of c.base position start entries left) → ArePages kept c.base.params.rows c.base.position position left
-    → Begins kept c (begun c position start entries left) (next_of c.base position start entries left)
-begins kept c position start entries left off next pages size s x y z is behind position_is entries_are at = record {
+pub begins : (kept : Kept) (c : Standing) (position start : ℕ) (window : WindowOf) (left : List ℕ) → c.stage ≡ Off → IsNext c.base (next_of c.base position start window left) → ArePages kept c.base.params.rows c.base.position position left
+    → Begins kept c (begun c position start window left) (next_of c.base position start window left)
+begins kept c position start window left off next pages size s x y z is behind position_is kept_is at = record {
   base = is.base;
   beside = record {
     follows = next;
     position = position_is;
-    entries = entries_are;
-    far = flushing kept c position start entries left next pages x y behind at s size z is;
+    kept = kept_is;
+    far = flushing kept c position start window left next pages x y behind at s size z is;
     cell = beside_as size c.base z s c.stage Off off is.beside;
   };
 }
 
 -- the checkpoint that a call made, as it saw the one before
-pub record Began (kept : Kept) (c v : Standing) (position start : ℕ) (entries : List Entry) (left : List ℕ) (super : SuperBody) : Type 0 where
-  pub next : IsNext v.base (record { super = super; entries = entries; left = left })
+pub record Began (kept : Kept) (c v : Standing) (position start : ℕ) (mine : WindowOf) (left : List ℕ) (super : SuperBody) : Type 0 where
+  pub next : IsNext v.base (record { super = super; window = mine; left = left })
   pub pages : ArePages kept c.base.params.rows c.base.position position left
-  pub is : record v { stage = Toward (record { super = super; entries = entries; left = left }) Flushing } ≡ begun c position start entries left
-  pub begins : Begins kept c (record v { stage = Toward (record { super = super; entries = entries; left = left }) Flushing }) (next_of c.base position start entries left)
+  pub is : record v { stage = Toward (record { super = super; window = mine; left = left }) Flushing } ≡ begun c position start mine left
+  pub begins : Begins kept c (record v { stage = Toward (record { super = super; window = mine; left = left }) Flushing }) (next_of c.base position start mine left)
 
 pub began :
-    RowPlacesAreTold → (kept : Kept) (c v : Standing) (position start : ℕ) (entries window : List Entry) (names left pages : List ℕ) (super : SuperBody) → v ≡ c → window ≡ entries → names ≡ v.base.params.rows → pages ≡ left
-    → super ≡ next_super v.base position start pages → IsSuper v.base → CanBegin c position start window → ArePages kept names v.base.position position left → Began kept c v position start entries left super
-began told kept c v position start entries window names left pages super same window_is rows_are pages_are super_is is can are =
-    let can_v : CanBegin v position start entries = subst (λ (w : Standing). CanBegin w position start entries) (sym same) (subst (λ es. CanBegin c position start es) window_is can) in
+    RowPlacesAreTold → (kept : Kept) (c v : Standing) (position start : ℕ) (mine window : WindowOf) (names left pages : List ℕ) (super : SuperBody) → v ≡ c → window ≡ mine → names ≡ v.base.params.rows → pages ≡ left
+    → super ≡ next_super v.base position start pages → IsSuper v.base → CanBegin c position start window → ArePages kept names v.base.position position left → Began kept c v position start mine left super
+began told kept c v position start mine window names left pages super same window_is rows_are pages_are super_is is can are =
+    let can_v : CanBegin v position start mine = subst (λ (w : Standing). CanBegin w position start mine) (sym same) (subst (λ es. CanBegin c position start es) window_is can) in
     let are_v : ArePages kept v.base.params.rows v.base.position position left = subst (λ rs. ArePages kept rs v.base.position position left) rows_are are in
-    let next : IsNext v.base (next_of v.base position start entries left) = follows told kept v position start entries left is can_v are_v in
+    let next : IsNext v.base (next_of v.base position start mine left) = follows told kept v position start mine left is can_v are_v in
     let same_super : super ≡ next_super v.base position start left = super_is ∙ ap (next_super v.base position start) pages_are in
-    let same_next : ◌≡◌ {A = Next} (next_of v.base position start entries left) (record { super = super; entries = entries; left = left }) = ap (λ (b : SuperBody). record { super = b; entries = entries; left = left }) (sym same_super) in
-    let is_begun : ◌≡◌ {A = Standing} (record v { stage = Toward (record { super = super; entries = entries; left = left }) Flushing }) (begun c position start entries left) =
-    ap (λ (n : Next). record v { stage = Toward n Flushing }) (sym same_next) ∙ ap (λ (w : Standing). begun w position start entries left) same in
+    let same_next : ◌≡◌ {A = Next} (next_of v.base position start mine left) (record { super = super; window = mine; left = left }) = ap (λ (b : SuperBody). record { super = b; window = mine; left = left }) (sym same_super) in
+    let is_begun : ◌≡◌ {A = Standing} (record v { stage = Toward (record { super = super; window = mine; left = left }) Flushing }) (begun c position start mine left) =
+    ap (λ (n : Next). record v { stage = Toward n Flushing }) (sym same_next) ∙ ap (λ (w : Standing). begun w position start mine left) same in
     let are_c = subst (λ (w : Standing). ArePages kept w.base.params.rows w.base.position position left) same are_v in
     record {
       next = subst (IsNext v.base) same_next next;
       pages = are_c;
       is = is_begun;
-      begins = subst (λ (w : Standing). Begins kept c w (next_of c.base position start entries left)) (sym is_begun)
-          (begins kept c position start entries left (subst (λ es. CanBegin c position start es) window_is can).off (subst (λ (w : Standing). IsNext w.base (next_of w.base position start entries left)) same next) are_c);
+      begins = subst (λ (w : Standing). Begins kept c w (next_of c.base position start mine left)) (sym is_begun)
+          (begins kept c position start mine left (subst (λ es. CanBegin c position start es) window_is can).off (subst (λ (w : Standing). IsNext w.base (next_of w.base position start mine left)) same next) are_c);
     }

@@ -2,7 +2,7 @@
 use Rattle.std.proofs.Common.{◌≡◌, refl, sym, subst, ◌∙◌, ℕ, ◌+◌, ◌<◌, ◌≤◌, ◌⊎◌, inl, inr, List, length, replicate, arith}
 use Rattle.std.proofs.lemmas.Bool.{cases_lt}
 use Rattle.std.proofs.lemmas.List.{get_or-replicate, get_or_past, length-replicate}
-use Rattle.rep_types.specs.Entries.{Entry}
+use Rattle.rep_types.specs.Windows.{Window as WindowOf}
 use Rattle.rep_layout.specs.declared.super_body.SuperBody.{SuperBody}
 use Rattle.rep_layout.specs.declared.page_state.PageState.TheVariants.{Nowhere}
 use Rattle.rep_layout.specs.Supers.{IsSuper, IsNil}
@@ -21,8 +21,8 @@ none_there base uuid position start page = elim (cases_lt page (length base.page
 ]
 
 -- it can follow the base
-follows : (c : Standing) (uuid : List ℕ) (position start : ℕ) (entries : List Entry) → IsSuper c.base → CanInstall c uuid position start entries → IsComing c.base (coming c.base uuid position start entries).next
-follows c uuid position start entries super can = record {
+follows : (c : Standing) (uuid : List ℕ) (position start : ℕ) (window : WindowOf) → IsSuper c.base → CanInstall c uuid position start window → IsComing c.base (coming c.base uuid position start window).next
+follows c uuid position start window super can = record {
   is_super = record {
     number = later can.later;
     uuid = can.sixteen;
@@ -45,15 +45,15 @@ follows c uuid position start entries super can = record {
     later (inr nil) = omega (arith, (super.undefined nil).0)
 
 -- and stands beside it without a page
-pub begins_to_come : (c : Standing) (uuid : List ℕ) (position start : ℕ) (entries : List Entry) (i : Coming) → IsSuper c.base → CanInstall c uuid position start entries → i ≡ coming c.base uuid position start entries → BeginsToInstall c i
-begins_to_come c uuid position start entries i super can is = subst (BeginsToInstall c) (sym is) begins
+pub begins_to_come : (c : Standing) (uuid : List ℕ) (position start : ℕ) (window : WindowOf) (i : Coming) → IsSuper c.base → CanInstall c uuid position start window → i ≡ coming c.base uuid position start window → BeginsToInstall c i
+begins_to_come c uuid position start window i super can is = subst (BeginsToInstall c) (sym is) begins
   where
-    begins : BeginsToInstall c (coming c.base uuid position start entries)
+    begins : BeginsToInstall c (coming c.base uuid position start window)
     begins size s x z stands = record {
       stands = stands.base;
-      coming = follows c uuid position start entries super can;
+      coming = follows c uuid position start window super can;
       position = refl;
-      entries = refl;
+      kept = refl;
       far = record {
         pages = λ number slot out there. let never = sym there ∙ none_there c.base uuid position start number in absurd cc;
         absent = λ key row nowhere. refl;

@@ -28,7 +28,7 @@ use Rattle.rep_checkpoint.proofs.GoingOn.{super_base, window_base, all_flushed, 
 -- it comes as far as its window, its pages and its superblock's cell do, beside a base that stays
 pub coming_as : {size : ℕ} {base : SuperBody} {next : Next} {x y : State} {s t : States} (part to : Part) → InstallationIs size base (record { next = next; part = part }) x y s
     → IsBase size base x t → IsFar to (spare_side base) next y t → t (Super (spare_side base)) ≡ cell_in to (super_bytes next.super) → InstallationIs size base (record { next = next; part = to }) x y t
-coming_as part to h stands far cell = record { stands = stands; coming = h.coming; position = h.position; entries = h.entries; far = far; cell = cell }
+coming_as part to h stands far cell = record { stands = stands; coming = h.coming; position = h.position; kept = h.kept; far = far; cell = cell }
 
 -- what comes next was written
 goes : (size : ℕ) (base : SuperBody) (next : Next) (part : Part) (x y : State) (s t : States) → IsDue part → InstallationIs size base (record { next = next; part = part }) x y s

@@ -113,7 +113,7 @@ module _ (size : ℕ) (base : SuperBody) (i : Coming) (x y : State) (s t : State
     stands = base_stays size base x s t page is.stands elsewhere;
     coming = is.coming;
     position = is.position;
-    entries = is.entries;
+    kept = is.kept;
     far = far_as i.part (spare_side base) i.next y s t (elsewhere _ (λ e. absurd cc)) others_stay is.far;
     cell = elsewhere _ (λ e. absurd cc) ∙ is.cell;
   }
@@ -187,7 +187,7 @@ module _ (size : ℕ) (base : SuperBody) (i : Coming) (x y : State) (s t : State
       stands = page_stays.stands;
       coming = coming_placed base i.next page lt is.coming;
       position = is.position;
-      entries = is.entries;
+      kept = is.kept;
       far = subst (λ (part : Part). IsFar part (spare_side base) after (with_page base.params.rows page rows y) t) (sym due) (subst (λ (p : Setting). IsFlushing after (with_page p.rows page rows y) t) is.coming.params flushing);
       cell = page_stays.cell ∙ ap (λ (part : Part). cell_in part (super_bytes b)) due ∙ ap (λ (part : Part). cell_in part (super_bytes after.super)) (sym due);
     }

@@ -54,7 +54,7 @@ synced_alike b (Retiring true) = record { stage_is = refl; base_is = refl; start
 
 pub facts : TheStageIsTheFacts
 facts = record {
-  begun = λ c position start entries left. refl;
+  begun = λ c position start v left. refl;
   flushed = λ c page. flushed_is page c.stage;
   gone_on = λ s left c on. gone_is s left c.stage on;
   refused = λ s c on. refused_is s c.stage on;

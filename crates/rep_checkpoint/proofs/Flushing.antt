@@ -117,7 +117,7 @@ module _ (b : SuperBody) (next : Next) (y : State) (s t : States) (page : ℕ) (
     flushed_page = record {
       follows = next_without b page next toward.follows;
       position = toward.position;
-      entries = toward.entries;
+      kept = toward.kept;
       far = record {
         pages = λ number slot out at. elim (not_left next.left page number out) [
           | inl same ↦ this_page number slot same at

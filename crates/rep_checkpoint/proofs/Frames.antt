@@ -1,8 +1,6 @@
 -- Places that stay as they are.
 use Rattle.std.proofs.Common.{◌≡◌, ◌≢◌, refl, sym, ap, subst, ◌∙◌, ℕ, ◌+◌, List, Option}
 use Rattle.rep_types.specs.declared.key.Key.{Key}
-use Rattle.rep_types.specs.Entries.{Entry}
-use Rattle.rep_types.specs.Windows.{Window as WindowOf, fixed}
 use Rattle.rep_types.specs.Order.{State}
 use Rattle.rep_layout.specs.declared.super_body.SuperBody.{SuperBody}
 use Rattle.rep_layout.specs.declared.page_state.PageState.{PageState}
@@ -90,7 +88,6 @@ base_as super window pages h = record {
   opened = super ∙ h.opened;
   saved = window ∙ h.saved;
   is_window = h.is_window;
-  is_fixed = h.is_fixed;
   content = content_as (λ number slot body there e. pages number slot there ∙ e) h.content;
 }
 
@@ -124,13 +121,6 @@ far_as SuperFilling side next y s t window pages h = saved_as window pages h
 far_as SuperFilled side next y s t window pages h = saved_as window pages h
 far_as SuperOpening side next y s t window pages h = saved_as window pages h
 
--- the entries of a window whose size was the same from the first item on
-pub entries_are : {v : WindowOf} {es : List Entry} (size position : ℕ) → v ≡ fixed size position es → v.entries ≡ es
-entries_are size position is = ap (λ (w : WindowOf). w.entries) is
-
-pub fixed_by : {v : WindowOf} {es : List Entry} (size position : ℕ) → v ≡ fixed size position es → v ≡ fixed size position v.entries
-fixed_by size position is = is ∙ ap (λ (fs : List Entry). fixed size position fs) (sym (ap (λ (w : WindowOf). w.entries) is))
-
 -- The next base is stable, and its superblock's gate opens: what a sync and an image need of it, of whatever cluster it is.
 pub record IsOpening (base : SuperBody) (next : Next) (y : State) (s : States) : Type 0 where
   pub is_super : IsSuper next.super
@@ -138,7 +128,7 @@ pub record IsOpening (base : SuperBody) (next : Next) (y : State) (s : States) :
   pub params : next.super.params ≡ base.params
   pub is_window : IsWindowBody next.super.params (window_of next)
   pub position : y.position ≡ next.super.position
-  pub entries : y.kept ≡ fixed next.super.params.window next.super.position next.entries
+  pub kept : y.kept ≡ next.window
   pub saved : IsSaved (spare_side base) next y s
   pub cell : s (Super (spare_side base)) ≡ Opening (super_bytes next.super)
 
@@ -148,4 +138,4 @@ toward_opens base next y s h = search
 
 -- the next base comes as far as its window, its pages and its superblock's cell do
 pub toward_as : {base : SuperBody} {next : Next} {y : State} {s t : States} (part to : Part) → IsToward base next part y s → IsFar to (spare_side base) next y t → t (Super (spare_side base)) ≡ cell_in to (super_bytes next.super) → IsToward base next to y t
-toward_as part to h far cell = record { follows = h.follows; position = h.position; entries = h.entries; far = far; cell = cell }
+toward_as part to h far cell = record { follows = h.follows; position = h.position; kept = h.kept; far = far; cell = cell }

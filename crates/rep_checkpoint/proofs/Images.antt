@@ -6,6 +6,7 @@ use Rattle.std.proofs.lemmas.Bool.Decides.{nat_tests}
 use Rattle.std.proofs.lemmas.List.{get_or_past}
 use Rattle.rep_types.specs.Settings.{Setting}
 use Rattle.rep_types.specs.Order.{State}
+use Rattle.rep_types.specs.Windows.{Window as WindowOf}
 use Rattle.rep_layout.specs.declared.super_body.SuperBody.{SuperBody}
 use Rattle.rep_layout.specs.declared.page_state.PageState.TheVariants.{Nowhere, In}
 use Rattle.rep_layout.specs.declared.place.Layout.{Layout}
@@ -14,7 +15,7 @@ use Rattle.rep_layout.specs.declared.place.Slot.{Slot}
 use Rattle.rep_layout.specs.declared.place.Place.TheVariants.{Super, Window, Page}
 use Rattle.rep_layout.specs.Places.{side_of, layout_of, need_of, TurnsAreTaken}
 use Rattle.rep_layout.specs.Supers.{IsSuper, super_bytes}
-use Rattle.rep_layout.specs.Windows.{window, window_bytes, IsWindowBody}
+use Rattle.rep_layout.specs.Windows.{window_bytes, IsWindowBody, beside}
 use Rattle.rep_cells.specs.Readings.{Reading, IsPlace, reading_of}
 use Rattle.rep_cells.specs.States.{State as StateOf, States, Opened, Stable, Allows, Allowed}
 use Rattle.rep_cells.specs.Known.{found_as, found}
@@ -28,7 +29,7 @@ use Rattle.rep_checkpoint.specs.Standing.{Standing, spare_side}
 use Rattle.rep_checkpoint.specs.Moves.{is_opening, found_at}
 use Rattle.rep_checkpoint.specs.States.{IsBase, IsRetiring, StandsBeside, CheckpointIs}
 use Rattle.rep_checkpoint.specs.Laws.{HasBase, IsOneOf, TheBaseInEveryImage, TheBaseStandsStill, TheBaseIsFound}
-use Rattle.rep_checkpoint.proofs.Frames.{entries_are, fixed_by, next_side, other_again, content_as, IsOpening, toward_opens}
+use Rattle.rep_checkpoint.proofs.Frames.{next_side, other_again, content_as, IsOpening, toward_opens}
 
 -- what a place may read as whose state is this
 pub reads_as : (state to : StateOf) (reading : Option (List ℕ)) → state ≡ to → Allows state reading → Allows to reading
@@ -68,7 +69,6 @@ stands_still size c x y s not is = record {
   lesser = beside_lesser size c.base c.stage y s not is.beside;
   saved = is.base.saved;
   is_window = is.base.is_window;
-  is_fixed = is.base.is_fixed;
 }
 
 -- ---- a base in an image
@@ -88,7 +88,7 @@ pub base_in : (size : ℕ) (b : SuperBody) (x : State) (s : States) (r : Reading
 base_in size b x s r allowed h lesser = record {
   chosen = record { stands = reads_as _ (Opened (super_bytes b)) _ h.opened (allowed (Super (side_of b.number)) refl); is_super = h.is_super; lesser = lesser };
   position = h.position;
-  window = record { stands = reads_as _ (Stable (window_bytes (window b.number b.position x.kept.entries))) _ h.saved (allowed (Window (side_of b.number)) refl); is_window = h.is_window; is_fixed = h.is_fixed };
+  window = record { stands = reads_as _ (Stable (window_bytes (beside b x.kept))) _ h.saved (allowed (Window (side_of b.number)) refl); is_window = h.is_window };
   content = contents b x s r h.is_super.is_super allowed h.content;
 }
 
@@ -109,9 +109,8 @@ next_in turns size b next x y s r allowed base opening shows =
       };
       position = opening.position;
       window = record {
-        stands = ap (λ (d : Side). r (Window d)) side ∙ saved ∙ ap (λ entries. Some (window_bytes (window n.number n.position entries))) (sym (entries_are n.params.window n.position opening.entries));
-        is_window = subst (λ entries. IsWindowBody n.params (window n.number n.position entries)) (sym (entries_are n.params.window n.position opening.entries)) opening.is_window;
-        is_fixed = fixed_by n.params.window n.position opening.entries;
+        stands = ap (λ (d : Side). r (Window d)) side ∙ saved ∙ ap (λ (v : WindowOf). Some (window_bytes (beside n v))) (sym opening.kept);
+        is_window = subst (λ (v : WindowOf). IsWindowBody n.params (beside n v)) (sym opening.kept) opening.is_window;
       };
       content = contents n y s r opening.is_super (subst (λ (p : Setting). Allowed (layout_of p) s r) (sym opening.params) allowed) opening.saved.content;
     }
@@ -158,7 +157,6 @@ base_found size l bytes b x h = record {
   opened = found_opened _ _ h.chosen.stands;
   saved = found_stable _ _ h.window.stands;
   is_window = h.window.is_window;
-  is_fixed = h.window.is_fixed;
   content = content_as (λ number slot body there e. found_stable _ body e) h.content;
 }
 

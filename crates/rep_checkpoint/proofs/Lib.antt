@@ -18,6 +18,5 @@ pub mod Leaving
 pub mod Settling
 pub mod Rows
 pub mod Touched
-pub mod Windows
 pub mod Arriving
 pub mod ArrivingImages

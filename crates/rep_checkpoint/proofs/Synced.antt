@@ -2,12 +2,13 @@
 use Rattle.std.proofs.Common.{◌≡◌, refl, sym, ap, subst, ◌∙◌, ℕ, ◌≤◌, inl, inr, true, false, List, arith}
 use Rattle.rep_types.specs.Settings.{Setting}
 use Rattle.rep_types.specs.Order.{State}
+use Rattle.rep_types.specs.Windows.{Window as WindowOf}
 use Rattle.rep_layout.specs.declared.super_body.SuperBody.{SuperBody}
 use Rattle.rep_layout.specs.declared.place.Side.{Side}
 use Rattle.rep_layout.specs.declared.place.Place.TheVariants.{Super, Window}
 use Rattle.rep_layout.specs.Places.{side_of, layout_of, need_of, TurnsAreTaken}
 use Rattle.rep_layout.specs.Supers.{super_bytes}
-use Rattle.rep_layout.specs.Windows.{window, window_bytes, IsWindowBody}
+use Rattle.rep_layout.specs.Windows.{window_bytes, IsWindowBody, beside}
 use Rattle.rep_cells.specs.States.{State as StateOf, States, Stable, synced, Syncs}
 use Rattle.rep_image.specs.Bases.{other, IsSuperAt}
 use Rattle.rep_checkpoint.specs.declared.stage.Part.{Part}
@@ -19,7 +20,7 @@ use Rattle.rep_checkpoint.specs.Standing.{Standing, spare_side, IsCheckpoint}
 use Rattle.rep_checkpoint.specs.Moves.{after_sync, synced_in}
 use Rattle.rep_checkpoint.specs.States.{IsBase, IsWritten, IsFlushing, IsSaving, IsSaved, IsFar, cell_in, CheckpointIs}
 use Rattle.rep_checkpoint.specs.Calls.{synced_base, SyncsTo}
-use Rattle.rep_checkpoint.proofs.Frames.{entries_are, fixed_by, other_again, next_side, content_as, toward_as, IsOpening, toward_opens}
+use Rattle.rep_checkpoint.proofs.Frames.{other_again, next_side, content_as, toward_as, IsOpening, toward_opens}
 
 -- ---- what is written is stable
 
@@ -30,7 +31,6 @@ base_synced size b x s t syncs h = record {
   opened = syncs _ ∙ ap synced h.opened;
   saved = syncs _ ∙ ap synced h.saved;
   is_window = h.is_window;
-  is_fixed = h.is_fixed;
   content = content_as (λ number slot body there e. syncs _ ∙ ap synced e) h.content;
 }
 
@@ -69,9 +69,6 @@ module _ (turns : TurnsAreTaken) (size : ℕ) (b : SuperBody) (next : Next) (x y
   abbrev back : spare_side n ≡ side_of b.number
   back = ap other side ∙ other_again (side_of b.number)
 
-  abbrev entries : y.kept.entries ≡ next.entries
-  entries = entries_are n.params.window n.position opening.entries
-
   -- and the superblock before it is to be closed
   pub risen : CheckpointIs size (record { base = n; stage = Retiring false }) y z t
   risen = record {
@@ -79,9 +76,8 @@ module _ (turns : TurnsAreTaken) (size : ℕ) (b : SuperBody) (next : Next) (x y
       is_super = record { is_super = opening.is_super; here = refl; fits = subst (λ (p : Setting). need_of (layout_of p) ≤ size) (sym opening.params) base.is_super.fits };
       position = opening.position;
       opened = ap (λ (d : Side). t (Super d)) side ∙ syncs _ ∙ ap synced opening.cell;
-      saved = ap (λ (d : Side). t (Window d)) side ∙ syncs _ ∙ ap synced opening.saved.window ∙ ap (λ es. Stable (window_bytes (window n.number n.position es))) (sym entries);
-      is_window = subst (λ es. IsWindowBody n.params (window n.number n.position es)) (sym entries) opening.is_window;
-      is_fixed = fixed_by n.params.window n.position opening.entries;
+      saved = ap (λ (d : Side). t (Window d)) side ∙ syncs _ ∙ ap synced opening.saved.window ∙ ap (λ (v : WindowOf). Stable (window_bytes (beside n v))) (sym opening.kept);
+      is_window = subst (λ (v : WindowOf). IsWindowBody n.params (beside n v)) (sym opening.kept) opening.is_window;
       content = content_as (λ number slot body there e. syncs _ ∙ ap synced e) opening.saved.content;
     };
     beside = record {

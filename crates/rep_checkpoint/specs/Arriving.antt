@@ -2,7 +2,6 @@
 use Rattle.std.specs.Prelude.{◌≡◌, ◌⊎◌, ℕ, ◌+◌, true, false, List, [], length}
 use Rattle.rep_types.specs.declared.judged.Judged.{Judged}
 use Rattle.rep_types.specs.Order.{State}
-use Rattle.rep_types.specs.Windows.{fixed}
 use Rattle.rep_layout.specs.declared.place.Place.TheVariants.{Super, Log as LogCell}
 use Rattle.rep_layout.specs.declared.place.Side.{Side}
 use Rattle.rep_layout.specs.declared.place.Side.TheVariants.{A, B}
@@ -83,7 +82,7 @@ InstallationsCanBeDropped =
 pub record InstallationsStandBeside : Type 0 where
   pub begins : (n : Node) (size : ℕ) (c : Standing) (i : Coming) (log : Log) (blocks : List (List Judged)) (sealed : List Judged) (s : States)
       → c.stage ≡ Off → log.phase ≡ Resting → i.next.super.start ≡ log.next → BeginsToInstall c i → StandsAs n size c log blocks sealed s
-      → InstallsAs n size c i (blank i.next.super.position (fixed i.next.super.params.window i.next.super.position i.next.entries)) log blocks sealed s
+      → InstallsAs n size c i (blank i.next.super.position i.next.window) log blocks sealed s
   pub goes_on : (n : Node) (size : ℕ) (c : Standing) (i k : Coming) (y z : State) (log : Log) (blocks : List (List Judged)) (sealed : List Judged) (s t : States)
       → ((j : ℕ) → t (LogCell j) ≡ s (LogCell j)) → k.next.super.start ≡ i.next.super.start → InstallationIs size c.base k n.base z t → InstallsAs n size c i y log blocks sealed s
       → InstallsAs n size c k z log blocks sealed t

@@ -5,7 +5,6 @@ use Rattle.rep_types.specs.declared.refusal.Refusal.{Refusal}
 use Rattle.rep_types.specs.declared.refusal.Refusal.TheVariants.{DiskFault, Corrupt}
 use Rattle.rep_types.specs.declared.refusal.Part.TheVariants.{Pages}
 use Rattle.rep_types.specs.Settings.{IsRow}
-use Rattle.rep_types.specs.Windows.{fixed}
 use Rattle.rep_types.specs.Order.{State}
 use Rattle.rep_disk.specs.History.{History, Wrote, seen}
 use Rattle.rep_layout.specs.declared.super_body.SuperBody.{SuperBody}
@@ -51,7 +50,7 @@ AreBehind position kept = (key : Key) (m : ℕ) → m ≤ position → version_a
 abbrev pub Begins : Kept → Standing → Standing → Next → Type 0
 Begins kept before after next =
     (size : ℕ) (s : States) (x y z : State) → CheckpointIs size before x z s → AreBehind before.base.position kept
-    → y.position ≡ next.super.position → y.kept ≡ fixed next.super.params.window next.super.position next.entries → AreAt before.base.params.rows kept next.super.position x.content y.content → CheckpointIs size after x y s
+    → y.position ≡ next.super.position → y.kept ≡ next.window → AreAt before.base.params.rows kept next.super.position x.content y.content → CheckpointIs size after x y s
 
 -- ---- writing
 

@@ -3,10 +3,10 @@ use Rattle.std.specs.Prelude.{◌≡◌, ◌⊎◌, ℕ, ◌+◌, ◌<◌, ◌�
 use Rattle.rep_types.specs.declared.key.Key.{Key}
 use Rattle.rep_types.specs.declared.limits.TheConstants.{MAX_SEQNO, ROWS_PER_PAGE}
 use Rattle.rep_types.specs.Settings.{has_row}
-use Rattle.rep_types.specs.Entries.{Entry}
 use Rattle.rep_types.specs.Order.{State}
-use Rattle.rep_types.specs.Windows.{Window as Kept, fixed}
+use Rattle.rep_types.specs.Windows.{Window as Kept}
 use Rattle.rep_forms.specs.Forms.{IsPart}
+use Rattle.rep_layout.specs.declared.format.Format.TheVariants.{Two}
 use Rattle.rep_layout.specs.declared.super_body.SuperBody.{SuperBody}
 use Rattle.rep_layout.specs.declared.page_state.PageState.TheVariants.{Nowhere, In}
 use Rattle.rep_layout.specs.declared.place.Place.TheVariants.{Super}
@@ -35,6 +35,7 @@ pub record Coming : Type 0 where
 -- the superblock behind this one, of this cluster and position and with this first cell; no page is in a slot yet
 abbrev pub coming_super : SuperBody → List ℕ → ℕ → ℕ → SuperBody
 coming_super b uuid position start = record {
+  format = Two;
   number = b.number + 1;
   uuid = uuid;
   params = b.params;
@@ -43,12 +44,12 @@ coming_super b uuid position start = record {
   pages = record { items = replicate (length b.pages.items) Nowhere };
 }
 
-abbrev pub coming : SuperBody → List ℕ → ℕ → ℕ → List Entry → Coming
-coming b uuid position start entries = record { next = record { super = coming_super b uuid position start; entries = entries; left = [] }; part = Flushing }
+abbrev pub coming : SuperBody → List ℕ → ℕ → ℕ → Kept → Coming
+coming b uuid position start v = record { next = record { super = coming_super b uuid position start; window = v; left = [] }; part = Flushing }
 
 -- A snapshot can come: no checkpoint is under way; it is of the node's cluster and of a later position, or the node belongs to no
 -- cluster yet; and a superblock and a window can say so.
-pub record CanInstall (c : Standing) (uuid : List ℕ) (position start : ℕ) (entries : List Entry) : Type 0 where
+pub record CanInstall (c : Standing) (uuid : List ℕ) (position start : ℕ) (v : Kept) : Type 0 where
   pub off : c.stage ≡ Off
   pub sixteen : IsPart 16 uuid
   pub defined : IsNil uuid → ⊥
@@ -56,7 +57,7 @@ pub record CanInstall (c : Standing) (uuid : List ℕ) (position start : ℕ) (e
   pub later : (c.base.position < position) ⊎ IsNil c.base.uuid
   pub limit : position ≤ MAX_SEQNO
   pub started : start ≤ position
-  pub is_window : IsWindowBody c.base.params (window (c.base.number + 1) position entries)
+  pub is_window : IsWindowBody c.base.params (window Two (c.base.number + 1) position v)
 
 -- What is so of it on any device: it can follow the base, and the pages that came are in the slots that the base doesn't use.
 pub record IsComing (base : SuperBody) (next : Next) : Type 0 where
@@ -127,6 +128,6 @@ pub record InstallationIs (size : ℕ) (base : SuperBody) (i : Coming) (x y : St
   pub stands : IsBase size base x s
   pub coming : IsComing base i.next
   pub position : y.position ≡ i.next.super.position
-  pub entries : y.kept ≡ fixed i.next.super.params.window i.next.super.position i.next.entries
+  pub kept : y.kept ≡ i.next.window
   pub far : IsFar i.part (spare_side base) i.next y s
   pub cell : s (Super (spare_side base)) ≡ cell_in i.part (super_bytes i.next.super)

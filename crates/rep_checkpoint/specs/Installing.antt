@@ -1,7 +1,6 @@
 -- What the calls that install a snapshot do on an honest device, and what follows from how it stands.
 use Rattle.std.specs.Prelude.{◌≡◌, ◌⊎◌, ℕ, true, Result, OnOk, OnErr}
 use Rattle.rep_types.specs.Order.{State}
-use Rattle.rep_types.specs.Windows.{fixed}
 use Rattle.rep_disk.specs.History.{History}
 use Rattle.rep_layout.specs.declared.super_body.SuperBody.{SuperBody}
 use Rattle.rep_layout.specs.declared.place.Layout.{Layout}
@@ -27,7 +26,7 @@ use Rattle.rep_checkpoint.specs.Coming.{Coming, InstallationIs, blank, placed, w
 -- No device is touched: where a checkpoint stands that is off, a snapshot without a page has come.
 abbrev pub BeginsToInstall : Standing → Coming → Type 0
 BeginsToInstall c i = (size : ℕ) (s : States) (x z : State) → CheckpointIs size c x z s
-    → InstallationIs size c.base i x (blank i.next.super.position (fixed i.next.super.params.window i.next.super.position i.next.entries)) s
+    → InstallationIs size c.base i x (blank i.next.super.position i.next.window) s
 
 -- A call, in whose states the snapshot stands as it does during it, and after it as it does then.
 abbrev pub Installs : {T E : Type 0} → ℕ → Layout → History → History → States → SuperBody → Coming → Coming → State → State → State → Result T E → Type 0

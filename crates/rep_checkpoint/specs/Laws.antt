@@ -3,7 +3,7 @@ use Rattle.std.specs.Prelude.{◌≡◌, ◌≢◌, ◌⊎◌, ℕ, Bool, false,
 use Rattle.rep_types.specs.declared.key.Key.{Key}
 use Rattle.rep_types.specs.declared.judged.Judged.{Judged}
 use Rattle.rep_types.specs.Order.{State}
-use Rattle.rep_types.specs.Entries.{Entry}
+use Rattle.rep_types.specs.Windows.{Window as WindowOf}
 use Rattle.rep_disk.specs.History.{History, seen}
 use Rattle.rep_layout.specs.declared.super_body.SuperBody.{SuperBody}
 use Rattle.rep_layout.specs.declared.place.Layout.{Layout}
@@ -75,7 +75,7 @@ TheCheckpointIsApart =
 -- What the calls make of a checkpoint is what the events make of the facts' stage, base and first cell; and a check that goes on is
 -- refused where its write is.
 pub record TheStageIsTheFacts : Type 0 where
-  pub begun : (c : Standing) (position start : ℕ) (entries : List Entry) (left : List ℕ) → stage_of (begun c position start entries left) ≡ is_toward (record { position = position; start = start }) (to_flushing left)
+  pub begun : (c : Standing) (position start : ℕ) (v : WindowOf) (left : List ℕ) → stage_of (begun c position start v left) ≡ is_toward (record { position = position; start = start }) (to_flushing left)
   pub flushed : (c : Standing) (page : ℕ) → stage_of (flushed page c) ≡ flushed_at page (stage_of c)
   pub gone_on : (facts : Facts) (left : List ℕ) (c : Standing) → c.stage ≢ Off → stage_of (gone_on c) ≡ checked facts left (stage_of c)
   pub refused : (facts : Facts) (c : Standing) → c.stage ≢ Off → next_refusal_at (stage_of c) ≡ check_refusal facts (stage_of c)

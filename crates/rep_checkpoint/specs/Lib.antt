@@ -9,5 +9,4 @@ pub mod Coming
 pub mod Installing
 pub mod Nodes
 pub mod Arriving
-pub mod Windows
 pub mod Ascending

@@ -3,7 +3,8 @@ use Rattle.std.specs.Prelude.{◌≡◌, ℕ, zero, suc, ◌+◌, ◌<◌, ◌�
 use Rattle.rep_types.specs.declared.refusal.Refusal.{Refusal}
 use Rattle.rep_types.specs.declared.refusal.Refusal.TheVariants.{NotDue}
 use Rattle.rep_types.specs.declared.limits.TheConstants.{MAX_SEQNO}
-use Rattle.rep_types.specs.Entries.{Entry}
+use Rattle.rep_types.specs.Windows.{Window as WindowOf}
+use Rattle.rep_layout.specs.declared.format.Format.TheVariants.{Two}
 use Rattle.rep_layout.specs.declared.super_body.SuperBody.{SuperBody}
 use Rattle.rep_layout.specs.declared.page_state.PageState.{PageState}
 use Rattle.rep_layout.specs.declared.page_state.PageState.TheVariants.{Nowhere, In}
@@ -44,13 +45,13 @@ next_refusal l c = unless_other l c (next_refusal_at (stage_of c))
 
 -- A checkpoint to this position can begin: none is under way, the position is above the base's and at most the greatest, the node
 -- is of a cluster, and a superblock and a window can say so.
-pub record CanBegin (c : Standing) (position start : ℕ) (entries : List Entry) : Type 0 where
+pub record CanBegin (c : Standing) (position start : ℕ) (v : WindowOf) : Type 0 where
   pub off : c.stage ≡ Off
   pub later : c.base.position < position
   pub limit : position ≤ MAX_SEQNO
   pub started : start ≤ position
   pub defined : IsNil c.base.uuid → ⊥
-  pub is_window : IsWindowBody c.base.params (window (c.base.number + 1) position entries)
+  pub is_window : IsWindowBody c.base.params (window Two (c.base.number + 1) position v)
 
 -- ---- how it stands after a call
 
@@ -63,9 +64,11 @@ abbrev pub turned : ℕ → List PageState → List ℕ → List PageState
 turned zero states left = []
 turned (suc n) states left = turned n states left ++ turn (slice_index_or states n Nowhere) (is_in left n) ∷ []
 
--- the superblock behind this one, at this position and with this first cell, for which these pages are flushed
+-- the superblock behind this one, at this position and with this first cell, for which these pages are flushed: it is of format 2, which
+-- tells every window
 abbrev pub next_super : SuperBody → ℕ → ℕ → List ℕ → SuperBody
 next_super b position start left = record {
+  format = Two;
   number = b.number + 1;
   uuid = b.uuid;
   params = b.params;
@@ -74,11 +77,11 @@ next_super b position start left = record {
   pages = record { items = turned (length b.pages.items) b.pages.items left };
 }
 
-abbrev pub next_of : SuperBody → ℕ → ℕ → List Entry → List ℕ → Next
-next_of b position start entries left = record { super = next_super b position start left; entries = entries; left = left }
+abbrev pub next_of : SuperBody → ℕ → ℕ → WindowOf → List ℕ → Next
+next_of b position start v left = record { super = next_super b position start left; window = v; left = left }
 
-abbrev pub begun : Standing → ℕ → ℕ → List Entry → List ℕ → Standing
-begun c position start entries left = record c { stage = Toward (next_of c.base position start entries left) Flushing }
+abbrev pub begun : Standing → ℕ → ℕ → WindowOf → List ℕ → Standing
+begun c position start v left = record c { stage = Toward (next_of c.base position start v left) Flushing }
 
 -- a page is no longer left
 abbrev pub without : ℕ → Next → Next

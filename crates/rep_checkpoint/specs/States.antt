@@ -3,7 +3,6 @@ use Rattle.std.specs.Prelude.{◌≡◌, ◌⊎◌, ℕ, ◌<◌, Bool, true, fa
 use Rattle.rep_types.specs.declared.key.Key.{Key}
 use Rattle.rep_types.specs.Settings.{IsRow}
 use Rattle.rep_types.specs.Order.{State}
-use Rattle.rep_types.specs.Windows.{fixed}
 use Rattle.rep_layout.specs.declared.super_body.SuperBody.{SuperBody}
 use Rattle.rep_layout.specs.declared.page_state.PageState.TheVariants.{Nowhere, In}
 use Rattle.rep_layout.specs.declared.place.Side.{Side}
@@ -12,10 +11,10 @@ use Rattle.rep_layout.specs.declared.place.Place.TheVariants.{Super, Window, Pag
 use Rattle.rep_layout.specs.Places.{side_of}
 use Rattle.rep_layout.specs.Rows.{row_place}
 use Rattle.rep_layout.specs.Supers.{super_bytes}
-use Rattle.rep_layout.specs.Windows.{window, window_bytes, IsWindowBody}
+use Rattle.rep_layout.specs.Windows.{window_bytes, IsWindowBody, beside}
 use Rattle.rep_cells.specs.States.{State as StateOf, States, Closed, Filling, Filled, Opening, Opened, Closing, Pending, Stable}
 use Rattle.rep_pages.specs.Slots.{state_of_page}
-use Rattle.rep_image.specs.Bases.{IsSuperAt, IsFixed, IsPageOf, HaveContent}
+use Rattle.rep_image.specs.Bases.{IsSuperAt, IsPageOf, HaveContent}
 use Rattle.rep_checkpoint.specs.declared.stage.Part.{Part}
 use Rattle.rep_checkpoint.specs.declared.stage.Part.TheVariants.{Flushing, Saving, Ready, SuperFilling, SuperFilled, SuperOpening}
 use Rattle.rep_checkpoint.specs.declared.stage.Stage.{Stage}
@@ -30,9 +29,8 @@ pub record IsBase (size : ℕ) (b : SuperBody) (x : State) (s : States) : Type 0
   pub is_super : IsSuperAt size (side_of b.number) b
   pub position : x.position ≡ b.position
   pub opened : s (Super (side_of b.number)) ≡ Opened (super_bytes b)
-  pub saved : s (Window (side_of b.number)) ≡ Stable (window_bytes (window b.number b.position x.kept.entries))
-  pub is_window : IsWindowBody b.params (window b.number b.position x.kept.entries)
-  pub is_fixed : IsFixed b x.kept
+  pub saved : s (Window (side_of b.number)) ≡ Stable (window_bytes (beside b x.kept))
+  pub is_window : IsWindowBody b.params (beside b x.kept)
   pub content : HaveContent b (λ number slot body. s (Page number slot) ≡ Stable body) x.content
 
 -- ---- the next base
@@ -80,7 +78,7 @@ cell_in SuperOpening body = Opening body
 pub record IsToward (base : SuperBody) (next : Next) (part : Part) (y : State) (s : States) : Type 0 where
   pub follows : IsNext base next
   pub position : y.position ≡ next.super.position
-  pub entries : y.kept ≡ fixed next.super.params.window next.super.position next.entries
+  pub kept : y.kept ≡ next.window
   pub far : IsFar part (spare_side base) next y s
   pub cell : s (Super (spare_side base)) ≡ cell_in part (super_bytes next.super)
 

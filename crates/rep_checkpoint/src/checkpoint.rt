@@ -11,8 +11,8 @@ ghost use Rattle.rep_checkpoint.specs.Calls.{Begins};
 
 use crate::stage::{NextBase, Part, Stage, Step, is_in};
 use arrayvec::ArrayVec;
-use rep_layout::{PageState, Side, Slot, SuperBody, WindowBody, row_places_are_told};
-use rep_types::{Entry, MAX_PAGES, MAX_SEQNO, Refusal};
+use rep_layout::{Format, PageState, Side, Slot, SuperBody, WindowBody, row_places_are_told};
+use rep_types::{MAX_PAGES, MAX_SEQNO, Refusal, Window};
 use rep_versions::Versions;
 use std::alloc::Global;
 use std::marker::Model;
@@ -86,6 +86,7 @@ fn next_super(base: &SuperBody, position: u64, start: u64, left: &[u32]) -> Supe
     ensures { result ≡ next_super base.now position start left.now }
 {
     SuperBody {
+        format: Format::Two,
         number: base.number + 1,
         uuid: base.uuid,
         params: base.params.copied(),
@@ -150,7 +151,7 @@ impl Checkpoint {
     }
 
     /// Whether a checkpoint to this position can begin, with this window there.
-    fn can_begin(&self, position: u64, start: u64, window: &[Entry]) -> bool
+    fn can_begin(&self, position: u64, start: u64, window: &Window) -> bool
         ensures yes { IsTrue result → CanBegin self.now position start window.now }
         ensures no { CanBegin self.now position start window.now → IsTrue result }
     {
@@ -160,12 +161,8 @@ impl Checkpoint {
         if position <= self.base.position || position > MAX_SEQNO || start > position {
             return false;
         }
-        let body = WindowBody {
-            number: self.base.number + 1,
-            position,
-            entries: window,
-        };
-        body.write_body(&self.base.params).is_some()
+        let body = WindowBody::of(Format::Two, self.base.number + 1, position, window);
+        body.fits(&self.base.params)
     }
 
     /// Begins: the next base is to be at this position, with this window, the log's block behind it in the
@@ -180,12 +177,12 @@ impl Checkpoint {
         alloc: Global,
         position: u64,
         start: u64,
-        window: Vec<Entry>,
+        window: Window,
         versions: &Versions,
     ) -> Result<(), Refusal>
-        ensures due { IsOk result → CanBegin self.old position start window.items }
-        ensures begun { OnOk result ((left : List ℕ) × ArePages versions.now self.old.base.params.rows self.old.base.position position left × (self.new ≡ begun self.old position start window.items left) × Begins versions.now self.old self.new (next_of self.old.base position start window.items left)) }
-        ensures refused { IfErr result (λ e. (self.new ≡ self.old) × (((e ≡ NotDue) × (CanBegin self.old position start window.items → ⊥)) ⊎ ((e ≡ OutOfMemory) × CanBegin self.old position start window.items))) }
+        ensures due { IsOk result → CanBegin self.old position start window }
+        ensures begun { OnOk result ((left : List ℕ) × ArePages versions.now self.old.base.params.rows self.old.base.position position left × (self.new ≡ begun self.old position start window left) × Begins versions.now self.old self.new (next_of self.old.base position start window left)) }
+        ensures refused { IfErr result (λ e. (self.new ≡ self.old) × (((e ≡ NotDue) × (CanBegin self.old position start window → ⊥)) ⊎ ((e ≡ OutOfMemory) × CanBegin self.old position start window))) }
     {
         row_places_are_told();
         if !self.can_begin(position, start, &window) {

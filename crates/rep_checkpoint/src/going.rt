@@ -52,11 +52,8 @@ impl NextBase {
         ensures bytes { result.items ≡ window_bytes (window_of self.now) }
         ensures size { length result.items ≡ WINDOW_BODY }
     {
-        let body = WindowBody {
-            number: self.superblock.number,
-            position: self.superblock.position,
-            entries: &self.window,
-        };
+        let base = &self.superblock;
+        let body = WindowBody::of(base.format, base.number, base.position, &self.window);
         match body.write_body(&self.superblock.params) {
             Some(bytes) => bytes,
             None => unreachable!(),

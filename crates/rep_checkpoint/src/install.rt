@@ -25,10 +25,10 @@ use crate::stage::{NextBase, Part};
 use arrayvec::ArrayVec;
 use rep_cells::{Cells, refusal_of};
 use rep_disk::{Disk, DiskFault};
-use rep_layout::{PageState, Place, RowPlace, SuperBody, row_at, row_places_are_told};
+use rep_layout::{Format, PageState, Place, RowPlace, SuperBody, row_at, row_places_are_told};
 use rep_pages::{Page, PageRows, slot_of, spare_of};
 use rep_pool::{Pool, pools_go_on};
-use rep_types::{Entry, Refusal};
+use rep_types::{Refusal, Window};
 use std::alloc::Global;
 use std::marker::Model;
 use uuid::Uuid;
@@ -67,6 +67,7 @@ fn coming_super(base: &SuperBody, uuid: Uuid, position: u64, start: u64) -> Supe
     ensures { result ≡ coming_super base.now uuid position start }
 {
     SuperBody {
+        format: Format::Two,
         number: base.number + 1,
         uuid,
         params: base.params.copied(),
@@ -85,10 +86,10 @@ impl Checkpoint {
         uuid: Uuid,
         position: u64,
         start: u64,
-        window: Vec<Entry>,
+        window: Window,
     ) -> Installation
-        requires { CanInstall self.now uuid position start window.items }
-        ensures coming { result ≡ coming self.now.base uuid position start window.items }
+        requires { CanInstall self.now uuid position start window }
+        ensures coming { result ≡ coming self.now.base uuid position start window }
         ensures is { IsComing self.now.base result.next }
         ensures begins { BeginsToInstall self.now result }
     {

@@ -2,7 +2,6 @@
 
 ghost use Rattle.rep_checkpoint.specs.Nodes.{NodesLeaveTheirEnds, NodesLeaveTheirFronts, NodesSettle, VersionsLeadToTheState};
 ghost use Rattle.rep_checkpoint.specs.Laws.{TheBaseInEveryImage, TheBaseStandsStill, TheBaseIsFound, TheLogIsApart, TheCheckpointIsApart, TheStageIsTheFacts, BytesTellThePage, StableBasesAreRead};
-ghost use Rattle.rep_checkpoint.specs.Windows.{WindowsGoOn};
 ghost use Rattle.rep_checkpoint.specs.Installing.{InstallationsSettle, TheOldBaseOrTheSnapshot};
 ghost use Rattle.rep_checkpoint.specs.Arriving.{InstallationsLeaveTheOldOrTheNew, InstallationsMakeTheNode, InstallationsCanBeDropped, InstallationsStandBeside};
 
@@ -88,15 +87,6 @@ pub fn versions_lead_to_the_state()
     row_places_are_told();
     versions_follow_the_items();
 }
-
-/// Windows that a disk can hold go on with the order. Such a window has no more entries than a window spans, of
-/// strictly ascending seqnos that it spans, each with 1 to 16 strictly ascending keys that are rows of the schema.
-/// The empty window is one; so is what the floor of a later position keeps of one, and the window after one more
-/// item that keeps the limits of a write set. A window's body says just such a window, beside a number and a
-/// position below 2^64.
-pub fn windows_go_on()
-    ensures { WindowsGoOn }
-{}
 
 /// What the bytes say of a page is one thing: where they have the page, none is bad there, and they have no other
 /// rows. So a flush and a read, which answer by the bytes, have one answer on an honest device that does not fail.

@@ -17,6 +17,6 @@ pub use laws::{
     nodes_leave_their_ends, nodes_leave_their_fronts, nodes_settle, stable_bases_are_read,
     the_base_in_every_image, the_base_is_found, the_base_stands_still, the_bytes_tell_the_page,
     the_checkpoint_is_apart, the_log_is_apart, the_old_base_or_the_snapshot,
-    the_stage_is_the_facts, versions_lead_to_the_state, windows_go_on,
+    the_stage_is_the_facts, versions_lead_to_the_state,
 };
 pub use stage::{NextBase, Part, Stage, Step};

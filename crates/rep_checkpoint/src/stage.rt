@@ -5,7 +5,7 @@ ghost use Rattle.rep_checkpoint.specs.Next.{is_in};
 ghost use Rattle.rep_checkpoint.specs.Moves.{without};
 
 use rep_layout::SuperBody;
-use rep_types::Entry;
+use rep_types::Window;
 use std::marker::Model;
 
 /// The next base, on its way.
@@ -14,7 +14,7 @@ pub struct NextBase {
     /// The superblock that will name it.
     pub superblock: SuperBody,
     /// The window at its position.
-    pub window: Vec<Entry>,
+    pub window: Window,
     /// The pages that are left to be flushed for it.
     pub left: Vec<u32>,
 }
@@ -24,7 +24,7 @@ impl Model for NextBase {
 
     ghost Value = { Next };
 
-    ghost view = { λ next. record { super = next.superblock; entries = next.window.items; left = next.left.items } };
+    ghost view = { λ next. record { super = next.superblock; window = next.window; left = next.left.items } };
 }
 
 /// How far the next base is.

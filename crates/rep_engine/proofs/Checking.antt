@@ -8,8 +8,7 @@ use Rattle.rep_types.specs.declared.judged.Judged.{Judged}
 use Rattle.rep_types.specs.declared.refusal.Refusal.{Refusal}
 use Rattle.rep_types.specs.declared.refusal.Refusal.TheVariants.{OutOfMemory, DiskFault, NotDue, Stopped}
 use Rattle.rep_types.specs.declared.verdict.Verdict.TheVariants.{Commit}
-use Rattle.rep_types.specs.Entries.{Entry}
-use Rattle.rep_types.specs.Windows.{Window as WindowOf, fixed}
+use Rattle.rep_types.specs.Windows.{Window as WindowOf}
 use Rattle.rep_types.specs.Settings.{Setting, IsRow}
 use Rattle.rep_types.specs.Order.{State}
 use Rattle.rep_disk.specs.History.{History, stable, IsImage}
@@ -18,6 +17,8 @@ use Rattle.rep_disk.specs.Moments.{LeavesOnly}
 use Rattle.rep_disk.specs.Leaving.{leaves_none, leaves_weaker}
 use Rattle.rep_layout.specs.declared.place.Layout.{Layout}
 use Rattle.rep_layout.specs.Places.{layout_of}
+use Rattle.rep_layout.specs.Windows.{IsWindowAt}
+use Rattle.rep_layout.specs.GoingOn.{WindowsGoOn}
 use Rattle.rep_cert.specs.Holdings.{Holding, window_of}
 use Rattle.rep_cells.specs.Known.{Assigns}
 use Rattle.rep_log.specs.declared.phase.Phase.{Phase}
@@ -43,7 +44,6 @@ use Rattle.rep_checkpoint.specs.declared.stage.Stage.TheVariants.{Off, Toward, R
 use Rattle.rep_checkpoint.specs.Next.{Next}
 use Rattle.rep_checkpoint.specs.Standing.{Standing as Checkpoint, stage_in, stage_of, due_in, flush_due, IsCheckpoint}
 use Rattle.rep_checkpoint.specs.Moves.{begun, next_of, gone_in, gone_on, is_layout, unless_other, next_refusal, next_refusal_at, CanBegin}
-use Rattle.rep_checkpoint.specs.Windows.{IsWindowAt, WindowsGoOn}
 use Rattle.rep_checkpoint.specs.Calls.{Begins as BeginsAt, IsRefused, GoesOn, AreAt, AreBehind, Steps as CheckpointSteps}
 use Rattle.rep_checkpoint.specs.Laws.{TheStageIsTheFacts, TheCheckpointIsApart}
 use Rattle.rep_checkpoint.specs.Nodes.{IsLedTo, StandsAs, LeadsTo, VersionsLeadToTheState, NodesLeaveTheirFronts}
@@ -67,14 +67,14 @@ next_in none (Retiring written) = none
 -- ---- a checkpoint begins
 
 -- what is so of an engine stays so
-engine_begun : (l : Layout) (c : Checkpoint) (log : Log) (kept : _) (block : List Judged) (position : ℕ) (entries : _) (left : List ℕ) → IsEngine l c log kept block → IsCheckpoint (begun c position log.next entries left) → position ≡ durable_of log → c.base.position < position
-    → IsEngine l (begun c position log.next entries left) log kept block
-engine_begun l c log kept block position entries left h is at later =
-    with_stage l c log kept block h (Toward (next_of c.base position log.next entries left) Flushing) is (record { above = later; within = omega (arith, at); started = h.begun; begun = omega arith }) (omega (arith, at, h.behind))
+engine_begun : (l : Layout) (c : Checkpoint) (log : Log) (kept : _) (block : List Judged) (position : ℕ) (v : WindowOf) (left : List ℕ) → IsEngine l c log kept block → IsCheckpoint (begun c position log.next v left) → position ≡ durable_of log → c.base.position < position
+    → IsEngine l (begun c position log.next v left) log kept block
+engine_begun l c log kept block position v left h is at later =
+    with_stage l c log kept block h (Toward (next_of c.base position log.next v left) Flushing) is (record { above = later; within = omega (arith, at); started = h.begun; begun = omega arith }) (omega (arith, at, h.behind))
 
 -- and it can begin
 pub can_begin : WindowsGoOn → (l : Layout) (c : Checkpoint) (log : Log) (kept : _) (block : List Judged) (v : WindowOf) → IsEngine l c log kept block → c.stage ≡ Off → c.base.position < durable_of log → log.next < log.seqno → IsWindowAt c.base.params (durable_of log) v
-    → CanBegin c (durable_of log) log.next v.entries
+    → CanBegin c (durable_of log) log.next v
 can_begin law l c log kept block v h off later below window = record {
   off = off;
   later = later;
@@ -87,35 +87,35 @@ can_begin law l c log kept block v h off later below window = record {
 -- whatever it comes to
 pub engine_tried : (h : Holding) (l : Layout) (c d : Checkpoint) (log : Log) (kept : _) (block : List Judged) (result : Result (Option ℕ) Refusal) → IsEngine l c log kept block → IsCheckpoint d → Begins h log kept c d result → IsEngine l d log kept block
 engine_tried h l c d log kept block (Ok answer) is there b =
-    subst (λ (k : Checkpoint). IsEngine l k log kept block) (sym b.begun.checkpoint) (engine_begun l c log kept block (durable_of log) (window_of h (durable_of log)).entries b.begun.left is (subst IsCheckpoint b.begun.checkpoint there) refl b.begun.later)
+    subst (λ (k : Checkpoint). IsEngine l k log kept block) (sym b.begun.checkpoint) (engine_begun l c log kept block (durable_of log) (window_of h (durable_of log)) b.begun.left is (subst IsCheckpoint b.begun.checkpoint there) refl b.begun.later)
 engine_tried h l c d log kept block (Err e) is there b = subst (λ (k : Checkpoint). IsEngine l k log kept block) (sym b.refused.0) is
 
 pub base_tried : (h : Holding) (c d : Checkpoint) (log : Log) (kept : _) (result : Result (Option ℕ) Refusal) → Begins h log kept c d result → d.base ≡ c.base
 base_tried h c d log kept (Ok answer) b = ap (λ (k : Checkpoint). k.base) b.begun.checkpoint
 base_tried h c d log kept (Err e) b = ap (λ (k : Checkpoint). k.base) b.refused.0
 
--- and what began, where the caller has the position, the start and the entries
-pub begun_so : (h : Holding) (log : Log) (kept : _) (c d : Checkpoint) (position start : ℕ) (entries : List Entry) → position ≡ durable_of log → start ≡ log.next → entries ≡ (window_of h position).entries → c.base.position < position
-    → (left : List ℕ) × ArePages kept c.base.params.rows c.base.position position left × (d ≡ begun c position start entries left) × BeginsAt kept c d (next_of c.base position start entries left) → HasBegun h log kept c d (Some position)
-begun_so h log kept c d position start entries at on same later done =
+-- and what began, where the caller has the position, the start and the window
+pub begun_so : (h : Holding) (log : Log) (kept : _) (c d : Checkpoint) (position start : ℕ) (v : WindowOf) → position ≡ durable_of log → start ≡ log.next → v ≡ window_of h position → c.base.position < position
+    → (left : List ℕ) × ArePages kept c.base.params.rows c.base.position position left × (d ≡ begun c position start v left) × BeginsAt kept c d (next_of c.base position start v left) → HasBegun h log kept c d (Some position)
+begun_so h log kept c d position start v at on same later done =
     let left : List ℕ = done.0 in
-    let there : entries ≡ (window_of h (durable_of log)).entries = same ∙ ap (λ i. (window_of h i).entries) at in
+    let there : v ≡ window_of h (durable_of log) = same ∙ ap (window_of h) at in
     record {
       says = ap Some at;
       later = omega (arith, later, at);
       left = left;
       pages = subst (λ i. ArePages kept c.base.params.rows c.base.position i left) at done.1;
-      checkpoint = done.2 ∙ ap (λ i. begun c i start entries left) at ∙ ap (λ i. begun c (durable_of log) i entries left) on ∙ ap (λ (es : List Entry). begun c (durable_of log) log.next es left) there;
-      begins = subst (λ (es : List Entry). BeginsAt kept c d (next_of c.base (durable_of log) log.next es left)) there
-          (subst (λ i. BeginsAt kept c d (next_of c.base (durable_of log) i entries left)) on (subst (λ i. BeginsAt kept c d (next_of c.base i start entries left)) at done.3));
+      checkpoint = done.2 ∙ ap (λ i. begun c i start v left) at ∙ ap (λ i. begun c (durable_of log) i v left) on ∙ ap (λ (u : WindowOf). begun c (durable_of log) log.next u left) there;
+      begins = subst (λ (u : WindowOf). BeginsAt kept c d (next_of c.base (durable_of log) log.next u left)) there
+          (subst (λ i. BeginsAt kept c d (next_of c.base (durable_of log) i v left)) on (subst (λ i. BeginsAt kept c d (next_of c.base i start v left)) at done.3));
     }
 
-module _ {D : Type 0} (failures : D → ℕ) (old : Engine D) (entries : List Entry) (left : List ℕ) (runs : old.halted ≡ None) (off : old.checkpoint.stage ≡ Off) (later : old.checkpoint.base.position < durable_of old.log) where
+module _ {D : Type 0} (failures : D → ℕ) (old : Engine D) (v : WindowOf) (left : List ℕ) (runs : old.halted ≡ None) (off : old.checkpoint.stage ≡ Off) (later : old.checkpoint.base.position < durable_of old.log) where
   abbrev next : Next
-  next = next_of old.checkpoint.base (durable_of old.log) old.log.next entries left
+  next = next_of old.checkpoint.base (durable_of old.log) old.log.next v left
 
   abbrev d : Checkpoint
-  d = begun old.checkpoint (durable_of old.log) old.log.next entries left
+  d = begun old.checkpoint (durable_of old.log) old.log.next v left
 
   abbrev new : Engine D
   new = record old { checkpoint = d }
@@ -141,7 +141,7 @@ module _ {D : Type 0} (failures : D → ℕ) (old : Engine D) (entries : List En
       subst (λ (a : Answer). Moves s Check a (facts_of failures new)) (ap (check_answer s) at_rest) (done_moves s Check f (facts_of failures new) (ap is_some runs) not_refused (facts_begun f refl))
 
   -- at a node
-  module _ (honest : D → Type 0) (history : D → History) (nodes : NodesStayNodes) (lead : VersionsLeadToTheState) (goes : JudgingGoesOn) (n : Node) (holds : Holds honest history failures n old) (window : fixed old.checkpoint.base.params.window (durable_of old.log) entries ≡ window_at n n.facts.durable)
+  module _ (honest : D → Type 0) (history : D → History) (nodes : NodesStayNodes) (lead : VersionsLeadToTheState) (goes : JudgingGoesOn) (n : Node) (holds : Holds honest history failures n old) (window : v ≡ window_at n n.facts.durable)
       (pages : ArePages old.kept old.checkpoint.base.params.rows old.checkpoint.base.position (durable_of old.log) left) (begins : BeginsAt old.kept old.checkpoint d next) where
     there : Stands history n old
     there = holds.runs runs
@@ -195,7 +195,7 @@ module _ {D : Type 0} (failures : D → ℕ) (old : Engine D) (entries : List En
     goal_at : goal.position ≡ next.super.position
     goal_at = goes.reached_position n.facts.setting n.base (take past n.items) ∙ omega (arith, at, length-take-le past n.items (omega (arith, holds.node.enough)))
 
-    goal_kept : goal.kept ≡ fixed next.super.params.window next.super.position entries
+    goal_kept : goal.kept ≡ v
     goal_kept = ap (λ i. (reached n.facts.setting n.base (take (n.facts.durable - i) n.items)).kept) (sym holds.node.position) ∙ sym window
 
     stands_so : StandsAs (moved n Check) (length (stable (history old.disk))) d old.log there.blocks there.sealed there.states
@@ -468,23 +468,23 @@ check_holds honest history size failures sized laws old new (Err e) w n holds no
 
 module _ {D : Type 0} (failures : D → ℕ) (old after_it : Engine D) (h : Holding) (answer : Option ℕ) (runs : old.halted ≡ None) (off : old.checkpoint.stage ≡ Off) (rest : after_it ≡ record old { checkpoint = after_it.checkpoint })
     (b : HasBegun h old.log old.kept old.checkpoint after_it.checkpoint answer) where
-  abbrev entries_there : List Entry
-  entries_there = (window_of h (durable_of old.log)).entries
+  abbrev window_there : WindowOf
+  window_there = window_of h (durable_of old.log)
 
-  becomes : after_it ≡ record old { checkpoint = begun old.checkpoint (durable_of old.log) old.log.next entries_there b.left }
+  becomes : after_it ≡ record old { checkpoint = begun old.checkpoint (durable_of old.log) old.log.next window_there b.left }
   becomes = rest ∙ ap (λ (k : Checkpoint). record old { checkpoint = k }) b.checkpoint
 
   began_moves : Moves (facts_of failures old) Check (checked (Ok answer)) (facts_of failures after_it)
   began_moves =
       subst (λ (e : Engine D). Moves (facts_of failures old) Check (checked (Ok answer)) (facts_of failures e)) (sym becomes)
-      (subst (λ (o : Option ℕ). Moves (facts_of failures old) Check (checked (Ok o)) (facts_of failures (record old { checkpoint = begun old.checkpoint (durable_of old.log) old.log.next entries_there b.left }))) (sym b.says) (begun_moves failures old entries_there b.left runs off b.later))
+      (subst (λ (o : Option ℕ). Moves (facts_of failures old) Check (checked (Ok o)) (facts_of failures (record old { checkpoint = begun old.checkpoint (durable_of old.log) old.log.next window_there b.left }))) (sym b.says) (begun_moves failures old window_there b.left runs off b.later))
 
-  began_holds : (honest : D → Type 0) (history : D → History) → NodesStayNodes → VersionsLeadToTheState → JudgingGoesOn → (n : Node) → Holds honest history failures n old → window_of h (durable_of old.log) ≡ fixed old.checkpoint.base.params.window (durable_of old.log) entries_there
-      → window_of h (durable_of old.log) ≡ window_at n n.facts.durable → (m : Node) × Steps n Check (checked (Ok answer)) m × Holds honest history failures m after_it
-  began_holds honest history nodes lead goes n holds is_fixed window =
-      let begins : BeginsAt old.kept old.checkpoint (begun old.checkpoint (durable_of old.log) old.log.next entries_there b.left) (next_of old.checkpoint.base (durable_of old.log) old.log.next entries_there b.left) =
-      subst (λ (k : Checkpoint). BeginsAt old.kept old.checkpoint k (next_of old.checkpoint.base (durable_of old.log) old.log.next entries_there b.left)) b.checkpoint b.begins in
-      let came = begun_holds failures old entries_there b.left runs off b.later honest history nodes lead goes n holds (sym is_fixed ∙ window) b.pages begins in
+  began_holds : (honest : D → Type 0) (history : D → History) → NodesStayNodes → VersionsLeadToTheState → JudgingGoesOn → (n : Node) → Holds honest history failures n old → window_of h (durable_of old.log) ≡ window_at n n.facts.durable
+      → (m : Node) × Steps n Check (checked (Ok answer)) m × Holds honest history failures m after_it
+  began_holds honest history nodes lead goes n holds window =
+      let begins : BeginsAt old.kept old.checkpoint (begun old.checkpoint (durable_of old.log) old.log.next window_there b.left) (next_of old.checkpoint.base (durable_of old.log) old.log.next window_there b.left) =
+      subst (λ (k : Checkpoint). BeginsAt old.kept old.checkpoint k (next_of old.checkpoint.base (durable_of old.log) old.log.next window_there b.left)) b.checkpoint b.begins in
+      let came = begun_holds failures old window_there b.left runs off b.later honest history nodes lead goes n holds window b.pages begins in
       (came.0, subst (λ (o : Option ℕ). Steps n Check (checked (Ok o)) came.0) (sym b.says) came.1, subst (λ (e : Engine D). Holds honest history failures came.0 e) (sym becomes) came.2)
 
 -- where it is refused
@@ -577,7 +577,7 @@ module _ {D : Type 0} (honest : D → Type 0) (history : D → History) (size fa
     unchanged = tt;
     fault = tt;
     moves = began_moves failures old new h answer runs off rest b.begun;
-    steps = λ n holds there. began_holds failures old new h answer runs off rest b.begun honest history nodes lead goes n holds window.window.is_fixed (there off);
+    steps = λ n holds there. began_holds failures old new h answer runs off rest b.begun honest history nodes lead goes n holds (there off);
     leaves = λ n holds. leaves_none _ _ (ap (λ (e : Engine D). history e.disk) rest);
   }
   begins_checked nodes lead goes old new runs off window rest (Err e) b =

@@ -4,7 +4,7 @@ use Rattle.rep_types.specs.declared.refusal.Refusal.{Refusal}
 use Rattle.rep_types.specs.declared.refusal.Refusal.TheVariants.{Corrupt, DiskFault}
 use Rattle.rep_types.specs.declared.refusal.Part.TheVariants.{Window as in_window, Pages as in_pages}
 use Rattle.rep_types.specs.declared.key.Key.{Key}
-use Rattle.rep_types.specs.Entries.{Entry}
+use Rattle.rep_types.specs.Windows.{Window as Kept}
 use Rattle.rep_disk.specs.History.{History, seen}
 use Rattle.rep_disk.specs.Calls.{IsCall}
 use Rattle.rep_layout.specs.declared.page_state.PageState.TheVariants.{In, Nowhere}
@@ -14,7 +14,7 @@ use Rattle.rep_layout.specs.declared.place.Place.TheVariants.{Window}
 use Rattle.rep_layout.specs.declared.place.Slot.{Slot}
 use Rattle.rep_layout.specs.declared.super_body.SuperBody.{SuperBody}
 use Rattle.rep_layout.specs.Places.{side_of}
-use Rattle.rep_layout.specs.Windows.{Window as WindowBody, window, window_bytes, IsWindowBody}
+use Rattle.rep_layout.specs.Windows.{Window as WindowBody, window_bytes, IsWindowBody, beside}
 use Rattle.rep_cells.specs.Readings.{Reading, reading_of}
 use Rattle.rep_cells.specs.States.{States, IsSure, Shows}
 use Rattle.rep_cells.specs.Known.{Assigns, IsReadable}
@@ -53,14 +53,14 @@ module _ {D : Type 0} (honest : D → Type 0) (history : D → History) (failure
   -- What is read beside the superblock is the base's window.
   pub window_read :
       (b : SuperBody) (area : Place) (bytes : List ℕ) (result : Result WindowBody Refusal) → b ≡ within.checkpoint.base → area ≡ Window (side_of b.number) → (honest within.disk → (s : States) → Assigns within.layout (history within.disk) s → IsSure (s area) → Shows (s area) (Some bytes))
-      → ((entries : List Entry) → IsWindowBody b.params (window b.number b.position entries) → bytes ≡ window_bytes (window b.number b.position entries) → result ≡ Ok (window b.number b.position entries))
-      → result ≡ Ok (window b.number b.position n.base.kept.entries)
+      → ((v : Kept) → IsWindowBody b.params (beside b v) → bytes ≡ window_bytes (beside b v) → result ≡ Ok (beside b v))
+      → result ≡ Ok (beside b n.base.kept)
   window_read b area bytes result b_is area_is shown only =
       let base = there.stands.checkpoint.base in
       let saved = ap there.states area_is ∙ ap (λ (x : SuperBody). there.states (Window (side_of x.number))) b_is ∙ base.saved in
-      let body : Some bytes ≡ Some (window_bytes (window within.checkpoint.base.number within.checkpoint.base.position n.base.kept.entries)) = subst (λ state. Shows state (Some bytes)) saved (shown before.is_honest there.states there.assigns (subst IsSure (sym saved) tt)) in
-      only n.base.kept.entries (subst (λ (x : SuperBody). IsWindowBody x.params (window x.number x.position n.base.kept.entries)) (sym b_is) base.is_window)
-      (cc (body, ap (λ (x : SuperBody). window_bytes (window x.number x.position n.base.kept.entries)) b_is))
+      let body : Some bytes ≡ Some (window_bytes (beside within.checkpoint.base n.base.kept)) = subst (λ state. Shows state (Some bytes)) saved (shown before.is_honest there.states there.assigns (subst IsSure (sym saved) tt)) in
+      only n.base.kept (subst (λ (x : SuperBody). IsWindowBody x.params (beside x n.base.kept)) (sym b_is) base.is_window)
+      (cc (body, ap (λ (x : SuperBody). window_bytes (beside x n.base.kept)) b_is))
 
   -- What is read of a page is the base's, and it is never corrupt.
   module _ (stable : StableBasesAreRead) (number : ℕ) (b : SuperBody) (b_is : b ≡ within.checkpoint.base) where
@@ -84,12 +84,12 @@ same_bytes : (xs ys : List ℕ) → ◌≡◌ {A = Option (List ℕ)} (Some xs) 
 same_bytes xs ys is = cc
 
 spelled_window : (r : Reading) (b : SuperBody) (bytes : List ℕ) (result : Result WindowBody Refusal) → r (Window (side_of b.number)) ≡ Some bytes → IfOk result (λ w. bytes ≡ window_bytes w)
-    → ((entries : List Entry) → IsWindowBody b.params (window b.number b.position entries) → bytes ≡ window_bytes (window b.number b.position entries) → result ≡ Ok (window b.number b.position entries)) → IsWindowAsSpelled r b result in_window
+    → ((v : Kept) → IsWindowBody b.params (beside b v) → bytes ≡ window_bytes (beside b v) → result ≡ Ok (beside b v)) → IsWindowAsSpelled r b result in_window
 spelled_window r b bytes (Ok w) shown found only = record { given = shown ∙ ap Some found; corrupt = λ gave. absurd cc }
 spelled_window r b bytes (Err e) shown found only = record {
   given = tt;
-  corrupt = λ gave entries is stands.
-      let read = only entries is (same_bytes bytes (window_bytes (window b.number b.position entries)) (sym shown ∙ stands)) in
+  corrupt = λ gave v is stands.
+      let read = only v is (same_bytes bytes (window_bytes (beside b v)) (sym shown ∙ stands)) in
       absurd cc;
 }
 
@@ -97,7 +97,7 @@ module _ {D : Type 0} (honest : D → Type 0) (history : D → History) (within 
   pub window_spelled :
       (b : SuperBody) (area : Place) (bytes : List ℕ) (result : Result WindowBody Refusal) → b ≡ within.checkpoint.base → area ≡ Window (side_of b.number)
       → (honest within.disk → IsReadable within.layout (history within.disk) area → Some bytes ≡ reading_of within.layout (seen (history within.disk)) area)
-      → ((entries : List Entry) → IsWindowBody b.params (window b.number b.position entries) → bytes ≡ window_bytes (window b.number b.position entries) → result ≡ Ok (window b.number b.position entries))
+      → ((v : Kept) → IsWindowBody b.params (beside b v) → bytes ≡ window_bytes (beside b v) → result ≡ Ok (beside b v))
       → IfOk result (λ w. bytes ≡ window_bytes w) → honest old.disk → IsReadable old.layout (history old.disk) (Window (side_of old.checkpoint.base.number))
       → IsWindowAsSpelled (reading_of old.layout (seen (history old.disk))) old.checkpoint.base result in_window
   window_spelled b area bytes result b_is area_is reads only found =
@@ -106,7 +106,7 @@ module _ {D : Type 0} (honest : D → Type 0) (history : D → History) (within 
       let at : area ≡ Window (side_of within.checkpoint.base.number) = area_is ∙ ap (λ (x : SuperBody). Window (side_of x.number)) b_is in
       let shown = ap (reading_of within.layout (seen (history within.disk))) (sym at) ∙ sym (reads h (subst (IsReadable within.layout (history within.disk)) (sym at) readable)) in
       spelled_window (reading_of within.layout (seen (history within.disk))) within.checkpoint.base bytes result shown found
-      (subst (λ (x : SuperBody). (entries : List Entry) → IsWindowBody x.params (window x.number x.position entries) → bytes ≡ window_bytes (window x.number x.position entries) → result ≡ Ok (window x.number x.position entries)) b_is only))
+      (subst (λ (x : SuperBody). (v : Kept) → IsWindowBody x.params (beside x v) → bytes ≡ window_bytes (beside x v) → result ≡ Ok (beside x v)) b_is only))
 
   module _ (number : ℕ) (b : SuperBody) (b_is : b ≡ within.checkpoint.base) where
     moved : (result : Result (Option PageBody) Refusal) → IsBasePageAsSpelled (reading_of within.layout (seen (history within.disk))) b number result in_pages → IsBasePageAsSpelled (reading_of old.layout (seen (history old.disk))) old.checkpoint.base number result in_pages

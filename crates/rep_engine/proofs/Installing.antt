@@ -9,7 +9,7 @@ use Rattle.rep_types.specs.declared.refusal.Refusal.{Refusal}
 use Rattle.rep_types.specs.declared.value.Write.{Write}
 use Rattle.rep_types.specs.Settings.{Setting}
 use Rattle.rep_types.specs.Order.{State}
-use Rattle.rep_types.specs.Windows.{Window, fixed}
+use Rattle.rep_types.specs.Windows.{Window}
 use Rattle.rep_disk.specs.History.{History, stable, IsImage}
 use Rattle.rep_disk.specs.Calls.{IsCall}
 use Rattle.rep_disk.specs.Moments.{LeavesOnly}
@@ -17,6 +17,7 @@ use Rattle.rep_disk.specs.Leaving.{leaves_weaker, leaves_none, leaves_then}
 use Rattle.rep_layout.specs.declared.place.Layout.{Layout}
 use Rattle.rep_layout.specs.declared.super_body.SuperBody.{SuperBody}
 use Rattle.rep_layout.specs.Places.{layout_of}
+use Rattle.rep_layout.specs.GoingOn.{WindowsGoOn}
 use Rattle.rep_layout.specs.Supers.{IsNil, super_bytes}
 use Rattle.rep_record.specs.Blocks.{SeqnosFrom}
 use Rattle.rep_cells.specs.Calls.{Settled, Settles}
@@ -38,7 +39,6 @@ use Rattle.rep_checkpoint.specs.declared.stage.Part.{Part}
 use Rattle.rep_checkpoint.specs.declared.stage.Part.TheVariants.{Flushing, Saving, Ready, SuperFilling, SuperFilled, SuperOpening}
 use Rattle.rep_checkpoint.specs.declared.stage.Stage.TheVariants.{Off}
 use Rattle.rep_checkpoint.specs.Standing.{Standing as Checkpoint}
-use Rattle.rep_checkpoint.specs.Windows.{WindowsGoOn}
 use Rattle.rep_checkpoint.specs.Coming.{Coming, CanInstall, IsComing, IsDue, blank, coming, gone, placed, settled, with_page}
 use Rattle.rep_checkpoint.specs.Installing.{BeginsToInstall, Installs, InstallsNext, InstallsPage}
 use Rattle.rep_checkpoint.specs.Arriving.{InstallsAs, InstallationsLeaveTheOldOrTheNew, InstallationsMakeTheNode, InstallationsStandBeside, InstallationsCanBeDropped, Arrives, installed}
@@ -484,7 +484,7 @@ module _ {D : Type 0} (old : Engine D) (engine : IsEngine old.layout old.checkpo
       by (inl above) = omega (arith, above)
       by (inr nil) = omega (arith, (engine.undefined (nil_bytes base.uuid nil)).0)
 
-  pub can_by : WindowsGoOn → CanInstall old.checkpoint uuid position old.log.next v.entries
+  pub can_by : WindowsGoOn → CanInstall old.checkpoint uuid position old.log.next v
   can_by law = record {
     off = off;
     sixteen = b.sixteen;
@@ -497,18 +497,16 @@ module _ {D : Type 0} (old : Engine D) (engine : IsEngine old.layout old.checkpo
   }
 
 pub can_install : WindowsGoOn → {D : Type 0} (old : Engine D) → IsEngine old.layout old.checkpoint old.log old.kept old.block → (uuid : List ℕ) (position : ℕ) (v : Window) → old.checkpoint.stage ≡ Off → CanBring old.checkpoint.base (durable_of old.log) uuid position v
-    → CanInstall old.checkpoint uuid position old.log.next v.entries
+    → CanInstall old.checkpoint uuid position old.log.next v
 can_install law old engine uuid position v off b = can_by old engine uuid position v off b law
 
 pub begins_both : {D : Type 0} (honest : D → Type 0) (history : D → History) (failures : D → ℕ) → InstallationsStandBeside → (old : Engine D) → IsEngine old.layout old.checkpoint old.log old.kept old.block → old.halted ≡ None
-    → (uuid : List ℕ) (position : ℕ) (v : Window) → old.checkpoint.stage ≡ Off → old.block ≡ [] → CanBring old.checkpoint.base (durable_of old.log) uuid position v → BeginsToInstall old.checkpoint (coming old.checkpoint.base uuid position old.log.next v.entries)
-    → (n : Node) → Holds honest history failures n old → HoldsBoth honest history failures n (blank position v) old (coming old.checkpoint.base uuid position old.log.next v.entries)
+    → (uuid : List ℕ) (position : ℕ) (v : Window) → old.checkpoint.stage ≡ Off → old.block ≡ [] → CanBring old.checkpoint.base (durable_of old.log) uuid position v → BeginsToInstall old.checkpoint (coming old.checkpoint.base uuid position old.log.next v)
+    → (n : Node) → Holds honest history failures n old → HoldsBoth honest history failures n (blank position v) old (coming old.checkpoint.base uuid position old.log.next v)
 begins_both {D} honest history failures beside old engine runs uuid position v off none b begins n holds =
-    let i = coming old.checkpoint.base uuid position old.log.next v.entries in
+    let i = coming old.checkpoint.base uuid position old.log.next v in
     let there = holds.runs runs in
     let resting = rests_by old.log.phase old.block none engine.whole in
-    let is : fixed old.checkpoint.base.params.window position v.entries ≡ v = sym b.window.is_fixed in
-    let installs = beside.begins n (length (stable (history old.disk))) old.checkpoint i old.log there.blocks there.sealed there.states off resting refl begins there.stands in
     record {
       is_honest = holds.is_honest;
       facts = holds.facts;
@@ -518,7 +516,7 @@ begins_both {D} honest history failures beside old engine runs uuid position v o
         assigns = there.assigns;
         blocks = there.blocks;
         sealed = there.sealed;
-        installs = subst (λ (w : Window). InstallsAs n (length (stable (history old.disk))) old.checkpoint i (blank position w) old.log there.blocks there.sealed there.states) is installs;
+        installs = beside.begins n (length (stable (history old.disk))) old.checkpoint i old.log there.blocks there.sealed there.states off resting refl begins there.stands;
         versions = there.versions;
         gates = there.gates;
       };

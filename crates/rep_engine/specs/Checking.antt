@@ -2,13 +2,14 @@
 use Rattle.std.specs.Prelude.{◌≡◌, ◌⊎◌, ℕ, ◌<◌, ◌≤◌, nat_le, true, false, List, Option, None, Some, Result, Ok, Err, IfOk, IfErr, IfSome, OnErr}
 use Rattle.rep_types.specs.declared.refusal.Refusal.{Refusal}
 use Rattle.rep_types.specs.declared.refusal.Refusal.TheVariants.{NotDue, OutOfMemory}
-use Rattle.rep_types.specs.declared.item.Item.TheVariants.{WriteSet}
+use Rattle.rep_types.specs.declared.item.Item.{Item}
 use Rattle.rep_types.specs.Windows.{Window}
-use Rattle.rep_types.specs.Transactions.{Transaction, IsWithinLimits}
+use Rattle.rep_types.specs.Items.{IsWithin}
 use Rattle.rep_types.specs.Settings.{Setting}
 use Rattle.rep_cert.specs.Holdings.{Holding, IsAskable, Admits, window_of, made_at}
 use Rattle.rep_disk.specs.History.{History}
 use Rattle.rep_disk.specs.Calls.{IsCall}
+use Rattle.rep_layout.specs.Windows.{IsWindowAt}
 use Rattle.rep_versions.specs.Versions.{Kept, ArePages}
 use Rattle.rep_log.specs.Standing.{Standing as Log}
 use Rattle.rep_log.specs.Moves.{fault_of}
@@ -17,7 +18,6 @@ use Rattle.rep_steps.specs.declared.answer.Answer.TheVariants.{Began, Wrote, Ref
 use Rattle.rep_checkpoint.specs.Standing.{Standing as Checkpoint}
 use Rattle.rep_checkpoint.specs.Moves.{begun, next_of, next_refusal}
 use Rattle.rep_checkpoint.specs.Calls.{IsRefused, GoesOn, Begins as BeginsAt}
-use Rattle.rep_checkpoint.specs.Windows.{IsWindowAt}
 use Rattle.rep_engine.specs.Engines.{Engine, durable_of}
 use Rattle.rep_engine.specs.Reading.{halted_by}
 
@@ -33,15 +33,15 @@ checked (Ok (Some position)) = Began position
 checked (Ok None) = Wrote
 checked (Err r) = Refused r
 
--- A checkpoint began, to what is durable, and says so: pages with a change since the base are left, and the window has the certifier's
--- entries.
+-- A checkpoint began, to what is durable, and says so: pages with a change since the base are left, and the window is the certifier's
+-- there.
 pub record HasBegun (h : Holding) (log : Log) (kept : Kept) (old new : Checkpoint) (answer : Option ℕ) : Type 0 where
   pub says : answer ≡ Some (durable_of log)
   pub later : old.base.position < durable_of log
   pub left : List ℕ
   pub pages : ArePages kept old.base.params.rows old.base.position (durable_of log) left
-  pub checkpoint : new ≡ begun old (durable_of log) log.next (window_of h (durable_of log)).entries left
-  pub begins : BeginsAt kept old new (next_of old.base (durable_of log) log.next (window_of h (durable_of log)).entries left)
+  pub checkpoint : new ≡ begun old (durable_of log) log.next (window_of h (durable_of log)) left
+  pub begins : BeginsAt kept old new (next_of old.base (durable_of log) log.next (window_of h (durable_of log)) left)
 
 -- What a beginning comes to: it is refused where the base stands at what is durable, and else for memory alone.
 pub record Begins (h : Holding) (log : Log) (kept : Kept) (old new : Checkpoint) (result : Result (Option ℕ) Refusal) : Type 0 where
@@ -60,8 +60,8 @@ pub record WentOn {D : Type 0} (size failures : D → ℕ) (honest : D → Type 
 abbrev pub HoldsWindows : Holding → Type 0
 HoldsWindows h = (k : ℕ) → IsAskable h k → IsWindowAt h.setting k (window_of h k)
 
--- A certifier that was made with a window has it at its position, and holds windows; and so it does with each further write set.
+-- A certifier that was made with a window has it at its position, and holds windows; and so it does with each further item.
 pub record CertifiersHoldWindows : Type 0 where
   pub first : (p : Setting) (position : ℕ) (v : Window) → IsWindowAt p position v → window_of (made_at p position v) position ≡ v
   pub made : (p : Setting) (position : ℕ) (v : Window) → IsWindowAt p position v → HoldsWindows (made_at p position v)
-  pub admits : (h new : Holding) (w : Transaction) → h.made ≤ h.delivered → IsWithinLimits w → HoldsWindows h → Admits h (WriteSet w) new → HoldsWindows new
+  pub admits : (h new : Holding) (i : Item) → h.made ≤ h.delivered → IsWithin i → HoldsWindows h → Admits h i new → HoldsWindows new

@@ -6,7 +6,7 @@ use Rattle.rep_types.specs.declared.refusal.Refusal.{Refusal}
 use Rattle.rep_types.specs.declared.refusal.Refusal.TheVariants.{Stopped, DiskFault, Corrupt}
 use Rattle.rep_types.specs.declared.refusal.Part.{Part}
 use Rattle.rep_types.specs.Settings.{IsRow}
-use Rattle.rep_types.specs.Entries.{Entry}
+use Rattle.rep_types.specs.Windows.{Window as Kept}
 use Rattle.rep_record.specs.Blocks.{Contents, IsBlock, block_bytes}
 use Rattle.rep_disk.specs.History.{History, IsImage}
 use Rattle.rep_disk.specs.Calls.{IsCall}
@@ -17,7 +17,7 @@ use Rattle.rep_layout.specs.declared.page_state.PageState.TheVariants.{In}
 use Rattle.rep_layout.specs.declared.super_body.SuperBody.{SuperBody}
 use Rattle.rep_layout.specs.Places.{log_of, side_of}
 use Rattle.rep_layout.specs.Rows.{row_place}
-use Rattle.rep_layout.specs.Windows.{Window, window, window_bytes, IsWindowBody}
+use Rattle.rep_layout.specs.Windows.{Window, window_bytes, IsWindowBody, beside}
 use Rattle.rep_cells.specs.Readings.{Reading, reading_of}
 use Rattle.rep_pages.specs.declared.page.Page.{Page as PageBody}
 use Rattle.rep_pages.specs.Images.{row_of}
@@ -76,10 +76,10 @@ abbrev pub HasNoRow : SuperBody → (Key → Option (List ℕ)) → ℕ → Type
 HasNoRow b content number = (key : Key) → IsRow b.params.rows key → (row_place b.params.rows key).page ≡ number → content key ≡ None
 
 -- The bytes of a reading decide: what is given is the window beside this superblock as they spell it, and it is corrupt only where they spell
--- none of its number and position.
+-- none of its format, number and position.
 pub record IsWindowAsSpelled (r : Reading) (b : SuperBody) (result : Result Window Refusal) (part : Part) : Type 0 where
   pub given : IfOk result (λ w. r (in_window_area (side_of b.number)) ≡ Some (window_bytes w))
-  pub corrupt : result ≡ Err (Corrupt part) → (entries : List Entry) → IsWindowBody b.params (window b.number b.position entries) → r (in_window_area (side_of b.number)) ≡ Some (window_bytes (window b.number b.position entries)) → ⊥
+  pub corrupt : result ≡ Err (Corrupt part) → (v : Kept) → IsWindowBody b.params (beside b v) → r (in_window_area (side_of b.number)) ≡ Some (window_bytes (beside b v)) → ⊥
 
 -- So it is with a page of the superblock's.
 pub record IsBasePageAsSpelled (r : Reading) (b : SuperBody) (number : ℕ) (result : Result (Option PageBody) Refusal) (part : Part) : Type 0 where

@@ -10,6 +10,7 @@ use Rattle.rep_disk.specs.History.{History, stable, IsImage}
 use Rattle.rep_disk.specs.Moments.{LeavesOnly}
 use Rattle.rep_layout.specs.declared.super_body.SuperBody.{SuperBody}
 use Rattle.rep_layout.specs.Supers.{IsNil}
+use Rattle.rep_layout.specs.Windows.{IsWindowAt}
 use Rattle.rep_cells.specs.States.{States}
 use Rattle.rep_cells.specs.Known.{Assigns}
 use Rattle.rep_versions.specs.Versions.{IsPruned}
@@ -25,7 +26,6 @@ use Rattle.rep_checkpoint.specs.declared.stage.Part.TheVariants.{SuperOpening}
 use Rattle.rep_checkpoint.specs.declared.stage.Stage.TheVariants.{Off}
 use Rattle.rep_checkpoint.specs.Standing.{Standing as Checkpoint}
 use Rattle.rep_checkpoint.specs.Moves.{found_at}
-use Rattle.rep_checkpoint.specs.Windows.{IsWindowAt}
 use Rattle.rep_checkpoint.specs.Coming.{Coming, IsComing}
 use Rattle.rep_checkpoint.specs.Arriving.{InstallsAs, installed}
 use Rattle.rep_engine.specs.Engines.{Engine, engine_code, durable_of, facts_of}

@@ -23,9 +23,10 @@ use crate::engine::{Engine, halted_by};
 use rep_cert::Certifier;
 use rep_checkpoint::{
     Checkpoint, Step, nodes_leave_their_fronts, the_checkpoint_is_apart, the_stage_is_the_facts,
-    versions_lead_to_the_state, windows_go_on,
+    versions_lead_to_the_state,
 };
 use rep_disk::Disk;
+use rep_layout::windows_go_on;
 use rep_log::Log;
 use rep_pool::pools_go_on;
 use rep_steps::{judging_goes_on, nodes_stay_nodes};
@@ -59,7 +60,7 @@ fn begin_at_durable(
     certifier: &Certifier,
 ) -> Result<Option<u64>, Refusal>
     requires askable { IsAskable certifier.now.current (durable_of log.now) }
-    requires begins { checkpoint.old.base.position < durable_of log.now → log.now.next < log.now.seqno → CanBegin checkpoint.old (durable_of log.now) log.now.next (window_of certifier.now.current (durable_of log.now)).entries }
+    requires begins { checkpoint.old.base.position < durable_of log.now → log.now.next < log.now.seqno → CanBegin checkpoint.old (durable_of log.now) log.now.next (window_of certifier.now.current (durable_of log.now)) }
     ensures { Begins certifier.now.current log.now versions.now checkpoint.old checkpoint.new result }
 {
     let position = log.durable();
@@ -68,7 +69,7 @@ fn begin_at_durable(
     }
     let window = certifier.window_at(alloc, position)?;
     let start = log.next();
-    checkpoint.begin(alloc, position, start, window.into_entries(), versions)?;
+    checkpoint.begin(alloc, position, start, window, versions)?;
     Ok(Some(position))
 }
 

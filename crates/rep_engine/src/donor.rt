@@ -4,10 +4,9 @@ ghost use Rattle.std.specs.Prelude.{◌≡◌, ◌≢◌, ◌+◌, ◌-◌, ◌�
 ghost use Rattle.rep_types.specs.declared.judged.Judged.{Judged};
 ghost use Rattle.rep_types.specs.declared.refusal.Refusal.TheVariants.{Corrupt};
 ghost use Rattle.rep_types.specs.declared.refusal.Part.TheVariants.{Log as in_log, Window as in_window, Pages as in_pages};
-ghost use Rattle.rep_types.specs.Entries.{Entry};
 ghost use Rattle.rep_record.specs.Blocks.{IsBlock, block_bytes, contents};
 ghost use Rattle.rep_disk.specs.History.{seen};
-ghost use Rattle.rep_layout.specs.Windows.{window, window_bytes, IsWindowBody};
+ghost use Rattle.rep_layout.specs.Windows.{IsWindowBody, beside};
 ghost use Rattle.rep_layout.specs.declared.page_state.PageState.TheVariants.{Nowhere};
 ghost use Rattle.rep_pages.specs.Slots.{state_of_page};
 ghost use Rattle.rep_cells.specs.Readings.{reading_of};
@@ -19,7 +18,7 @@ use crate::engine::{Engine, halted_by};
 use rep_cells::images_read_as_allowed;
 use rep_checkpoint::stable_bases_are_read;
 use rep_disk::Disk;
-use rep_layout::{LOG_BODY, PageState, Place, Side, SuperBody, WINDOW_BODY, WindowReader};
+use rep_layout::{LOG_BODY, PageState, Place, Side, WINDOW_BODY, WindowReader};
 use rep_log::open_blocks_are_shown;
 use rep_pages::{Page, slot_of};
 use rep_record::{BlockReader, read_block};
@@ -39,20 +38,6 @@ fn block_in(number: u64, body: Option<&[u8]>) -> Result<BlockReader<'_>, Refusal
         Ok(block) if block.cell() == number => Ok(block),
         _ => Err(Refusal::Corrupt { part: Part::Log }),
     }
-}
-
-/// The window of this superblock, which all of the bytes are.
-fn window_in<'a>(base: &SuperBody, bytes: &'a [u8]) -> Result<WindowReader<'a>, Refusal>
-    ensures form { IfOk result (λ w. (w ≡ window base.now.number base.now.position w.entries) × IsWindowBody base.now.params w) }
-    ensures found { IfOk result (λ w. bytes.now ≡ window_bytes w) }
-    ensures only { (entries : List Entry) → IsWindowBody base.now.params (window base.now.number base.now.position entries) → bytes.now ≡ window_bytes (window base.now.number base.now.position entries) → result ≡ Ok (window base.now.number base.now.position entries) }
-    ensures refused { IfErr result (λ e. e ≡ Corrupt in_window) }
-{
-    let window = WindowReader::read_body(&base.params, bytes)?;
-    if window.number() != base.number || window.position() != base.position {
-        return Err(Refusal::Corrupt { part: Part::Window });
-    }
-    Ok(window)
 }
 
 impl<D: Disk> Engine<D> {
@@ -100,17 +85,17 @@ impl<D: Disk> Engine<D> {
     /// The base's window, whose entries are handed out of the room one by one: by one read of the device.
     ///
     /// Refuses with `Stopped` where the device has failed before; with `DiskFault` where it failed, and then the engine is stopped;
-    /// and with `Corrupt` of the window where what stands beside the base's superblock is no window of its number and position: an
-    /// honest device of a node shows no such thing.
+    /// and with `Corrupt` of the window where what stands beside the base's superblock is no window of its format, number and
+    /// position: an honest device of a node shows no such thing.
     pub fn base_window<'a>(
         &mut self,
         room: &'a mut [u8; WINDOW_BODY],
     ) -> Result<WindowReader<'a>, Refusal>
         ensures asks { Asks D.size D.failures D.honest D.history in_window self.old self.new result }
         // On any device what is given can be the window of the base.
-        ensures form { IfOk result (λ w. (w ≡ window self.old.checkpoint.base.number self.old.checkpoint.base.position w.entries) × IsWindowBody self.old.checkpoint.base.params w) }
+        ensures form { IfOk result (λ w. (w ≡ beside self.old.checkpoint.base w.kept) × IsWindowBody self.old.checkpoint.base.params w) }
         ensures holds { (n : Node) → Holds D.honest D.history D.failures n self.old → result ≢ Err Refusal.DiskFault → Holds D.honest D.history D.failures n self.new }
-        ensures window { (n : Node) → Holds D.honest D.history D.failures n self.old → IfOk result (λ w. w.entries ≡ n.base.kept.entries) }
+        ensures window { (n : Node) → Holds D.honest D.history D.failures n self.old → IfOk result (λ w. w.kept ≡ n.base.kept) }
         ensures whole { (n : Node) → Holds D.honest D.history D.failures n self.old → result ≢ Err (Corrupt in_window) }
         // Whatever stands on an honest device: its bytes decide.
         ensures spelled { D.honest self.old.disk → IsWindowAsSpelled (reading_of self.old.layout (seen (D.history self.old.disk))) self.old.checkpoint.base result in_window }
@@ -122,7 +107,7 @@ impl<D: Disk> Engine<D> {
             self.halted = Some(self.log.phase());
             return Err(Refusal::DiskFault);
         }
-        window_in(base, room)
+        WindowReader::read_beside(base, room)
     }
 
     /// Whether the base has this page in a slot. The rows of one that it doesn't have are absent.

@@ -25,9 +25,9 @@ use rep_cells::{images_read_as_allowed, refusal_of};
 use rep_checkpoint::{
     Installation as Coming, installations_can_be_dropped, installations_leave_the_old_or_the_new,
     installations_make_the_node, installations_stand_beside, nodes_leave_their_fronts,
-    windows_go_on,
 };
 use rep_disk::Disk;
+use rep_layout::windows_go_on;
 use rep_pages::PageRows;
 use rep_pool::pools_go_on;
 use rep_types::{Params, Refusal, Window};
@@ -77,7 +77,7 @@ impl<D: Disk> Engine<D> {
         requires off { self.checkpoint.stage ≡ Off }
         requires brings { CanBring self.checkpoint.base (durable_of self.log) uuid position window }
         ensures stopped { IfSome self.halted (λ _. result ≡ Err (self, Stopped)) }
-        ensures begun { self.halted ≡ None → result ≡ Ok (record { engine = self; coming = coming self.checkpoint.base uuid position self.log.next window.entries }) }
+        ensures begun { self.halted ≡ None → result ≡ Ok (record { engine = self; coming = coming self.checkpoint.base uuid position self.log.next window }) }
         ensures holds { (n : Node) → Holds D.honest D.history D.failures n self → IfOk result (λ i. HoldsBoth D.honest D.history D.failures n (blank position window) i.engine i.coming) }
     {
         windows_go_on();
@@ -88,7 +88,7 @@ impl<D: Disk> Engine<D> {
         let start = self.log.next();
         let coming = self
             .checkpoint
-            .install(self.alloc, uuid, position, start, window.into_entries());
+            .install(self.alloc, uuid, position, start, window);
         Ok(Installation {
             engine: self,
             coming,

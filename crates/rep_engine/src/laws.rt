@@ -8,8 +8,9 @@ ghost use Rattle.rep_engine.specs.Donating.{TheTailIsTold};
 use crate::engine::Engine;
 use rep_cells::images_read_as_allowed;
 use rep_cert::gives_its_window;
-use rep_checkpoint::{nodes_leave_their_ends, windows_go_on};
+use rep_checkpoint::nodes_leave_their_ends;
 use rep_disk::Disk;
+use rep_layout::windows_go_on;
 use rep_log::the_log_is_told;
 use rep_record::fronts_are_determined;
 
@@ -26,7 +27,7 @@ pub fn running_engines_leave_their_ends<D: Disk>(engine: &Engine<D>)
 }
 
 /// A certifier that was made with a window that a disk can hold gives it at its position, and holds such windows
-/// alone, at each position that can be asked for; and so it does with each further write set.
+/// alone, at each position that can be asked for; and so it does with each further item that keeps its limits.
 pub fn certifiers_hold_windows()
     ensures { CertifiersHoldWindows }
 {

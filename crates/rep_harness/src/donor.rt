@@ -1,9 +1,8 @@
 //! The donor: a node on a disk of its own, whose snapshot, or what it writes for another node, that is handed.
 
 ghost use Rattle.std.specs.Prelude.{◌≡◌, ◌++◌, IfOk, OnOk};
-ghost use Rattle.rep_checkpoint.specs.Windows.{IsWindowAt};
+ghost use Rattle.rep_layout.specs.Windows.{IsWindowAt};
 
-use rep_checkpoint::windows_go_on;
 use rep_disk::Disk;
 use rep_layout::{WINDOW_BODY, WindowReader};
 use rep_replica::Replica;
@@ -78,7 +77,7 @@ pub(crate) fn let_go<D: Disk + Drop>(donor: Option<Donor<D>>) {
 
 /// Adds the entries that a window still hands out.
 fn push_entries(mut reader: WindowReader<'_>, entries: &mut Vec<Entry>) -> Result<(), Refusal>
-    ensures { OnOk result (entries.new.items ≡ entries.old.items ++ reader.entry.entries) }
+    ensures { OnOk result (entries.new.items ≡ entries.old.items ++ reader.entry.kept.entries) }
 {
     while let Some(entry) = reader.next_entry() {
         entries.push(entry)?;
@@ -86,13 +85,14 @@ fn push_entries(mut reader: WindowReader<'_>, entries: &mut Vec<Entry>) -> Resul
     Ok(())
 }
 
-/// The entries of a window.
-fn entries_of(alloc: Global, reader: WindowReader<'_>) -> Result<Vec<Entry>, Refusal>
-    ensures { IfOk result (λ entries. entries.items ≡ reader.entry.entries) }
+/// The window that is read.
+fn window_of(alloc: Global, reader: WindowReader<'_>) -> Result<Window, Refusal>
+    ensures { IfOk result (λ window. window ≡ reader.entry.kept) }
 {
+    let (size, floor) = (reader.size(), reader.floor());
     let mut entries = Vec::new(alloc);
     push_entries(reader, &mut entries)?;
-    Ok(entries)
+    Ok(Window::new(size, floor, entries))
 }
 
 /// What the donor tells of its base.
@@ -102,16 +102,14 @@ pub(crate) fn snapshot_of<D: Disk>(
 ) -> Result<Snapshot, Refusal>
     ensures { IfOk result (λ snapshot. IsWindowAt donor.new.engine.checkpoint.base.params snapshot.position snapshot.window) }
 {
-    windows_go_on();
     let uuid = donor.uuid();
-    let size = donor.params().window_size();
     let mut room = [0; WINDOW_BODY];
     let reader = donor.base_window(&mut room)?;
     let position = reader.position();
-    let entries = entries_of(alloc, reader)?;
+    let window = window_of(alloc, reader)?;
     Ok(Snapshot {
         uuid,
         position,
-        window: Window::fixed(size, position, entries),
+        window,
     })
 }

@@ -3,7 +3,7 @@
 ghost use Rattle.std.specs.Prelude.{◌≡◌, ◌<◌, ◌↔◌, ◌⊎◌, true};
 ghost use Rattle.rep_forms.specs.Forms.{IsPart};
 ghost use Rattle.rep_layout.specs.Supers.{IsNil};
-ghost use Rattle.rep_checkpoint.specs.Windows.{IsWindowAt};
+ghost use Rattle.rep_layout.specs.Windows.{IsWindowAt};
 ghost use Rattle.rep_engine.specs.Engines.{durable_of};
 ghost use Rattle.rep_engine.specs.Installing.{CanBring};
 ghost use Rattle.rep_replica.specs.Replicas.{facts_of};

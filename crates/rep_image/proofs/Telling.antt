@@ -6,8 +6,7 @@ use Rattle.std.proofs.lemmas.Bool.{cases_lt}
 use Rattle.std.proofs.lemmas.Bool.Decides.{nat_tests}
 use Rattle.std.proofs.lemmas.Option.{same_Some}
 use Rattle.rep_types.specs.declared.key.Key.{Key}
-use Rattle.rep_types.specs.Entries.{Entry}
-use Rattle.rep_types.specs.Windows.{Window as Kept, fixed}
+use Rattle.rep_types.specs.Windows.{Window as Kept}
 use Rattle.rep_types.specs.Settings.{Setting, IsRow, is_setting}
 use Rattle.rep_types.specs.Order.{State}
 use Rattle.rep_layout.specs.declared.super_body.SuperBody.{SuperBody}
@@ -20,7 +19,7 @@ use Rattle.rep_layout.specs.declared.place.Place.TheVariants.{Super}
 use Rattle.rep_layout.specs.Places.{side_of, layout_of}
 use Rattle.rep_layout.specs.Rows.{row_place}
 use Rattle.rep_layout.specs.Supers.{super_bytes, SuperblocksAreTold}
-use Rattle.rep_layout.specs.Windows.{Window, window, WindowsAreTold}
+use Rattle.rep_layout.specs.Windows.{Window, WindowsAreTold, beside}
 use Rattle.rep_cells.specs.Readings.{Reading, reading_of}
 use Rattle.rep_pages.specs.declared.page.Page.{Page as PageBody}
 use Rattle.rep_pages.specs.Slots.{state_of_page}
@@ -72,9 +71,7 @@ module _ (told : SuperblocksAreTold) (size : ℕ) (r s : Reading) (alike : (side
 
 one_window : WindowsAreTold → (r : Reading) (b : SuperBody) (v u : Kept) → is_setting b.params ≡ true → HasWindow r b v → HasWindow r b u → v ≡ u
 one_window told r b v u setting h k =
-    let entries : v.entries ≡ u.entries =
-    ap (λ (w : Window). w.entries) (told b.params (window b.number b.position v.entries) (window b.number b.position u.entries) setting h.is_window k.is_window (same_Some _ _ (sym h.stands ∙ k.stands))) in
-    h.is_fixed ∙ ap (λ (es : List Entry). fixed b.params.window b.position es) entries ∙ sym k.is_fixed
+    ap (λ (w : Window). w.kept) (told b.params (beside b v) (beside b u) setting h.is_window k.is_window (same_Some _ _ (sym h.stands ∙ k.stands)))
 
 module _ (told : PagesAreTold) (r : Reading) (b : SuperBody) (f g : Key → Option (List ℕ)) (h : HasContent r b f) (k : HasContent r b g) where
   one_page : (key : Key) → IsRow b.params.rows key → (slot : Slot) → state_of_page b (row_place b.params.rows key).page ≡ In slot → f key ≡ g key

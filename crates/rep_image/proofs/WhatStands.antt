@@ -10,7 +10,7 @@ use Rattle.rep_layout.specs.declared.place.Slot.{Slot}
 use Rattle.rep_layout.specs.declared.place.Place.TheVariants.{Super, Window, Page}
 use Rattle.rep_layout.specs.Places.{side_of, layout_of}
 use Rattle.rep_layout.specs.Supers.{super_bytes}
-use Rattle.rep_layout.specs.Windows.{window, window_bytes}
+use Rattle.rep_layout.specs.Windows.{window_bytes, beside}
 use Rattle.rep_cells.specs.Readings.{Reading, IsPlace, reading_of}
 use Rattle.rep_cells.specs.States.{State, States, Opened, Stable, Allows, Allowed}
 use Rattle.rep_pages.specs.Slots.{state_of_page}
@@ -39,9 +39,8 @@ module _ (image : List ℕ) (b : SuperBody) (m : Meaning) (log : Standing) (bloc
 
   windows : HasWindow r b m.base.kept
   windows = record {
-    stands = reads_as _ (Stable (window_bytes (window b.number b.position m.base.kept.entries))) _ h.base.saved (allowed (Window (side_of b.number)) refl);
+    stands = reads_as _ (Stable (window_bytes (beside b m.base.kept))) _ h.base.saved (allowed (Window (side_of b.number)) refl);
     is_window = h.base.is_window;
-    is_fixed = h.base.is_fixed;
   }
 
   contents : HasContent r b m.base.content

@@ -1,7 +1,7 @@
 -- What a reading has as a base: a superblock with what it names.
 use Rattle.std.specs.Prelude.{◌≡◌, ℕ, ◌<◌, ◌≤◌, List, Option, None, Some}
 use Rattle.rep_types.specs.declared.key.Key.{Key}
-use Rattle.rep_types.specs.Windows.{Window as Kept, fixed}
+use Rattle.rep_types.specs.Windows.{Window as Kept}
 use Rattle.rep_types.specs.Settings.{IsRow}
 use Rattle.rep_layout.specs.declared.super_body.SuperBody.{SuperBody}
 use Rattle.rep_layout.specs.declared.page_state.PageState.TheVariants.{Nowhere, In}
@@ -12,7 +12,7 @@ use Rattle.rep_layout.specs.declared.place.Place.TheVariants.{Super, Window, Pag
 use Rattle.rep_layout.specs.Places.{side_of, layout_of, need_of}
 use Rattle.rep_layout.specs.Rows.{row_place}
 use Rattle.rep_layout.specs.Supers.{IsSuper, super_bytes}
-use Rattle.rep_layout.specs.Windows.{window, window_bytes, IsWindowBody}
+use Rattle.rep_layout.specs.Windows.{window_bytes, IsWindowBody, beside}
 use Rattle.rep_cells.specs.Readings.{Reading}
 use Rattle.rep_pages.specs.declared.page.Page.{Page as PageBody}
 use Rattle.rep_pages.specs.Slots.{state_of_page}
@@ -40,15 +40,10 @@ pub record IsChosen (size : ℕ) (r : Reading) (b : SuperBody) : Type 0 where
   pub is_super : IsSuperAt size (side_of b.number) b
   pub lesser : IsLesser size (other (side_of b.number)) b.number (r (Super (other (side_of b.number))))
 
--- The window that a superblock can stand beside: its size is that of the parameters, and was so from the first item on.
-abbrev pub IsFixed : SuperBody → Kept → Type 0
-IsFixed b v = v ≡ fixed b.params.window b.position v.entries
-
--- The window beside it: that of its number and position, with these entries.
+-- The window beside it.
 pub record HasWindow (r : Reading) (b : SuperBody) (v : Kept) : Type 0 where
-  pub stands : r (Window (side_of b.number)) ≡ Some (window_bytes (window b.number b.position v.entries))
-  pub is_window : IsWindowBody b.params (window b.number b.position v.entries)
-  pub is_fixed : IsFixed b v
+  pub stands : r (Window (side_of b.number)) ≡ Some (window_bytes (beside b v))
+  pub is_window : IsWindowBody b.params (beside b v)
 
 -- The body is its page of this number, of a position not above its own, whose rows are of this content.
 pub record IsPageOf (b : SuperBody) (number : ℕ) (content : Key → Option (List ℕ)) (body : List ℕ) : Type 0 where

@@ -6,14 +6,14 @@ use Rattle.rep_layout.specs.declared.super_body.SuperBody.{SuperBody}
 use Rattle.rep_layout.specs.declared.place.Place.TheVariants.{Super, Window, Page}
 use Rattle.rep_layout.specs.Places.{side_of, layout_of}
 use Rattle.rep_layout.specs.Supers.{IsNil, super_bytes}
-use Rattle.rep_layout.specs.Windows.{window, window_bytes, IsWindowBody}
+use Rattle.rep_layout.specs.Windows.{window_bytes, IsWindowBody, beside}
 use Rattle.rep_cells.specs.Readings.{reading_of}
 use Rattle.rep_cells.specs.States.{States, Opened, Stable, Allows, Allowed}
 use Rattle.rep_log.specs.Tail.{records_of}
 use Rattle.rep_log.specs.Standing.{Standing, LogIs}
 use Rattle.rep_log.specs.Laws.{MayHold}
 use Rattle.rep_steps.specs.Images.{Meaning, AreJudgedFrom}
-use Rattle.rep_image.specs.Bases.{other, IsSuperAt, IsLesser, IsFixed, HaveContent}
+use Rattle.rep_image.specs.Bases.{other, IsSuperAt, IsLesser, HaveContent}
 use Rattle.rep_image.specs.Meanings.{Means}
 
 -- The superblock stands open, and what the other one's cell may read as is lesser; its window is stable.
@@ -21,9 +21,8 @@ pub record IsBaseAt (size : ℕ) (b : SuperBody) (v : Kept) (s : States) : Type 
   pub is_super : IsSuperAt size (side_of b.number) b
   pub opened : s (Super (side_of b.number)) ≡ Opened (super_bytes b)
   pub lesser : (reading : Option (List ℕ)) → Allows (s (Super (other (side_of b.number)))) reading → IsLesser size (other (side_of b.number)) b.number reading
-  pub saved : s (Window (side_of b.number)) ≡ Stable (window_bytes (window b.number b.position v.entries))
-  pub is_window : IsWindowBody b.params (window b.number b.position v.entries)
-  pub is_fixed : IsFixed b v
+  pub saved : s (Window (side_of b.number)) ≡ Stable (window_bytes (beside b v))
+  pub is_window : IsWindowBody b.params (beside b v)
 
 -- What stands on a device: a base with its pages, which are stable, and a log that begins behind it.
 pub record Stands (size : ℕ) (b : SuperBody) (m : Meaning) (log : Standing) (blocks : List (List Judged)) (sealed : List Judged) (s : States) : Type 0 where

@@ -4,3 +4,4 @@ pub mod RowPlaces
 pub mod Fours
 pub mod Supers
 pub mod Windows
+pub mod GoingOn

@@ -1,3 +1,5 @@
+pub mod Formats
+pub mod FormatLaws
 pub mod PageStates
 pub mod PageStateLaws
 pub mod Supers
@@ -6,3 +8,4 @@ pub mod Windows
 pub mod WindowLaws
 pub mod Places
 pub mod Rows
+pub mod GoingOn

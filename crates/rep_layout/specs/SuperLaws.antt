@@ -8,6 +8,7 @@ use Rattle.rep_types.specs.Settings.{Setting, page_count, pages_of, is_setting}
 use Rattle.rep_forms.specs.Forms.{IsForm}
 use Rattle.rep_forms.specs.FormLaws.{forms, named_is_form}
 use Rattle.rep_layout.specs.declared.super_body.SuperBody.{SuperBody}
+use Rattle.rep_layout.specs.FormatLaws.{format_is_form}
 use Rattle.rep_layout.specs.PageStateLaws.{states_is_form}
 use Rattle.rep_layout.specs.Supers.{IsSuper, setting_fields, setting_form, super_fields, super_form}
 
@@ -45,11 +46,11 @@ super_fits s h =
     let limits = limits_of s.params h.setting in
     let few : length s.pages.items ≤ MAX_PAGES = omega (arith, h.pages, limits.pages) in (
       (
-        (omega (arith, h.number, h.position), (h.uuid, h.setting)),
+        (tt, (omega (arith, h.number, h.position), (h.uuid, h.setting))),
         ((omega (arith, h.position), (omega (arith, h.start, h.position), omega (arith, few))), record { size = refl; few = few }),
       ),
       refl,
     )
 
 pub super_is_form : IsForm super_form
-super_is_form = named_is_form super_fields _ _ (search (forms, setting_is_form, states_is_form) depth 15) super_fits (λ s h. simp append_assoc)
+super_is_form = named_is_form super_fields _ _ (search (forms, format_is_form, setting_is_form, states_is_form) depth 16) super_fits (λ s h. simp append_assoc)

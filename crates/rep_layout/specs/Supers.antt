@@ -6,7 +6,9 @@ use Rattle.uuid.specs.Parts.{is_nil_bytes}
 use Rattle.rep_types.specs.declared.limits.TheConstants.{MAX_SEQNO, MAX_TABLES}
 use Rattle.rep_types.specs.Settings.{Setting, setting, allowed, pages_of, is_setting}
 use Rattle.rep_forms.specs.Forms.{Form, IsPart, byte, number, number_bytes, part_of, zeros, both, ◌⊗◌, padded, marked, many, via, as_named}
+use Rattle.rep_layout.specs.declared.format.Format.{Format}
 use Rattle.rep_layout.specs.declared.super_body.SuperBody.{SuperBody}
+use Rattle.rep_layout.specs.Formats.{digit_of, format_form}
 use Rattle.rep_layout.specs.declared.page_state.PageState.{PageState}
 use Rattle.rep_layout.specs.PageStates.{state_bytes, states_form}
 
@@ -33,18 +35,18 @@ is_super s =
 
 -- ---- the spelling
 
--- the first eight bytes of this format: REPSUPR1
+-- the first seven bytes, in front of the format's digit
 unfoldable pub super_mark : List ℕ
-super_mark = codes "REPSUPR1"
+super_mark = codes "REPSUPR"
 
 -- the parameters: the window, the cells of the log, how many tables there are, and the rows of eight tables, zero where there is none
 abbrev pub setting_bytes : Setting → List ℕ
 setting_bytes p =
     number_bytes 2 p.window ++ (number_bytes 2 p.cells ++ (length p.rows ∷ (zeros 3 ++ (flat_map (number_bytes 4) p.rows ++ zeros (32 - 4 * length p.rows)))))
 
--- the mark, the number, the UUID, and the parameters
+-- the mark, the format's digit, the number, the UUID, and the parameters
 abbrev pub head_bytes : SuperBody → List ℕ
-head_bytes s = super_mark ++ (number_bytes 8 s.number ++ (s.uuid ++ setting_bytes s.params))
+head_bytes s = super_mark ++ (digit_of s.format ∷ (number_bytes 8 s.number ++ (s.uuid ++ setting_bytes s.params)))
 
 -- the position, the number of the cell whose block begins behind it, and how many pages there are
 abbrev pub place_bytes : SuperBody → List ℕ
@@ -65,12 +67,12 @@ setting_fields =
 abbrev pub setting_form : Form Setting
 setting_form = as_named setting_fields (λ p. IsTrue (is_setting p)) setting_bytes
 
--- the number, the UUID and the parameters
+-- the format, the number, the UUID and the parameters
 abbrev pub Head : Type 0
-Head = ℕ × (List ℕ × Setting)
+Head = Format × (ℕ × (List ℕ × Setting))
 
 abbrev pub head_fields : Form Head
-head_fields = marked super_mark (number 8 ⊗ (part_of 16 ⊗ setting_form))
+head_fields = marked super_mark (format_form ⊗ (number 8 ⊗ (part_of 16 ⊗ setting_form)))
 
 -- the position, the start and the number of pages
 abbrev pub Stand : Type 0
@@ -81,10 +83,10 @@ stand_fields = number 8 ⊗ (number 8 ⊗ padded (number 2) 38)
 
 -- all fields, and what they say
 abbrev pub super_parts : SuperBody → Head × (Stand × List PageState)
-super_parts s = ((s.number, (s.uuid, s.params)), ((s.position, (s.start, length s.pages.items)), s.pages.items))
+super_parts s = ((s.format, (s.number, (s.uuid, s.params))), ((s.position, (s.start, length s.pages.items)), s.pages.items))
 
 abbrev pub super_of : Head × (Stand × List PageState) → Option SuperBody
-super_of x = Some (record { number = x.0.0; uuid = x.0.1.0; params = x.0.1.1; position = x.1.0.0; start = x.1.0.1.0; pages = record { items = x.1.1 } })
+super_of x = Some (record { format = x.0.0; number = x.0.1.0; uuid = x.0.1.1.0; params = x.0.1.1.1; position = x.1.0.0; start = x.1.0.1.0; pages = record { items = x.1.1 } })
 
 abbrev pub super_fields : Form SuperBody
 super_fields = via (head_fields ⊗ both stand_fields (λ x. padded (states_form x.1.1) 2432)) super_parts super_of

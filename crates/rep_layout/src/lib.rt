@@ -1,6 +1,8 @@
 //! Where everything lies on the device, and the bytes of its superblocks and windows.
 #![tactic(auto)]
 
+mod format;
+mod laws;
 mod page_state;
 mod place;
 mod rows;
@@ -8,6 +10,8 @@ mod super_body;
 mod window_body;
 mod window_reader;
 
+pub use format::Format;
+pub use laws::windows_go_on;
 pub use page_state::PageState;
 pub use place::{
     GATE, LOG, LOG_BODY, Layout, PAGE_BODY, Place, SUPER_BODY, Side, Slot, WINDOW_BODY, WINDOWS,

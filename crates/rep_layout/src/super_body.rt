@@ -8,18 +8,19 @@ ghost use Rattle.rep_forms.specs.Forms.{IsPart, number_bytes, zeros};
 ghost use Rattle.rep_layout.specs.Supers.{IsSuper, is_super, setting_bytes, head_bytes, place_bytes, super_bytes, setting_form, stand_fields, super_form, SuperblocksAreTold};
 ghost use Rattle.rep_layout.specs.declared.super_body.SuperBody.{SuperBody};
 
+use crate::format::Format;
 use crate::page_state::{PageState, put_states, read_states};
 use crate::place::SUPER_BODY;
 use arrayvec::ArrayVec;
 use rep_forms::{
-    Exact, Form, put_bytes, put_run, put_u8, put_u16, put_u64, put_zeros, read_front, read_part,
-    read_run, read_u8, read_u16, read_u64, spellings_are_told, strip_front,
+    Exact, Form, Put, put_bytes, put_run, put_u8, put_u16, put_u64, put_zeros, read_front,
+    read_part, read_run, read_u8, read_u16, read_u64, spellings_are_told, strip_front,
 };
 use rep_types::{MAX_SEQNO, MAX_TABLES, Params, Part, Refusal};
 use uuid::Uuid;
 
-/// The first eight bytes of the format.
-const MARK: &[u8; 8] = b"REPSUPR1";
+/// The first seven bytes, in front of the format's digit.
+const MARK: &[u8; 7] = b"REPSUPR";
 
 /// The number of bytes of the rows of all tables.
 const ROWS: usize = 4 * MAX_TABLES;
@@ -29,6 +30,8 @@ type Bytes = ArrayVec<u8, SUPER_BODY>;
 /// What a superblock's body says.
 #[derive(Debug, Drop, PartialEq, Eq)]
 pub struct SuperBody {
+    /// In which format it is spelled, and the window beside it.
+    pub format: Format,
     /// Its own number, which rises by one with each checkpoint and each snapshot that is installed: at
     /// most the position and 1.
     pub number: u64,
@@ -109,6 +112,7 @@ impl Form for SuperBody {
     #[tactic(auto, unfolding(crate::specs::Supers::super_mark))]
     fn read(bytes: &[u8]) -> Option<(SuperBody, &[u8])> {
         let (_, rest) = read_part(bytes, MARK.len())?;
+        let (format, rest) = Format::read(rest)?;
         let (number, rest) = read_u64(rest)?;
         let (uuid, rest) = read_part(rest, 16)?;
         let uuid = Uuid::from_slice(uuid).ok()?;
@@ -117,6 +121,7 @@ impl Form for SuperBody {
         let (pages, rest) = read_states(rest, usize::from(count))?;
         let (_, rest) = read_part(rest, 2_432)?;
         let body = SuperBody {
+            format,
             number,
             uuid,
             params,
@@ -138,7 +143,7 @@ impl Exact for SuperBody {
 }
 
 impl SuperBody {
-    /// Puts the mark, the number, the UUID and the parameters: 72 bytes.
+    /// Puts the mark, the format, the number, the UUID and the parameters: 72 bytes.
     #[tactic(auto, using(rep_forms::specs::FormLaws::sizes, rep_forms::specs::FormLaws::joined), unfolding(crate::specs::Supers::super_mark))]
     fn put_head(&self, out: &mut Bytes)
         requires { length out.old.items + 72 ≤ 3584 }
@@ -148,6 +153,7 @@ impl SuperBody {
         ensures setting { IsTrue (is_setting self.now.params) }
     {
         put_bytes(out, MARK);
+        self.format.put(out);
         put_u64(out, self.number);
         put_bytes(out, self.uuid.as_bytes());
         put_setting(out, &self.params);
@@ -202,7 +208,7 @@ impl SuperBody {
     /// Reads the body of a superblock, which all of the bytes are.
     ///
     /// Refuses with `Corrupt`, the part being the superblock, what is not of the form: 3,584 bytes,
-    /// which are `REPSUPR1`; the number in 8 bytes, at most the position and 1; the UUID in 16, and
+    /// which are `REPSUPR1` or `REPSUPR2`; the number in 8 bytes, at most the position and 1; the UUID in 16, and
     /// where it is nil the number and the position are 0; the window and the number of log cells in
     /// 2 bytes each, and the number of tables in 1; 3 zeros; the rows of eight tables in 4 bytes
     /// each, zero where there is no table, all within the limits of parameters; at 72 the position,

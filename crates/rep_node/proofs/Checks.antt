@@ -59,4 +59,4 @@ module _ {D : Type 0} (honest : D → Type 0) (history : D → History) (failure
 
   -- the certifier has the window that a check asks for
   pub check_window : TakenItemsStay honest history failures → (e : Engine D) (h : Holding) (s : Start D) (taken more : List Judged) → MayLend honest history failures s taken more h e → HoldsWindow e.checkpoint.base.params (durable_of e.log) h
-  check_window laws e h s taken more lent = laws.window e h s.desk.engine s.certifier.current taken more lent.judged lent.near lent.begins.windows lent.legal.placed lent.engine
+  check_window laws e h s taken more lent = laws.window e h s.desk.engine s.certifier.current taken more lent.judged lent.near lent.begins.windows lent.engine

@@ -2,7 +2,6 @@
 
 ghost use Rattle.std.specs.Prelude.{◌≡◌, ◌+◌, ◌≤◌, ◌++◌, ◌∷◌, [], length, take, IfErr, OnOk};
 ghost use Rattle.rep_types.specs.declared.refusal.Refusal.TheVariants.{OutOfMemory};
-ghost use Rattle.rep_record.specs.Records.{IsWithin};
 ghost use Rattle.rep_cert.specs.Holdings.{Holdings};
 ghost use Rattle.rep_snap.specs.Lists.{oldest_of, published};
 ghost use Rattle.rep_node.specs.Publishing.{AreShown, shown, shown_of};
@@ -12,23 +11,14 @@ use crate::waiting::Waiting;
 use rep_backlog::Backlog;
 use rep_record::MAX_RECORDS;
 use rep_snap::{Pair, Publisher, histories_grow};
-use rep_types::{Item, Judged, Refusal};
+use rep_types::{Judged, Refusal};
 use std::sync::Wait;
-
-/// What holds of each item: a write set keeps its limits.
-fn keeps_its_limits(item: &Item)
-    ensures { IsWithin item.now }
-{
-    if let Item::WriteSet(write_set) = item {
-        write_set.writes();
-    }
-}
 
 /// What is published of an item: its seqno with what it wrote, which is nothing unless it committed.
 fn shown_of(judged: &Judged) -> Pair
     ensures { result ≡ shown_of judged.now }
 {
-    keeps_its_limits(&judged.item);
+    judged.item.limits();
     let writes = if judged.is_kept() {
         judged.item.writes()
     } else {

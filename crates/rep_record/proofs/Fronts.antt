@@ -5,12 +5,12 @@ use Rattle.std.proofs.lemmas.Bool.{ltb-true, le-leb}
 use Rattle.std.proofs.lemmas.List.{append-nil}
 use Rattle.rep_types.specs.declared.judged.Judged.{Judged}
 use Rattle.rep_types.specs.declared.item.Item.{Item}
-use Rattle.rep_types.specs.declared.item.Item.TheVariants.{WriteSet, SetWindow}
 use Rattle.rep_types.specs.declared.verdict.Verdict.{Verdict}
 use Rattle.rep_forms.specs.Forms.{number_bytes}
 use Rattle.rep_forms.specs.FormLaws.{length_number, conjuncts}
 use Rattle.rep_record.specs.declared.limits.TheConstants.{MAX_RECORDS, MAX_BLOCK}
-use Rattle.rep_record.specs.Records.{is_placed, IsWithin, body_bytes, spelled, record_bytes}
+use Rattle.rep_types.specs.Items.{IsWithin}
+use Rattle.rep_record.specs.Records.{is_placed, body_bytes, spelled, record_bytes}
 use Rattle.rep_record.specs.RecordLaws.{body_short}
 use Rattle.rep_record.specs.Blocks.{has_room, is_next, run_bytes}
 use Rattle.rep_record.specs.Fronts.{fitting, IsLongestFront}
@@ -66,10 +66,9 @@ only_fitting block (j ∷ js) (suc n) is =
 
 -- an empty block takes an item that has a spelling
 record_short : (seqno : ℕ) (i : Item) (v : Verdict) → IsWithin i → length (spelled seqno i v) ≤ MAX_BLOCK
-record_short seqno (WriteSet w) v h =
-    let body : List ℕ = body_bytes seqno w v in
-    omega (arith, body_short seqno w v h, length-append (number_bytes 2 (length body + 2)) body, length_number 2 (length body + 2))
-record_short seqno (SetWindow c) v h = omega arith
+record_short seqno i v h =
+    let body : List ℕ = body_bytes seqno i v in
+    omega (arith, body_short seqno i v h, length-append (number_bytes 2 (length body + 2)) body, length_number 2 (length body + 2))
 
 pub takes_first : (j : Judged) → is_placed j ≡ true → IsWithin j.item → has_room [] j ≡ true
 takes_first j placed h =

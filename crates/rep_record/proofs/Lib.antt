@@ -9,3 +9,4 @@ pub mod Blocks
 pub mod Gathering
 pub mod Fronts
 pub mod Rooms
+pub mod Records

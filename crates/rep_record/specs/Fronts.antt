@@ -2,7 +2,8 @@
 use Rattle.std.specs.Prelude.{◌≡◌, ℕ, ◌+◌, ◌<◌, ◌≤◌, true, false, if◌then◌else◌, List, [], ◌∷◌, ◌++◌, length, take, drop, slice_index_or}
 use Rattle.rep_types.specs.declared.judged.Judged.{Judged}
 use Rattle.rep_record.specs.declared.limits.TheConstants.{MAX_RECORDS}
-use Rattle.rep_record.specs.Records.{is_placed, IsWithin}
+use Rattle.rep_types.specs.Items.{IsWithin}
+use Rattle.rep_record.specs.Records.{is_placed}
 use Rattle.rep_record.specs.Blocks.{has_room, SeqnosFrom}
 
 -- how many of these items the block takes, one after another, up to the first that it doesn't

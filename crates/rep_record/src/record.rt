@@ -1,23 +1,26 @@
 //! Records as bytes.
 
-ghost use Rattle.std.specs.Prelude.{◌≡◌, ◌+◌, ◌≤◌, ◌<◌, ◌^◌, ◌++◌, ◌↔◌, ℕ, List, length, true, Ok, IfOk, IfErr, IsSome, IfSome, option_map};
+ghost use Rattle.std.specs.Prelude.{◌≡◌, ◌+◌, ◌≤◌, ◌<◌, ◌^◌, ◌∷◌, ◌++◌, ◌↔◌, ℕ, List, length, true, Ok, IfOk, IfErr, IsTrue, IsSome, IfSome, option_map};
 ghost use Rattle.std.specs.List.{AllByRecursion};
 ghost use Rattle.rep_types.specs.declared.judged.Judged.{Judged};
-ghost use Rattle.rep_types.specs.declared.item.Item.TheVariants.{WriteSet as OfWriteSet};
 ghost use Rattle.rep_types.specs.Transactions.{IsWithinLimits};
+ghost use Rattle.rep_types.specs.Windows.{is_window_size};
+ghost use Rattle.rep_types.specs.Items.{seen_by, source_of, trx_of};
+ghost use Rattle.rep_forms.specs.Forms.{number, number_bytes};
 ghost use Rattle.rep_forms.specs.Keys.{KeyFits};
 ghost use Rattle.rep_forms.specs.Writes.{WriteFits};
-ghost use Rattle.rep_record.specs.Records.{IsSpelled, IsRecord, spelled, IsFront, RecordsAreTold, is_verdict_at, is_placed, conflict_seqno, verdict_bytes, label_bytes, list_bytes, record_bytes, label_fields, verdict_of, verdict_fields, list_fields, record_form};
+ghost use Rattle.rep_record.specs.Records.{HasSpelling, IsRecord, spelled, IsFront, RecordsAreTold, is_verdict_at, suits, is_placed, conflict_seqno, verdict_bytes, labels_in, label_bytes, list_bytes, content_bytes, record_bytes, label_fields, verdict_of, verdict_fields, size_width, list_fields, item_of, record_form};
 
 use crate::limits::MAX_RECORD;
-use crate::room::write_set_len;
+use crate::room::item_len;
 use arrayvec::ArrayVec;
 use rep_forms::{
     Exact, Form, put_run, put_u8, put_u16, put_u64, read_front, read_run, read_u8, read_u16,
     read_u64, spellings_are_told, strip_front,
 };
 use rep_types::{
-    Item, Judged, Key, MAX_READS, MAX_SEQNO, MAX_WRITES, Refusal, Verdict, Write, WriteSet,
+    Item, Judged, Key, MAX_READS, MAX_SEQNO, MAX_WRITES, Refusal, SetWindow, Verdict, WindowSize,
+    Write, WriteSet,
 };
 use std::marker::Model;
 
@@ -42,15 +45,25 @@ fn is_verdict_at(seqno: u64, verdict: Verdict) -> bool
     }
 }
 
-/// Whether the item can be written as a record: it is a write set, its seqno is from 1 to 2^60, and a
-/// conflict is with an item before it.
+/// Whether the item may have the verdict: a change of the window's size always commits.
+fn suits(item: &Item, verdict: Verdict) -> bool
+    ensures { result ≡ suits item.now verdict }
+{
+    match item {
+        Item::WriteSet(_) => true,
+        Item::SetWindow(_) => verdict.is_commit(),
+    }
+}
+
+/// Whether the item can be written as a record: its seqno is from 1 to 2^60, a conflict is with an item
+/// before it, and a change of the window's size commits.
 pub fn is_placed(judged: &Judged) -> bool
     ensures { result ≡ is_placed judged.now }
 {
-    judged.item.is_write_set()
-        && 1 <= judged.seqno
+    1 <= judged.seqno
         && judged.seqno <= MAX_SEQNO
         && is_verdict_at(judged.seqno, judged.verdict)
+        && suits(&judged.item, judged.verdict)
 }
 
 /// Puts a verdict: 9 bytes.
@@ -70,19 +83,35 @@ fn put_verdict(out: &mut Bytes, verdict: Verdict)
     put_u64(out, seqno);
 }
 
+/// The numbers of a record of the item with this seqno.
+fn labels_of(seqno: u64, item: &Item) -> Labels
+    ensures { result ≡ labels_in seqno item.now }
+{
+    let last_seen = match item {
+        Item::WriteSet(write_set) => write_set.last_seen(),
+        Item::SetWindow(_) => 0,
+    };
+    Labels {
+        seqno,
+        last_seen,
+        source: item.source(),
+        trx: item.trx(),
+    }
+}
+
 /// Puts the numbers of a record: 32 bytes.
 #[tactic(auto, using(rep_forms::specs::FormLaws::sizes, rep_forms::specs::FormLaws::joined))]
-fn put_labels(out: &mut Bytes, seqno: u64, item: &WriteSet)
+fn put_labels(out: &mut Bytes, labels: &Labels)
     requires { length out.old.items + 32 ≤ MAX_RECORD }
-    ensures bytes { out.new.items ≡ out.old.items ++ label_bytes seqno item.now }
-    ensures last_seen { item.now.last_seen < 2 ^ 64 }
-    ensures source { item.now.source < 2 ^ 64 }
-    ensures trx { item.now.trx < 2 ^ 64 }
+    ensures bytes { out.new.items ≡ out.old.items ++ label_bytes labels.now }
+    ensures last_seen { labels.now.last_seen < 2 ^ 64 }
+    ensures source { labels.now.source < 2 ^ 64 }
+    ensures trx { labels.now.trx < 2 ^ 64 }
 {
-    put_u64(out, seqno);
-    put_u64(out, item.last_seen());
-    put_u64(out, item.source());
-    put_u64(out, item.trx());
+    put_u64(out, labels.seqno);
+    put_u64(out, labels.last_seen);
+    put_u64(out, labels.source);
+    put_u64(out, labels.trx);
 }
 
 /// Puts the reads and the writes, behind how many there are: at most 1,186 bytes.
@@ -103,37 +132,62 @@ fn put_lists(out: &mut Bytes, item: &WriteSet)
     put_run(out, writes);
 }
 
+/// Puts what stands in the place of reads and writes where the window's size changes: 4 bytes.
+#[tactic(auto, using(rep_forms::specs::FormLaws::sizes, rep_forms::specs::FormLaws::joined))]
+fn put_size(out: &mut Bytes, size: WindowSize)
+    requires { length out.old.items + 4 ≤ MAX_RECORD }
+    ensures bytes { out.new.items ≡ out.old.items ++ (0 ∷ 0 ∷ number_bytes 2 size) }
+    ensures size { IsTrue (is_window_size size) }
+{
+    put_u8(out, 0);
+    put_u8(out, 0);
+    put_u16(out, size.get() as u16);
+}
+
+/// Puts what the item says behind its labels: at most 1,186 bytes.
+#[tactic(auto, using(rep_forms::specs::FormLaws::sizes))]
+fn put_content(out: &mut Bytes, item: &Item)
+    requires { length out.old.items + 1186 ≤ MAX_RECORD }
+    ensures bytes { out.new.items ≡ out.old.items ++ content_bytes item.now }
+    ensures size { length (content_bytes item.now) ≤ 1186 }
+    ensures spelled { seen_by item.now < 2 ^ 64 → source_of item.now < 2 ^ 64 → trx_of item.now < 2 ^ 64 → HasSpelling item.now }
+{
+    match item {
+        Item::WriteSet(write_set) => put_lists(out, write_set),
+        Item::SetWindow(change) => put_size(out, change.size),
+    }
+}
+
 /// The bytes of a record of this item with this seqno and this verdict, whether or not they fit it.
 #[tactic(auto, using(rep_forms::specs::FormLaws::sizes, rep_forms::specs::FormLaws::joined))]
-fn put_write_set(seqno: u64, item: &WriteSet, verdict: Verdict) -> ArrayVec<u8, MAX_RECORD>
-    ensures bytes { result.items ≡ spelled seqno (OfWriteSet item.now) verdict }
+fn put_item(seqno: u64, item: &Item, verdict: Verdict) -> ArrayVec<u8, MAX_RECORD>
+    ensures bytes { result.items ≡ spelled seqno item.now verdict }
     ensures size { length result.items ≤ MAX_RECORD }
-    ensures spelled { IsSpelled item.now }
+    ensures spelled { HasSpelling item.now }
 {
     let mut out = ArrayVec::new();
-    put_u16(&mut out, write_set_len(item) as u16);
-    put_labels(&mut out, seqno, item);
+    put_u16(&mut out, item_len(item) as u16);
+    put_labels(&mut out, &labels_of(seqno, item));
     put_verdict(&mut out, verdict);
-    put_lists(&mut out, item);
+    put_content(&mut out, item);
     out
 }
 
 /// The bytes of a record, at most 1,229: a delivered item with its seqno and its verdict. None where
-/// it has no spelling: where it is no write set, its seqno is not from 1 to 2^60, or a conflict is not
-/// with an item before it.
+/// it has no spelling: where its seqno is not from 1 to 2^60, a conflict is not with an item before it,
+/// or a change of the window's size has not committed.
+#[tactic(auto, using(crate::proofs::Records::suits_is, crate::proofs::Records::is_suited))]
 pub fn put_record(judged: &Judged) -> Option<ArrayVec<u8, MAX_RECORD>>
     ensures placed { IsSome result ↔ (is_placed judged.now ≡ true) }
     // What is put has a spelling, and that is it: so it is read again.
     ensures bytes { IfSome result (λ b. IsRecord judged.now × (b.items ≡ record_bytes judged.now)) }
     ensures size { length (record_bytes judged.now) ≤ MAX_RECORD }
 {
-    match &judged.item {
-        Item::WriteSet(item) => {
-            let out = put_write_set(judged.seqno, item, judged.verdict);
-            if is_placed(judged) { Some(out) } else { None }
-        }
-        Item::SetWindow(_) => None,
+    let out = put_item(judged.seqno, &judged.item, judged.verdict);
+    if !is_placed(judged) {
+        return None;
     }
+    Some(out)
 }
 
 /// The numbers of a record, and the bytes behind them.
@@ -177,22 +231,62 @@ fn read_verdict(bytes: &[u8]) -> Option<(Verdict, &[u8])>
     Some((verdict, rest))
 }
 
-/// The reads and the writes behind their numbers, and the bytes behind them.
-fn read_lists(
-    bytes: &[u8],
-) -> Option<
-    (
-        (ArrayVec<Key, MAX_READS>, ArrayVec<Write, MAX_WRITES>),
-        &[u8],
-    ),
->
-    ensures { option_map (λ x. ((x.0.0.items, x.0.1.items), x.1.now)) result ≡ list_fields.read bytes.now }
+/// What an item says: its reads and its writes or, where there is no write, the size.
+#[derive(Drop)]
+struct Content {
+    reads: ArrayVec<Key, MAX_READS>,
+    writes: ArrayVec<Write, MAX_WRITES>,
+    size: u16,
+}
+
+/// The size, which stands behind no write alone, else 0, and the bytes behind it.
+fn read_size(bytes: &[u8], writes: u8) -> Option<(u16, &[u8])>
+    ensures { option_map (λ x. (x.0, x.1.now)) result ≡ (number (size_width writes)).read bytes.now }
+{
+    if writes == 0 {
+        return read_u16(bytes);
+    }
+    Some((0, bytes))
+}
+
+/// What an item says, and the bytes behind it.
+fn read_content(bytes: &[u8]) -> Option<(Content, &[u8])>
+    ensures { option_map (λ x. ((x.0.reads.items, (x.0.writes.items, x.0.size)), x.1.now)) result ≡ list_fields.read bytes.now }
 {
     let (read_count, rest) = read_u8(bytes)?;
     let (write_count, rest) = read_u8(rest)?;
     let (reads, rest) = read_run::<Key, MAX_READS>(rest, usize::from(read_count))?;
     let (writes, rest) = read_run::<Write, MAX_WRITES>(rest, usize::from(write_count))?;
-    Some(((reads, writes), rest))
+    let (size, rest) = read_size(rest, write_count)?;
+    let content = Content {
+        reads,
+        writes,
+        size,
+    };
+    Some((content, rest))
+}
+
+/// The item of these labels that says this: without a write it is a change of the window's size.
+fn item_from(labels: &Labels, content: &Content) -> Option<Item>
+    ensures { result ≡ item_of labels.now (content.now.reads.items, (content.now.writes.items, content.now.size)) }
+{
+    if content.writes.is_empty() {
+        let size = WindowSize::new(u64::from(content.size)).ok()?;
+        return Some(Item::SetWindow(SetWindow {
+            size,
+            source: labels.source,
+            trx: labels.trx,
+        }));
+    }
+    let write_set = WriteSet::new(
+        labels.source,
+        labels.trx,
+        labels.last_seen,
+        content.reads.as_slice(),
+        content.writes.as_slice(),
+    )
+    .ok()?;
+    Some(Item::WriteSet(write_set))
 }
 
 /// A judged item as it is read. It is a type of its own because a form belongs to a type of the crate
@@ -238,18 +332,10 @@ impl Form for Record {
         let (_, rest) = read_u16(bytes)?;
         let (labels, rest) = read_labels(rest)?;
         let (verdict, rest) = read_verdict(rest)?;
-        let ((reads, writes), rest) = read_lists(rest)?;
-        let item = WriteSet::new(
-            labels.source,
-            labels.trx,
-            labels.last_seen,
-            reads.as_slice(),
-            writes.as_slice(),
-        )
-        .ok()?;
+        let (content, rest) = read_content(rest)?;
         let judged = Judged {
             seqno: labels.seqno,
-            item: Item::WriteSet(item),
+            item: item_from(&labels, &content)?,
             verdict,
         };
         Some((Record { judged }, rest))
@@ -275,8 +361,9 @@ impl Exact for Record {
 /// record's own, and zero for the others; how many reads, 0 to 16, and how many writes, 1 to 16, in
 /// 1 byte each; the keys that are read, each its table in 1 byte and its row in 4; and the writes,
 /// each its key, 1 byte that is 0 for a delete and 1 for a put, the length of the value in 1 byte, 0
-/// to 62 and 0 for a delete, and the value. The highest byte of a number stands first, and the keys
-/// of the reads and of the writes ascend strictly.
+/// to 62 and 0 for a delete, and the value. A change of the window's size has last_seen 0, commits, and
+/// has no read, no write, and behind these numbers the size in 2 bytes, 1 to 256. The highest byte of a
+/// number stands first, and the keys of the reads and of the writes ascend strictly.
 pub fn read_record(bytes: &[u8]) -> Result<(Judged, usize), Refusal>
     // What is read is spelled so.
     ensures found { IfOk result (λ r. IsFront bytes.now r.0 r.1) }

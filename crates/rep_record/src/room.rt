@@ -4,14 +4,13 @@ ghost use Rattle.std.specs.Prelude.{◌≡◌, ℕ, ◌+◌, ◌*◌, ◌≤◌,
 ghost use Rattle.std.specs.List.{flat_map};
 ghost use Rattle.rep_types.specs.declared.judged.Judged.{Judged};
 ghost use Rattle.rep_forms.specs.Writes.{write_bytes};
-ghost use Rattle.rep_types.specs.declared.item.Item.TheVariants.{WriteSet as OfWriteSet};
 ghost use Rattle.rep_types.specs.declared.verdict.Verdict.{Verdict};
-ghost use Rattle.rep_record.specs.Records.{is_placed, body_bytes, spelled, record_bytes};
+ghost use Rattle.rep_record.specs.Records.{is_placed, content_bytes, body_bytes, spelled, record_bytes};
 ghost use Rattle.rep_record.specs.Blocks.{is_next, has_room, filled_by};
 
 use crate::limits::{MAX_BLOCK, MAX_RECORD, MAX_RECORDS};
 use crate::record::is_placed;
-use rep_types::{Item, Judged, MAX_WRITES, Write, WriteSet};
+use rep_types::{Item, Judged, MAX_WRITES, Write};
 use std::marker::Model;
 
 /// How many bytes the write has in a record.
@@ -39,14 +38,28 @@ fn writes_len(writes: &[Write]) -> usize
     size
 }
 
+/// How many bytes the item takes behind its labels.
+#[tactic(auto, using(crate::proofs::Rooms::lists_size, rep_forms::specs::FormLaws::sizes))]
+fn content_len(item: &Item) -> usize
+    ensures size { result ≡ length (content_bytes item.now) }
+    ensures few { result ≤ 1186 }
+{
+    match item {
+        Item::WriteSet(write_set) => 2
+            + 5 * write_set.reads().len()
+            + writes_len(write_set.writes()),
+        Item::SetWindow(_) => 4,
+    }
+}
+
 /// How many bytes a record of the item has, of which its first two say how many they are.
 #[tactic(auto, using(crate::proofs::Rooms::record_size, crate::proofs::Rooms::body_size))]
-pub(crate) fn write_set_len(item: &WriteSet) -> usize
+pub(crate) fn item_len(item: &Item) -> usize
     ensures body { (seqno : ℕ) (verdict : Verdict) → result ≡ length (body_bytes seqno item.now verdict) + 2 }
-    ensures size { (seqno : ℕ) (verdict : Verdict) → result ≡ length (spelled seqno (OfWriteSet item.now) verdict) }
+    ensures size { (seqno : ℕ) (verdict : Verdict) → result ≡ length (spelled seqno item.now verdict) }
     ensures few { result ≤ MAX_RECORD }
 {
-    45 + 5 * item.reads().len() + writes_len(item.writes())
+    43 + content_len(item)
 }
 
 /// How many bytes the record has, at most 1,229. None where it has no spelling, as `put_record` says.
@@ -58,10 +71,7 @@ fn record_len(judged: &Judged) -> Option<usize>
     if !is_placed(judged) {
         return None;
     }
-    match &judged.item {
-        Item::WriteSet(item) => Some(write_set_len(item)),
-        Item::SetWindow(_) => None,
-    }
+    Some(item_len(&judged.item))
 }
 
 /// The first seqno of so many records with one more.

@@ -1,14 +1,9 @@
 -- What stands behind a superblock, and which part fails first.
-use Rattle.std.proofs.Common.{◌≡◌, ℕ, ◌+◌, ◌<◌, inl, inr, true, List, [], ◌∷◌, ◌++◌, length, Result, IfErr, refl, sym, ap, subst, ◌∙◌, arith}
-use Rattle.std.specs.List.{AllByRecursion}
+use Rattle.std.proofs.Common.{◌≡◌, ℕ, ◌+◌, ◌<◌, inl, inr, true, List, [], ◌∷◌, Result, IfErr, refl, sym, ap, subst, ◌∙◌, arith}
 use Rattle.std.specs.Result.{IsErrAnd}
 use Rattle.std.proofs.lemmas.Bool.Decides.{nat_tests}
 use Rattle.std.proofs.lemmas.Result.{err_from_is_err_and}
 use Rattle.rep_types.specs.declared.judged.Judged.{Judged}
-use Rattle.rep_types.specs.declared.item.Item.{Item}
-use Rattle.rep_types.specs.declared.item.Item.TheVariants.{WriteSet, SetWindow}
-use Rattle.rep_types.specs.Items.{is_write_set}
-use Rattle.rep_record.specs.Records.{IsRecord, HasSpelling}
 use Rattle.rep_types.specs.declared.refusal.Part.{Part}
 use Rattle.rep_types.specs.declared.refusal.Part.TheVariants.{Log as in_log}
 use Rattle.rep_types.specs.declared.refusal.Refusal.{Refusal}
@@ -28,7 +23,7 @@ use Rattle.rep_versions.specs.Versions.{Kept}
 use Rattle.rep_cert.specs.Holdings.{Holding}
 use Rattle.rep_steps.specs.Images.{AreJudgedFrom}
 use Rattle.rep_image.specs.Bases.{HasWindow}
-use Rattle.rep_recover.specs.Judging.{bare, AreOfWriteSets, HasJudged, RefusesItems}
+use Rattle.rep_recover.specs.Judging.{bare, HasJudged, RefusesItems}
 use Rattle.rep_recover.specs.Looking.{RefusesPart, RefusesGrowing, HasBlocks, HasTail, HasBadPage}
 use Rattle.rep_recover.specs.Opening.{FailsAtLog, FailsAtPages, RefusesBehind}
 
@@ -40,20 +35,6 @@ same_reading m l g h layout history = ap (λ (x : Layout). reading_of x (seen g)
 
 some_cell : (p : Setting) → is_setting p ≡ true → 0 < p.cells
 some_cell p h = grind (arith, nat_tests)
-
--- what a block holds are write sets
-spelled_write_set : (i : Item) → HasSpelling i → is_write_set i ≡ true
-spelled_write_set (WriteSet w) is = refl
-spelled_write_set (SetWindow c) is = absurd is
-
-records_write_sets : (records js : List Judged) → AllByRecursion IsRecord records → AreOfWriteSets js → AreOfWriteSets (records ++ js)
-records_write_sets [] js are others = others
-records_write_sets (j ∷ records) js are others = (spelled_write_set j.item are.0.item, records_write_sets records js are.1 others)
-
-blocks_write_sets : (Has : ℕ → List ℕ → Type 0) (n seqno : ℕ) (blocks : List (List Judged)) → Stand Has n seqno blocks → AreOfWriteSets (records_of blocks)
-blocks_write_sets Has n seqno [] stand = tt
-blocks_write_sets Has n seqno (records ∷ blocks) stand =
-    records_write_sets records (records_of blocks) stand.1.is_block.are_records (blocks_write_sets Has (n + 1) (seqno + length records) blocks stand.2)
 
 -- blocks without a record are none
 pub no_blocks : (Has : ℕ → List ℕ → Type 0) (n seqno : ℕ) (blocks : List (List Judged)) → Stand Has n seqno blocks → records_of blocks ≡ [] → blocks ≡ []
@@ -79,15 +60,12 @@ module _ (told : TheLogIsTold) (bytes : List ℕ) (b : SuperBody) (is : IsSuper 
   same_items beside others tail =
       tail.items_are ∙ ap records_of (told.only r (layout_of b.params) b.start (b.position + 1) tail.blocks finds.blocks (some_cell b.params is.setting) tail.has.log finds.is_log) ∙ sym finds.items_are
 
-  of_write_sets : AreOfWriteSets items
-  of_write_sets = subst AreOfWriteSets (sym finds.items_are) (blocks_write_sets (Shows r (layout_of b.params)) b.start (b.position + 1) finds.blocks finds.is_log.stand)
-
   -- items that judging doesn't give again are no tail
-  pub fails_judging : (beside : WindowOf) → HasWindow r b beside → (AreOfWriteSets items → AreJudgedFrom b.params (bare b.position beside) items → ⊥) → FailsAtLog r b
+  pub fails_judging : (beside : WindowOf) → HasWindow r b beside → (AreJudgedFrom b.params (bare b.position beside) items → ⊥) → FailsAtLog r b
   fails_judging beside window none = record {
     beside = beside;
     window = window;
-    none = λ others tail. none of_write_sets (subst (λ (js : List Judged). AreJudgedFrom b.params (bare b.position beside) js) (same_items beside others tail) tail.judged);
+    none = λ others tail. none (subst (λ (js : List Judged). AreJudgedFrom b.params (bare b.position beside) js) (same_items beside others tail) tail.judged);
   }
 
   has_tail : (IsNil b.uuid → items ≡ []) → (beside : WindowOf) (h : Holding) (kept : Kept) → HasJudged b.params (bare b.position beside) items h kept → HasTail r b beside items

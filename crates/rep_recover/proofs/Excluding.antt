@@ -5,8 +5,7 @@ use Rattle.rep_types.specs.declared.refusal.Part.{Part}
 use Rattle.rep_types.specs.declared.refusal.Part.TheVariants.{Superblock, Window as in_window, Log as in_log, Pages}
 use Rattle.rep_types.specs.declared.refusal.Refusal.{Refusal}
 use Rattle.rep_types.specs.declared.refusal.Refusal.TheVariants.{NotFormatted, Corrupt}
-use Rattle.rep_types.specs.Entries.{Entry}
-use Rattle.rep_types.specs.Windows.{Window as WindowOf, fixed}
+use Rattle.rep_types.specs.Windows.{Window as WindowOf}
 use Rattle.rep_types.specs.Settings.{Setting}
 use Rattle.rep_layout.specs.declared.super_body.SuperBody.{SuperBody}
 use Rattle.rep_layout.specs.declared.place.Side.{Side}
@@ -14,7 +13,7 @@ use Rattle.rep_layout.specs.declared.place.Side.TheVariants.{A, B}
 use Rattle.rep_layout.specs.declared.place.Place.TheVariants.{Super}
 use Rattle.rep_layout.specs.Places.{side_of, layout_of}
 use Rattle.rep_layout.specs.Supers.{super_bytes, SuperblocksAreTold}
-use Rattle.rep_layout.specs.Windows.{Window, window, WindowsAreTold}
+use Rattle.rep_layout.specs.Windows.{Window, beside, WindowsAreTold}
 use Rattle.rep_cells.specs.Readings.{Reading, reading_of}
 use Rattle.rep_steps.specs.Images.{Meaning, AreJudgedFrom}
 use Rattle.rep_image.specs.Bases.{other, IsSuperAt, IsLesser, IsChosen, HasWindow}
@@ -75,12 +74,10 @@ bad_super size r s alike b h bad = elim (sides bad.side (side_of b.number)) [
 -- ---- what stands behind it
 
 module _ (windows : WindowsAreTold) (size : ℕ) (b : SuperBody) (r : Reading) (m : Meaning) (h : MeansBy size b r m) where
-  window_is : (beside : WindowOf) → HasWindow r b beside → m.base.kept ≡ beside
-  window_is beside k =
-      let entries : m.base.kept.entries ≡ beside.entries =
-      ap (λ (w : Window). w.entries)
-      (windows b.params (window b.number b.position m.base.kept.entries) (window b.number b.position beside.entries) h.chosen.is_super.is_super.setting h.window.is_window k.is_window (same_Some _ _ (sym h.window.stands ∙ k.stands))) in
-      h.window.is_fixed ∙ ap (λ (es : List Entry). fixed b.params.window b.position es) entries ∙ sym k.is_fixed
+  window_is : (v : WindowOf) → HasWindow r b v → m.base.kept ≡ v
+  window_is v k =
+      ap (λ (w : Window). w.kept)
+      (windows b.params (beside b m.base.kept) (beside b v) h.chosen.is_super.is_super.setting h.window.is_window k.is_window (same_Some _ _ (sym h.window.stands ∙ k.stands)))
 
   tail_is : HasTail r b m.base.kept m.tail
   tail_is =

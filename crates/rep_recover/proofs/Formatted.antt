@@ -1,11 +1,10 @@
 -- What every image of a formatted device means.
-use Rattle.std.proofs.Common.{◌≡◌, ℕ, ◌+◌, ◌-◌, ◌<◌, ◌≤◌, max, inl, inr, true, false, List, [], length, get_or, replicate, Option, None, refl, sym, ap, subst, ◌∙◌, arith}
+use Rattle.std.proofs.Common.{◌≡◌, ℕ, ◌<◌, ◌≤◌, inl, inr, true, false, List, [], length, get_or, replicate, Option, None, refl, sym, subst, ◌∙◌, arith}
 use Rattle.std.proofs.lemmas.Bool.{cases_lt}
 use Rattle.std.proofs.lemmas.Bool.Decides.{nat_tests}
 use Rattle.std.proofs.lemmas.List.{get_or-replicate, get_or_past, length-replicate}
 use Rattle.rep_types.specs.declared.judged.Judged.{Judged}
 use Rattle.rep_types.specs.Settings.{Setting, is_setting, pages_of}
-use Rattle.rep_types.specs.Windows.{Window as WindowOf}
 use Rattle.rep_types.specs.Order.{state}
 use Rattle.rep_disk.specs.History.{History}
 use Rattle.rep_layout.specs.declared.page_state.PageState.TheVariants.{Nowhere, In}
@@ -14,7 +13,7 @@ use Rattle.rep_layout.specs.declared.place.Side.TheVariants.{B}
 use Rattle.rep_layout.specs.declared.place.Place.TheVariants.{Super, Log}
 use Rattle.rep_layout.specs.Places.{layout_of, need_of}
 use Rattle.rep_layout.specs.Supers.{IsSuper, super_bytes}
-use Rattle.rep_layout.specs.Windows.{IsWindowBody, window, window_bytes}
+use Rattle.rep_layout.specs.Windows.{IsWindowBody, window_bytes}
 use Rattle.rep_cells.specs.States.{State, States, Closed, Opened, Stable, Allows}
 use Rattle.rep_cells.specs.Known.{Assigns}
 use Rattle.rep_cells.specs.Laws.{ImagesReadAsAllowed}
@@ -26,7 +25,7 @@ use Rattle.rep_steps.specs.Images.{Meaning, StandsFor, AreJudgedFrom}
 use Rattle.rep_image.specs.Bases.{IsLesser}
 use Rattle.rep_image.specs.Meanings.{Means}
 use Rattle.rep_image.specs.Standing.{Stands, ImagesMeanWhatStands, with_blocks}
-use Rattle.rep_recover.specs.Formatting.{first_super, HasFirst, ImagesStandFor}
+use Rattle.rep_recover.specs.Formatting.{first_super, first_window, HasFirst, ImagesStandFor}
 
 -- nothing was delivered
 abbrev empty : List ℕ → Setting → Meaning
@@ -70,8 +69,8 @@ lesser size number state reading is allows =
     let none : reading ≡ None = subst (λ (x : State). Allows x reading) is allows in
     subst (λ (r : Option (List ℕ)). IsLesser size B number r) (sym none) tt
 
-module _ (uuid : List ℕ) (p : Setting) (is : IsSuper (first_super uuid p)) (is_window : IsWindowBody p (window 0 0 [])) where
-  stands : (size : ℕ) (s : States) → need_of (layout_of p) ≤ size → HasFirst p.cells (Opened (super_bytes (first_super uuid p))) (Stable (window_bytes (window 0 0 []))) s
+module _ (uuid : List ℕ) (p : Setting) (is : IsSuper (first_super uuid p)) (is_window : IsWindowBody p (first_window p)) where
+  stands : (size : ℕ) (s : States) → need_of (layout_of p) ≤ size → HasFirst p.cells (Opened (super_bytes (first_super uuid p))) (Stable (window_bytes (first_window p))) s
       → Stands size (first_super uuid p) (empty uuid p) (empty_log p.cells) [] [] s
   stands size s fits has = record {
     uuid = refl;
@@ -83,10 +82,6 @@ module _ (uuid : List ℕ) (p : Setting) (is : IsSuper (first_super uuid p)) (is
       lesser = λ reading allows. lesser size 0 (s (Super B)) reading has.second allows;
       saved = has.beside;
       is_window = is_window;
-      is_fixed =
-          let low : 1 ≡ max 1 (0 + 1 - p.window) = omega arith in
-          let made : ℕ → WindowOf = λ least. record { size = p.window; floor = least; entries = [] } in
-          ap made low;
     };
     content = record {
       pages = λ number slot there. (let none : Nowhere ≡ In slot = sym (no_slot (pages_of p.rows) number) ∙ there in absurd cc);
@@ -104,7 +99,7 @@ module _ (uuid : List ℕ) (p : Setting) (is : IsSuper (first_super uuid p)) (is
   none_held held (inl is) = is
   none_held held (inr opens) = let never : Resting ≡ Opening opens.0 = opens.1 in absurd cc
 
-  pub formatted : ImagesReadAsAllowed → ImagesMeanWhatStands → (h : History) (s : States) → Assigns (layout_of p) h s → HasFirst p.cells (Opened (super_bytes (first_super uuid p))) (Stable (window_bytes (window 0 0 []))) s
+  pub formatted : ImagesReadAsAllowed → ImagesMeanWhatStands → (h : History) (s : States) → Assigns (layout_of p) h s → HasFirst p.cells (Opened (super_bytes (first_super uuid p))) (Stable (window_bytes (first_window p))) s
       → ImagesStandFor uuid p [] h
   formatted allowed law h s assigns has image of =
       let found = law image (first_super uuid p) (empty uuid p) (empty_log p.cells) [] [] s (stands (length image) s (omega (arith, assigns.fits, of.sized)) has) (allowed (layout_of p) h s image assigns of) in
@@ -114,7 +109,7 @@ module _ (uuid : List ℕ) (p : Setting) (is : IsSuper (first_super uuid p)) (is
 
   -- the same of the layout and the bytes that the code has
   pub formatted_by :
-      ImagesReadAsAllowed → ImagesMeanWhatStands → (l : Layout) (super beside : List ℕ) (h : History) → l ≡ layout_of p → super ≡ super_bytes (first_super uuid p) → beside ≡ window_bytes (window 0 0 [])
+      ImagesReadAsAllowed → ImagesMeanWhatStands → (l : Layout) (super beside : List ℕ) (h : History) → l ≡ layout_of p → super ≡ super_bytes (first_super uuid p) → beside ≡ window_bytes (first_window p)
       → (t : States) × Assigns l h t × HasFirst l.cells (Opened super) (Stable beside) t → ImagesStandFor uuid p [] h
   formatted_by allowed law l super beside h same super_is beside_is found =
       let has = subst (λ (k : Layout). HasFirst k.cells (Opened super) (Stable beside) found.0) same found.2 in

@@ -8,7 +8,7 @@ use Rattle.rep_types.specs.declared.verdict.Verdict.{Verdict}
 use Rattle.rep_types.specs.declared.value.Write.{Write}
 use Rattle.rep_types.specs.Windows.{Window as WindowOf}
 use Rattle.rep_types.specs.Settings.{Setting}
-use Rattle.rep_types.specs.Items.{is_write_set, writes_of}
+use Rattle.rep_types.specs.Items.{writes_of}
 use Rattle.rep_types.specs.Order.{State, counts, extended, judge, window_after}
 use Rattle.std.specs.FinMap.{empty}
 use Rattle.rep_versions.specs.Versions.{Kept, IsAdded}
@@ -16,7 +16,7 @@ use Rattle.rep_versions.specs.Following.{AreVersionsOf, effect_of, VersionsFollo
 use Rattle.rep_cert.specs.Holdings.{Holding, IsAskable, Admits, window_of, verdict_of, made_at}
 use Rattle.rep_steps.specs.Nodes.{advanced, reached}
 use Rattle.rep_steps.specs.Images.{AreJudgedFrom}
-use Rattle.rep_recover.specs.Judging.{AreOfWriteSets, IsNext, Notes, HasJudged}
+use Rattle.rep_recover.specs.Judging.{IsNext, Notes, HasJudged}
 
 -- ---- states on the way
 
@@ -156,19 +156,6 @@ nothing_judged law p S h kept spanned is none =
     }))
 
 -- ---- the items one by one
-
--- write sets with one more
-pub one_more : (js : List Judged) (j : Judged) → AreOfWriteSets js → is_write_set j.item ≡ true → AreOfWriteSets (js ++ j ∷ [])
-one_more [] j are is = (is, tt)
-one_more (i ∷ js) j are is = (are.0, one_more js j are.1 is)
-
--- and each of them is one
-within : (js : List Judged) (j : Judged) (rest : List Judged) → AreOfWriteSets (js ++ j ∷ rest) → is_write_set j.item ≡ true
-within [] j rest are = are.0
-within (i ∷ js) j rest are = within js j rest are.1
-
-pub one_of : (js : List Judged) (j : Judged) (rest items : List Judged) → items ≡ js ++ j ∷ rest → AreOfWriteSets items → is_write_set j.item ≡ true
-one_of js j rest items split are = within js j rest (subst AreOfWriteSets split are)
 
 pub split_at : (xs : List Judged) (i : ℕ) (j : Judged) → i < length xs → j ≡ get_or xs i j → xs ≡ take i xs ++ j ∷ drop (i + 1) xs
 split_at xs i j lt is = split xs i lt is ∙ ap (λ (n : ℕ). take i xs ++ j ∷ drop n xs) (sym (add-one i))

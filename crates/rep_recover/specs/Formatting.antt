@@ -1,13 +1,15 @@
 -- What formatting writes, and what it leaves.
-use Rattle.std.specs.Prelude.{◌≡◌, ℕ, ◌<◌, List, replicate, Option, None, Some}
+use Rattle.std.specs.Prelude.{◌≡◌, ℕ, ◌<◌, List, [], replicate, Option, None, Some}
 use Rattle.rep_disk.specs.History.{History, IsImage}
 use Rattle.rep_types.specs.Settings.{Setting, pages_of}
 use Rattle.rep_types.specs.Order.{Order}
+use Rattle.rep_layout.specs.declared.format.Format.TheVariants.{Two}
 use Rattle.rep_layout.specs.declared.super_body.SuperBody.{SuperBody}
 use Rattle.rep_layout.specs.declared.page_state.PageState.TheVariants.{Nowhere}
 use Rattle.rep_layout.specs.declared.place.Side.{Side}
 use Rattle.rep_layout.specs.declared.place.Side.TheVariants.{A, B}
 use Rattle.rep_layout.specs.declared.place.Place.TheVariants.{Super, Window, Log}
+use Rattle.rep_layout.specs.Windows.{Window as WindowBody, window}
 use Rattle.rep_cells.specs.States.{State, States, Closed, synced}
 use Rattle.rep_steps.specs.Images.{Meaning, StandsFor}
 use Rattle.rep_image.specs.Meanings.{Means}
@@ -23,7 +25,11 @@ ImagesStandFor uuid p L h = (image : List ℕ) → IsImage h image → (m : Mean
 
 -- the superblock of a node to which nothing was delivered: of number 0, position 0 and start 0, with no page in a slot
 abbrev pub first_super : List ℕ → Setting → SuperBody
-first_super uuid p = record { number = 0; uuid = uuid; params = p; position = 0; start = 0; pages = record { items = replicate (pages_of p.rows) Nowhere } }
+first_super uuid p = record { format = Two; number = 0; uuid = uuid; params = p; position = 0; start = 0; pages = record { items = replicate (pages_of p.rows) Nowhere } }
+
+-- the window beside it, which holds nothing
+abbrev pub first_window : Setting → WindowBody
+first_window p = window Two 0 0 (record { size = p.window; floor = 1; entries = [] })
 
 -- ---- the states on the way
 

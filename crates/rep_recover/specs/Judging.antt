@@ -7,8 +7,7 @@ use Rattle.rep_types.specs.declared.refusal.Refusal.{Refusal}
 use Rattle.rep_types.specs.declared.refusal.Refusal.TheVariants.{OutOfMemory, Corrupt}
 use Rattle.rep_types.specs.Windows.{Window as WindowOf}
 use Rattle.rep_types.specs.Settings.{Setting}
-use Rattle.std.specs.List.{AllByRecursion}
-use Rattle.rep_types.specs.Items.{is_write_set, writes_of}
+use Rattle.rep_types.specs.Items.{writes_of}
 use Rattle.rep_types.specs.Order.{State}
 use Rattle.rep_versions.specs.Versions.{Kept, IsAdded}
 use Rattle.rep_versions.specs.Following.{AreVersionsOf, effect_of}
@@ -44,10 +43,6 @@ pub record HasJudged (p : Setting) (S : State) (items : List Judged) (h : Holdin
   pub windows : (k : ℕ) → IsAskable h k → window_of h k ≡ (reached p S (take (k - S.position) items)).kept
   pub versions : AreVersionsOf S.position (map effect_of items) kept
 
--- Each of them is a write set.
-abbrev pub AreOfWriteSets : List Judged → Type 0
-AreOfWriteSets items = AllByRecursion (λ (j : Judged). is_write_set j.item ≡ true) items
-
--- A refusal that judging again may answer: no memory, or an item that is not the next, or no write set.
+-- A refusal that judging again may answer: no memory, or an item that is not the next.
 abbrev pub RefusesItems : Type 0 → Refusal → Type 0
 RefusesItems Reason e = (e ≡ OutOfMemory) ⊎ ((e ≡ Corrupt in_log) × Reason)

@@ -5,7 +5,6 @@ use Rattle.rep_types.specs.declared.refusal.Part.{Part}
 use Rattle.rep_types.specs.declared.refusal.Part.TheVariants.{Superblock}
 use Rattle.rep_types.specs.declared.refusal.Refusal.{Refusal}
 use Rattle.rep_types.specs.declared.refusal.Refusal.TheVariants.{OutOfMemory, DiskFault, NotFormatted, Corrupt}
-use Rattle.rep_types.specs.Entries.{Entry}
 use Rattle.rep_types.specs.Windows.{Window as WindowOf}
 use Rattle.rep_disk.specs.declared.disk.DiskFault.{DiskFault as Fault}
 use Rattle.rep_disk.specs.History.{History}
@@ -17,7 +16,7 @@ use Rattle.rep_layout.specs.declared.place.Slot.{Slot}
 use Rattle.rep_layout.specs.declared.place.Place.TheVariants.{Super, Page}
 use Rattle.rep_layout.specs.Places.{side_of, layout_of}
 use Rattle.rep_layout.specs.Supers.{IsNil, super_bytes}
-use Rattle.rep_layout.specs.Windows.{window, window_bytes, IsWindowBody}
+use Rattle.rep_layout.specs.Windows.{window_bytes, IsWindowBody, beside}
 use Rattle.rep_cells.specs.Readings.{Reading}
 use Rattle.rep_log.specs.Tail.{IsLog, records_of}
 use Rattle.rep_log.specs.Moves.{fault_of}
@@ -81,7 +80,7 @@ RefusesSupers None_open Bad e = (e ≡ DiskFault) ⊎ (((e ≡ NotFormatted) × 
 
 -- The bytes are no window of this superblock.
 abbrev pub IsNoWindow : SuperBody → List ℕ → Type 0
-IsNoWindow b bytes = (entries : List Entry) → IsWindowBody b.params (window b.number b.position entries) → bytes ≡ window_bytes (window b.number b.position entries) → ⊥
+IsNoWindow b bytes = (v : WindowOf) → IsWindowBody b.params (beside b v) → bytes ≡ window_bytes (beside b v) → ⊥
 
 -- ---- the log
 
@@ -91,11 +90,11 @@ pub record HasBlocks (r : Reading) (b : SuperBody) (blocks : List (List Judged))
   pub undefined : IsNil b.uuid → blocks ≡ []
 
 -- The items of the reading's log behind this superblock and this window, which judging gives again.
-pub record HasTail (r : Reading) (b : SuperBody) (beside : WindowOf) (items : List Judged) : Type 0 where
+pub record HasTail (r : Reading) (b : SuperBody) (kept : WindowOf) (items : List Judged) : Type 0 where
   pub blocks : List (List Judged)
   pub has : HasBlocks r b blocks
   pub items_are : items ≡ records_of blocks
-  pub judged : AreJudgedFrom b.params (bare b.position beside) items
+  pub judged : AreJudgedFrom b.params (bare b.position kept) items
 
 -- ---- the pages
 

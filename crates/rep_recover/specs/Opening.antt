@@ -29,10 +29,10 @@ use Rattle.rep_versions.specs.Following.{AreVersionsOf, effect_of}
 use Rattle.rep_cert.specs.Holdings.{Holding, IsAskable, window_of}
 use Rattle.rep_steps.specs.Nodes.{reached}
 use Rattle.rep_steps.specs.Images.{Meaning}
-use Rattle.rep_image.specs.Bases.{other, IsSuperAt, IsChosen, IsFixed, HasWindow}
+use Rattle.rep_image.specs.Bases.{other, IsSuperAt, IsChosen, HasWindow}
 use Rattle.rep_image.specs.Meanings.{Means, MeansBy}
 use Rattle.rep_engine.specs.Checking.{HoldsWindows}
-use Rattle.rep_recover.specs.Judging.{bare, AreOfWriteSets, HasJudged}
+use Rattle.rep_recover.specs.Judging.{bare, HasJudged}
 use Rattle.rep_recover.specs.Looking.{HasBadSuper, HasNoSuper, HasTail, HasPages, HasBadPage}
 
 -- ---- why it refuses
@@ -90,15 +90,13 @@ ReasonsExcludeMeanings = (image : List ℕ) (e : Refusal) (m : Meaning) → IsRe
 
 -- ---- what is found behind a superblock
 
--- On any device: a log at rest behind the superblock, write sets that were judged again over a window of the form, and the windows and
+-- On any device: a log at rest behind the superblock, items that were judged again over a window of the form, and the windows and
 -- versions that this gives; each of these windows can be written; without a cluster there is no item.
 pub record IsBehind (b : SuperBody) (log : Standing) (items : List Judged) (h : Holding) (kept : Kept) : Type 0 where
   pub scanned : IsScanned (layout_of b.params) b.start (b.position + 1) log items
   pub undefined : IsNil b.uuid → items ≡ []
   pub beside : WindowOf
-  pub is_window : IsWindowBody b.params (window b.number b.position beside.entries)
-  pub is_fixed : IsFixed b beside
-  pub write_sets : AreOfWriteSets items
+  pub is_window : IsWindowBody b.params (window b.format b.number b.position beside)
   pub judged : HasJudged b.params (bare b.position beside) items h kept
   pub windows : HoldsWindows h
 

@@ -6,20 +6,22 @@ ghost use Rattle.rep_forms.specs.Forms.{IsPart};
 ghost use Rattle.rep_disk.specs.Calls.{IsCall};
 ghost use Rattle.rep_layout.specs.Places.{layout_of as layout_with, need_of};
 ghost use Rattle.rep_layout.specs.Supers.{IsSuper, super_bytes};
-ghost use Rattle.rep_layout.specs.Windows.{IsWindowBody, window, window_bytes};
+ghost use Rattle.rep_layout.specs.Windows.{IsWindowBody, window_bytes};
 ghost use Rattle.rep_cells.specs.Device.{disk_of, layout_of};
 ghost use Rattle.rep_cells.specs.States.{Filled, Opened, Stable};
 ghost use Rattle.rep_log.specs.Moves.{fault_of};
 ghost use Rattle.rep_recover.specs.Going.{Goes, StaysFrom, pages_at};
-ghost use Rattle.rep_recover.specs.Formatting.{uuid_of, first_super, ImagesStandFor, WillClose, AreClosed, HasFirst};
+ghost use Rattle.rep_recover.specs.Formatting.{uuid_of, first_super, first_window, ImagesStandFor, WillClose, AreClosed, HasFirst};
 
 use arrayvec::ArrayVec;
 use rep_cells::{Cells, images_read_as_allowed, refusal_of, syncs_narrow};
 use rep_disk::{Disk, DiskFault};
 use rep_forms::put_bytes;
 use rep_image::images_mean_what_stands;
-use rep_layout::{Layout, PageState, Place, SUPER_BODY, Side, SuperBody, WINDOW_BODY, WindowBody};
-use rep_types::{MAX_PAGES, Params, Refusal};
+use rep_layout::{
+    Format, Layout, PageState, Place, SUPER_BODY, Side, SuperBody, WINDOW_BODY, WindowBody,
+};
+use rep_types::{MAX_PAGES, Params, Reach, Refusal};
 use uuid::Uuid;
 
 /// The greatest number of pages, as the length of a list.
@@ -43,6 +45,7 @@ fn first_super(params: &Params, uuid: Option<Uuid>) -> SuperBody
     let uuid = uuid.unwrap_or(Uuid::nil());
     know_uuid(&uuid);
     SuperBody {
+        format: Format::Two,
         number: 0,
         uuid,
         params: params.copied(),
@@ -149,13 +152,15 @@ fn first_super_body(params: &Params, uuid: Option<Uuid>) -> ArrayVec<u8, SUPER_B
 
 /// The bytes of the window beside it.
 fn first_window_body(params: &Params) -> ArrayVec<u8, WINDOW_BODY>
-    ensures is_window { IsWindowBody params.now (window 0 0 []) }
-    ensures bytes { result.items ≡ window_bytes (window 0 0 []) }
+    ensures is_window { IsWindowBody params.now (first_window params.now) }
+    ensures bytes { result.items ≡ window_bytes (first_window params.now) }
     ensures size { length result.items ≡ WINDOW_BODY }
 {
     let window = WindowBody {
+        format: Format::Two,
         number: 0,
         position: 0,
+        reach: Reach::first(params.window_size()),
         entries: &[],
     };
     match window.write_body(params) {

@@ -125,7 +125,7 @@ fn relaid<D: Disk>(cells: Cells<D>, layout: Layout) -> Cells<D>
 ///
 /// - a superblock that stands open is no superblock of its side, or has places that the device has no room for,
 ///   also beside one that counts, which is the one of the greater number;
-/// - the window beside that one is not of the form, or of another number or position;
+/// - the window beside that one is not of the form, or of another format, number or position;
 /// - the log has cells of no log, as `Log::scan` says, an item that has another seqno or another verdict than
 ///   judging it gives, or an item at all where the node belongs to no cluster;
 /// - a page in a slot that the superblock names is not of the form, of another number, or of a position above

@@ -124,7 +124,7 @@ module _ {D : Type 0} (honest : D → Type 0) (history : D → History) (failure
           near = let go = is.items running in omega (arith, admits.delivered, go.count, many, length-append old.engine.block old.backlog);
           past = omega (arith, admits.delivered, is.askable.past);
         };
-        windows = law.admits h new.certifier.current w (omega (arith, is.askable.made, is.askable.past)) limits is.windows admits;
+        windows = law.admits h new.certifier.current (WriteSet w) (omega (arith, is.askable.made, is.askable.past)) limits is.windows admits;
         items = λ on.
             let go = is.items running in
             let place : j.seqno ≡ old.certifier.current.delivered + 1 = ap (λ (x : Judged). x.seqno) j_is in
@@ -134,7 +134,7 @@ module _ {D : Type 0} (honest : D → Type 0) (history : D → History) (failure
                 limit = omega (arith, length-append old.backlog (j ∷ []), go.count, count, limited);
                 undefined = λ nil. absurd (let never : false ≡ true = sym passed.0 ∙ nil in cc);
               };
-              placed = placed_more old.backlog j go.placed (subst (λ (x : Judged). is_placed x ≡ true) (sym j_is) (places.upto h.setting h.delivered (reach_at h h.delivered).size (reach_at h h.delivered).floor h.entries w (omega (arith, limited, count))));
+              placed = placed_more old.backlog j go.placed (subst (λ (x : Judged). is_placed x ≡ true) (sym j_is) (places.upto h.setting h.delivered (reach_at h h.delivered).size (reach_at h h.delivered).floor h.entries (WriteSet w) (omega (arith, limited, count))));
               count = omega (arith, admits.delivered, go.count, length-append old.backlog (j ∷ []));
             };
       }))

@@ -10,7 +10,7 @@ use Rattle.rep_types.specs.declared.refusal.Refusal.TheVariants.{DiskFault}
 use Rattle.rep_types.specs.declared.limits.TheConstants.{MAX_SEQNO}
 use Rattle.rep_types.specs.Settings.{Setting}
 use Rattle.rep_types.specs.Order.{State}
-use Rattle.rep_types.specs.Windows.{Window, fixed}
+use Rattle.rep_types.specs.Windows.{Window}
 use Rattle.rep_disk.specs.History.{History}
 use Rattle.rep_disk.specs.Calls.{Rises, IsCall}
 use Rattle.rep_disk.specs.Moments.{LeavesOnly}
@@ -32,7 +32,6 @@ use Rattle.rep_checkpoint.specs.declared.stage.Stage.TheVariants.{Off, Toward, R
 use Rattle.rep_checkpoint.specs.Standing.{stage_in}
 use Rattle.rep_checkpoint.specs.Coming.{coming}
 use Rattle.rep_checkpoint.specs.Arriving.{installed}
-use Rattle.rep_checkpoint.specs.Windows.{IsWindowAt}
 use Rattle.rep_engine.specs.Engines.{Engine, facts_of as engine_facts, durable_of, phase_at}
 use Rattle.rep_engine.specs.Holding.{Holds as EngineHolds}
 use Rattle.rep_engine.specs.Checking.{CertifiersHoldWindows, HoldsWindows}
@@ -134,18 +133,18 @@ module _ {D : Type 0} (honest : D → Type 0) (history : D → History) (failure
   position_is : y.position ≡ super.position
   position_is = (holds.engine.runs runs).installs.installation.position
 
-  kept_is : y.kept ≡ fixed p.window super.position b.coming.next.entries
-  kept_is = (holds.engine.runs runs).installs.installation.entries ∙ ap (λ (q : Setting). fixed q.window super.position b.coming.next.entries) beside.coming.params
+  kept_is : y.kept ≡ b.coming.next.window
+  kept_is = (holds.engine.runs runs).installs.installation.kept
 
   state_there : (k : ℕ) → window_at m k ≡ y.kept
   state_there k = ap (λ (js : List Judged). (reached n.facts.setting y js).kept) (take_none (k - y.position))
 
   pub windows_there : (k : ℕ) → y.position ≤ k → IsAskable b.after.current k → window_of b.after.current k ≡ window_at m k
   windows_there k above askable =
-      let here : IsAskable (made_at p super.position (fixed p.window super.position b.coming.next.entries)) k = subst (λ (h : Holding). IsAskable h k) is.made askable in
+      let here : IsAskable (made_at p super.position b.coming.next.window) k = subst (λ (h : Holding). IsAskable h k) is.made askable in
       let same : k ≡ super.position = omega (arith, here.past, above, position_is) in
-      ap (λ (h : Holding). window_of h k) is.made ∙ ap (window_of (made_at p super.position (fixed p.window super.position b.coming.next.entries))) same
-      ∙ law.first p super.position (fixed p.window super.position b.coming.next.entries) is.window ∙ sym (state_there k ∙ kept_is)
+      ap (λ (h : Holding). window_of h k) is.made ∙ ap (window_of (made_at p super.position b.coming.next.window)) same
+      ∙ law.first p super.position b.coming.next.window is.window ∙ sym (state_there k ∙ kept_is)
 
   -- the replica over the engine that it leaves
   pub held_there : (e : Engine D) → EngineHolds honest history failures m e → Holds honest history failures m (record { engine = e; backlog = []; certifier = b.after; stopped = false })
@@ -262,11 +261,11 @@ never_err {A} {B} {P} {result} {a} {b} ok err = absurd (let never : ◌≡◌ {A
 
 -- the certifier that goes on is made at the snapshot
 pub is_bringing : {D : Type 0} (failures : D → ℕ) (e : Engine D) (uuid : List ℕ) (position : ℕ) (v : Window) (before after : Holdings) → CanBring e.checkpoint.base (durable_of e.log) uuid position v → IsReplica (engine_facts failures e) [] before.current false
-    → after.current ≡ made_at e.checkpoint.base.params position v → IsBringing (engine_facts failures e) (coming e.checkpoint.base uuid position e.log.next v.entries) before after
+    → after.current ≡ made_at e.checkpoint.base.params position v → IsBringing (engine_facts failures e) (coming e.checkpoint.base uuid position e.log.next v) before after
 is_bringing failures e uuid position v before after can replica made = record {
   replica = replica;
-  window = subst (IsWindowAt e.checkpoint.base.params position) can.window.is_fixed can.window;
-  made = made ∙ ap (made_at e.checkpoint.base.params position) can.window.is_fixed;
+  window = can.window;
+  made = made;
 }
 
 -- ---- where it ends
@@ -289,7 +288,7 @@ pub replica_there : {D : Type 0} (failures : D → ℕ) → CertifiersHoldWindow
 replica_there failures law b e taken beside runs is =
     let p = b.engine.checkpoint.base.params in
     let position = b.coming.next.super.position in
-    let v = fixed p.window position b.coming.next.entries in
+    let v = b.coming.next.window in
     let durable = durable_there failures b e taken beside runs in
     let ahead : length (engine_facts failures e).ahead ≡ 0 = ap length (ahead_there failures b e taken beside runs) in
     record {

@@ -8,7 +8,7 @@ use Rattle.std.specs.Prelude.{IfSome, nat_le, ◌==◌, if◌then◌else◌, get
 use Rattle.rep_types.specs.declared.judged.Judged.{Judged}
 use Rattle.rep_types.specs.declared.refusal.Refusal.TheVariants.{NotDue, LogFull}
 use Rattle.rep_record.specs.Blocks.{has_room}
-use Rattle.rep_record.specs.Records.{IsWithin}
+use Rattle.rep_types.specs.Items.{IsWithin}
 use Rattle.rep_record.specs.Fronts.{fitting, FrontsAreDetermined}
 use Rattle.rep_log.specs.declared.phase.Phase.{Phase}
 use Rattle.rep_log.specs.declared.phase.Phase.TheVariants.{Resting, Closing, Filling, Filled, Opening}

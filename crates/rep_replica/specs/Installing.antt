@@ -4,7 +4,6 @@ use Rattle.std.specs.Coded.{Coded, codes, code_by, coded×}
 use Rattle.rep_types.specs.declared.refusal.Refusal.{Refusal}
 use Rattle.rep_types.specs.declared.refusal.Refusal.TheVariants.{DiskFault}
 use Rattle.rep_types.specs.Order.{State}
-use Rattle.rep_types.specs.Windows.{fixed}
 use Rattle.rep_disk.specs.History.{History, IsImage}
 use Rattle.rep_disk.specs.Moments.{LeavesOnly}
 use Rattle.rep_layout.specs.declared.super_body.SuperBody.{SuperBody}
@@ -14,7 +13,7 @@ use Rattle.rep_steps.specs.Nodes.{Node, window_at}
 use Rattle.rep_steps.specs.Images.{AreJudgedFrom, IsFrontAt}
 use Rattle.rep_image.specs.Meanings.{Means}
 use Rattle.rep_checkpoint.specs.Coming.{Coming}
-use Rattle.rep_checkpoint.specs.Windows.{IsWindowAt}
+use Rattle.rep_layout.specs.Windows.{IsWindowAt}
 use Rattle.rep_engine.specs.Engines.{Engine, engine_code}
 use Rattle.rep_engine.specs.Installing.{HoldsBoth as EngineHoldsBoth, HoldsEither, MeansEither}
 use Rattle.rep_replica.specs.Replicas.{Replica, IsReplica, facts_of}
@@ -44,8 +43,8 @@ given_up b = record { engine = b.engine; backlog = []; certifier = b.before; sto
 -- snapshot's position, with the window that it brings, which a disk can hold.
 pub record IsBringing (s : Standing) (i : Coming) (before after : Holdings) : Type 0 where
   pub replica : IsReplica s [] before.current false
-  pub window : IsWindowAt s.setting i.next.super.position (fixed s.setting.window i.next.super.position i.next.entries)
-  pub made : after.current ≡ made_at s.setting i.next.super.position (fixed s.setting.window i.next.super.position i.next.entries)
+  pub window : IsWindowAt s.setting i.next.super.position i.next.window
+  pub made : after.current ≡ made_at s.setting i.next.super.position i.next.window
 
 -- The replica stands for the node, on an honest device, and beside its base the snapshot is as far as it says, and brings y. Each image
 -- means a front of the node that has what is durable.

@@ -6,7 +6,7 @@ ghost use Rattle.rep_types.specs.declared.refusal.Part.TheVariants.{Log as in_lo
 ghost use Rattle.rep_record.specs.Blocks.{IsBlock};
 ghost use Rattle.rep_disk.specs.History.{seen};
 ghost use Rattle.rep_layout.specs.declared.page_state.PageState.TheVariants.{Nowhere};
-ghost use Rattle.rep_layout.specs.Windows.{window, IsWindowBody};
+ghost use Rattle.rep_layout.specs.Windows.{IsWindowBody, beside};
 ghost use Rattle.rep_cells.specs.Readings.{reading_of};
 ghost use Rattle.rep_pages.specs.Slots.{state_of_page};
 ghost use Rattle.rep_steps.specs.Nodes.{Node};
@@ -53,17 +53,17 @@ impl<D: Disk> Replica<D> {
     /// The base's window, whose entries are handed out of the room one by one: by one read of the device.
     ///
     /// Refuses with `Stopped`; with `DiskFault` where the device failed, and then the replica is stopped; and with `Corrupt` of the
-    /// window where what stands beside the base's superblock is no window of its number and position: an honest device of a node
-    /// shows no such thing.
+    /// window where what stands beside the base's superblock is no window of its format, number and position: an honest device of
+    /// a node shows no such thing.
     pub fn base_window<'a>(
         &mut self,
         room: &'a mut [u8; WINDOW_BODY],
     ) -> Result<WindowReader<'a>, Refusal>
         ensures asks { Asks D.size D.failures D.honest D.history in_window self.old self.new result }
         // On any device what is given can be the window of the base.
-        ensures form { IfOk result (λ w. (w ≡ window self.old.engine.checkpoint.base.number self.old.engine.checkpoint.base.position w.entries) × IsWindowBody self.old.engine.checkpoint.base.params w) }
+        ensures form { IfOk result (λ w. (w ≡ beside self.old.engine.checkpoint.base w.kept) × IsWindowBody self.old.engine.checkpoint.base.params w) }
         ensures holds { (n : Node) → Holds D.honest D.history D.failures n self.old → result ≢ Err Refusal.DiskFault → Holds D.honest D.history D.failures n self.new }
-        ensures window { (n : Node) → Holds D.honest D.history D.failures n self.old → IfOk result (λ w. w.entries ≡ n.base.kept.entries) }
+        ensures window { (n : Node) → Holds D.honest D.history D.failures n self.old → IfOk result (λ w. w.kept ≡ n.base.kept) }
         ensures whole { (n : Node) → Holds D.honest D.history D.failures n self.old → result ≢ Err (Corrupt in_window) }
         // Whatever stands on an honest device: its bytes decide.
         ensures spelled { D.honest self.old.engine.disk → IsWindowAsSpelled (reading_of self.old.engine.layout (seen (D.history self.old.engine.disk))) self.old.engine.checkpoint.base result in_window }

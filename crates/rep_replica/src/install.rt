@@ -13,7 +13,7 @@ ghost use Rattle.rep_steps.specs.Nodes.{Node};
 ghost use Rattle.rep_steps.specs.Images.{IsFrontAt};
 ghost use Rattle.rep_image.specs.Meanings.{Means};
 ghost use Rattle.rep_checkpoint.specs.Coming.{IsNewPage, blank, coming, placed, with_page};
-ghost use Rattle.rep_checkpoint.specs.Windows.{IsWindowAt};
+ghost use Rattle.rep_layout.specs.Windows.{IsWindowAt};
 ghost use Rattle.rep_engine.specs.Engines.{durable_of};
 ghost use Rattle.rep_engine.specs.Reading.{halted_by};
 ghost use Rattle.rep_engine.specs.Installing.{CanBring, halted_node};
@@ -99,7 +99,7 @@ impl<D: Disk> Replica<D> {
         requires brings { CanBring self.engine.checkpoint.base (durable_of self.engine.log) uuid position window }
         ensures stopped { (self.stopped || is_some self.engine.halted) ≡ true → result ≡ Err (self, Stopped) }
         ensures refused { IfErr result (λ e. (e.0 ≡ self) × (((e.1 ≡ Stopped) × ((self.stopped || is_some self.engine.halted) ≡ true)) ⊎ (e.1 ≡ OutOfMemory))) }
-        ensures begun { IfOk result (λ i. (i.engine ≡ self.engine) × (i.coming ≡ coming self.engine.checkpoint.base uuid position self.engine.log.next window.entries)) }
+        ensures begun { IfOk result (λ i. (i.engine ≡ self.engine) × (i.coming ≡ coming self.engine.checkpoint.base uuid position self.engine.log.next window)) }
         // What `give_up` gives back has the certifier that the replica has.
         ensures before { IfOk result (λ i. i.before ≡ self.certifier) }
         ensures holds { (n : Node) → Holds D.honest D.history D.failures n self → IfOk result (λ i. HoldsBoth D.honest D.history D.failures n (blank position window) i) }

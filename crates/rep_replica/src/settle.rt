@@ -1,7 +1,7 @@
 //! A replica that works until nothing is left to do.
 
 ghost use Rattle.std.specs.Prelude.{◌≡◌, ◌<◌, ◌||◌, ◌⊎◌, true, false, is_some, length, slice_get, Err, IfErr, IfSome, OnOk};
-ghost use Rattle.rep_record.specs.Records.{IsWithin};
+ghost use Rattle.rep_types.specs.Items.{IsWithin};
 ghost use Rattle.rep_log.specs.declared.phase.Phase.TheVariants.{Resting};
 ghost use Rattle.rep_log.specs.declared.phase.Step.TheVariants.{Full};
 ghost use Rattle.rep_log.specs.Standing.{due_of};
@@ -16,7 +16,7 @@ use rep_disk::Disk;
 use rep_log::Step;
 use rep_record::fronts_are_determined;
 use rep_steps::{Answer, Event};
-use rep_types::{Item, Refusal};
+use rep_types::Refusal;
 
 /// What came of a step.
 pub(crate) fn outcome(answer: &Answer) -> Result<(), Refusal>
@@ -93,14 +93,12 @@ impl<D: Disk> Replica<D> {
         self.finish_checkpoint()
     }
 
-    /// What holds of the first item that waits: what holds of every write set.
+    /// The first item that waits keeps its limits, as every item does: a law, which does nothing.
     fn look_at_the_first(&self)
         ensures { IfSome (slice_get self.now.backlog 0) (λ judged. IsWithin judged.item) }
     {
         if let Some(judged) = self.backlog.get(0) {
-            if let Item::WriteSet(item) = &judged.item {
-                item.writes();
-            }
+            judged.item.limits();
         }
     }
 

@@ -203,7 +203,7 @@ on_err : {A B : Type 0} (result : Result (Unit {0}) Refusal) → OnErr result A 
 on_err (Ok x) a f = tt
 on_err (Err e) a f = f a
 
-module _ {D : Type 0} (honest : D → Type 0) (history : D → History) (failures : D → ℕ) (n : Node) (uuid : List ℕ) (position : ℕ) (v : Window) (pages : List (ℕ × Rows)) (old : Replica D) (i k : Bringing D) (begun : (i.engine ≡ old.engine) × (i.coming ≡ coming old.engine.checkpoint.base uuid position old.engine.log.next v.entries))
+module _ {D : Type 0} (honest : D → Type 0) (history : D → History) (failures : D → ℕ) (n : Node) (uuid : List ℕ) (position : ℕ) (v : Window) (pages : List (ℕ × Rows)) (old : Replica D) (i k : Bringing D) (begun : (i.engine ≡ old.engine) × (i.coming ≡ coming old.engine.checkpoint.base uuid position old.engine.log.next v))
     (holds : HoldsBoth honest history failures n (blank position v) i) where
   abbrev y : State
   y = with_pages old.engine.checkpoint.base.params.rows pages (blank position v)

@@ -77,7 +77,7 @@ module _ {D : Type 0} (honest : D → Type 0) (history : D → History) (failure
     behind = λ k ask le.
         ap (window_of h) (let same : k ≡ h.delivered = omega (arith, ask.past, le) in same)
         ∙ ap (λ (js : List Judged). (reached h.setting (start_of h) js).kept) (sym (take_all (k - h.delivered) [] (omega arith)));
-    windows = λ windows placed. windows;
+    windows = λ windows. windows;
   }
 
   goes_nowhere : (n : Node) → GoesOn n [] n
@@ -153,7 +153,7 @@ module _ {D : Type 0} (honest : D → Type 0) (history : D → History) (failure
       near = x.near;
       past = omega (arith, x.engine.count, x.judged.delivered, long);
     };
-    windows = x.judged.windows x.windows x.placed;
+    windows = x.judged.windows x.windows;
     items = λ on. record {
       come = subst (ComeNext (facts_of failures e)) (sym (x.waiting on)) comes;
       placed = subst ArePlaced (sym (x.waiting on)) (placed_behind taken waits (subst ArePlaced x.whole x.placed));

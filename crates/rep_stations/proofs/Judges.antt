@@ -1,38 +1,24 @@
 -- One more item is judged.
-use Rattle.std.proofs.Common.{◌≡◌, ◌⊎◌, inl, inr, ℕ, ◌+◌, ◌-◌, ◌<◌, ◌≤◌, true, false, List, [], ◌∷◌, ◌++◌, sym, ap, ◌∙◌, arith}
+use Rattle.std.proofs.Common.{◌≡◌, ◌⊎◌, inl, inr, ℕ, ◌+◌, ◌-◌, ◌<◌, ◌≤◌, true, List, [], ◌∷◌, ◌++◌, sym, ap, ◌∙◌, arith}
 use Rattle.std.proofs.lemmas.Bool.{cases_lt}
 use Rattle.std.proofs.lemmas.List.{length_push, take_all, take-append-le}
 use Rattle.rep_types.specs.declared.item.Item.{Item}
-use Rattle.rep_types.specs.declared.item.Item.TheVariants.{WriteSet, SetWindow}
 use Rattle.rep_types.specs.declared.judged.Judged.{Judged}
 use Rattle.rep_types.specs.declared.limits.TheConstants.{MAX_SEQNO}
-use Rattle.rep_types.specs.Items.{is_write_set}
 use Rattle.rep_types.specs.Settings.{Setting}
 use Rattle.rep_types.specs.Windows.{Window}
 use Rattle.rep_types.specs.Order.{State, judge, window_after}
-use Rattle.rep_record.specs.Records.{is_placed, IsWithin}
+use Rattle.rep_types.specs.Items.{IsWithin}
+use Rattle.rep_record.specs.Records.{is_placed}
 use Rattle.rep_cert.specs.Holdings.{Holding, IsAskable, Admits, window_of, reach_at}
 use Rattle.rep_steps.specs.Nodes.{reached}
 use Rattle.rep_steps.specs.Judging.{JudgingGoesOn, VerdictsHaveAPlace}
-use Rattle.rep_engine.specs.Checking.{HoldsWindows, CertifiersHoldWindows}
-use Rattle.rep_replica.specs.Replicas.{ArePlaced}
-use Rattle.rep_stations.proofs.Waits.{placed_front}
+use Rattle.rep_engine.specs.Checking.{CertifiersHoldWindows}
 use Rattle.rep_stations.specs.Judging.{Legal, HasJudged, start_of, next_of, window_in}
 
--- a write set that was judged has a place
-pub placed_next : VerdictsHaveAPlace → (h : Holding) (i : Item) → h.delivered < MAX_SEQNO → is_write_set i ≡ true → is_placed (next_of h i) ≡ true
-placed_next places h (WriteSet w) left is = places.upto h.setting h.delivered (reach_at h h.delivered).size (reach_at h h.delivered).floor h.entries w left
-placed_next places h (SetWindow c) left is = absurd (let never : false ≡ true = is in cc)
-
--- the last item has a place
-last_placed : (js : List Judged) (j : Judged) → ArePlaced (js ++ j ∷ []) → is_placed j ≡ true
-last_placed [] j all = all.0
-last_placed (first ∷ js) j all = last_placed js j all.1
-
--- the windows behind an item that has a place
-placed_windows : CertifiersHoldWindows → (h new : Holding) (i : Item) → is_placed (next_of h i) ≡ true → h.made ≤ h.delivered → IsWithin i → HoldsWindows h → Admits h i new → HoldsWindows new
-placed_windows law h new (WriteSet w) placed start within windows admits = law.admits h new w start within windows admits
-placed_windows law h new (SetWindow c) placed start within windows admits = absurd (let never : false ≡ true = placed in cc)
+-- an item that was judged has a place
+pub placed_next : VerdictsHaveAPlace → (h : Holding) (i : Item) → h.delivered < MAX_SEQNO → is_placed (next_of h i) ≡ true
+placed_next places h i left = places.upto h.setting h.delivered (reach_at h h.delivered).size (reach_at h h.delivered).floor h.entries i left
 
 module _ (goes : JudgingGoesOn) (first : Holding) (items : List Judged) (h new : Holding) (i : Item) (judged : HasJudged first items h) (admits : Admits h i new) where
   abbrev p : Setting
@@ -95,5 +81,5 @@ module _ (goes : JudgingGoesOn) (first : Holding) (items : List Judged) (h new :
         let low : k ≤ h.delivered = omega (arith, le, judged.delivered) in
         admits.kept k ask low ∙ judged.before k (was k ask low) le;
     behind = windows_behind;
-    windows = λ windows placed. placed_windows law h new i (last_placed items j placed) (omega (arith, judged.made, judged.start, judged.delivered)) within (judged.windows windows (placed_front items (j ∷ []) placed)) admits;
+    windows = λ windows. law.admits h new i (omega (arith, judged.made, judged.start, judged.delivered)) within (judged.windows windows) admits;
   }

@@ -27,8 +27,7 @@ use Rattle.rep_engine.specs.Engines.{Engine, IsWhole, facts_of, phase_at, durabl
 use Rattle.rep_engine.specs.Accepting.{ComeNext}
 use Rattle.rep_engine.specs.Holding.{Holds, with_items}
 use Rattle.rep_engine.specs.Checking.{HoldsWindow, HoldsWindows}
-use Rattle.rep_checkpoint.specs.Windows.{IsWindowAt}
-use Rattle.rep_replica.specs.Replicas.{ArePlaced}
+use Rattle.rep_layout.specs.Windows.{IsWindowAt}
 use Rattle.rep_stations.specs.Judging.{Legal, HasJudged, start_of}
 use Rattle.rep_stations.specs.Taking.{GoesOn, StartsAs, HasTaken, TakenItemsStay, IsOfAnEngine, IsAnEngine}
 use Rattle.rep_stations.proofs.Goes.{facts_go, durable_still, sync_tells, node_goes, goes_on}
@@ -166,13 +165,13 @@ module _ {D : Type 0} (honest : D → Type 0) (history : D → History) (failure
     past = omega (arith, judged.delivered, length-append items more, taken.count);
   }
 
-  pub window_held : (more : List Judged) (h : Holding) → HasJudged c (items ++ more) h → h.delivered ≤ durable_of old.log + MAX_AHEAD → HoldsWindows c → ArePlaced (items ++ more)
+  pub window_held : (more : List Judged) (h : Holding) → HasJudged c (items ++ more) h → h.delivered ≤ durable_of old.log + MAX_AHEAD → HoldsWindows c
       → HoldsWindow old.checkpoint.base.params (durable_of old.log) h
-  window_held more h judged near windows placed =
+  window_held more h judged near windows =
       let ask = askable more h judged near in
       record {
         askable = ask;
-        window = subst (λ (p : Setting). IsWindowAt p (durable_of old.log) (window_of h (durable_of old.log))) (judged.setting ∙ sym taken.setting) (judged.windows windows placed (durable_of old.log) ask);
+        window = subst (λ (p : Setting). IsWindowAt p (durable_of old.log) (window_of h (durable_of old.log))) (judged.setting ∙ sym taken.setting) (judged.windows windows (durable_of old.log) ask);
       }
 
   -- and is the node's
@@ -249,7 +248,7 @@ stay_taken honest history failures goes = record {
   check = λ old new a h is moves steps first c items more judged near taken.
       step_taken honest history failures goes first c items old taken new Check a tt is moves
       (λ n m start on holds. steps m holds (window_there honest history failures goes first c items old taken more h judged near n m start on holds));
-  window = λ e h first c items more judged near windows placed taken. window_held honest history failures goes first c items e taken more h judged near windows placed;
+  window = λ e h first c items more judged near windows taken. window_held honest history failures goes first c items e taken more h judged near windows;
   synced = λ old new rs is moves. sync_tells (facts_of failures old) (facts_of failures new) rs (running_within old.log.phase old.halted old.block is.whole) moves;
   still = λ old new e a own moves. durable_still (facts_of failures old) (facts_of failures new) e a own moves;
   comes = λ first e c items waits taken legal limit undefined. waits_come honest history failures goes first c items e taken waits legal limit undefined;

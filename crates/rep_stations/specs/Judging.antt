@@ -8,7 +8,6 @@ use Rattle.rep_cert.specs.Holdings.{Holding, IsAskable, window_of}
 use Rattle.rep_steps.specs.Nodes.{reached}
 use Rattle.rep_steps.specs.Images.{AreJudgedFrom}
 use Rattle.rep_engine.specs.Checking.{HoldsWindows}
-use Rattle.rep_replica.specs.Replicas.{ArePlaced}
 
 -- the next item with its seqno and its verdict, as the certifier judges it
 abbrev pub next_of : Holding → Item → Judged
@@ -28,8 +27,7 @@ abbrev pub window_in : Holding → List Judged → ℕ → Window
 window_in first items k = (reached first.setting (start_of first) (take (k - first.delivered) items)).kept
 
 -- A certifier has judged these items behind what the first one held, and nothing else. Each window that it can be asked for is the first
--- one's up to there, and the history's behind it; and where the first one's could all be written, and each item has a place in a block,
--- so can these.
+-- one's up to there, and the history's behind it; and where the first one's could all be written, so can these.
 pub record HasJudged (first : Holding) (items : List Judged) (h : Holding) : Type 0 where
   pub setting : h.setting ≡ first.setting
   pub made : h.made ≡ first.made
@@ -37,4 +35,4 @@ pub record HasJudged (first : Holding) (items : List Judged) (h : Holding) : Typ
   pub delivered : h.delivered ≡ first.delivered + length items
   pub before : (k : ℕ) → IsAskable h k → k ≤ first.delivered → window_of h k ≡ window_of first k
   pub behind : (k : ℕ) → IsAskable h k → first.delivered ≤ k → window_of h k ≡ window_in first items k
-  pub windows : HoldsWindows first → ArePlaced items → HoldsWindows h
+  pub windows : HoldsWindows first → HoldsWindows h

@@ -18,7 +18,6 @@ use Rattle.rep_engine.specs.Engines.{Engine, IsEngine, facts_of, durable_of}
 use Rattle.rep_engine.specs.Accepting.{ComeNext}
 use Rattle.rep_engine.specs.Holding.{Holds}
 use Rattle.rep_engine.specs.Checking.{HoldsWindow, HoldsWindows}
-use Rattle.rep_replica.specs.Replicas.{ArePlaced}
 use Rattle.rep_stations.specs.Judging.{Legal, HasJudged}
 
 -- The node m is n with these items behind its own, its base moved past some of them all.
@@ -93,7 +92,7 @@ pub record TakenItemsStay {D : Type 0} (honest : D → Type 0) (history : D → 
       → (first : Engine D) (c : Holding) (items more : List Judged) → HasJudged c (items ++ more) h → h.delivered ≤ durable_of old.log + MAX_AHEAD
       → HasTaken honest history failures first c items old → HasTaken honest history failures first c items new
   pub window : (e : Engine D) (h : Holding) (first : Engine D) (c : Holding) (items more : List Judged) → HasJudged c (items ++ more) h → h.delivered ≤ durable_of e.log + MAX_AHEAD
-      → HoldsWindows c → ArePlaced (items ++ more) → HasTaken honest history failures first c items e → HoldsWindow e.checkpoint.base.params (durable_of e.log) h
+      → HoldsWindows c → HasTaken honest history failures first c items e → HoldsWindow e.checkpoint.base.params (durable_of e.log) h
   pub synced : (old new : Engine D) (replies : List Reply) → IsAnEngine old → Moves (facts_of failures old) Sync (Synced replies) (facts_of failures new)
       → (durable_of new.log ≡ durable_of old.log + length replies) × (replies ≡ map reply_of (take (length replies) old.block))
   pub still : (old new : Engine D) (e : Event) (a : Answer) → MakesNothingDurable e → Moves (facts_of failures old) e a (facts_of failures new) → durable_of new.log ≡ durable_of old.log

@@ -7,7 +7,8 @@ use Rattle.rep_types.specs.declared.verdict.Verdict.TheVariants.{Stale, Future, 
 use Rattle.rep_types.specs.declared.limits.TheConstants.{MAX_SEQNO}
 use Rattle.rep_types.specs.Entries.{Entry}
 use Rattle.rep_types.specs.Windows.{Window}
-use Rattle.rep_types.specs.declared.item.Item.TheVariants.{WriteSet}
+use Rattle.rep_types.specs.declared.item.Item.{Item}
+use Rattle.rep_types.specs.declared.item.Item.TheVariants.{WriteSet, SetWindow}
 use Rattle.rep_types.specs.Settings.{Setting}
 use Rattle.rep_types.specs.Transactions.{Transaction, named}
 use Rattle.rep_types.specs.Order.{against, seqnos_against, greatest, conflict_with, in_schema, touches, judge, recent}
@@ -55,10 +56,15 @@ upto_within position lowest es e has =
     let up = Contains-from_filter (λ (e : Entry). nat_le e.seqno position) es e late.0 in
     grind (arith, nat_tests, up.1)
 
+item_placed : (p : Setting) (position : ℕ) (v : Window) (i : Item) → position < MAX_SEQNO → ((e : Entry) → Contains v.entries e → e.seqno ≤ position)
+    → is_placed (record { seqno = position + 1; item = i; verdict = judge p position v i }) ≡ true
+item_placed p position v (WriteSet w) lt low = judged_placed p position v w low lt
+item_placed p position v (SetWindow c) lt low = grind (arith, nat_tests, lt)
+
 pub verdicts_placed : VerdictsHaveAPlace
 verdicts_placed = record {
-  within = λ p position v w lt low. judged_placed p position v w low lt;
-  upto = λ p position span lowest es w lt.
+  within = item_placed;
+  upto = λ p position span lowest es i lt.
       let v : Window = record { size = span; floor = lowest; entries = recent lowest (filter (λ (e : Entry). nat_le e.seqno position) es) } in
-      judged_placed p position v w (upto_within position lowest es) lt;
+      item_placed p position v i lt (upto_within position lowest es);
 }

@@ -1,11 +1,10 @@
 -- Items that were judged one after another, in parts and together, and the states that they lead to.
 use Rattle.std.specs.Prelude.{◌≡◌, ℕ, ◌+◌, ◌<◌, ◌≤◌, true, List, [], ◌∷◌, ◌++◌, length, filter, nat_le, take, drop, Contains}
 use Rattle.rep_types.specs.declared.judged.Judged.{Judged}
-use Rattle.rep_types.specs.declared.item.Item.TheVariants.{WriteSet}
+use Rattle.rep_types.specs.declared.item.Item.{Item}
 use Rattle.rep_types.specs.declared.limits.TheConstants.{MAX_SEQNO}
 use Rattle.rep_types.specs.Entries.{Entry}
 use Rattle.rep_types.specs.Settings.{Setting}
-use Rattle.rep_types.specs.Transactions.{Transaction}
 use Rattle.rep_types.specs.Windows.{Window}
 use Rattle.rep_types.specs.Order.{State, judge, recent, window_after, extended}
 use Rattle.rep_record.specs.Blocks.{SeqnosFrom}
@@ -32,10 +31,10 @@ pub record JudgingGoesOn : Type 0 where
   pub seqnos_drop : (n k : ℕ) (js : List Judged) → k ≤ length js → SeqnosFrom n js → SeqnosFrom (n + k) (drop k js)
   pub seqnos_more : (n : ℕ) (js : List Judged) (j : Judged) → SeqnosFrom n js → j.seqno ≡ n + length js → SeqnosFrom n (js ++ j ∷ [])
 
--- The next write set with its verdict has a place in a block: its seqno is one, and where no entry of the window is above the position,
--- a conflict is with an item before it. So has what a certifier answers, who looks at no entry above it.
+-- The next item with its verdict has a place in a block: its seqno is one; a change of the window's size commits; and where no entry of the
+-- window is above the position, a conflict is with an item before it. So has what a certifier answers, who looks at no entry above it.
 pub record VerdictsHaveAPlace : Type 0 where
-  pub within : (p : Setting) (position : ℕ) (v : Window) (w : Transaction) → position < MAX_SEQNO → ((e : Entry) → Contains v.entries e → e.seqno ≤ position)
-      → is_placed (record { seqno = position + 1; item = WriteSet w; verdict = judge p position v (WriteSet w) }) ≡ true
-  pub upto : (p : Setting) (position span lowest : ℕ) (es : List Entry) (w : Transaction) → position < MAX_SEQNO
-      → is_placed (record { seqno = position + 1; item = WriteSet w; verdict = judge p position (record { size = span; floor = lowest; entries = recent lowest (filter (λ (e : Entry). nat_le e.seqno position) es) }) (WriteSet w) }) ≡ true
+  pub within : (p : Setting) (position : ℕ) (v : Window) (i : Item) → position < MAX_SEQNO → ((e : Entry) → Contains v.entries e → e.seqno ≤ position)
+      → is_placed (record { seqno = position + 1; item = i; verdict = judge p position v i }) ≡ true
+  pub upto : (p : Setting) (position span lowest : ℕ) (es : List Entry) (i : Item) → position < MAX_SEQNO
+      → is_placed (record { seqno = position + 1; item = i; verdict = judge p position (record { size = span; floor = lowest; entries = recent lowest (filter (λ (e : Entry). nat_le e.seqno position) es) }) i }) ≡ true

@@ -1,11 +1,10 @@
 -- What is known of a stream whose bytes are known, and of a room that is filled from it.
-use Rattle.std.proofs.Common.{◌≡◌, ℕ, ◌+◌, ◌-◌, ◌≤◌, ◌<◌, List, [], ◌++◌, length, take, drop, Option, None, Some, Ok, refl, sym, ap, subst, ◌∙◌, append_assoc, arith, length-append}
+use Rattle.std.proofs.Common.{◌≡◌, ℕ, ◌+◌, ◌≤◌, ◌<◌, List, ◌++◌, length, take, Option, None, Some, Ok, refl, sym, ap, subst, ◌∙◌, arith, length-append}
 use Rattle.std.specs.Prelude.{IfSome}
 use Rattle.std.specs.Io.KnownBytes.{Consumes}
 use Rattle.std.proofs.KnownBytes.{Consumes-trans}
 use Rattle.std.proofs.Math.Seq.{take-append-add, take-append-le, length-take-le, take-take}
 use Rattle.std.proofs.lemmas.List.{take_at, take_all}
-use Rattle.rep_types.specs.declared.refusal.Refusal.{Refusal}
 use Rattle.rep_forms.specs.Forms.{Form}
 use Rattle.rep_transfer.specs.declared.pieces.TheConstants.{PIECE}
 use Rattle.rep_transfer.specs.Pieces.{IsPaced, IsWhole}

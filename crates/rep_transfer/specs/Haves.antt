@@ -1,10 +1,11 @@
 -- What a joiner says of itself, and what a transfer begins with, as bytes.
-use Rattle.std.specs.Prelude.{◌≡◌, ℕ, ◌^◌, ◌<◌, List, ◌++◌, codes, Some}
+use Rattle.std.specs.Prelude.{◌≡◌, ℕ, ◌^◌, ◌<◌, List, ◌∷◌, ◌++◌, codes, Some}
 use Rattle.rep_forms.specs.Forms.{Form, IsPart, number, number_bytes, part_of, ◌⊗◌, marked, via, as_named}
+use Rattle.rep_layout.specs.Formats.{digit_of, format_form}
 use Rattle.rep_layout.specs.Supers.{IsNil}
 use Rattle.rep_transfer.specs.declared.have.Have.{Have}
 use Rattle.rep_transfer.specs.declared.header.Header.{Header}
-use Rattle.rep_transfer.specs.Shapes.{Shape, IsShape, shape_bytes, shape_form}
+use Rattle.rep_transfer.specs.Shapes.{IsShape, shape_bytes, shape_form}
 
 -- ---- what a joiner has
 
@@ -39,16 +40,18 @@ pub record IsHeader (h : Header) : Type 0 where
   pub defined : IsNil h.uuid → ⊥
   pub shape : IsShape h.shape
 
--- the first eight bytes: REPXFER1
+-- the first seven bytes, in front of the format's digit
 unfoldable pub header_mark : List ℕ
-header_mark = codes "REPXFER1"
+header_mark = codes "REPXFER"
 
--- A transfer's header, of 59 bytes: the mark, the donor's UUID, and its shape.
+-- A transfer's header, of 59 bytes: the mark, the format's digit, the donor's UUID, and its shape.
 abbrev pub header_bytes : Header → List ℕ
-header_bytes h = header_mark ++ (h.uuid ++ shape_bytes h.shape)
+header_bytes h = header_mark ++ (digit_of h.format ∷ (h.uuid ++ shape_bytes h.shape))
 
 abbrev pub header_fields : Form Header
-header_fields = via (marked header_mark (part_of 16 ⊗ shape_form)) (λ (h : Header). (h.uuid, h.shape)) (λ x. Some (record { uuid = x.0; shape = x.1 }))
+header_fields =
+    via (marked header_mark (format_form ⊗ (part_of 16 ⊗ shape_form))) (λ (h : Header). (h.format, (h.uuid, h.shape)))
+    (λ x. Some (record { format = x.0; uuid = x.1.0; shape = x.1.1 }))
 
 abbrev pub header_form : Form Header
 header_form = as_named header_fields IsHeader header_bytes

@@ -1,28 +1,28 @@
 -- Each piece tells by its first bytes how long it is.
-use Rattle.std.proofs.Common.{◌≡◌, ℕ, ◌+◌, ◌*◌, ◌-◌, ◌≤◌, ◌<◌, ◌^◌, List, [], ◌∷◌, ◌++◌, length, take, drop, get_or, refl, sym, ap, ◌∙◌, append_assoc, arith, length-append}
-use Rattle.std.specs.List.{flat_map, AllByRecursion}
+use Rattle.std.proofs.Common.{◌≡◌, ℕ, ◌+◌, ◌*◌, ◌-◌, ◌≤◌, ◌<◌, ◌^◌, List, [], ◌∷◌, ◌++◌, length, take, get_or, refl, sym, ap, ◌∙◌, append_assoc, arith, length-append}
+use Rattle.std.specs.List.{flat_map}
 use Rattle.std.proofs.lemmas.List.{take_at, append-nil}
 use Rattle.byteorder.specs.Numbers.{big_number-reads_back}
-use Rattle.rep_types.specs.declared.judged.Judged.{Judged}
 use Rattle.rep_types.specs.declared.key.Key.{Key}
 use Rattle.rep_types.specs.declared.item.Item.{Item}
 use Rattle.rep_types.specs.declared.item.Item.TheVariants.{WriteSet, SetWindow}
 use Rattle.rep_types.specs.declared.verdict.Verdict.{Verdict}
 use Rattle.rep_types.specs.Entries.{Entry}
-use Rattle.rep_forms.specs.Forms.{IsForm, byte, number, number_bytes, number_in}
-use Rattle.rep_forms.specs.FormLaws.{length_number, length_zeros, length_numbers, run_size, sizes}
+use Rattle.rep_forms.specs.Forms.{byte, number, number_bytes, number_in}
+use Rattle.rep_forms.specs.FormLaws.{length_number, run_size}
 use Rattle.rep_forms.specs.Keys.{KeyFits, key_bytes}
 use Rattle.rep_forms.specs.Rows.{RowFits, row_bytes}
 use Rattle.rep_forms.specs.RowLaws.{row_size}
 use Rattle.rep_forms.specs.Entries.{EntryFits, entry_bytes, entry_form}
-use Rattle.rep_record.specs.Records.{HasSpelling, IsRecord, body_bytes, spelled, record_form}
+use Rattle.rep_layout.specs.Formats.{digit_of}
+use Rattle.rep_types.specs.Items.{IsWithin}
+use Rattle.rep_record.specs.Records.{HasSpelling, body_bytes, spelled, record_form}
 use Rattle.rep_record.specs.RecordLaws.{body_short}
 use Rattle.rep_transfer.specs.declared.have.Have.{Have}
 use Rattle.rep_transfer.specs.declared.header.Header.{Header}
-use Rattle.rep_transfer.specs.declared.pieces.Front.{Front}
 use Rattle.rep_transfer.specs.declared.pieces.NumberedPage.{NumberedPage}
 use Rattle.rep_transfer.specs.Haves.{have_mark, IsHave, have_bytes, header_form, header_mark, IsHeader, header_bytes}
-use Rattle.rep_transfer.specs.Pieces.{IsPaced, no_more, more_of_entry, more_of_record, front_bytes, front_form, PageFits, page_bytes, page_form}
+use Rattle.rep_transfer.specs.Pieces.{IsPaced, no_more, more_of_entry, more_of_record, PageFits, page_bytes, page_form}
 use Rattle.rep_transfer.specs.Shapes.{shape_bytes}
 use Rattle.rep_transfer.specs.ShapeLaws.{shape_size}
 
@@ -38,15 +38,22 @@ count_is_paced = number_is_paced 2 (omega arith)
 pub position_is_paced : IsPaced (number 8) 8 no_more
 position_is_paced = number_is_paced 8 (omega arith)
 
--- ---- headers, fronts and pages
+-- ---- headers and pages
 
-mark_size : length header_mark ≡ 8
+mark_size : length header_mark ≡ 7
 unfolding header_mark
 mark_size = refl
 
 pub header_size : (header : Header) → IsHeader header → length (header_bytes header) ≡ 59
 header_size header h =
-    omega (arith, mark_size, h.uuid.size, shape_size header.shape h.shape, length-append header_mark (header.uuid ++ shape_bytes header.shape), length-append header.uuid (shape_bytes header.shape))
+    omega (
+      arith,
+      mark_size,
+      h.uuid.size,
+      shape_size header.shape h.shape,
+      length-append header_mark (digit_of header.format ∷ (header.uuid ++ shape_bytes header.shape)),
+      length-append header.uuid (shape_bytes header.shape),
+    )
 
 pub header_is_paced : IsPaced header_form 59 no_more
 header_is_paced = record { size = λ x h. header_size x h; room = λ x h. omega (arith, header_size x h) }
@@ -67,12 +74,6 @@ have_size have h =
       length-append have.uuid (number_bytes 8 have.position ++ shape_bytes have.shape),
       length-append (number_bytes 8 have.position) (shape_bytes have.shape),
     )
-
-front_size : (f : Front) → length (front_bytes f) ≡ 10
-front_size f = omega (arith, length_number 8 f.position, length_number 2 f.count, length-append (number_bytes 8 f.position) (number_bytes 2 f.count))
-
-pub front_is_paced : IsPaced front_form 10 no_more
-front_is_paced = record { size = λ x h. front_size x; room = λ x h. omega (arith, front_size x) }
 
 page_size : (p : NumberedPage) → PageFits p → length (page_bytes p) ≡ 4034
 page_size p h =
@@ -125,12 +126,15 @@ sized_more body short =
 sized_size : (body : List ℕ) → length (number_bytes 2 (length body + 2) ++ body) ≡ 2 + length body
 sized_size body = omega (arith, length_number 2 (length body + 2), length-append (number_bytes 2 (length body + 2)) body)
 
+spelled_within : (i : Item) → HasSpelling i → IsWithin i
+spelled_within (WriteSet w) h = h.limits
+spelled_within (SetWindow c) h = h.size
+
 record_size : (seqno : ℕ) (i : Item) (v : Verdict) → HasSpelling i → (length (spelled seqno i v) ≡ 2 + more_of_record (take 2 (spelled seqno i v))) × (length (spelled seqno i v) ≤ 4034)
-record_size seqno (WriteSet w) v h =
-    let short = body_short seqno w v h.limits in
-    let size = sized_size (body_bytes seqno w v) in
-    (omega (arith, size, sized_more (body_bytes seqno w v) short), omega (arith, size, short))
-record_size seqno (SetWindow c) v h = absurd h
+record_size seqno i v h =
+    let short = body_short seqno i v (spelled_within i h) in
+    let size = sized_size (body_bytes seqno i v) in
+    (omega (arith, size, sized_more (body_bytes seqno i v) short), omega (arith, size, short))
 
 pub record_is_paced : IsPaced record_form 2 more_of_record
 record_is_paced = record { size = λ j h. (record_size j.seqno j.item j.verdict h.item).0; room = λ j h. (record_size j.seqno j.item j.verdict h.item).1 }

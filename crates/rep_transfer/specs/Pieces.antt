@@ -1,11 +1,7 @@
 -- The pieces of a transfer: values that are read one after another, each of which tells early how long it is.
 use Rattle.std.specs.Prelude.{◌≡◌, ℕ, ◌+◌, ◌*◌, ◌-◌, ◌^◌, ◌<◌, ◌≤◌, List, ◌++◌, length, take, get_or, Option, Some, IfSome}
-use Rattle.rep_types.specs.Entries.{Entry}
 use Rattle.rep_forms.specs.Forms.{Form, number, number_bytes, number_in, ◌⊗◌, via, as_named}
-use Rattle.rep_forms.specs.Entries.{entry_form}
-use Rattle.rep_pages.specs.Rows.{Rows, rows_form}
-use Rattle.rep_record.specs.Records.{record_form}
-use Rattle.rep_transfer.specs.declared.pieces.Front.{Front}
+use Rattle.rep_pages.specs.Rows.{rows_form}
 use Rattle.rep_transfer.specs.declared.pieces.NumberedPage.{NumberedPage}
 use Rattle.rep_transfer.specs.declared.pieces.TheConstants.{PIECE}
 
@@ -22,21 +18,6 @@ no_more head = 0
 pub record IsWhole {A : Type 0} (F : Form A) (bytes : List ℕ) (result : Option A) : Type 0 where
   pub found : IfSome result (λ x. F.Fits x × (bytes ≡ F.spell x))
   pub only : (x : A) → F.Fits x → bytes ≡ F.spell x → result ≡ Some x
-
--- ---- what a snapshot begins with: its position, and how many entries its window has
-
-pub record FrontFits (f : Front) : Type 0 where
-  pub position : f.position < 2 ^ 64
-  pub count : f.count < 2 ^ 16
-
-abbrev pub front_bytes : Front → List ℕ
-front_bytes f = number_bytes 8 f.position ++ number_bytes 2 f.count
-
-abbrev pub front_fields : Form Front
-front_fields = via (number 8 ⊗ number 2) (λ (f : Front). (f.position, f.count)) (λ x. Some (record { position = x.0; count = x.1 }))
-
-abbrev pub front_form : Form Front
-front_form = as_named front_fields FrontFits front_bytes
 
 -- ---- a page: its number, and its rows
 

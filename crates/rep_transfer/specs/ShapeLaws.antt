@@ -1,9 +1,8 @@
 -- The law of shapes as bytes.
-use Rattle.std.proofs.Common.{◌≡◌, ◌+◌, length, true, refl, arith, length-append}
-use Rattle.std.specs.List.{flat_map}
+use Rattle.std.proofs.Common.{◌≡◌, length, true, refl, arith, length-append}
 use Rattle.std.proofs.lemmas.Bool.Decides.{nat_tests}
 use Rattle.rep_types.specs.Settings.{Setting, is_setting}
-use Rattle.rep_forms.specs.Forms.{IsForm, number_bytes, zeros}
+use Rattle.rep_forms.specs.Forms.{IsForm}
 use Rattle.rep_forms.specs.FormLaws.{forms, named_is_form, length_number, length_numbers, length_zeros}
 use Rattle.rep_layout.specs.SuperLaws.{limits_of, rows_fit}
 use Rattle.rep_transfer.specs.Shapes.{Shape, shape_of, least_of, IsShape, shape_bytes, shape_fields, shape_form}

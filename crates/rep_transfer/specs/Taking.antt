@@ -1,5 +1,5 @@
 -- What is taken of a stream whose bytes are known, piece by piece.
-use Rattle.std.specs.Prelude.{◌≡◌, ℕ, ◌+◌, ◌-◌, ◌^◌, min, List, ◌++◌, length, Option, Some, Result, IfOk, MatchOption}
+use Rattle.std.specs.Prelude.{◌≡◌, ℕ, ◌+◌, ◌-◌, ◌^◌, min, List, ◌++◌, Option, Some, Result, IfOk, MatchOption}
 use Rattle.rep_types.specs.declared.refusal.Refusal.{Refusal}
 
 -- how many bytes were taken, with so many more; the count stops at the greatest that a number of 64 bits can be

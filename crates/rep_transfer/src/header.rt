@@ -7,19 +7,22 @@ ghost use Rattle.rep_transfer.specs.Haves.{IsHeader, header_bytes, header_form};
 use crate::shape::Shape;
 use arrayvec::ArrayVec;
 use rep_forms::{Exact, Form, Put, put_bytes, read_part, strip_front};
+use rep_layout::Format;
 use uuid::Uuid;
 
-/// The first eight bytes of the format.
-const MARK: &[u8; 8] = b"REPXFER1";
+/// The first seven bytes, in front of the format's digit.
+const MARK: &[u8; 7] = b"REPXFER";
 
 /// The number of bytes of a header.
 pub(crate) const HEADER: usize = 59;
 
 /// What a transfer begins with: the cluster that it comes from, and its shape.
 ///
-/// It has 59 bytes: `REPXFER1`, the UUID in 16, and the shape in 35.
+/// It has 59 bytes: `REPXFER1` or `REPXFER2`, the UUID in 16, and the shape in 35.
 #[derive(Debug, Drop, PartialEq, Eq)]
 pub struct Header {
+    /// In which format a snapshot behind it is spelled.
+    pub format: Format,
     /// The donor's state UUID, which is not nil.
     pub uuid: Uuid,
     /// What the joiner must have in common with it.
@@ -36,10 +39,16 @@ impl Form for Header {
     #[tactic(auto, unfolding(crate::specs::Haves::header_mark))]
     fn read(bytes: &[u8]) -> Option<(Header, &[u8])> {
         let (_, rest) = read_part(bytes, MARK.len())?;
+        let (format, rest) = Format::read(rest)?;
         let (uuid, rest) = read_part(rest, 16)?;
         let uuid = Uuid::from_slice(uuid).ok()?;
         let (shape, rest) = Shape::read(rest)?;
-        Some((Header { uuid, shape }, rest))
+        let header = Header {
+            format,
+            uuid,
+            shape,
+        };
+        Some((header, rest))
     }
 
     ghost is_form = { header_is_form };
@@ -67,6 +76,7 @@ impl Header {
         }
         let mut out = ArrayVec::new();
         put_bytes(&mut out, MARK);
+        self.format.put(&mut out);
         put_bytes(&mut out, self.uuid.as_bytes());
         self.shape.put(&mut out);
         Some(out)

@@ -14,7 +14,7 @@ mod writer;
 pub use have::{Have, read_have};
 pub use header::Header;
 pub use part::{Part, next_part};
-pub use pieces::{Front, NumberedPage, PIECE, Piece};
+pub use pieces::{NumberedPage, PIECE, Piece};
 pub use reader::TransferReader;
 pub use shape::Shape;
 pub use writer::{

@@ -4,7 +4,6 @@ ghost use Rattle.std.specs.Prelude.{◌≡◌, length, IfSome, IfOk, IfErr};
 ghost use Rattle.rep_transfer.specs.Taking.{counted, TakesOne};
 ghost use Rattle.rep_transfer.specs.Transfers.{PartFits, part_bytes};
 
-use crate::pieces::Front;
 use crate::reader::TransferReader;
 use rep_types::{Judged, Refusal};
 use std::io::Read;
@@ -21,16 +20,15 @@ pub(crate) const END: u8 = b'E';
 /// A part of a transfer.
 #[derive(Debug, Drop)]
 pub enum Part {
-    /// A snapshot begins: its position, and how many entries its window has. These follow, one by one, then how many pages there are,
-    /// and the pages.
-    Snapshot(Front),
+    /// A snapshot begins: its position. Its window follows, then how many pages there are, and the pages.
+    Snapshot(u64),
     /// An item, with its seqno and its verdict.
     Record(Judged),
     /// The end, at this position.
     End(u64),
 }
 
-/// Takes the next part, of a snapshot what it begins with; None where the stream has ended before its end, or does not have one there.
+/// Takes the next part, of a snapshot its position; None where the stream has ended before its end, or does not have one there.
 ///
 /// Refuses with `StreamFault` where the reader fails. After a refusal, and after None, the rest of the stream is not to be read.
 pub fn next_part<R: Read>(
@@ -48,7 +46,7 @@ pub fn next_part<R: Read>(
         return Ok(None);
     };
     match letter {
-        SNAPSHOT => Ok(transfer.next::<Front, R>(reader)?.map(Part::Snapshot)),
+        SNAPSHOT => Ok(transfer.next::<u64, R>(reader)?.map(Part::Snapshot)),
         RECORD => Ok(transfer.next::<Judged, R>(reader)?.map(Part::Record)),
         END => Ok(transfer.next::<u64, R>(reader)?.map(Part::End)),
         _ => Ok(None),

@@ -5,7 +5,7 @@ ghost use Rattle.rep_forms.specs.Forms.{Form as form_of, byte, number};
 ghost use Rattle.rep_forms.specs.Entries.{entry_form};
 ghost use Rattle.rep_record.specs.Records.{record_form};
 ghost use Rattle.rep_transfer.specs.Haves.{header_form};
-ghost use Rattle.rep_transfer.specs.Pieces.{IsPaced, IsWhole, no_more, more_of_entry, more_of_record, front_form, page_form};
+ghost use Rattle.rep_transfer.specs.Pieces.{IsPaced, IsWhole, no_more, more_of_entry, more_of_record, page_form};
 
 use crate::header::{HEADER, Header};
 use arrayvec::ArrayVec;
@@ -52,47 +52,6 @@ fn whole<T: Exact>(bytes: &[u8]) -> Option<T>
 {
     let (value, rest) = read_front::<T>(bytes)?;
     if rest.is_empty() { Some(value) } else { None }
-}
-
-/// What a snapshot begins with.
-#[derive(Clone, Copy, Debug, PartialEq, Eq)]
-pub struct Front {
-    /// The position that the snapshot is at.
-    pub position: u64,
-    /// How many entries its window has.
-    pub count: u16,
-}
-
-impl Form for Front {
-    ghost use Rattle.rep_transfer.specs.TransferLaws.{front_is_form};
-
-    ghost form = { front_form };
-
-    ghost most = { 10 };
-
-    fn read(bytes: &[u8]) -> Option<(Front, &[u8])> {
-        let (position, rest) = read_u64(bytes)?;
-        let (count, rest) = read_u16(rest)?;
-        Some((Front { position, count }, rest))
-    }
-
-    ghost is_form = { front_is_form };
-}
-
-impl<const N: usize> Put<N> for Front {
-    #[tactic(auto, using(rep_forms::specs::FormLaws::sizes, rep_forms::specs::FormLaws::joined))]
-    fn put(&self, out: &mut ArrayVec<u8, N>) {
-        put_u64(out, self.position);
-        put_u16(out, self.count);
-    }
-}
-
-impl Exact for Front {
-    fn strip<'a>(&self, bytes: &'a [u8]) -> Option<&'a [u8]> {
-        let mut spelling: ArrayVec<u8, 10> = ArrayVec::new();
-        self.put(&mut spelling);
-        strip_front(bytes, spelling.as_slice())
-    }
 }
 
 /// A page of a snapshot: its number, counted from 0 over all tables, and its rows.
@@ -164,7 +123,7 @@ impl Piece for u8 {
     ghost is_paced = { letter_is_paced };
 }
 
-/// How many pages come, in 2 bytes.
+/// The size of a window, or how many entries or pages come, in 2 bytes.
 impl Piece for u16 {
     ghost use Rattle.rep_transfer.specs.PieceLaws.{count_is_paced};
 
@@ -196,7 +155,7 @@ impl Piece for u16 {
     ghost is_paced = { count_is_paced };
 }
 
-/// The position at which a transfer ends, in 8 bytes.
+/// The position of a snapshot or of the end, or the floor of a window, in 8 bytes.
 impl Piece for u64 {
     ghost use Rattle.rep_transfer.specs.PieceLaws.{position_is_paced};
 
@@ -250,30 +209,6 @@ impl Piece for Header {
     }
 
     ghost is_paced = { header_is_paced };
-}
-
-impl Piece for Front {
-    ghost use Rattle.rep_transfer.specs.PieceLaws.{front_is_paced};
-
-    ghost piece = { front_form };
-
-    ghost head = { 10 };
-
-    ghost more = { no_more };
-
-    fn head_size() -> usize {
-        10
-    }
-
-    fn more_size(_first: &[u8]) -> usize {
-        0
-    }
-
-    fn of(bytes: &[u8]) -> Option<Front> {
-        whole::<Front>(bytes)
-    }
-
-    ghost is_paced = { front_is_paced };
 }
 
 /// An entry of a window: its seqno and the number of its keys tell how long it is.

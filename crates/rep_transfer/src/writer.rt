@@ -1,23 +1,25 @@
 //! A transfer, written part by part.
 
-ghost use Rattle.std.specs.Prelude.{◌≡◌, ◌∷◌, true, Err, OnOk};
+ghost use Rattle.std.specs.Prelude.{◌≡◌, ◌<◌, ◌^◌, ◌∷◌, ◌++◌, List, true, Err, OnOk};
+ghost use Rattle.rep_types.specs.Entries.{Entry};
 ghost use Rattle.std.specs.Io.KnownBytes.{Keeps};
 ghost use Rattle.rep_layout.specs.Supers.{IsNil};
 ghost use Rattle.rep_forms.specs.Forms.{number_bytes};
 ghost use Rattle.rep_forms.specs.Entries.{EntryFits, entry_bytes};
 ghost use Rattle.rep_record.specs.Records.{IsRecord, is_placed};
 ghost use Rattle.rep_transfer.specs.Haves.{IsHeader, header_bytes};
-ghost use Rattle.rep_transfer.specs.Pieces.{FrontFits, front_bytes, PageFits, page_bytes};
-ghost use Rattle.rep_transfer.specs.Transfers.{record_part, end_bytes};
+ghost use Rattle.rep_layout.specs.declared.format.Format.TheVariants.{Two};
+ghost use Rattle.rep_transfer.specs.Pieces.{PageFits, page_bytes};
+ghost use Rattle.rep_transfer.specs.Transfers.{reach_bytes, record_part, end_bytes};
 ghost use Rattle.rep_transfer.specs.Writing.{Wrote};
 
 use crate::header::Header;
 use crate::part::{END, RECORD, SNAPSHOT};
-use crate::pieces::{Front, NumberedPage, PIECE};
+use crate::pieces::{NumberedPage, PIECE};
 use arrayvec::ArrayVec;
 use rep_forms::{MAX_ENTRY, Put, put_bytes, put_u8, put_u16, put_u64};
 use rep_record::{MAX_RECORD, put_all, put_record};
-use rep_types::{Entry, Judged, Refusal};
+use rep_types::{Entry, Judged, Refusal, WindowSize};
 use std::io::Write;
 
 /// The number of bytes of the longest record behind its letter.
@@ -38,16 +40,25 @@ pub fn write_header<W: Write>(writer: &mut W, header: &Header) -> Result<(), Ref
     }
 }
 
-/// Writes what a snapshot begins with: its entries are written next, and then its pages.
+/// Writes what a snapshot begins with, in format 2: its position, and how far its window reaches back. How many entries that has is
+/// written next, and these, and then the pages.
 ///
 /// Refuses with `StreamFault` where the writer fails; it has then taken a front of it.
-pub fn write_front<W: Write>(writer: &mut W, front: &Front) -> Result<(), Refusal>
-    ensures written { Wrote (W.contents writer.old) (W.contents writer.new) (83 ∷ front_bytes front.now) result }
-    ensures fits { FrontFits front.now }
+#[tactic(auto, using(rep_forms::specs::FormLaws::sizes, std::proofs::Common::append_assoc))]
+pub fn write_front<W: Write>(
+    writer: &mut W,
+    position: u64,
+    size: WindowSize,
+    floor: u64,
+) -> Result<(), Refusal>
+    ensures written { (entries : List Entry) → Wrote (W.contents writer.old) (W.contents writer.new) (83 ∷ (number_bytes 8 position ++ reach_bytes Two (record { size = size; floor = floor; entries = entries }))) result }
+    ensures size { size < 2 ^ 16 }
 {
-    let mut out: ArrayVec<u8, 11> = ArrayVec::new();
+    let mut out: ArrayVec<u8, 19> = ArrayVec::new();
     put_u8(&mut out, SNAPSHOT);
-    front.put(&mut out);
+    put_u64(&mut out, position);
+    put_u16(&mut out, size.get() as u16);
+    put_u64(&mut out, floor);
     put_all(writer, out.as_slice())
 }
 
@@ -63,7 +74,7 @@ pub fn write_entry<W: Write>(writer: &mut W, entry: &Entry) -> Result<(), Refusa
     put_all(writer, out.as_slice())
 }
 
-/// Writes how many pages a snapshot has, which are written next.
+/// Writes how many entries the window of a snapshot has, or how many pages the snapshot has: they are written next.
 ///
 /// Refuses with `StreamFault` where the writer fails; it has then taken a front of it.
 pub fn write_count<W: Write>(writer: &mut W, count: u16) -> Result<(), Refusal>

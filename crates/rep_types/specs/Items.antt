@@ -1,16 +1,22 @@
 -- The items of an order, and what both kinds have. Write sets and their certification are of Pedone, Guerraoui and Schiper 2003,
 -- changes of the window's size of this project.
-use Rattle.std.specs.Prelude.{◌≡◌, ℕ, Bool, true, false, List, [], All}
+use Rattle.std.specs.Prelude.{◌≡◌, ℕ, Bool, true, false, List, [], All, IsTrue}
 use Rattle.rep_types.specs.declared.key.Key.{Key}
 use Rattle.rep_types.specs.declared.value.Write.{Write}
 use Rattle.rep_types.specs.declared.item.Item.{Item}
 use Rattle.rep_types.specs.declared.item.Item.TheVariants.{WriteSet, SetWindow}
-use Rattle.rep_types.specs.Transactions.{written, named}
+use Rattle.rep_types.specs.Transactions.{IsWithinLimits, written, named}
+use Rattle.rep_types.specs.Windows.{is_window_size}
 
 -- whether the item is a write set, and no change of the window's size
 abbrev pub is_write_set : Item → Bool
 is_write_set (WriteSet w) = true
 is_write_set (SetWindow c) = false
+
+-- the limits of an item: those of a write set, or of a window's size
+abbrev pub IsWithin : Item → Type 0
+IsWithin (WriteSet w) = IsWithinLimits w
+IsWithin (SetWindow c) = IsTrue (is_window_size c.size)
 
 -- no item changes the window's size
 abbrev pub AreWriteSets : List Item → Type 0

@@ -1,7 +1,7 @@
 //! The items of an order.
 
 ghost use Rattle.std.specs.Prelude.{◌≡◌, ⊤};
-ghost use Rattle.rep_types.specs.Items.{is_write_set, reads_of, source_of, trx_of, writes_of, written_by};
+ghost use Rattle.rep_types.specs.Items.{IsWithin, is_write_set, reads_of, source_of, trx_of, writes_of, written_by};
 ghost use Rattle.rep_types.specs.Reaches.{resized};
 
 use crate::key::Key;
@@ -40,6 +40,20 @@ impl Item {
         match self {
             Item::WriteSet(_) => true,
             Item::SetWindow(_) => false,
+        }
+    }
+
+    /// Keeps its limits: a law, which does nothing. Reads and writes of a write set are few and ascend, and a size is from 1 to 256.
+    pub fn limits(&self)
+        ensures { IsWithin self.now }
+    {
+        match self {
+            Item::WriteSet(write_set) => {
+                write_set.writes();
+            }
+            Item::SetWindow(change) => {
+                change.size.get();
+            }
         }
     }
 

@@ -1,7 +1,7 @@
 //! The layout of the device: the sizes, where places lie, and superblocks of no cluster.
 
 use arrayvec::ArrayVec;
-use rep_layout::{Layout, PageState, Place, Side, Slot, SuperBody, need};
+use rep_layout::{Format, Layout, PageState, Place, Side, Slot, SuperBody, need};
 use rep_pages::{slot_of, spare_of};
 use rep_types::{Params, Part, Refusal};
 use std::test::Fail;
@@ -74,6 +74,7 @@ fn undefined(number: u64, position: u64, start: u64) -> Result<SuperBody, Refusa
     let mut pages = ArrayVec::from([PageState::Nowhere; 4096]);
     pages.truncate(2);
     Ok(SuperBody {
+        format: Format::Two,
         number,
         uuid: Uuid::nil(),
         params: small()?,

@@ -2,8 +2,8 @@
 
 use crate::tests::layout::largest;
 use arrayvec::ArrayVec;
-use rep_layout::{WindowBody, WindowReader};
-use rep_types::{Entry, Key, Params, Part, Refusal};
+use rep_layout::{Format, WindowBody, WindowReader};
+use rep_types::{Entry, Key, Params, Part, Reach, Refusal};
 use std::alloc::Global;
 use std::test::Fail;
 
@@ -21,8 +21,13 @@ fn entries_to(alloc: Global, last: u64) -> Result<Vec<Entry>, Refusal> {
 /// Whether the window of so many entries is written.
 fn is_written(params: &Params, last: u64, entries: &[Entry]) -> bool {
     let window = WindowBody {
+        format: Format::Two,
         number: 1,
         position: last,
+        reach: Reach {
+            size: params.window_size(),
+            floor: 1.max(last.saturating_sub(255)),
+        },
         entries,
     };
     window.write_body(params).is_some()

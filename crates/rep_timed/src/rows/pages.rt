@@ -6,7 +6,7 @@ ghost use Rattle.rep_layout.specs.Supers.{IsSuper};
 use arrayvec::ArrayVec;
 use rep_cells::{Cells, refusal_of};
 use rep_disk::Disk;
-use rep_layout::{Layout, PAGE_BODY, PageState, Place, RowPlace, Slot, SuperBody};
+use rep_layout::{Format, Layout, PAGE_BODY, PageState, Place, RowPlace, Slot, SuperBody};
 use rep_pages::Page;
 use rep_pool::Pool;
 use rep_types::{Item, Key, Params, Refusal, Schema, Value, Write, WriteSet};
@@ -36,6 +36,7 @@ fn base(params: Params) -> SuperBody {
     let mut pages = ArrayVec::from([PageState::In(Slot::First); PAGES as usize]);
     pages.truncate(params.schema().pages() as usize);
     SuperBody {
+        format: Format::Two,
         number: 1,
         uuid: Uuid::from_bytes([1; 16]),
         params,

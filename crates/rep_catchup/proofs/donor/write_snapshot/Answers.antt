@@ -25,7 +25,7 @@ returns-clause-written g c = λ n holds.
     let count : c.count_pages-count.result ≡ length (held_below b (pages_of b.params.rows)) = subst (λ (s : SuperBody). c.count_pages-count.result ≡ length (held_below s (pages_of s.params.rows))) same c.count_pages-count.ensures in
     let few : c.count_pages-count.result < 2 ^ 16 = omega arith in
     on_ok_weaker c.write_pages.result
-    (λ wrote. snapshot_written c.windows_go_on.ensures c.row_places_are_told.ensures n b (base_of g.D.Disk.honest g.D.Disk.history g.D.Disk.failures n old holds c.requires)
+    (λ wrote. snapshot_written c.row_places_are_told.ensures n b (base_of g.D.Disk.honest g.D.Disk.history g.D.Disk.failures n old holds c.requires)
     (g.W.Write.contents c.args.writer.now) (g.W.Write.contents c.write_window.new.writer) (g.W.Write.contents c.write_count.new.writer) (g.W.Write.contents c.write_pages.new.writer)
     (c.in_ok-write_window.ensures.written n holds) c.count_pages-count.result few count c.in_ok-write_count.ensures.done wrote) here
 

@@ -1,4 +1,4 @@
-use Rattle.std.proofs.Common.{Ok, Err}
+use Rattle.std.proofs.Common.{Ok, Err, []}
 use Rattle.std.proofs.lemmas.Result.{err_from_is_err_and}
 use Rattle.rep_catchup.proofs.DonateReads.{leaves_asked, leaves_cut, leaves_passed, leaves_then, leaves_wrote}
 use Rattle.rep_catchup.proofs.DonateWindow.{window_wrote}
@@ -9,7 +9,14 @@ returns-in_err-write_front-clause-leaves g c =
     let p = err_from_is_err_and c.from_residual-in_err-write_front.result c.from_residual-in_err-write_front.ensures.1 in
     rw (p.1, p.2) (leaves_then g.D.Disk.honest g.D.Disk.history g.D.Disk.failures c.args.replica.now c.base_window.new.self c.base_window.new.self c.in_ok-window.window (Err c.in_err-write_front.field-0.0)
     (leaves_asked g.D.Disk.honest g.D.Disk.history g.D.Disk.failures _ _ c.args.replica.now c.base_window.new.self (Ok c.in_ok-window.window) c.in_ok-window.ensures.asks c.requires c.in_ok-window.ensures.holds c.in_ok-window.ensures.whole)
-    (leaves_cut g.D.Disk.honest g.D.Disk.history g.D.Disk.failures c.base_window.new.self c.in_err-write_front.field-0.0 c.in_err-write_front.ensures.written.refused))
+    (leaves_cut g.D.Disk.honest g.D.Disk.history g.D.Disk.failures c.base_window.new.self c.in_err-write_front.field-0.0 (c.in_err-write_front.ensures.written []).refused))
+
+pub returns-in_err-write_count-clause-leaves : goal.returns-in_err-write_count-clause-leaves
+returns-in_err-write_count-clause-leaves g c =
+    let p = err_from_is_err_and c.from_residual-in_err-write_count.result c.from_residual-in_err-write_count.ensures.1 in
+    rw (p.1, p.2) (leaves_then g.D.Disk.honest g.D.Disk.history g.D.Disk.failures c.args.replica.now c.base_window.new.self c.base_window.new.self c.in_ok-window.window (Err c.in_err-write_count.field-0.0)
+    (leaves_asked g.D.Disk.honest g.D.Disk.history g.D.Disk.failures _ _ c.args.replica.now c.base_window.new.self (Ok c.in_ok-window.window) c.in_ok-window.ensures.asks c.requires c.in_ok-window.ensures.holds c.in_ok-window.ensures.whole)
+    (leaves_cut g.D.Disk.honest g.D.Disk.history g.D.Disk.failures c.base_window.new.self c.in_err-write_count.field-0.0 c.in_err-write_count.ensures.refused))
 
 pub returns-clause-leaves : goal.returns-clause-leaves
 returns-clause-leaves g c =
@@ -21,8 +28,9 @@ pub returns-clause-written : goal.returns-clause-written
 returns-clause-written g c = λ n holds.
     let b = c.args.replica.now.engine.checkpoint.base in
     let w = c.in_ok-window.window in
-    window_wrote b w (record { position = c.base-position.result; count = c.len.result }) (g.W.Write.contents c.args.writer.now) (g.W.Write.contents c.write_front.new.writer) (g.W.Write.contents c.write_entries.new.writer)
-    c.in_ok-window.ensures.form (λ i. record { position = c.base-position.ensures i; count = c.len.ensures i }) c.write_front.ensures.fits c.in_ok-write_front.ensures.written.done n.base.kept.entries c.write_entries.result
+    window_wrote b w c.base-position.result c.len.result (record { size = c.size.result; floor = c.floor.result }) (g.W.Write.contents c.args.writer.now) (g.W.Write.contents c.write_front.new.writer)
+    (g.W.Write.contents c.write_count.new.writer) (g.W.Write.contents c.write_entries.new.writer) c.in_ok-window.ensures.form c.base-position.ensures
+    (λ i. record { size = c.size.ensures i; floor = c.floor.ensures i }) c.len.ensures (c.in_ok-write_front.ensures.written w.kept.entries).done c.in_ok-write_count.ensures.done n.base.kept c.write_entries.result
     (c.in_ok-window.ensures.window n holds) c.write_entries.ensures.fit c.write_entries.ensures.written.done
 
 pub returns-in_err-window-clause-leaves : goal.returns-in_err-window-clause-leaves

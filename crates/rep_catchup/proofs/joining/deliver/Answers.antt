@@ -1,10 +1,12 @@
-use Rattle.std.proofs.Common.{◌≡◌, ◌+◌, refl, rules, arith, sym, ◌∙◌, inl, inr}
+use Rattle.std.proofs.Common.{◌≡◌, ◌+◌, refl, rules, arith, ◌∙◌, inl, inr}
+use Rattle.rep_types.specs.declared.item.Item.TheVariants.{WriteSet}
+use Rattle.rep_cert.specs.Holdings.{verdict_of}
 use Rattle.rep_steps.specs.Standings.{delivered}
 use Rattle.rep_replica.specs.Replicas.{facts_of}
 use Rattle.rep_catchup.proofs.JoinGrowing.{grown_none, delivered_judged, delivered_none, delivered_runs, delivery_answers, delivery_early, ends_running, is_stopped, out_by_seqno, out_by_verdict}
 use Rattle.rep_catchup.proofs.JoinTelling.{tells_malformed, gave_tells, delivery_told}
 use Rattle.rep_catchup.proofs.joining.deliver.Goals as goal
-use Rattle.rep_catchup.proofs.joining.deliver.Goals.{then-seqno-delivered-via-then-seqno-delivered, then-seqno-delivered-via-else-seqno-delivered+then-ne}
+use Rattle.rep_catchup.proofs.joining.deliver.Goals.{then-seqno-delivered-via-then-seqno-delivered, then-seqno-delivered-via-else-seqno-delivered+then-not-judges_so}
 
 -- ---- an item that isn't the next one
 
@@ -17,17 +19,22 @@ returns-then-seqno-delivered-clause-refused g c =
       | then-seqno-delivered-via-then-seqno-delivered w ↦
           out_by_seqno g.D.Disk.failures c.args.replica.now c.args.judged c.args.at c.delivered.result (c.delivered.ensures.facts c.requires.running.inside)
           (let other : c.args.judged.seqno ≡ c.delivered.result + 1 → ⊥ = search rules in other)
-      | then-seqno-delivered-via-else-seqno-delivered+then-ne w ↦
-          out_by_verdict g.D.Disk.failures c.args.replica.now c.args.judged c.args.at c.in-WriteSet.item w.judge.result c.in-WriteSet.is w.judge.ensures.certifier
-          (let other : w.judge.result ≡ c.args.judged.verdict → ⊥ = search rules in other)
+      | then-seqno-delivered-via-else-seqno-delivered+then-not-judges_so w ↦
+          out_by_verdict g.D.Disk.failures c.args.replica.now c.args.judged c.args.at c.in-WriteSet.item c.in-WriteSet.is
+          (let other : verdict_of c.args.replica.now.certifier.current (WriteSet c.in-WriteSet.item) ≡ c.args.judged.verdict → ⊥ = search rules in other)
     ]
+
+-- ---- a change of the window's size
+
+pub returns-in_default-clause-grown : goal.returns-in_default-clause-grown
+returns-in_default-clause-grown g c = grown_none c.history_by_items.ensures g.D.Disk.honest g.D.Disk.history g.D.Disk.failures c.runs_are_joined.ensures c.args.replica.now
 
 -- ---- one that was delivered
 
 pub returns-in-Gave-clause-grown : goal.returns-in-Gave-clause-grown
 returns-in-Gave-clause-grown g c =
-    let same : c.judge.result ≡ c.args.judged.verdict = search rules in
-    let judged : c.in-Gave.field-0 ≡ c.args.judged.verdict = c.in-Gave.ensures.judged ∙ sym c.judge.ensures.certifier ∙ same in
+    let same : verdict_of c.args.replica.now.certifier.current (WriteSet c.in-WriteSet.item) ≡ c.args.judged.verdict = search rules in
+    let judged : c.in-Gave.field-0 ≡ c.args.judged.verdict = c.in-Gave.ensures.judged ∙ same in
     let here = c.delivered.ensures.facts c.requires.running.inside in
     let next : c.args.judged.seqno ≡ delivered (facts_of g.D.Disk.failures c.args.replica.now) + 1 = omega (arith, here) in
     delivered_judged c.history_by_items.ensures g.D.Disk.honest g.D.Disk.history g.D.Disk.failures c.runs_are_joined.ensures c.nodes_hold_the_order.ensures c.steps_follow_the_order.ensures c.args.replica.now c.step.new.self c.args.judged.seqno
@@ -46,7 +53,7 @@ returns-in-Refused g c =
     let next : c.args.judged.seqno ≡ delivered (facts_of g.D.Disk.failures c.args.replica.now) + 1 = omega (arith, here) in
     let early =
     delivery_early (facts_of g.D.Disk.failures c.args.replica.now) (facts_of g.D.Disk.failures c.step.new.self) c.args.judged.seqno c.in-WriteSet.item c.in-Refused.refusal (is_stopped g.D.Disk.failures c.args.replica.now c.requires.running)
-    c.requires.defined next c.requires.fits.seqno c.requires.room c.in-Refused.ensures.step.moves in
+    c.requires.defined next c.requires.within c.requires.room c.in-Refused.ensures.step.moves in
     record {
       grown =
           delivered_none c.history_by_items.ensures g.D.Disk.honest g.D.Disk.history g.D.Disk.failures c.runs_are_joined.ensures c.nodes_hold_the_order.ensures c.steps_follow_the_order.ensures c.args.replica.now c.step.new.self c.args.judged.seqno
@@ -54,7 +61,7 @@ returns-in-Refused g c =
       ends = ends_running c.history_by_items.ensures g.D.Disk.honest g.D.Disk.history g.D.Disk.failures c.step.new.self c.in-Refused.refusal early.1;
       tells =
           delivery_told g.D.Disk.honest g.D.Disk.history g.D.Disk.failures c.args.replica.now c.step.new.self c.args.judged.seqno c.in-WriteSet.item c.in-Refused.refusal (is_stopped g.D.Disk.failures c.args.replica.now c.requires.running)
-          c.requires.defined next c.requires.fits.seqno c.requires.room c.in-Refused.ensures.step.moves;
+          c.requires.defined next c.requires.within c.requires.room c.in-Refused.ensures.step.moves;
       limit = tt;
       refused = inl early.0;
     }

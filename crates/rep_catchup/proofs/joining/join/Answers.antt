@@ -18,20 +18,20 @@ settle-requires g c = record { running = is_running c.args.replica (sym c.is_sto
 pub returns-in-Ok-clause-refused : goal.returns-in-Ok-clause-refused
 returns-in-Ok-clause-refused g c =
     or_stopped c.take_parts.result.1
-    (early_parts g.D.Disk.honest g.D.Disk.history g.D.Disk.failures c.settle.new.replica c.take_parts.result.0 c.in-Ok.uuid (g.R.Read.remaining c.take_header.new.reader) c.take_header.new.transfer c.take_parts.result.1 c.take_parts.ensures.cut)
+    (early_parts g.D.Disk.honest g.D.Disk.history g.D.Disk.failures c.settle.new.replica c.take_parts.result.0 c.in-Ok.header.format c.in-Ok.header.uuid (g.R.Read.remaining c.take_header.new.reader) c.take_header.new.transfer c.take_parts.result.1 c.take_parts.ensures.cut)
 
 pub returns-in-Ok-clause-early : goal.returns-in-Ok-clause-early
 returns-in-Ok-clause-early g c = λ running.
-    early_parts g.D.Disk.honest g.D.Disk.history g.D.Disk.failures c.settle.new.replica c.take_parts.result.0 c.in-Ok.uuid (g.R.Read.remaining c.take_header.new.reader) c.take_header.new.transfer c.take_parts.result.1 c.take_parts.ensures.cut
+    early_parts g.D.Disk.honest g.D.Disk.history g.D.Disk.failures c.settle.new.replica c.take_parts.result.0 c.in-Ok.header.format c.in-Ok.header.uuid (g.R.Read.remaining c.take_header.new.reader) c.take_header.new.transfer c.take_parts.result.1 c.take_parts.ensures.cut
 
 pub returns-in-Ok-clause-joined : goal.returns-in-Ok-clause-joined
 returns-in-Ok-clause-joined g c = λ n holds.
-    joined_on g.D.Disk.honest g.D.Disk.history g.D.Disk.failures c.args.replica c.settle.new.replica c.take_parts.result.0 c.in-Ok.uuid n (g.R.Read.remaining c.args.reader.now) (g.R.Read.remaining c.take_header.new.reader)
+    joined_on g.D.Disk.honest g.D.Disk.history g.D.Disk.failures c.args.replica c.settle.new.replica c.take_parts.result.0 c.in-Ok.header n (g.R.Read.remaining c.args.reader.now) (g.R.Read.remaining c.take_header.new.reader)
     (g.R.Read.remaining c.take_parts.new.reader) c.take_parts.result.1 c.settle.ensures.grown holds c.in-Ok.ensures.taken c.take_parts.ensures.taken
 
 pub returns-in-Ok-clause-ended : goal.returns-in-Ok-clause-ended
 returns-in-Ok-clause-ended g c = λ running.
-    ended_parts g.D.Disk.honest g.D.Disk.history g.D.Disk.failures c.args.replica c.settle.new.replica c.take_parts.result.0 c.in-Ok.uuid (g.R.Read.remaining c.args.reader.now) (g.R.Read.remaining c.take_header.new.reader) c.take_header.new.transfer
+    ended_parts g.D.Disk.honest g.D.Disk.history g.D.Disk.failures c.args.replica c.settle.new.replica c.take_parts.result.0 c.in-Ok.header (g.R.Read.remaining c.args.reader.now) (g.R.Read.remaining c.take_header.new.reader) c.take_header.new.transfer
     c.take_parts.result.1 c.settle.ensures.grown c.in-Ok.ensures.taken (c.in-Ok.ensures.counted ∙ ap (λ k. counted k 59) c.new-transfer.ensures ∙ omega arith) c.take_parts.ensures.cut
 
 -- ---- where it was stopped before, or didn't settle
@@ -86,7 +86,7 @@ returns-in-Err-take_header-clause-lived g c = lived_settling g.D.Disk.honest g.D
 
 pub returns-in-Ok-clause-lived : goal.returns-in-Ok-clause-lived
 returns-in-Ok-clause-lived g c =
-    lived_parts g.D.Disk.honest g.D.Disk.history g.D.Disk.failures c.args.replica c.settle.new.replica c.take_parts.result.0 c.in-Ok.uuid (g.R.Read.remaining c.take_header.new.reader) (g.R.Read.remaining c.take_parts.new.reader) c.take_header.new.transfer
+    lived_parts g.D.Disk.honest g.D.Disk.history g.D.Disk.failures c.args.replica c.settle.new.replica c.take_parts.result.0 c.in-Ok.header.format c.in-Ok.header.uuid (g.R.Read.remaining c.take_header.new.reader) (g.R.Read.remaining c.take_parts.new.reader) c.take_header.new.transfer
     c.take_parts.result.1 c.settle.ensures.grown c.take_parts.ensures.taken c.take_parts.ensures.cut
 
 -- ---- what is told of the device
@@ -123,5 +123,5 @@ returns-in-Err-take_header-clause-took g c =
 
 pub returns-in-Ok-clause-took : goal.returns-in-Ok-clause-took
 returns-in-Ok-clause-took g c =
-    took_on g.D.Disk.honest g.D.Disk.history g.D.Disk.failures c.args.replica c.settle.new.replica c.take_parts.result.0 c.in-Ok.uuid c.settle.ensures.grown (g.R.Read.remaining c.args.reader.now) (g.R.Read.remaining c.take_header.new.reader) (g.R.Read.remaining c.take_parts.new.reader)
+    took_on g.D.Disk.honest g.D.Disk.history g.D.Disk.failures c.args.replica c.settle.new.replica c.take_parts.result.0 c.in-Ok.header c.settle.ensures.grown (g.R.Read.remaining c.args.reader.now) (g.R.Read.remaining c.take_header.new.reader) (g.R.Read.remaining c.take_parts.new.reader)
     c.take_parts.result.1 c.in-Ok.ensures.taken c.take_parts.ensures.taken

@@ -21,9 +21,9 @@ returns-in-Ok-None-clause-cut g c =
     let small : c.taken-at.result < 2 ^ 64 = search rules in
     let same : c.taken-at.result ≡ start = c.taken-at.ensures in
     let none = none_found PartFits part_bytes before (g.R.Read.remaining c.next_part.new.reader) c.in-Ok-None.field-0 c.next_part.result c.in-Ok-None.is c.in-Ok-None.field-0-is c.next_part.ensures.known in
-    subst (λ k. CutShort g.D.Disk.honest g.D.Disk.history g.D.Disk.failures c.args.replica c.args.replica c.args.uuid before start (Malformed k)) (sym same)
-    (short_none g.D.Disk.honest g.D.Disk.history g.D.Disk.failures c.history_by_items.ensures c.runs_are_joined.ensures c.args.replica c.args.uuid start before (Malformed start) (counted_small start (omega (arith, small, same)))
-    (ends_at_none g.D.Disk.honest g.D.Disk.history g.D.Disk.failures c.args.replica start before none) (λ k is. no_snapshot_stands g.D.Disk.honest g.D.Disk.history g.D.Disk.failures (facts_of g.D.Disk.failures c.args.replica) before none))
+    subst (λ k. CutShort g.D.Disk.honest g.D.Disk.history g.D.Disk.failures c.args.replica c.args.replica c.args.header.now.format c.args.header.now.uuid before start (Malformed k)) (sym same)
+    (short_none g.D.Disk.honest g.D.Disk.history g.D.Disk.failures c.history_by_items.ensures c.runs_are_joined.ensures c.args.replica c.args.header.now.format c.args.header.now.uuid start before (Malformed start) (counted_small start (omega (arith, small, same)))
+    (ends_at_none g.D.Disk.honest g.D.Disk.history g.D.Disk.failures c.args.replica start before none) (λ k is. no_snapshot_stands g.D.Disk.honest g.D.Disk.history g.D.Disk.failures c.args.header.now.format (facts_of g.D.Disk.failures c.args.replica) before none))
 
 pub returns-in-Err-clause-cut : goal.returns-in-Err-clause-cut
 returns-in-Err-clause-cut g c =
@@ -31,28 +31,28 @@ returns-in-Err-clause-cut g c =
     let start = c.args.transfer.now in
     let small : c.taken-at.result < 2 ^ 64 = search rules in
     let same : c.taken-at.result ≡ start = c.taken-at.ensures in
-    short_none g.D.Disk.honest g.D.Disk.history g.D.Disk.failures c.history_by_items.ensures c.runs_are_joined.ensures c.args.replica c.args.uuid start before c.in-Err.refusal (counted_small start (omega (arith, small, same)))
+    short_none g.D.Disk.honest g.D.Disk.history g.D.Disk.failures c.history_by_items.ensures c.runs_are_joined.ensures c.args.replica c.args.header.now.format c.args.header.now.uuid start before c.in-Err.refusal (counted_small start (omega (arith, small, same)))
     (inl c.in-Err.ensures.refused) (λ k is. absurd (let never : Malformed k ≡ StreamFault = sym is ∙ c.in-Err.ensures.refused in cc))
 
 -- ---- a snapshot
 
 pub returns-in-Snapshot-clause-taken : goal.returns-in-Snapshot-clause-taken
 returns-in-Snapshot-clause-taken g c =
-    let front = c.in-Snapshot.front in
+    let position = c.in-Snapshot.position in
     let before = g.R.Read.remaining c.args.reader.now in
     let mid = g.R.Read.remaining c.next_part.new.reader in
-    let is : c.next_part.result ≡ Ok (Some (Snapshot front)) = c.in-Ok-Some.is ∙ ap Ok c.in-Ok-Some.field-0-is ∙ ap (λ (p : Part). Ok (Some p)) c.in-Snapshot.is in
-    all_behind g.D.Disk.honest g.D.Disk.history g.D.Disk.failures c.args.replica c.take_snapshot.result.0 c.args.uuid (part_bytes (Snapshot front)) before mid (g.R.Read.remaining c.take_snapshot.new.reader) c.take_snapshot.result.1
-    (consumed PartFits part_bytes before mid (Snapshot front) c.next_part.result is c.next_part.ensures.known) c.take_snapshot.ensures.taken
+    let is : c.next_part.result ≡ Ok (Some (Snapshot position)) = c.in-Ok-Some.is ∙ ap Ok c.in-Ok-Some.field-0-is ∙ ap (λ (p : Part). Ok (Some p)) c.in-Snapshot.is in
+    all_behind g.D.Disk.honest g.D.Disk.history g.D.Disk.failures c.args.replica c.take_snapshot.result.0 c.args.header.now.format c.args.header.now.uuid (part_bytes (Snapshot position)) before mid (g.R.Read.remaining c.take_snapshot.new.reader) c.take_snapshot.result.1
+    (consumed PartFits part_bytes before mid (Snapshot position) c.next_part.result is c.next_part.ensures.known) c.take_snapshot.ensures.taken
 
 pub returns-in-Snapshot-clause-cut : goal.returns-in-Snapshot-clause-cut
 returns-in-Snapshot-clause-cut g c =
-    let front = c.in-Snapshot.front in
+    let position = c.in-Snapshot.position in
     let before = g.R.Read.remaining c.args.reader.now in
     let mid = g.R.Read.remaining c.next_part.new.reader in
-    let is : c.next_part.result ≡ Ok (Some (Snapshot front)) = c.in-Ok-Some.is ∙ ap Ok c.in-Ok-Some.field-0-is ∙ ap (λ (p : Part). Ok (Some p)) c.in-Snapshot.is in
-    subst (λ k. IfErr c.take_snapshot.result.1 (CutShort g.D.Disk.honest g.D.Disk.history g.D.Disk.failures c.args.replica c.take_snapshot.result.0 c.args.uuid before k)) c.taken-at.ensures
-    (c.take_snapshot.ensures.cut before (consumed PartFits part_bytes before mid (Snapshot front) c.next_part.result is c.next_part.ensures.known))
+    let is : c.next_part.result ≡ Ok (Some (Snapshot position)) = c.in-Ok-Some.is ∙ ap Ok c.in-Ok-Some.field-0-is ∙ ap (λ (p : Part). Ok (Some p)) c.in-Snapshot.is in
+    subst (λ k. IfErr c.take_snapshot.result.1 (CutShort g.D.Disk.honest g.D.Disk.history g.D.Disk.failures c.args.replica c.take_snapshot.result.0 c.args.header.now.format c.args.header.now.uuid before k)) c.taken-at.ensures
+    (c.take_snapshot.ensures.cut before (consumed PartFits part_bytes before mid (Snapshot position) c.next_part.result is c.next_part.ensures.known))
 
 -- ---- records alone
 
@@ -65,14 +65,14 @@ returns g c =
     let taken = consumed PartFits part_bytes before mid part c.next_part.result is c.next_part.ensures.known in
     record {
       taken =
-          no_snapshot g.D.Disk.honest g.D.Disk.history g.D.Disk.failures c.args.replica c.follow_from-followed.new.replica c.args.uuid (part_bytes part) before mid (g.R.Read.remaining c.follow_from-followed.new.reader)
+          no_snapshot g.D.Disk.honest g.D.Disk.history g.D.Disk.failures c.args.replica c.follow_from-followed.new.replica c.args.header.now.format c.args.header.now.uuid (part_bytes part) before mid (g.R.Read.remaining c.follow_from-followed.new.reader)
           c.follow_from-followed.result taken c.requires.cluster c.follow_from-followed.ensures.defined c.follow_from-followed.ensures.followed;
       ends = c.follow_from-followed.ensures.ends;
       tells = c.follow_from-followed.ensures.tells;
       cut =
-          subst (λ k. IfErr c.follow_from-followed.result (CutShort g.D.Disk.honest g.D.Disk.history g.D.Disk.failures c.args.replica c.follow_from-followed.new.replica c.args.uuid before k)) c.taken-at.ensures
-          (short_records_on g.D.Disk.honest g.D.Disk.history g.D.Disk.failures c.args.replica c.follow_from-followed.new.replica c.args.uuid c.taken-at.result before c.follow_from-followed.result (c.follow_from-followed.ensures.cut before taken)
-          (no_front g.D.Disk.honest g.D.Disk.history g.D.Disk.failures (facts_of g.D.Disk.failures c.args.replica) part before mid (found_fits PartFits part c.next_part.result is c.next_part.ensures.fits) taken c.in_default.not-Snapshot));
+          subst (λ k. IfErr c.follow_from-followed.result (CutShort g.D.Disk.honest g.D.Disk.history g.D.Disk.failures c.args.replica c.follow_from-followed.new.replica c.args.header.now.format c.args.header.now.uuid before k)) c.taken-at.ensures
+          (short_records_on g.D.Disk.honest g.D.Disk.history g.D.Disk.failures c.args.replica c.follow_from-followed.new.replica c.args.header.now.format c.args.header.now.uuid c.taken-at.result before c.follow_from-followed.result (c.follow_from-followed.ensures.cut before taken)
+          (no_front g.D.Disk.honest g.D.Disk.history g.D.Disk.failures c.args.header.now.format (facts_of g.D.Disk.failures c.args.replica) part before mid (found_fits PartFits part c.next_part.result is c.next_part.ensures.fits) taken c.in_default.not-Snapshot));
     }
 
 -- ---- what is told of the device

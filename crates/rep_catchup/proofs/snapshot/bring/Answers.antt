@@ -9,14 +9,14 @@ use Rattle.rep_catchup.proofs.JoinTelling.{told_behind, told_between, install_to
 use Rattle.rep_catchup.proofs.snapshot.bring.Goals as goal
 
 pub take_pages-requires-clause-none : goal.take_pages-requires-clause-none
-take_pages-requires-clause-none g c = none_came c.args.replica.engine.checkpoint.base c.args.uuid c.args.front.position c.args.replica.engine.log.next c.in-Ok.taken.0.entries c.in-Ok-install.installation.coming c.in-Ok-install.ensures.begun.1
+take_pages-requires-clause-none g c = none_came c.args.replica.engine.checkpoint.base c.args.header.now.uuid c.args.position c.args.replica.engine.log.next c.in-Ok.taken.0 c.in-Ok-install.installation.coming c.in-Ok-install.ensures.begun.1
 
 pub returns-in-Ok-take_pages : goal.returns-in-Ok-take_pages
 returns-in-Ok-take_pages g c =
     let took = c.in-Ok-take_pages.ensures.taken in
-    let all = brought_on g.D.Disk.honest g.D.Disk.history g.D.Disk.failures c.args.replica c.end.result.0 c.in-Ok-install.installation c.take_pages.new.installation c.args.uuid c.args.front c.in-Ok.taken.0 c.in-Ok.taken.1
+    let all = brought_on g.D.Disk.honest g.D.Disk.history g.D.Disk.failures c.args.replica c.end.result.0 c.in-Ok-install.installation c.take_pages.new.installation c.args.header.now.format c.args.header.now.uuid c.args.position c.in-Ok.taken.0 c.in-Ok.taken.1
     c.args.transfer.now c.take_window.new.transfer c.take_pages.new.transfer (g.R.Read.remaining c.args.reader.now) (g.R.Read.remaining c.take_window.new.reader) (g.R.Read.remaining c.take_pages.new.reader) c.in-Ok.ensures.taken
-    c.in-Ok-install.ensures.begun c.requires.fits c.requires.quiet took.0 took.1 took.2 c.requires.cluster c.args.at c.end.result.1 (c.end.ensures.lands took.2.running) (λ n holds. c.in-Ok-install.ensures.holds n holds) (λ n y h. c.end.ensures.installs n y h) in
+    c.in-Ok-install.ensures.begun c.requires.quiet took.0 took.1 took.2 c.requires.cluster c.args.at c.end.result.1 (c.end.ensures.lands took.2.running) (λ n holds. c.in-Ok-install.ensures.holds n holds) (λ n y h. c.end.ensures.installs n y h) in
     let same = ap (λ (e : Engine g.row.D.Denot). g.D.Disk.failures e.disk) c.in-Ok-install.ensures.begun.0 in
     record {
       brought = all.0;
@@ -32,7 +32,7 @@ returns-in-Ok-take_pages g c =
 
 pub returns-in-Err-take_pages-clause-left : goal.returns-in-Err-take_pages-clause-left
 returns-in-Err-take_pages-clause-left g c =
-    inl (given_behind g.D.Disk.honest g.D.Disk.history g.D.Disk.failures c.args.replica c.in-Ok-install.installation c.take_pages.new.installation (blank c.args.front.position c.in-Ok.taken.0) c.in-Ok-install.ensures.begun.0
+    inl (given_behind g.D.Disk.honest g.D.Disk.history g.D.Disk.failures c.args.replica c.in-Ok-install.installation c.take_pages.new.installation (blank c.args.position c.in-Ok.taken.0) c.in-Ok-install.ensures.begun.0
     (λ n holds. c.in-Ok-install.ensures.holds n holds) (λ n z h. c.in-Err-take_pages.ensures.kept n z h) c.give_up.result c.give_up.ensures.replica (λ n z h. c.give_up.ensures.holds n z h))
 
 pub returns-in-Err-take_pages-clause-ends : goal.returns-in-Err-take_pages-clause-ends
@@ -40,9 +40,9 @@ returns-in-Err-take_pages-clause-ends g c = subst (λ (r : Replica g.row.D.Denot
 
 pub returns-in-Err-take_pages-clause-refused : goal.returns-in-Err-take_pages-clause-refused
 returns-in-Err-take_pages-clause-refused g c =
-    early_pages g.D.Disk.honest g.D.Disk.history g.D.Disk.failures c.args.replica c.give_up.result c.in-Ok-install.installation c.take_pages.new.installation c.args.uuid c.args.front c.in-Ok.taken.0 c.in-Ok.taken.1
+    early_pages g.D.Disk.honest g.D.Disk.history g.D.Disk.failures c.args.replica c.give_up.result c.in-Ok-install.installation c.take_pages.new.installation c.args.header.now.format c.args.header.now.uuid c.args.position c.in-Ok.taken.0 c.in-Ok.taken.1
     c.args.transfer.now c.take_window.new.transfer c.take_pages.new.transfer (g.R.Read.remaining c.args.reader.now) (g.R.Read.remaining c.take_window.new.reader) (g.R.Read.remaining c.take_pages.new.reader) c.in-Ok.ensures.taken
-    c.in-Ok-install.ensures.begun c.args.at c.in-Err-take_pages.refusal c.in-Ok.ensures.taken.few c.in-Err-take_pages.ensures.refused
+    c.in-Ok-install.ensures.begun c.args.at c.in-Err-take_pages.refusal c.in-Err-take_pages.ensures.refused
 
 pub returns-in-Err-install-clause-left : goal.returns-in-Err-install-clause-left
 returns-in-Err-install-clause-left g c =

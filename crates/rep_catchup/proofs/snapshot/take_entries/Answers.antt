@@ -1,7 +1,7 @@
 use Rattle.std.proofs.Common.{◌≡◌, None, refl, inr, rules}
 use Rattle.rep_forms.specs.Entries.{EntryFits, entry_bytes}
 use Rattle.rep_catchup.proofs.JoinTaking.{none_found}
-use Rattle.rep_catchup.proofs.JoinBringing.{entries_cut}
+use Rattle.rep_catchup.proofs.JoinWindow.{entries_cut}
 use Rattle.rep_catchup.proofs.snapshot.take_entries.Goals as goal
 
 pub returns-in_default-clause-refused : goal.returns-in_default-clause-refused

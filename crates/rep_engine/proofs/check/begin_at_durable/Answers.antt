@@ -1,5 +1,4 @@
-use Rattle.std.proofs.Common.{◌≡◌, ◌<◌, sym, subst, ap, ◌∙◌, arith}
-use Rattle.rep_types.specs.Windows.{Window}
+use Rattle.std.proofs.Common.{◌≡◌, ◌<◌, sym, subst, arith}
 use Rattle.rep_layout.specs.declared.super_body.SuperBody.{SuperBody}
 use Rattle.rep_cert.specs.Holdings.{IsAskable}
 use Rattle.rep_engine.specs.Engines.{durable_of}
@@ -15,7 +14,7 @@ window_at-requires c = subst (IsAskable c.args.certifier.now.current) (sym (at_d
 
 pub returns : goal.returns
 returns c = record {
-  begun = begun_so c.args.certifier.now.current c.args.log.now c.args.versions.now c.args.checkpoint.now c.begin.new.self c.durable-position.result c.next-start.result c.into_entries.result.items (at_durable (goal.at.returns c).After-durable-position) c.next-start.ensures.next
-      (c.into_entries.ensures ∙ ap (λ (w : Window). w.entries) c.in_ok-window.ensures.window) (subst (λ (b : SuperBody). b.position < c.durable-position.result) c.base.ensures.base c.if-position-base.false) c.in_ok-begin.ensures.begun;
+  begun = begun_so c.args.certifier.now.current c.args.log.now c.args.versions.now c.args.checkpoint.now c.begin.new.self c.durable-position.result c.next-start.result c.in_ok-window.window (at_durable (goal.at.returns c).After-durable-position) c.next-start.ensures.next
+      c.in_ok-window.ensures.window (subst (λ (b : SuperBody). b.position < c.durable-position.result) c.base.ensures.base c.if-position-base.false) c.in_ok-begin.ensures.begun;
   refused = tt;
 }

@@ -15,8 +15,8 @@ use Rattle.rep_cells.specs.Readings.{Reading, reading_of}
 use Rattle.rep_log.specs.Scanning.{Finds, IsScanned}
 use Rattle.rep_steps.specs.Images.{AreJudgedFrom}
 use Rattle.rep_image.specs.Bases.{HasWindow}
-use Rattle.rep_checkpoint.specs.Windows.{IsWindowAt}
-use Rattle.rep_recover.specs.Judging.{bare, AreOfWriteSets, HasJudged}
+use Rattle.rep_layout.specs.Windows.{IsWindowAt}
+use Rattle.rep_recover.specs.Judging.{bare, HasJudged}
 use Rattle.rep_recover.specs.Looking.{Looks, HasBlocks, HasPages, HasBadPage}
 use Rattle.rep_recover.specs.Opening.{FailsBehind, RefusesBehind}
 use Rattle.rep_recover.specs.declared.open.Behind.{Behind}
@@ -27,9 +27,7 @@ use Rattle.rep_recover.proofs.open.read_behind.Goals.{After-the_log_is_told, In_
 
 pub judge_again-requires-clause-window : goal.judge_again-requires-clause-window
 judge_again-requires-clause-window g c =
-    let b : SuperBody = c.args.superblock.now in
-    let form = c.in_ok-beside.ensures.form in
-    subst (λ (p : Setting). IsWindowAt p b.position c.in_ok-beside.beside) (sym c.copied-params.ensures) (record { is_fixed = c.in_ok-beside.ensures.fixed; few = form.few; ascend = form.ascend; entries = form.entries })
+    subst (λ (p : Setting). IsWindowAt p c.args.superblock.now.position c.in_ok-beside.beside) (sym c.copied-params.ensures) c.in_ok-beside.ensures.form.kept
 
 -- ---- what has been read so far
 
@@ -106,7 +104,7 @@ returns-in_err-certifier-clause-refused g c =
     passed_on (RefusesBehind (Reason g at.After-the_log_is_told)) c.from_residual-in_err-certifier.result c.in_err-certifier.field-0.0 c.from_residual-in_err-certifier.ensures.1
     (refuses_items _ (Reason g at.After-the_log_is_told) c.in_err-certifier.field-0.0 (λ why honest none.
     fails_judging c.the_log_is_told.ensures (seen (g.D.Disk.history (disk_of c.args.cells.now))) b c.requires.form c.in_ok-log.log items (finds_log g at.In_ok-log honest none) beside (has_window g at.In_ok-beside honest none)
-    (λ of_write_sets judged. why (subst AreOfWriteSets (sym c.deref.ensures.value) of_write_sets) (subst (λ (js : List Judged). AreJudgedFrom c.copied-params.result (bare b.position beside) js) (sym c.deref.ensures.value) (subst (λ (p : Setting). AreJudgedFrom p (bare b.position beside) items) (sym c.copied-params.ensures) judged))))
+    (λ judged. why (subst (λ (js : List Judged). AreJudgedFrom c.copied-params.result (bare b.position beside) js) (sym c.deref.ensures.value) (subst (λ (p : Setting). AreJudgedFrom p (bare b.position beside) items) (sym c.copied-params.ensures) judged))))
     c.in_err-certifier.ensures.refused)
 
 pub returns-in_err-read_pages-clause-refused : goal.returns-in_err-read_pages-clause-refused
@@ -143,8 +141,6 @@ returns-clause-any g c =
       undefined = c.in_ok-log.ensures.undefined;
       beside = c.in_ok-beside.beside;
       is_window = c.in_ok-beside.ensures.form;
-      is_fixed = c.in_ok-beside.ensures.fixed;
-      write_sets = subst AreOfWriteSets c.deref.ensures.value c.in_ok-certifier.ensures.write_sets;
       judged = has_judged g at.In_ok-certifier;
       windows = c.in_ok-certifier.ensures.windows;
     }

@@ -18,7 +18,7 @@ judged_is c =
 pub returns-clause-goes_on : goal.returns-clause-goes_on
 returns-clause-goes_on c first items has =
     subst (λ (j : Judged). HasJudged first (items ++ j ∷ []) c.admit_item.new.self.current) (judged_is c)
-    (judged_on c.judging_goes_on.ensures first items c.args.certifier.now.current c.admit_item.new.self.current c.args.item has c.in_ok-seqno.ensures.admitted c.certifiers_hold_windows.ensures c.keeps_its_limits.ensures)
+    (judged_on c.judging_goes_on.ensures first items c.args.certifier.now.current c.admit_item.new.self.current c.args.item has c.in_ok-seqno.ensures.admitted c.certifiers_hold_windows.ensures c.limits.ensures)
 
 pub returns-clause-legal : goal.returns-clause-legal
 returns-clause-legal c first items has legal =
@@ -26,7 +26,7 @@ returns-clause-legal c first items has legal =
     (legal_more c.judging_goes_on.ensures first items c.args.certifier.now.current c.admit_item.new.self.current c.args.item has c.in_ok-seqno.ensures.admitted legal)
 
 pub returns-clause-placed : goal.returns-clause-placed
-returns-clause-placed c is =
+returns-clause-placed c =
     let h = c.args.certifier.now.current in
     let left : h.delivered < MAX_SEQNO = elim (cases_lt h.delivered MAX_SEQNO) [ inl lt ↦ lt | inr le ↦ absurd (let never : false ≡ true = c.in_ok-seqno.ensures.exhausted.1 le in cc) ] in
-    subst (λ (j : Judged). is_placed j ≡ true) (judged_is c) (placed_next c.verdicts_have_a_place.ensures h c.args.item left is)
+    subst (λ (j : Judged). is_placed j ≡ true) (judged_is c) (placed_next c.verdicts_have_a_place.ensures h c.args.item left)

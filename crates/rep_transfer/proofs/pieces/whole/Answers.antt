@@ -1,7 +1,7 @@
-use Rattle.std.proofs.Common.{rules, arith, [], ap, subst}
+use Rattle.std.proofs.Common.{rules, arith, ap, subst}
 use Rattle.std.specs.Option.{option_map}
 use Rattle.rep_forms.specs.Forms.{TakesFront}
-use Rattle.rep_transfer.proofs.Wholes.{front_none, front_some, front_more}
+use Rattle.rep_transfer.proofs.Wholes.{front_none, front_more}
 use Rattle.rep_transfer.proofs.pieces.whole.Goals as goal
 
 pub returns-in_err-value : goal.returns-in_err-value

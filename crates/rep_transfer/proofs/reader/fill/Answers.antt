@@ -1,4 +1,4 @@
-use Rattle.std.proofs.Common.{rules, arith, ◌≡◌, ap, ◌∙◌, sym, length}
+use Rattle.std.proofs.Common.{rules, arith, ◌≡◌, ap, ◌∙◌, length}
 use Rattle.std.proofs.lemmas.List.{take_at}
 use Rattle.rep_transfer.proofs.Streams.{too_long, too_short, both_read}
 use Rattle.rep_transfer.proofs.reader.fill.Goals as goal

@@ -1,4 +1,4 @@
-use Rattle.std.proofs.Common.{rules, arith}
+use Rattle.std.proofs.Common.{rules}
 use Rattle.rep_transfer.proofs.Streams.{more_read}
 use Rattle.rep_transfer.proofs.reader.read_into.Goals as goal
 

@@ -31,6 +31,16 @@ module _ {D : Type 0} (honest : D → Type 0) (history : D → History) (l : Lay
       subst (λ (st : Stage). StepsAt honest history l (next_place base st) (next_step st) old new result) (sym is)
       (subst (λ (sd : Side). StepsAt honest history l (Super sd) (filling (super_bytes next.super)) old new result) here steps)
 
+  super_written : stage ≡ Toward next Ready → WritesOnly honest history (offset_of l (Super side)) (super_bytes next.super) old new result → WritesOnly honest history (next_offset l base stage) (next_bytes stage) old new result
+  super_written is written =
+      subst (λ (st : Stage). WritesOnly honest history (next_offset l base st) (next_bytes st) old new result) (sym is)
+      (subst (λ (sd : Side). WritesOnly honest history (offset_of l (Super sd)) (super_bytes next.super) old new result) here written)
+
+pub returns-in-Toward-default-Ready-clause-written : goal.returns-in-Toward-default-Ready-clause-written
+returns-in-Toward-default-Ready-clause-written g c =
+    let stage : c.args.self.now.stage ≡ Toward c.in-Toward-default-Ready.next Ready = search rules in
+    super_written g.D.Disk.honest g.D.Disk.history (layout_of c.args.cells.now) c.args.self.now.base _ _ _ (c.spare_side-side.ensures ∙ ap (λ (w : Standing). spare_side w.base) c.self.view_is) (disk_of c.args.cells.now) _ _ stage c.put_super.ensures.written
+
 pub returns-in-Toward-default-Flushing-clause-written : goal.returns-in-Toward-default-Flushing-clause-written
 returns-in-Toward-default-Flushing-clause-written g c =
     let stage : c.args.self.now.stage ≡ Toward c.in-Toward-default-Flushing.next Flushing = search rules in

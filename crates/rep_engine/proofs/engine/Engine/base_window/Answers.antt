@@ -5,7 +5,7 @@ use Rattle.rep_layout.specs.declared.place.Place.TheVariants.{Window as in_windo
 use Rattle.rep_layout.specs.declared.place.Layout.{Layout}
 use Rattle.rep_layout.specs.Places.{side_of}
 use Rattle.rep_layout.specs.declared.super_body.SuperBody.{SuperBody}
-use Rattle.rep_layout.specs.Windows.{Window, window, IsWindowBody}
+use Rattle.rep_layout.specs.Windows.{Window, IsWindowBody, beside}
 use Rattle.rep_cells.specs.Device.{disk_of, layout_of}
 use Rattle.rep_steps.specs.Nodes.{Node}
 use Rattle.rep_engine.specs.Engines.{Engine, IsEngine}
@@ -17,16 +17,16 @@ use Rattle.rep_engine.proofs.Asking.{holds_read, asks_found, asks_failed, asks_s
 use Rattle.rep_engine.proofs.DonorPages.{if_read, window_read, window_spelled, window_elsewise}
 use Rattle.rep_types.specs.declared.refusal.Part.TheVariants.{Window as in_window}
 use Rattle.rep_engine.proofs.engine.Engine.base_window.Goals as goal
-use Rattle.rep_engine.proofs.engine.Engine.base_window.Goals.{After-window_in}
+use Rattle.rep_engine.proofs.engine.Engine.base_window.Goals.{After-read_beside}
 
 -- what was read is the base's window
-read : (g : _) (c : After-window_in g) (n : Node) → Holds g.D.Disk.honest g.D.Disk.history g.D.Disk.failures n c.args.self.now
-    → c.window_in.result ≡ Ok (window c.base-base.result.now.number c.base-base.result.now.position n.base.kept.entries)
+read : (g : _) (c : After-read_beside g) (n : Node) → Holds g.D.Disk.honest g.D.Disk.history g.D.Disk.failures n c.args.self.now
+    → c.read_beside.result ≡ Ok (beside c.base-base.result.now n.base.kept)
 read g c n holds =
     let ok : IsOk c.read_area.result = search rules in
     window_read g.D.Disk.honest g.D.Disk.history g.D.Disk.failures _ c.args.self.now c.self.view_is c.self.invariant.0 (runs_within c.self.view_is c.in_ok-running.ensures.runs) n holds
-    c.base-base.result.now (in_window_area c.of.result) c.read_area.new.room c.window_in.result c.base-base.ensures.base (ap in_window_area c.of.ensures)
-    (λ honest s assigns sure. if_read c.read_area.result ok (c.read_area.ensures.shown honest s assigns sure)) c.window_in.ensures.only
+    c.base-base.result.now (in_window_area c.of.result) c.read_area.new.room c.read_beside.result c.base-base.ensures.base (ap in_window_area c.of.ensures)
+    (λ honest s assigns sure. if_read c.read_area.result ok (c.read_area.ensures.shown honest s assigns sure)) c.read_beside.ensures.only
 
 pub invariant_of-self-2 : goal.invariant_of-self-2
 invariant_of-self-2 g c =
@@ -42,13 +42,13 @@ returns g c =
     let ok : IsOk c.read_area.result = search rules in
     let b_is : c.base-base.result.now ≡ c.args.self.now.checkpoint.base = c.base-base.ensures.base ∙ ap (λ (e : Engine g.row.D.Denot). e.checkpoint.base) c.self.view_is in
     record {
-      asks = asks_found g.D.Disk.size g.D.Disk.failures g.D.Disk.honest g.D.Disk.history in_window (inside c.self.inside.cells c.self.inside.checkpoint c.self.inside.log c.self.inside.versions c.self.inside.block c.self.inside.halted) c.args.self.now (disk_of c.read_area.new.self) (layout_of c.read_area.new.self) c.read_area.result c.self.view_is (runs_within c.self.view_is c.in_ok-running.ensures.runs) c.read_area.ensures.layout c.read_area.ensures.call c.read_area.ensures.same ok c.window_in.result c.window_in.ensures.refused;
-      form = subst (λ (b : SuperBody). IfOk c.window_in.result (λ w. (w ≡ window b.number b.position w.entries) × IsWindowBody b.params w)) b_is c.window_in.ensures.form;
+      asks = asks_found g.D.Disk.size g.D.Disk.failures g.D.Disk.honest g.D.Disk.history in_window (inside c.self.inside.cells c.self.inside.checkpoint c.self.inside.log c.self.inside.versions c.self.inside.block c.self.inside.halted) c.args.self.now (disk_of c.read_area.new.self) (layout_of c.read_area.new.self) c.read_area.result c.self.view_is (runs_within c.self.view_is c.in_ok-running.ensures.runs) c.read_area.ensures.layout c.read_area.ensures.call c.read_area.ensures.same ok c.read_beside.result c.read_beside.ensures.refused;
+      form = subst (λ (b : SuperBody). IfOk c.read_beside.result (λ w. (w ≡ beside b w.kept) × IsWindowBody b.params w)) b_is c.read_beside.ensures.form;
       holds = λ n holds other. holds_read g.D.Disk.size g.D.Disk.failures g.D.Disk.honest g.D.Disk.history _ c.args.self.now _ _ c.read_area.result c.self.view_is (runs_within c.self.view_is c.in_ok-running.ensures.runs) c.read_area.ensures.layout c.read_area.ensures.call ok c.read_area.ensures.same n holds;
-      window = λ n holds. subst (λ (r : Result Window Refusal). IfOk r (λ w. w.entries ≡ n.base.kept.entries)) (sym (read g c n holds)) refl;
+      window = λ n holds. subst (λ (r : Result Window Refusal). IfOk r (λ w. w.kept ≡ n.base.kept)) (sym (read g c n holds)) refl;
       whole = λ n holds corrupt. (let was = read g c n holds in absurd cc);
-      spelled = λ is_honest. window_spelled g.D.Disk.honest g.D.Disk.history _ c.args.self.now c.self.view_is c.base-base.result.now (in_window_area c.of.result) c.read_area.new.room c.window_in.result c.base-base.ensures.base (ap in_window_area c.of.ensures)
-          (λ honest readable. if_read c.read_area.result ok (c.read_area.ensures.read honest readable)) c.window_in.ensures.only c.window_in.ensures.found is_honest (c.in_ok-running.ensures.readable is_honest (in_window_area (side_of c.args.self.now.checkpoint.base.number)));
+      spelled = λ is_honest. window_spelled g.D.Disk.honest g.D.Disk.history _ c.args.self.now c.self.view_is c.base-base.result.now (in_window_area c.of.result) c.read_area.new.room c.read_beside.result c.base-base.ensures.base (ap in_window_area c.of.ensures)
+          (λ honest readable. if_read c.read_area.result ok (c.read_area.ensures.read honest readable)) c.read_beside.ensures.only c.read_beside.ensures.found is_honest (c.in_ok-running.ensures.readable is_honest (in_window_area (side_of c.args.self.now.checkpoint.base.number)));
     }
 
 -- ---- where the device fails

@@ -1,5 +1,4 @@
-use Rattle.std.proofs.Common.{◌≡◌, ℕ, List, sym, ap, subst, ◌∙◌}
-use Rattle.rep_types.specs.Entries.{Entry}
+use Rattle.std.proofs.Common.{◌≡◌, ℕ, sym, ap, subst, ◌∙◌}
 use Rattle.rep_checkpoint.specs.Coming.{Coming, CanInstall, blank, coming}
 use Rattle.rep_checkpoint.specs.Installing.{BeginsToInstall}
 use Rattle.rep_engine.specs.Engines.{Engine, IsEngine}
@@ -11,18 +10,16 @@ use Rattle.rep_engine.proofs.engine.Engine.install.Goals as goal
 pub install-coming-requires : goal.install-coming-requires
 install-coming-requires g c =
     let can =
-    subst (λ (e : Engine g.row.D.Denot). CanInstall e.checkpoint c.args.uuid c.args.position e.log.next c.args.window.entries) (sym c.self.view_is)
+    subst (λ (e : Engine g.row.D.Denot). CanInstall e.checkpoint c.args.uuid c.args.position e.log.next c.args.window) (sym c.self.view_is)
     (can_install c.windows_go_on.ensures c.args.self (subst (λ (e : Engine g.row.D.Denot). IsEngine e.layout e.checkpoint e.log e.kept e.block) c.self.view_is c.self.invariant.0) c.args.uuid c.args.position c.args.window c.requires.off c.requires.brings) in
-    subst (λ start. CanInstall c.self.inside.checkpoint c.args.uuid c.args.position start c.into_entries.result.items) (sym c.next-start.ensures.next)
-    (subst (λ (es : List Entry). CanInstall c.self.inside.checkpoint c.args.uuid c.args.position c.self.inside.log.next es) (sym c.into_entries.ensures) can)
+    subst (λ start. CanInstall c.self.inside.checkpoint c.args.uuid c.args.position start c.args.window) (sym c.next-start.ensures.next) can
 
 pub returns-clause-holds : goal.returns-clause-holds
 returns-clause-holds g c = λ n holds.
     let old = c.args.self in
-    let is : c.install-coming.result ≡ coming old.checkpoint.base c.args.uuid c.args.position old.log.next c.args.window.entries =
-    c.install-coming.ensures.coming ∙ ap (λ (e : Engine g.row.D.Denot). coming e.checkpoint.base c.args.uuid c.args.position c.next-start.result c.into_entries.result.items) c.self.view_is
-    ∙ ap (λ (s : ℕ). coming old.checkpoint.base c.args.uuid c.args.position s c.into_entries.result.items) (c.next-start.ensures.next ∙ ap (λ (e : Engine g.row.D.Denot). e.log.next) c.self.view_is)
-    ∙ ap (λ (es : List Entry). coming old.checkpoint.base c.args.uuid c.args.position old.log.next es) c.into_entries.ensures in
+    let is : c.install-coming.result ≡ coming old.checkpoint.base c.args.uuid c.args.position old.log.next c.args.window =
+    c.install-coming.ensures.coming ∙ ap (λ (e : Engine g.row.D.Denot). coming e.checkpoint.base c.args.uuid c.args.position c.next-start.result c.args.window) c.self.view_is
+    ∙ ap (λ (s : ℕ). coming old.checkpoint.base c.args.uuid c.args.position s c.args.window) (c.next-start.ensures.next ∙ ap (λ (e : Engine g.row.D.Denot). e.log.next) c.self.view_is) in
     let begins = subst (λ (k : Coming). BeginsToInstall old.checkpoint k) is (subst (λ (e : Engine g.row.D.Denot). BeginsToInstall e.checkpoint c.install-coming.result) c.self.view_is c.install-coming.ensures.begins) in
     subst (λ (k : Coming). HoldsBoth g.D.Disk.honest g.D.Disk.history g.D.Disk.failures n (blank c.args.position c.args.window) old k) (sym is)
     (begins_both g.D.Disk.honest g.D.Disk.history g.D.Disk.failures c.installations_stand_beside.ensures old (subst (λ (e : Engine g.row.D.Denot). IsEngine e.layout e.checkpoint e.log e.kept e.block) c.self.view_is c.self.invariant.0)

@@ -29,7 +29,7 @@ unreachable-requires g c = let j = (judged g (goal.at.unreachable-requires g c).
 pub leave-requires-clause-legal : goal.leave-requires-clause-legal
 leave-requires-clause-legal g c = λ _. let e = c.in_ok-home.ensures.entered in let w : View (Home g.row.D.Denot) Judged = c.enter.new.seat.view in let s = c.requires.seat.start in let is : w.first ≡ values_of s = ap (λ (z : View (Home g.row.D.Denot) Judged). z.first) e.view ∙ c.requires.seat.first in let before = e.sees.legal s c.requires.seat.first in
     of_the_start (λ (t : Start g.row.D.Denot). IsLegalBehind t.certifier.current (w.seen ++ c.in-Ok.judged ∷ [])) w.first s is
-    record { legal = c.in-Ok.ensures.legal s.certifier.current w.seen (judged g (goal.at.leave-requires-clause-legal g c).After-certifier_of-certifier) before.legal; placed = c.histories_go_on.ensures.placed_more w.seen c.in-Ok.judged before.placed (c.in-Ok.ensures.placed c.requires.item) }
+    record { legal = c.in-Ok.ensures.legal s.certifier.current w.seen (judged g (goal.at.leave-requires-clause-legal g c).After-certifier_of-certifier) before.legal; placed = c.histories_go_on.ensures.placed_more w.seen c.in-Ok.judged before.placed c.in-Ok.ensures.placed }
 
 pub leave-requires-clause-value : goal.leave-requires-clause-value
 leave-requires-clause-value g c = let e = c.in_ok-home.ensures.entered in let w : View (Home g.row.D.Denot) Judged = c.enter.new.seat.view in let s = c.requires.seat.start in let is : w.first ≡ values_of s = ap (λ (z : View (Home g.row.D.Denot) Judged). z.first) e.view ∙ c.requires.seat.first in

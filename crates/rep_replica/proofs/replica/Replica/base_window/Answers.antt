@@ -15,7 +15,7 @@ returns-clause-asks g c =
 
 pub returns-clause-window : goal.returns-clause-window
 returns-clause-window g c n holds =
-    base_of_all g.D.Disk.honest g.D.Disk.history g.D.Disk.failures (within g c) c.args.self.now c.self.view_is n holds (λ (S : State). IfOk c.base_window.result (λ w. w.entries ≡ S.kept.entries)) c.base_window.ensures.window
+    base_of_all g.D.Disk.honest g.D.Disk.history g.D.Disk.failures (within g c) c.args.self.now c.self.view_is n holds (λ (S : State). IfOk c.base_window.result (λ w. w.kept ≡ S.kept)) c.base_window.ensures.window
 
 pub returns-clause-holds : goal.returns-clause-holds
 returns-clause-holds g c n holds other =

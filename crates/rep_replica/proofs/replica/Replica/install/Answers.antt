@@ -1,6 +1,5 @@
 use Rattle.std.proofs.Common.{◌≡◌, ◌≤◌, ◌-◌, ℕ, List, [], false, Bool, sym, ap, subst, ◌∙◌}
 use Rattle.rep_types.specs.declared.judged.Judged.{Judged}
-use Rattle.rep_types.specs.Entries.{Entry}
 use Rattle.rep_types.specs.Windows.{Window}
 use Rattle.rep_types.specs.Settings.{Setting}
 use Rattle.rep_cert.specs.Holdings.{Holdings, IsAskable, window_of, made_at}
@@ -37,8 +36,8 @@ invariant_of-result g c =
     let can = subst (λ (e : Engine g.row.D.Denot). CanBring e.checkpoint.base (e.log.seqno - 1) c.args.uuid c.args.position c.args.window) (sym engine) c.requires.brings in (
       backlog,
       subst (λ (b : Beside g.row.D.Denot). IsBringing (engine_facts g.D.Disk.failures b.engine) b.coming c.self.inside.certifier c.in-Ok.after) (sym begun)
-          (subst (λ (es : List Entry). IsBringing (engine_facts g.D.Disk.failures c.self.inside.engine) (coming c.self.inside.engine.checkpoint.base c.args.uuid c.args.position c.self.inside.engine.log.next es) c.self.inside.certifier c.in-Ok.after)
-          (ap (λ (v : Window). v.entries) (sym c.in-Ok.ensures.made.1))
+          (subst (λ (v : Window). IsBringing (engine_facts g.D.Disk.failures c.self.inside.engine) (coming c.self.inside.engine.checkpoint.base c.args.uuid c.args.position c.self.inside.engine.log.next v) c.self.inside.certifier c.in-Ok.after)
+          (sym c.in-Ok.ensures.made.1)
           (is_bringing g.D.Disk.failures c.self.inside.engine c.args.uuid c.args.position c.args.window c.self.inside.certifier c.in-Ok.after can replica made)),
     )
 
@@ -53,8 +52,8 @@ returns-in-Ok-install-clause-begun g c =
     let running = is_running g.D.Disk.failures old (sym c.if-is_stopped.ensures) in
     let begun = same_ok (sym c.in-Ok-install.is ∙ c.install.ensures.begun (ap (λ (r : Replica g.row.D.Denot). r.engine.halted) c.self.view_is ∙ running.device)) in (
       ap (λ (b : Beside g.row.D.Denot). b.engine) begun ∙ ap (λ (r : Replica g.row.D.Denot). r.engine) c.self.view_is,
-      ap (λ (b : Beside g.row.D.Denot). b.coming) begun ∙ ap (λ (r : Replica g.row.D.Denot). coming r.engine.checkpoint.base c.args.uuid c.args.position r.engine.log.next c.in-Ok.window.entries) c.self.view_is
-          ∙ ap (λ (v : Window). coming old.engine.checkpoint.base c.args.uuid c.args.position old.engine.log.next v.entries) c.in-Ok.ensures.made.1,
+      ap (λ (b : Beside g.row.D.Denot). b.coming) begun ∙ ap (λ (r : Replica g.row.D.Denot). coming r.engine.checkpoint.base c.args.uuid c.args.position r.engine.log.next c.in-Ok.window) c.self.view_is
+          ∙ ap (λ (v : Window). coming old.engine.checkpoint.base c.args.uuid c.args.position old.engine.log.next v) c.in-Ok.ensures.made.1,
     )
 
 pub returns-in-Ok-install-clause-holds : goal.returns-in-Ok-install-clause-holds

@@ -1,4 +1,5 @@
-use Rattle.std.proofs.Common.{Result, sym, subst, ◌∙◌}
+use Rattle.std.proofs.Common.{Result, sym, ap, subst, ◌∙◌}
+use Rattle.std.specs.Result.{is_err}
 use Rattle.rep_types.specs.declared.refusal.Refusal.{Refusal}
 use Rattle.rep_replica.specs.Replicas.{facts_of}
 use Rattle.rep_replica.specs.Refusing.{TellsFaults}
@@ -40,3 +41,6 @@ returns-clause-told g c =
     subst (λ (o : Result (Unit {0}) Refusal). TellsFaults (g.D.Disk.failures c.args.self.now.engine.disk) (g.D.Disk.failures c.sync.new.self.engine.disk) o) (sym c.outcome.ensures)
     (both_tell (facts_of g.D.Disk.failures c.args.self.now) c.requires.retiring c.requires.resting (runs_on g.D.Disk.failures c.args.self.now c.requires.running) (facts_of g.D.Disk.failures c.check.new.self) (facts_of g.D.Disk.failures c.sync.new.self)
     c.check.result c.sync.result c.check.ensures.moves done c.sync.ensures.step.moves)
+
+pub returns-then-is_err-clause-holds : goal.returns-then-is_err-clause-holds
+returns-then-is_err-clause-holds g c = λ n holds. on_ok c.outcome-checked.result (λ ok. (let never = c.if-is_err.ensures.value ∙ ap is_err ok in absurd cc))

@@ -1,4 +1,4 @@
-use Rattle.std.proofs.Common.{rules, true, false, sym, ap, ◌∙◌}
+use Rattle.std.proofs.Common.{rules, sym, ap, ◌∙◌}
 use Rattle.std.proofs.lemmas.Slice.Eq.{bytes_eq-Decides}
 use Rattle.std.specs.Option.{option_map}
 use Rattle.rep_forms.specs.Forms.{number}
