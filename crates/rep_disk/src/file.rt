@@ -138,6 +138,22 @@ impl FileDisk<File> {
         ensures kept { IfOk result (λ disk. file_lost disk ≡ false) }
     {
         let file = File::create_new(rt, path)?;
+        FileDisk::zeroed(rt, file, path, size)
+    }
+
+    /// A disk of so many zero bytes on this file, which is new and has this path, as `create` makes it.
+    ///
+    /// Refuses what the system refuses, as where the file system has no room, and then may leave the file.
+    pub fn zeroed<R: Files<File = File>>(
+        rt: &R,
+        file: File,
+        path: &str,
+        size: usize,
+    ) -> io::Result<FileDisk<File>>
+        ensures sized { IfOk result (λ disk. file_size disk ≡ size) }
+        ensures unfailed { IfOk result (λ disk. file_failures disk ≡ 0) }
+        ensures kept { IfOk result (λ disk. file_lost disk ≡ false) }
+    {
         file.try_lock()?;
         write_zeros(&file, size)?;
         file.sync_all()?;

@@ -1,6 +1,6 @@
 //! Disks that are files.
 
-use crate::name::{Identity, folder_of, remove_file};
+use crate::name::{Identity, remove_file};
 use rep_disk::FileDisk;
 use rep_layout::need;
 use rep_replica::Replica;
@@ -8,8 +8,6 @@ use rep_script::{format_text, opened};
 use rep_types::{Params, Refusal};
 use std::fs::{File, Files};
 use std::io;
-use std::os::unix::fs::FileExt;
-use std::path::Path;
 use uuid::Uuid;
 
 /// A replica on a disk that is a file.
@@ -51,36 +49,6 @@ pub(crate) fn opened_to_read<R: Files<File = File> + AllocGlobal>(
     }
 }
 
-/// How many zero bytes are written at once.
-const ZEROS: usize = 16_384;
-
-/// Writes so many zero bytes from the file's beginning on.
-fn write_zeros(file: &File, size: usize) -> io::Result<()> {
-    let zeros = [0; ZEROS];
-    for at in (0..size).step_by(ZEROS) {
-        let count = ZEROS.min(size - at);
-        file.write_all_at(&zeros[..count], at as u64)?;
-    }
-    Ok(())
-}
-
-/// A disk of so many zero bytes on this new file at this path, under its lock. Each byte is written, and the file and its name in its folder are
-/// synced: a stop leaves it as it is.
-///
-/// Refuses what the system refuses, as where the file system has no room.
-fn zeroed<R: Files<File = File>>(
-    rt: &R,
-    file: File,
-    path: &str,
-    size: usize,
-) -> io::Result<FileDisk<File>> {
-    file.try_lock()?;
-    write_zeros(&file, size)?;
-    file.sync_all()?;
-    File::open(rt, folder_of(Path::new(path)))?.sync_all()?;
-    FileDisk::new(file)
-}
-
 /// Makes this new file at this path a disk with these parameters.
 ///
 /// Refuses with `DiskFault` where the file fails, and else as `format_text` does.
@@ -91,7 +59,7 @@ fn format_new<R: Files<File = File> + Print>(
     params: &Params,
     uuid: Option<Uuid>,
 ) -> Result<(), Refusal> {
-    let Ok(disk) = zeroed(rt, file, path, need(params) as usize) else {
+    let Ok(disk) = FileDisk::zeroed(rt, file, path, need(params) as usize) else {
         return Err(Refusal::DiskFault);
     };
     let (_, outcome) = format_text(disk, params, uuid, &mut io::writer(rt));
