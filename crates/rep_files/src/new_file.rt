@@ -138,11 +138,6 @@ impl NewFile {
         }
     }
 
-    /// Writes some of the bytes, and says how many.
-    pub(crate) fn write(&mut self, bytes: &[u8]) -> io::Result<usize> {
-        self.file.write(bytes)
-    }
-
     /// Removes the new file, while it has its own name.
     fn remove<R: Files<File = File>>(&self, rt: &R) {
         remove_file(rt, self.own.as_str(), self.identity);
@@ -189,5 +184,15 @@ impl NewFile {
                 Err(refusal)
             }
         }
+    }
+}
+
+impl Write for NewFile {
+    fn write(&mut self, bytes: &[u8]) -> io::Result<usize> {
+        self.file.write(bytes)
+    }
+
+    fn flush(&mut self) -> io::Result<()> {
+        Ok(())
     }
 }
