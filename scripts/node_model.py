@@ -53,16 +53,38 @@ class Item:
         """The keys that it writes."""
         return [key for key, _ in self.writes]
 
+    def line(self):
+        """The item as a line of an order text."""
+        return "item " + self.tail()
+
     def size(self):
         """How many bytes its record has."""
         return 45 + 5 * len(self.reads) + sum(7 + len(value or b"") for _, value in self.writes)
 
 
+class SizeChange:
+    """An item that changes the window's size, and reads and writes nothing. It always commits."""
+
+    def __init__(self, window, source=7, trx=0):
+        self.window, self.source, self.trx, self.writes = window, source, trx, []
+
+    def line(self):
+        return "window %d id %d:%d" % (self.window, self.source, self.trx)
+
+    def keys(self):
+        return []
+
+    def size(self):
+        return 47
+
+
 class Order:
-    """An order, each item with its verdict: by the table of verdicts, over all pairs."""
+    """An order, each item with its verdict: by the table of verdicts, over all pairs. The window is its first size."""
 
     def __init__(self, window, rows):
         self.window, self.rows, self.items, self.verdicts = window, rows, [], []
+        # The window's size and floor behind each number of items.
+        self.sizes, self.floors = [window], [1]
 
     def has(self, key):
         return key[0] < len(self.rows) and key[1] < self.rows[key[0]]
@@ -71,14 +93,20 @@ class Order:
         """The seqnos from the first to the last whose items committed."""
         return [m for m in range(max(first, 1), last + 1) if self.verdicts[m - 1] == "commit"]
 
+    def reach_at(self, position):
+        """The window's size and floor behind the first so many items."""
+        return self.sizes[position], self.floors[position]
+
     def verdict(self, item):
         """The verdict of the item behind all others."""
+        if isinstance(item, SizeChange):
+            return "commit"
         n, seen, keys = len(self.items) + 1, item.last_seen, set(item.reads) | set(item.keys())
         if seen >= n:
             return "future"
         if not all(self.has(key) for key in keys):
             return "badkey"
-        if seen + self.window + 1 < n:
+        if seen + 1 < self.floors[n - 1]:
             return "stale"
         meets = [m for m in self.committed(seen + 1, n - 1) if keys & set(self.items[m - 1].keys())]
         return "conflict %d" % meets[-1] if meets else "commit"
@@ -86,6 +114,13 @@ class Order:
     def add(self, item):
         self.verdicts.append(self.verdict(item))
         self.items.append(item)
+        # The size is that of the last change. A larger one lets no seqno come back: the floor never falls.
+        self.sizes.append(item.window if isinstance(item, SizeChange) else self.sizes[-1])
+        self.floors.append(max(self.floors[-1], len(self.items) + 1 - self.sizes[-1]))
+
+    def forget(self, last):
+        """The order ends there."""
+        del self.items[last:], self.verdicts[last:], self.sizes[last + 1 :], self.floors[last + 1 :]
 
     def row(self, key, s):
         """The row after the first `s` items: its bytes, or None."""
@@ -97,12 +132,12 @@ class Order:
 
     def window_at(self, position):
         """The seqnos of the window at the position."""
-        return [m for m in self.committed(1, position) if m + self.window > position]
+        return [m for m in self.committed(self.floors[position], position) if not isinstance(self.items[m - 1], SizeChange)]
 
     def text(self, cells):
         """The order as a text for `replicad judge`, and the verdict lines of it."""
         lines = ["params %d %d %s" % (self.window, cells, " ".join(map(str, self.rows)))]
-        lines += ["item " + item.tail() for item in self.items]
+        lines += [item.line() for item in self.items]
         return lines, ["%d %s" % told for told in enumerate(self.verdicts, 1)]
 
 
@@ -174,6 +209,8 @@ class Checkpoint:
 
     def __init__(self):
         self.base, self.phase, self.position, self.start, self.left = 0, "off", 0, 0, set()
+        # How often the base rose.
+        self.risen = 0
         # The pages that are in a slot, of the base and of the next one; and whether that is another node's.
         self.held, self.next, self.is_snapshot = set(), set(), False
 
@@ -207,6 +244,7 @@ class Checkpoint:
     def rise(self):
         """The next base is the base. Gives the number of the log's block behind it."""
         self.base, self.phase, self.held, self.is_snapshot = self.position, "retiring", self.next, False
+        self.risen += 1
         return self.start
 
     def sync(self):

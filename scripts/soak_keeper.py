@@ -3,60 +3,12 @@ which order, is the threads' affair: that is read from the block. All else is th
 and each of its bytes, which are written again here from the tables of docs/formats.md."""
 from collections import deque
 
-from node_model import CLUSTER
+from lib.formats import (
+    CLOSED_GATE, LOG, OPEN, OPEN_GATE, PAGE, SIDES, SUPERBLOCK_BODY, Record, Superblock, cell_at, cell_body, cell_gate_at, page_at, pages_of, records_in,
+    side_of, slots_in,
+)
+from lib.model_bytes import page_of, record_of, superblock_of, window_of
 from proved import Wrong
-from stopping import CELL, FIRST_CELL_GATE, OPEN, SUPERBLOCK_GATES
-from trials_joins import bytes_of, key_bytes, page_bytes, record_bytes
-
-UUID = bytes.fromhex(CLUSTER.replace("-", ""))
-SUPERBLOCKS, WINDOWS = (0, 4_096), (8_192, 31_232)
-SUPERBLOCK, WINDOW, BODY, GATE, PAGE = 3_584, 23_040, 7_680, 512, 4_096
-FIRST_CELL = FIRST_CELL_GATE - BODY
-# What a block has before its records; a record's place of its seqno; and how a record names its transaction, by two numbers behind that.
-BLOCK_HEAD, SEQNO, SOURCE, TRX = 18, 2, 18, 26
-OPEN_GATE, CLOSED_GATE = bytes([OPEN]).ljust(GATE, b"\0"), bytes(GATE)
-
-
-def number_at(data, at, size=8):
-    return int.from_bytes(data[at : at + size], "big")
-
-
-def pages_of(order):
-    """The table and the first row of each page."""
-    return [(table, row) for table, rows in enumerate(order.rows) for row in range(0, rows, 63)]
-
-
-def block_body(order, number, seqnos):
-    """A block of the log with the records of these items."""
-    head = bytes_of(number) + bytes_of(seqnos[0]) + bytes_of(len(seqnos), 2)
-    return (head + b"".join(record_bytes(order, seqno) for seqno in seqnos)).ljust(BODY, b"\0")
-
-
-def page_body(order, page, position):
-    table, row = pages_of(order)[page]
-    head = b"REPPAGE1" + bytes_of(page, 2) + bytes_of(table, 1) + b"\0" + bytes_of(row, 4) + bytes_of(position) + bytes(40)
-    # Its rows stand behind its number in a transfer too.
-    return head + page_bytes(order, page, position)[2:]
-
-
-def window_body(order, number, position):
-    seqnos = order.window_at(position)
-    keys = [(seqno, order.items[seqno - 1].keys()) for seqno in seqnos]
-    entries = [bytes_of(seqno) + bytes_of(len(some), 1) + b"".join(map(key_bytes, some)) for seqno, some in keys]
-    head = b"REPWIND1" + bytes_of(number) + bytes_of(position) + bytes_of(len(seqnos), 2)
-    return (head.ljust(256, b"\0") + b"".join(entries)).ljust(WINDOW, b"\0")
-
-
-def superblock_body(node, number, slots):
-    """The superblock of this number for the node's next base, whose pages are in these slots."""
-    order, checkpoint = node.order, node.checkpoint
-    rows = b"".join(bytes_of(count, 4) for count in order.rows).ljust(32, b"\0")
-    shape = bytes_of(order.window, 2) + bytes_of(len(node.log.open), 2) + bytes_of(len(order.rows), 1) + bytes(3) + rows
-    head = b"REPSUPR1" + bytes_of(number) + UUID + shape + bytes_of(checkpoint.position) + bytes_of(checkpoint.start) + bytes_of(len(slots), 2)
-    states = bytearray(1_024)
-    for page, slot in enumerate(slots):
-        states[page // 4] |= slot << 2 * (page % 4)
-    return (head.ljust(128, b"\0") + states).ljust(SUPERBLOCK, b"\0")
 
 
 class Base:
@@ -64,11 +16,11 @@ class Base:
 
     def __init__(self, path, order):
         with open(path, "rb") as file:
-            data = file.read(FIRST_CELL)
-        bodies = [data[at : at + SUPERBLOCK] for at, gate in zip(SUPERBLOCKS, SUPERBLOCK_GATES) if data[gate] == OPEN]
-        body = max(bodies, key=lambda body: number_at(body, 8))
-        self.number = number_at(body, 8)
-        self.slots = [body[128 + page // 4] >> 2 * (page % 4) & 3 for page in range(len(pages_of(order)))]
+            data = file.read(LOG)
+        bodies = [data[side.body :][:SUPERBLOCK_BODY] for side in SIDES if data[side.gate] == OPEN]
+        body = max(bodies, key=Superblock.NUMBER.number_in)
+        self.number = Superblock.NUMBER.number_in(body)
+        self.slots = slots_in(body, len(pages_of(order.rows)))
 
 
 class Keeper:
@@ -92,7 +44,7 @@ class Keeper:
             raise Wrong("its call %d is %s, where a sync is %sawaited" % (self.calls, call, "" if is_awaited else "not "))
         if call.kind == "sync":
             self.node.sync()
-        elif self.node.phase() == "off" and FIRST_CELL <= call.place < self.first_page():
+        elif self.node.phase() == "off" and LOG <= call.place < self.page_at(0):
             self.writes_log(call)
         else:
             self.writes_base(call)
@@ -109,30 +61,31 @@ class Keeper:
 
     def writes_log(self, call):
         """The log's next write. A cell is free, or it was to be freed first."""
-        node, cell = self.node, FIRST_CELL + CELL * self.node.log.cell()
+        node, cell = self.node, self.node.log.cell()
         if node.log.is_full():
             raise Wrong("its call %d is %s, though the log is full" % (self.calls, call))
         if node.log.stage == "stable":
-            self.is_wanted(call, cell + BODY, OPEN_GATE, "the gate of block %d" % node.log.next)
-        elif node.log.open[node.log.cell()]:
-            self.is_wanted(call, cell + BODY, CLOSED_GATE, "the closed gate of an earlier block")
+            self.is_wanted(call, cell_gate_at(cell), OPEN_GATE, "the gate of block %d" % node.log.next)
+        elif node.log.open[cell]:
+            self.is_wanted(call, cell_gate_at(cell), CLOSED_GATE, "the closed gate of an earlier block")
         else:
             seqnos = self.takes_block(call.data)
-            self.is_wanted(call, cell, block_body(node.order, node.log.next, seqnos), "block %d" % node.log.next)
+            body = cell_body(node.log.next, seqnos[0], [record_of(node.order, seqno) for seqno in seqnos])
+            self.is_wanted(call, cell_at(cell), body, "block %d" % node.log.next)
             if node.front() != len(seqnos):
                 raise Wrong("its block %d has %d items, of which %d fit" % (node.log.next, len(seqnos), node.front()))
         node.log.write(node.front())
 
     def takes_block(self, data):
         """The items of a block are delivered in its order. Gives their seqnos."""
-        node, first, at = self.node, self.node.delivered + 1, BLOCK_HEAD
-        for _ in range(number_at(data, 16, 2)):
-            seqno, item = number_at(data, at + SEQNO), self.takes_item(number_at(data, at + SOURCE), number_at(data, at + TRX))
+        node, first = self.node, self.node.delivered + 1
+        for record in records_in(data):
+            seqno, source, trx = (field.number_in(record) for field in (Record.SEQNO, Record.SOURCE, Record.TRX))
+            item = self.takes_item(source, trx)
             if node.deliver(seqno, item)[0].startswith("refused"):
                 raise Wrong("its block %d has an item of the seqno %d behind %d" % (node.log.next, seqno, node.delivered))
             if node.order.items[seqno - 1] is not item:
                 raise Wrong("at the seqno %d it has another item than the order" % seqno)
-            at += number_at(data, at, 2)
         self.blocks.append(node.delivered + 1 - first)
         if node.delivered < first:
             raise Wrong("its block %d has no item" % node.log.next)
@@ -150,8 +103,9 @@ class Keeper:
 
     # ---- the base
 
-    def first_page(self):
-        return FIRST_CELL + CELL * len(self.node.log.open)
+    def page_at(self, page, slot=0):
+        """Where this slot of the page begins."""
+        return page_at(len(self.node.log.open), page, slot)
 
     def begins(self, call):
         """A checkpoint begins, which is to be where the log is full alone."""
@@ -170,27 +124,27 @@ class Keeper:
             self.writes_behind_pages(call)
 
     def writes_behind_pages(self, call):
-        node, checkpoint, side = self.node, self.node.checkpoint, self.number % 2
+        node, checkpoint, side, other = self.node, self.node.checkpoint, side_of(self.number), side_of(self.number + 1)
         if checkpoint.phase == "flushing":
-            self.is_wanted(call, WINDOWS[side], window_body(node.order, self.number, checkpoint.position), "window %d" % self.number)
+            self.is_wanted(call, side.window, window_of(node.order, self.number, checkpoint.position), "window %d" % self.number)
         elif checkpoint.phase == "ready":
-            self.is_wanted(call, SUPERBLOCKS[side], superblock_body(node, self.number, self.slots), "superblock %d" % self.number)
+            self.is_wanted(call, side.body, superblock_of(node, self.number, self.slots), "superblock %d" % self.number)
         elif checkpoint.phase == "filled":
-            self.is_wanted(call, SUPERBLOCK_GATES[side], OPEN_GATE, "the gate of superblock %d" % self.number)
+            self.is_wanted(call, side.gate, OPEN_GATE, "the gate of superblock %d" % self.number)
             self.base.number, self.base.slots = self.number, self.slots
         else:
-            self.is_wanted(call, SUPERBLOCK_GATES[1 - side], CLOSED_GATE, "the closed gate of superblock %d" % (self.number - 1))
+            self.is_wanted(call, other.gate, CLOSED_GATE, "the closed gate of superblock %d" % (self.number - 1))
         checkpoint.write()
 
     def writes_page(self, call):
         """A page that is left is written into the slot in which it does not stand."""
-        node, (place, slot) = self.node, divmod(call.place - self.first_page(), 2 * PAGE)
-        if not node.checkpoint.flush(place) or slot not in (0, PAGE):
+        node, (page, slot) = self.node, divmod((call.place - self.page_at(0)) // PAGE, 2)
+        if not node.checkpoint.flush(page) or call.place != self.page_at(page, slot):
             raise Wrong("its call %d is %s, wanted was a page of %r" % (self.calls, call, sorted(node.checkpoint.left)))
-        if self.base.slots[place] == 1 + slot // PAGE:
-            raise Wrong("its call %d writes page %d over that of the base" % (self.calls, place))
-        self.slots[place] = 1 + slot // PAGE
-        self.is_wanted(call, call.place, page_body(node.order, place, node.checkpoint.position), "page %d" % place)
+        if self.base.slots[page] == 1 + slot:
+            raise Wrong("its call %d writes page %d over that of the base" % (self.calls, page))
+        self.slots[page] = 1 + slot
+        self.is_wanted(call, call.place, page_of(node.order, page, node.checkpoint.position), "page %d" % page)
 
     # ---- what is written of it
 

@@ -2,9 +2,10 @@
 program that is killed writes no line: so the order is learned from the calls that the program made of its device (soak_keeper.py)."""
 import re
 
+from lib.formats import CELL
 from proved import Wrong
 from soak_checks import differs, has_ended, holds, is_front
-from soak_keeper import BODY, GATE, Keeper
+from soak_keeper import Keeper
 from stopping import KILLED, STOPPED, WHOLE, Stop
 
 
@@ -70,7 +71,7 @@ def ends_whole(replica, batch):
 
 def is_killed(replica, batch):
     """Killed at some moment: its last call may have been made or not. Lines are written once all items are served."""
-    ended = replica.disk.run_upto(batch.words, batch.text, replica.draws.randint(0, 1 + batch.rounds() * (BODY + GATE)))
+    ended = replica.disk.run_upto(batch.words, batch.text, replica.draws.randint(0, 1 + batch.rounds() * CELL))
     if ended.status == 0:
         return batch.is_whole(ended)
     has_ended(ended, KILLED)
@@ -147,11 +148,6 @@ ENDS = ((ends_whole, 25), (is_killed, 25), (is_stopped, 30), (meets_fault, 20))
 # ---- what is served
 
 
-def forgets(order, last):
-    """The order ends there: what was behind is handed in by nobody any more."""
-    del order.items[last:], order.verdicts[last:]
-
-
 def drawn_items(life, count, workers):
     """New items, each of which had mostly seen what comes shortly before it in its worker's part."""
     order, node, items = life.order(), life.replica.node.copied(), {}
@@ -166,7 +162,8 @@ def drawn_items(life, count, workers):
 def drawn_batch(life):
     """A batch behind what is durable. What the joiner has more than that stands in the order already: one worker hands it in again."""
     replica, order = life.replica, life.order()
-    forgets(order, max(it.node.durable for it in (replica, life.joiner) if it))
+    # What is behind is handed in by nobody any more.
+    order.forget(max(it.node.durable for it in (replica, life.joiner) if it))
     again = order.items[replica.node.durable :]
     life.counts["batches with items that a joiner has"] += bool(again)
     workers = 1 if again else life.draws.choice((1, 2, 2, 3, 4, 8, 64))

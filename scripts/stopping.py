@@ -6,6 +6,7 @@ import struct
 import subprocess
 import time
 
+from lib.formats import OPEN, SIDES, cell_gate_at
 from proved import Wrong
 
 # The status of a program that was stopped at a call, and that of one that was killed.
@@ -13,8 +14,6 @@ STOPPED, KILLED = 77, -9
 # All of a write's bytes, or a sync that is made.
 WHOLE = 1_000
 LIMIT = 60
-# Where the gates of both superblocks and that of the first cell are, how far one cell is from the next, and by which byte a gate is open.
-SUPERBLOCK_GATES, FIRST_CELL_GATE, CELL, OPEN = (3_584, 7_680), 61_952, 8_192, 0xA5
 HEAD = struct.Struct("=QQ")
 # Where stop_within.c puts a sync among the calls.
 NO_PLACE = (1 << 64) - 1
@@ -184,8 +183,8 @@ class DiskFile:
         """Which cells of the log stand open, and whether both superblocks do."""
         with open(self.path, "rb") as file:
             data = file.read()
-        is_open = [data[FIRST_CELL_GATE + CELL * cell] == OPEN for cell in range(cells)]
-        return is_open, all(data[gate] == OPEN for gate in SUPERBLOCK_GATES)
+        is_open = [data[cell_gate_at(cell)] == OPEN for cell in range(cells)]
+        return is_open, all(data[side.gate] == OPEN for side in SIDES)
 
 
 def write_to(started, text):

@@ -1,11 +1,12 @@
 """Texts for the proved program `rep_harness`, line by line with what each has to be answered by, and how they are tried."""
 import subprocess
 
+from lib.formats import A, ONE, TWO, Superblock, Window, digit, need
 from node_model import CLUSTER, Item, Node, does
 
 # A window of 4, four cells and one table of 126 rows, and the size of its disk.
 SMALL = (4, 4, (126,))
-SMALL_SIZE = 103_424
+SMALL_SIZE = need(4, 2)
 # The rows that the scripts write, and one that none does.
 KEYS = [(0, 0), (0, 1), (0, 2), (0, 5), (0, 70), (0, 71)]
 
@@ -24,10 +25,22 @@ class Trial:
     def say(self, line, *wanted):
         self.lines.append((line, list(wanted)))
 
-    def new_disk(self, params=SMALL, size=SMALL_SIZE):
-        """A new disk, formatted for these parameters."""
+    def new_disk(self, params=SMALL, size=SMALL_SIZE, of_format=TWO):
+        """A new disk, formatted for these parameters; or what a program that knows format 1 alone would have made."""
         self.say("disk %d 0" % size, "blank")
         self.say(params_line(params), "formatted %s:0" % CLUSTER)
+        if of_format == ONE:
+            self.is_of_format_1(A)
+
+    def is_of_format_1(self, *sides):
+        """The superblock and the window of each of these sides are of format 1: its digit stands behind their marks, and zeros where format 2
+        has the reach, which has to be that of the first size."""
+        for side in sides:
+            for at, data in (
+                (side.body + Superblock.FORMAT.at, digit(ONE)), (side.window + Window.FORMAT.at, digit(ONE)),
+                (side.window + Window.SIZE.at, bytes(Window.FLOOR.end - Window.SIZE.at)),
+            ):
+                self.say("put %d %s" % (at, data.hex()), "put")
 
     def text(self):
         return "".join(line + "\n" for line, _ in self.lines)
@@ -59,12 +72,12 @@ def wrong_with(words, trial):
 class Life:
     """A node beside its model: what is done to the one is done to the other, whose answers are those that are wanted."""
 
-    def __init__(self, trial, params=SMALL, size=SMALL_SIZE, node=None):
+    def __init__(self, trial, params=SMALL, size=SMALL_SIZE, node=None, of_format=TWO):
         self.trial, self.node = trial, node or Node(*params)
         if trial:
             trial.orders.append((self.node.order, len(self.node.log.open)))
         if node is None:
-            trial.new_disk(params, size)
+            trial.new_disk(params, size, of_format)
             trial.say("open", "open " + self.node.gtid())
 
     def do(self, event):
@@ -175,9 +188,9 @@ class Script:
         self.push("flush 1", "wrote")
         self.become_base()
 
-    def play(self, trial, count=None):
-        """A node behind the first so many events, beside its model."""
-        life = Life(trial, self.params)
+    def play(self, trial, count=None, of_format=TWO):
+        """A node behind the first so many events, beside its model, on a new disk of this format."""
+        life = Life(trial, self.params, of_format=of_format)
         for event, wanted in list(zip(self.events, self.answers))[:count]:
             assert life.do(event) == wanted
         return life

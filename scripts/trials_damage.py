@@ -1,16 +1,17 @@
 """A page of the base that goes bad while a node runs: what then reads it is refused, nothing is written for it, and the node stands."""
+from lib.formats import Page, Row, number_hex, page_at
 from node_model import CLUSTER, LOSSES
-from trials import Life, Trial, answers, of_each_kind, putting, replies_to
-from trials_opening import PAGES, number
+from trials import SMALL, Life, Trial, answers, of_each_kind, putting, replies_to
 
 CORRUPT = "refused 13 corrupt pages"
 # The position of the base, and how each of its pages begins to be of no form: what stands where in it.
 BASE = 3
 WAYS = [
-    ("another form", 0, "00"), ("another page", 8, number(1, 2)), ("another table", 10, "01"), ("a byte that is to be zero", 11, "01"),
-    ("another row", 12, number(63, 4)), ("a later position", 16, number(BASE + 1)), ("a byte of the head", 63, "01"),
-    ("a row that is neither there nor absent", 64, "02"), ("an absent row with a byte", 127, "01"), ("a row of 63 bytes", 64, "013f"),
-    ("a byte behind a row", 64, "01016101"),
+    ("another form", Page.MARK.at, "00"), ("another page", Page.NUMBER.at, number_hex(1, 2)), ("another table", Page.TABLE.at, "01"),
+    ("a byte that is to be zero", Page.ZERO.at, "01"), ("another row", Page.FIRST_ROW.at, number_hex(63, 4)),
+    ("a later position", Page.POSITION.at, number_hex(BASE + 1)), ("a byte of the head", Page.ZEROS.last, "01"),
+    ("a row that is neither there nor absent", Page.row_at(0) + Row.THERE.at, "02"), ("an absent row with a byte", Page.row_at(1) - 1, "01"),
+    ("a row of 63 bytes", Page.row_at(0), "013f"), ("a byte behind a row", Page.row_at(0), "01016101"),
 ]
 
 
@@ -28,7 +29,7 @@ def opened(program, title, page, at, text):
     life = of_each_kind().play(trial)
     trial.say("crash keep", "crashed")
     calls = calls_of_an_opening(program, trial.text())
-    trial.say("damage %d %d %s" % (calls, PAGES + 2 * 4_096 * page + at, text), "damaged")
+    trial.say("damage %d %d %s" % (calls, page_at(SMALL[1], page) + at, text), "damaged")
     trial.say("open", *life.node.stop("keep"))
     return trial, life
 
@@ -63,7 +64,7 @@ def refused_pages(program):
 
 def earlier_position(program):
     """A page that was written for an earlier position is one of the base's."""
-    trial, life = opened(program, "an earlier position", 0, 16, number(BASE - 1))
+    trial, life = opened(program, "an earlier position", 0, Page.POSITION.at, number_hex(BASE - 1))
     for line in ("read 0/1 3", "read 0/2 3", "read 0/3 3", "read 0/4 3"):
         life.do(line)
     yield trial

@@ -1,5 +1,6 @@
 """Lives of one node that are drawn: items, events, stops and settlings, each until its base rose several times and the log's blocks
 went twice through its cells."""
+from lib.formats import need
 from node_model import LOSSES, Item
 from trials import Life, Trial
 
@@ -8,8 +9,8 @@ from trials import Life, Trial
 GROUPS = [[(0, 0), (0, 1), (0, 2), (0, 3)], [(0, 61), (0, 62), (0, 63), (0, 64)], [(0, 66), (0, 67), (0, 68), (0, 69)], [(1, 0), (1, 1), (1, 2), (1, 3)]]
 ROWS = [key for group in GROUPS for key in group]
 OUTSIDE = (1, 4)
-# A window of 8 seqnos, six cells, and three pages, on a disk of 128,000 bytes.
-PARAMS, SIZE = (8, 6, (70, 4)), 128_000
+# A window of 8 seqnos, six cells, and three pages.
+PARAMS, SIZE = (8, 6, (70, 4)), need(6, 3)
 # How many turns a node has at most.
 TURNS = 6_000
 PHASES = {"off", "flushing", "saving", "ready", "filling", "filled", "opening", "retiring", "closing"}

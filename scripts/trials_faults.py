@@ -1,31 +1,37 @@
 """A device that fails at each call in turn, once or from then on: what is refused, and what opens behind it with each loss."""
+from lib.formats import FORMATS, TWO
 from node_model import CLUSTER, LOSSES
-from trials import (
-    BEFORE, SMALL, SMALL_SIZE, Life, Trial, answers, before_items, beside_an_item, full_log, of_one_page, one_item, params_line, two_laps,
-)
+from trials import BEFORE, Life, Trial, answers, before_items, beside_an_item, full_log, of_one_page, one_item, two_laps
 from trials_opening import new_bytes, sum_of
 
 FAULT = "refused 2 disk-fault"
 STOPPED = "refused 3 stopped"
-# What shows a new disk.
-NEW = sum_of(new_bytes())
+# What shows a new disk of each format.
+NEW = {of_format: sum_of(new_bytes(of_format)) for of_format in FORMATS}
 # More calls than any of these lives makes.
 MANY = 400
 
 
-def found_at(program, kind, doing):
+def on_a_new_disk(title, kind, call, of_format=TWO):
+    """A new disk of this format whose device fails so at this call."""
+    trial = Trial(title)
+    trial.new_disk(of_format=of_format)
+    trial.say("fail %s %d" % (kind, call), "armed")
+    return trial
+
+
+def found_at(program, kind, doing, of_format=TWO):
     """For each call that fails: the lines that answer the opening of a new disk and what is done behind it."""
-    front = ["disk %d 0" % SMALL_SIZE, params_line(SMALL)]
-    text = "".join("\n".join(front + ["fail %s %d" % (kind, call), "open"] + doing + [""]) for call in range(MANY))
-    lines, ended = answers(program, text)
+    fronts = [on_a_new_disk("", kind, call, of_format) for call in range(MANY)]
+    lines, ended = answers(program, "".join(front.text() + "\n".join(["open"] + doing + [""]) for front in fronts))
     assert not ended, ended
-    lives, life = [], []
+    lives, life, before = [], [], sum(len(wanted) for _, wanted in fronts[0].lines)
     for line in lines:
         if line == "blank":
             life = []
             lives.append(life)
         life.append(line)
-    return [life[3:] for life in lives]
+    return [life[before:] for life in lives]
 
 
 def grouped(lines):
@@ -39,11 +45,11 @@ def grouped(lines):
     return groups
 
 
-def faults_of(program, script, kind):
+def faults_of(program, script, kind, of_format):
     """For each call that fails: the number of the event that met the fault, None where the device did not open, and that of all events
     behind the last call that anyone makes."""
     count = len(script.events)
-    for life in found_at(program, kind, [script.batch(), "failures"]):
+    for life in found_at(program, kind, [script.batch(), "failures"], of_format):
         opened, answered, failed = life[0], grouped(life[1:-1]), life[-1]
         if opened == FAULT:
             assert (answered, failed) == ([["off"]], "failures 1"), life
@@ -57,17 +63,15 @@ def faults_of(program, script, kind):
     raise AssertionError("each run met a fault")
 
 
-def behind_a_fault(script, kind, call, failed, loss):
+def behind_a_fault(script, kind, call, failed, loss, of_format):
     """The script on a device that fails so at this call, which this event meets; then a stop with this loss. Up to the event the
     answers are those of a device that serves, and from then on the node is stopped. Where the device did not open it is as it was. What
     a stop leaves is what the model says of the events before: a failed call changed nothing."""
-    trial = Trial("%s %d, %s" % (kind, call, loss))
-    trial.new_disk()
-    trial.say("fail %s %d" % (kind, call), "armed")
+    trial = on_a_new_disk("%s %d, %s" % (kind, call, loss), kind, call, of_format)
     if failed is None:
         trial.say("open", FAULT)
         trial.say(script.batch(), "off")
-        trial.say("sum", NEW)
+        trial.say("sum", NEW[of_format])
     else:
         trial.say("open", "open %s:0" % CLUSTER)
         refused = [[FAULT]] + [[STOPPED]] * len(script.events)
@@ -80,14 +84,14 @@ def behind_a_fault(script, kind, call, failed, loss):
     return trial, Life(trial, node=node)
 
 
-def each_call(script, kind, program):
+def each_call(script, kind, program, of_format=TWO):
     """Fails each call of the device in turn, up to a run that meets no fault: the event that meets it comes later and later."""
     before = 0
-    for call, failed in enumerate(faults_of(program, script, kind)):
+    for call, failed in enumerate(faults_of(program, script, kind, of_format)):
         assert before <= (failed or 0), (call, before, failed)
         before = failed or 0
         for loss in LOSSES:
-            yield failed, loss, *behind_a_fault(script, kind, call, failed, loss)
+            yield failed, loss, *behind_a_fault(script, kind, call, failed, loss, of_format)
 
 
 def goes_on(make, kind):
@@ -155,9 +159,7 @@ def settled_trial(script, loss, call, life):
     """The same life once more, and beside it window and rows: what opens behind the stop stands where it says, which is not below what
     was durable before; it takes the items behind that alone, and then settles, so that all is durable."""
     until, behind = settled_lines(script, loss)
-    trial = Trial("settling, once %d, %s" % (call, loss))
-    trial.new_disk()
-    trial.say("fail once %d" % call, "armed")
+    trial = on_a_new_disk("settling, once %d, %s" % (call, loss), "once", call)
     trial.say("\n".join(["open"] + until), *life[: -len(behind)])
     before = 0 if life[0] == FAULT else int(life[-len(behind) - 3].split()[2])
     node = standing_at(script, life[-len(behind) + 1])

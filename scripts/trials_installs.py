@@ -1,14 +1,19 @@
 """Snapshots of a donor's base that are installed in other nodes: into new ones, ones of no cluster and used ones; stops with each loss and
 faults at each call of an installation, which leave the node as it was or the snapshot, whole; and what is given up or not taken."""
+from lib.formats import (
+    A, B, CELL, CLOSED, LOG, OPEN_GATE, Page, Superblock, Window, fixed_reach, need, page_at, page_bytes, pages_of, side_of, superblock_bytes,
+    window_bytes,
+)
+from lib.model_bytes import UUID
 from node_model import CLUSTER, LOSSES, UNDEFINED, Item, Node, Order, does
 from trials import Life, Trial, params_line
 from trials_damage import calls_of_an_opening
 from trials_faults import FAULT, STOPPED
-from trials_opening import FIRST, OPEN, PAGES, SECOND, UUID, number
+from trials_opening import OPEN
 
 OFF, NOT_FOR_IT = "off", "not for this node"
 # A window of 4, four cells, and tables of 70, 4 and 63 rows: the pages 0 and 1, 2, and 3. What their disk needs.
-PARAMS, SIZE = (4, 4, (70, 4, 63)), 119_808
+PARAMS, SIZE = (4, 4, (70, 4, 63)), need(4, 4)
 # The first and the last row of each page, and those between that items write.
 KEYS = [(0, 0), (0, 1), (0, 2), (0, 62), (0, 63), (0, 69), (1, 0), (1, 3), (2, 0), (2, 62)]
 # The positions that the donor's base comes to.
@@ -74,7 +79,7 @@ class Scene:
         """A new node on a new disk, of the cluster or of none."""
         params = (PARAMS[0], cells, PARAMS[2])
         node = Node(*params, order=self.order, is_defined=is_defined)
-        self.say("disk %d 0" % (SIZE + 8_192 * (cells - PARAMS[1])), "blank")
+        self.say("disk %d 0" % (SIZE + CELL * (cells - PARAMS[1])), "blank")
         self.say(("" if is_defined else "undefined ") + params_line(params), "formatted " + node.gtid())
         self.open_as(node)
 
@@ -193,7 +198,7 @@ def still_open(scene):
     while scene.node().phase() != "retiring":
         scene.life.do(scene.node().due())
     scene.say("crash drop", "crashed")
-    for gate in (FIRST[1], SECOND[1]):
+    for gate in (A.gate, B.gate):
         scene.say("bytes %d 1" % gate, OPEN)
     scene.say("open", *scene.node().stop("drop"))
     scene.say("node", "node 6 6 6 busy running")
@@ -246,32 +251,23 @@ def installs_in(make):
     return trials
 
 
-def in_slots(pages):
-    """The byte of a superblock that says in which slot each of the four pages is."""
-    return number(sum(slot << 2 * page for page, slot in enumerate(pages)), 1)
-
-
-def superblock(q, position, start, pages):
-    """The bytes of a superblock of these parameters, up to the states of its pages."""
-    tables = "".join(number(rows, 4) for rows in PARAMS[2]) + "00" * 20
-    head = b"REPSUPR1".hex() + number(q) + UUID.hex() + number(4, 2) + number(4, 2) + "03" + "000000" + tables
-    return head + number(position) + number(start) + number(4, 2) + "00" * 38 + in_slots(pages)
-
-
-def shows_base(scene, at, other, q, position, start, pages):
+def shows_base(scene, q, position, start, slots):
     """The superblock of this number stands open alone, its window is beside it, and each page that is in a slot was written there for
     this position."""
-    (body, gate, window), (_, closed, _) = at, other
-    scene.say("bytes %d 129" % body, superblock(q, position, start, pages))
-    scene.say("bytes %d 512" % gate, OPEN + "00" * 511)
-    scene.say("bytes %d 1" % closed, "00")
-    scene.say("bytes %d 26" % window, b"REPWIND1".hex() + number(q) + number(position) + number(len(WINDOWS[position].split()), 2))
-    firsts = [(0, 0), (0, 63), (1, 0), (2, 0)]
-    for page, slot in enumerate(pages):
+    side, other = side_of(q), side_of(q + 1)
+    shows(scene, side.body, superblock_bytes(q, UUID, PARAMS, position, start, slots)[: Superblock.state_at(3) + 1])
+    shows(scene, side.gate, OPEN_GATE)
+    shows(scene, other.gate, bytes([CLOSED]))
+    entries = [b""] * len(WINDOWS[position].split())
+    shows(scene, side.window, window_bytes(q, position, entries, fixed_reach(PARAMS[0], position))[: Window.ZEROS.at])
+    for page, (slot, (table, row)) in enumerate(zip(slots, pages_of(PARAMS[2]))):
         if slot:
-            (table, row), place = firsts[page], PAGES + 4_096 * (2 * page + slot - 1)
-            head = b"REPPAGE1".hex() + number(page, 2) + number(table, 1) + "00" + number(row, 4)
-            scene.say("bytes %d 24" % place, head + number(position))
+            shows(scene, page_at(PARAMS[1], page, slot - 1), page_bytes(page, table, row, position, [])[: Page.POSITION.end])
+
+
+def shows(scene, place, data):
+    """The disk has these bytes at this place."""
+    scene.say("bytes %d %d" % (place, len(data)), data.hex())
 
 
 def twice(_):
@@ -285,7 +281,7 @@ def twice(_):
             fresh(scene)
             scene.installs()
             if not items:
-                shows_base(scene, SECOND, FIRST, 1, AT, 0, (1, 1, 1, 0))
+                shows_base(scene, 1, AT, 0, (1, 1, 1, 0))
                 scene.open_as(scene.node())
             (scene.does_all if is_saved else scene.logs)(AT + items)
             joiner = scene.node()
@@ -297,7 +293,7 @@ def twice(_):
             scene.installs(LATER)
             scene.stands_at(LATER)
             if not items:
-                shows_base(scene, FIRST, SECOND, 2, LATER, 0, (2, 2, 2, 1))
+                shows_base(scene, 2, LATER, 0, (2, 2, 2, 1))
                 scene.open_as(scene.node())
             scene.life.stop(loss, KEYS)
             scene.stands_at(LATER)
@@ -327,7 +323,7 @@ def through_another(_):
         scene.life.stop(loss, KEYS)
         scene.stands_at()
         # The number of its base was 1, of the side B, and its pages stood in their first slots.
-        shows_base(scene, FIRST, SECOND, 2, AT, 2, (2, 2, 0, 0))
+        shows_base(scene, 2, AT, 2, (2, 2, 0, 0))
         scene.open_as(scene.node())
         scene.goes_on()
         yield scene.trial
@@ -522,7 +518,7 @@ def other_nodes(_):
         scene.new_node()
         scene.does_all(AT)
         # The base has the number 1: its superblock is that of the side B.
-        scene.say("put %d 22" % (SECOND[0] + 16), "put")
+        scene.say("put %d 22" % (B.body + Superblock.UUID.at), "put")
         scene.say("lend", "lent %s:8 base 8" % another)
         make(scene)
         if make == fresh:
@@ -564,7 +560,7 @@ def lines_are_off(_):
     for line in ("bring", "page 0", "end", "give_up", "swap"):
         scene.say(line, OFF)
     scene.life.agrees(KEYS)
-    scene.say("disk 54272 0", "blank")
+    scene.say("disk %d 0" % LOG, "blank")
     for line in ("bring", "page 0", "end", "give_up"):
         scene.say(line, OFF)
     scene.say("lend", "refused 12 not-formatted")

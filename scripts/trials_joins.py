@@ -2,6 +2,11 @@
 each call that a join makes; transfers that are cut behind each part and within it, or changed; donors that fail; and who is refused."""
 from functools import lru_cache
 
+from lib.formats import (
+    A, B, ITEM, LETTER, ONE, TWO, End, Entry, Header, Item, Key, Record, Row, Snapshot, SnapshotPage, SnapshotPages, Superblock, Write, cell_at, end_bytes,
+    number_hex, page_at,
+)
+from lib.model_bytes import header_of, item_of, snapshot_of
 from node_model import CLUSTER, LOSSES, UNDEFINED, does
 from trials import params_line
 from trials_damage import calls_of_an_opening
@@ -9,7 +14,7 @@ from trials_faults import FAULT, STOPPED
 from trials_installs import (
     AT, ITEMS, OFF, PARAMS, SIZE, Scene, behind_a_block, fresh, of_no_cluster, still_open, with_pages, wrapped,
 )
-from trials_opening import CELLS, FIRST, PAGES, SECOND, UUID, sum_of
+from trials_opening import sum_of
 
 # Rows of each page that items write, the last two of them the long ones.
 KEYS = [(0, 1), (0, 62), (0, 69), (1, 0), (2, 0), (0, 10), (2, 17)]
@@ -18,8 +23,8 @@ LAST = 24
 LONG_KEYS = [(table, row) for table in (0, 2) for row in range(10, 18)]
 LONG = [(seqno - 1, dict.fromkeys(LONG_KEYS, bytes([seqno]) * 62), [], "commit") for seqno in range(17, 25)]
 LATE = [(20, {(0, 2): b"\x19"}, [(2, 17)], "conflict 24"), (25, {(0, 2): b"\x1a"}, [], "commit")]
-# How many bytes a header has: the first part stands behind it.
-HEADER = 59
+# Where the first part begins.
+HEADER = Header.SIZE
 WRONG_CLUSTER = "refused 20 wrong-cluster"
 NOTHING = sum_of(b"")
 
@@ -28,73 +33,31 @@ def malformed(at):
     return "refused 16 malformed %d" % at
 
 
-# ---- the bytes of a transfer, by docs/formats.md
-
-
-def bytes_of(value, size=8):
-    return value.to_bytes(size, "big")
-
-
-def key_bytes(key):
-    return bytes_of(key[0], 1) + bytes_of(key[1], 4)
-
-
-def header_bytes(order, uuid=UUID):
-    """The header of a transfer of this cluster, with the shape of the order's nodes."""
-    rows = b"".join(bytes_of(rows, 4) for rows in order.rows)
-    return b"REPXFER1" + uuid + bytes_of(order.window, 2) + bytes_of(len(order.rows), 1) + rows.ljust(32, b"\0")
-
-
-def record_bytes(order, seqno):
-    """The record of this item."""
-    item, (kind, *conflict) = order.items[seqno - 1], order.verdicts[seqno - 1].split()
-    head = b"".join(map(bytes_of, (seqno, item.last_seen, item.source, item.trx)))
-    verdict = bytes_of(("commit", "conflict", "stale", "future", "badkey").index(kind), 1) + bytes_of(int(*conflict or (0,)))
-    counts = bytes_of(len(item.reads), 1) + bytes_of(len(item.writes), 1)
-    writes = [key_bytes(key) + bytes([value is not None, len(value or b"")]) + (value or b"") for key, value in item.writes]
-    record = head + verdict + counts + b"".join(map(key_bytes, item.reads)) + b"".join(writes)
-    return bytes_of(2 + len(record), 2) + record
-
-
-def page_bytes(order, page, position):
-    """The page's number and its rows at the position."""
-    firsts = [(table, row) for table, rows in enumerate(order.rows) for row in range(0, rows, 63)]
-    table, first = firsts[page]
-    values = [order.row((table, row), position) for row in range(first, first + 63)]
-    rows = [b"" if value is None else bytes([1, len(value)]) + value for value in values]
-    return bytes_of(page, 2) + b"".join(row.ljust(64, b"\0") for row in rows)
-
-
-def snapshot_pieces(order, position, pages):
-    """What a snapshot consists of: what it begins with, the entries of its window, how many pages there are, and these."""
-    window = order.window_at(position)
-    entries = [(seqno, order.items[seqno - 1].keys()) for seqno in window]
-    return (
-        [b"S" + bytes_of(position) + bytes_of(len(window), 2)]
-        + [bytes_of(seqno) + bytes_of(len(keys), 1) + b"".join(map(key_bytes, keys)) for seqno, keys in entries]
-        + [bytes_of(len(pages), 2)]
-        + [page_bytes(order, page, position) for page in pages]
-    )
-
+# ---- the bytes of a transfer
 
 shown = lru_cache(None)(sum_of)
 
 
 class Transfer:
-    """What a donor writes for a node: its parts one by one, and of its snapshot, if there is one, the pieces."""
+    """What a donor writes for a node: its parts one by one, and of its snapshot, if there is one, the pieces. Of format 1, it is what a
+    donor that knows format 1 alone would write."""
 
-    def __init__(self, donor, node):
+    def __init__(self, donor, node, of_format=TWO):
         self.snapshot, first, self.pieces = None, node.durable, []
         if not node.is_defined or node.durable < donor.base():
             self.snapshot, first = (donor.base(), sorted(donor.checkpoint.held)), donor.base()
-            self.pieces = snapshot_pieces(donor.order, *self.snapshot)
+            self.pieces = snapshot_of(donor.order, *self.snapshot, of_format)
         self.seqnos, self.last = range(first + 1, donor.durable + 1), donor.durable
-        self.parts = [header_bytes(donor.order)] + [b"".join(self.pieces)] * bool(self.pieces)
-        self.parts += [b"I" + record_bytes(donor.order, seqno) for seqno in self.seqnos] + [b"E" + bytes_of(self.last)]
+        self.parts = [header_of(donor.order, of_format)] + [b"".join(self.pieces)] * bool(self.pieces)
+        self.parts += [item_of(donor.order, seqno) for seqno in self.seqnos] + [end_bytes(self.last)]
         self.starts = [sum(map(len, self.parts[:at])) for at in range(len(self.parts))]
 
     def bytes(self):
         return b"".join(self.parts)
+
+    def piece_starts(self):
+        """Where each piece of the snapshot begins."""
+        return [HEADER + sum(map(len, self.pieces[:at])) for at in range(len(self.pieces))]
 
     def taken(self, node, count):
         """The calls of a join of which so many parts behind the header are taken: whether the snapshot is, and up to which item."""
@@ -134,9 +97,25 @@ class Meeting(Scene):
         transfer = Transfer(self.donor, self.node())
         return self.node().join(transfer.snapshot, transfer.last)
 
+    def becomes(self, written, data):
+        """The transfer that was written has these bytes instead, which are no more. What it then has behind its end is not looked at."""
+        for place, (before, byte) in enumerate(zip(written, data)):
+            if before != byte:
+                self.say("spoil %d %d" % (place, byte), "spoilt %d" % len(written))
+
+    def donates_format_1(self):
+        """The same transfer of format 1, which has no reach."""
+        written, transfer = self.donates().bytes(), Transfer(self.donor, self.node(), ONE)
+        self.becomes(written, transfer.bytes())
+        return transfer
+
     def joins(self):
         """The node takes what the donor writes for it, whole."""
         self.donates()
+        self.takes()
+
+    def takes(self):
+        """The node takes the transfer, which is whole."""
         does(self.calls())
         self.say("join", "joined " + self.node().gtid())
         assert self.node().durable == self.node().delivered == self.donor.durable
@@ -265,7 +244,8 @@ def at_nothing(_):
         scene = Meeting("at nothing, " + loss)
         scene.lends(0, base=0)
         of_no_cluster(scene)
-        assert len(scene.donates().bytes()) == 81
+        # A header, a snapshot of no entries and no pages, and an end.
+        assert len(scene.donates().bytes()) == 59 + 23 + 9
         scene.joins()
         scene.life.stop(loss, KEYS)
         scene.joins()
@@ -354,8 +334,8 @@ def at_each_call(make, count, kind, ends, program, losses=lambda done: LOSSES):
             yield fails_at(make("%s %d, %s" % (kind, done, loss)), kind, calls, done, ends, loss)
 
 
-def failing(kind):
-    return lambda make: lambda program: at_each_call(lambda title: met_by(title, make), JOINERS[make], kind, ENDS, program)
+def failing(kind, joiners=JOINERS):
+    return lambda make: lambda program: at_each_call(lambda title: met_by(title, make), joiners[make], kind, ENDS, program)
 
 
 # ---- donors that fail
@@ -390,7 +370,7 @@ def failing_donors(program):
             transfer = Transfer(scene.donor, scene.node())
             if done == READS:
                 scene.joins()
-                scene.say("donate", FAULT, shown(header_bytes(scene.order)))
+                scene.say("donate", FAULT, shown(header_of(scene.order)))
                 yield scene.trial
                 continue
             parts, size = written_by(transfer, done)
@@ -419,7 +399,8 @@ def bad_donors(program):
     alone = Meeting("the opening")
     alone.lends()
     calls = calls_of_an_opening(program, alone.trial.text())
-    for part, place, done in (("window", SECOND[2], 0), ("pages", PAGES, 1), ("pages", PAGES + 4 * 4_096, 3), ("log", CELLS + 8_192, 4)):
+    places = (("window", B.window, 0), ("pages", page_at(PARAMS[1], 0), 1), ("pages", page_at(PARAMS[1], 2), 3), ("log", cell_at(1), 4))
+    for part, place, done in places:
         scene = Meeting("a bad donor, " + part)
         scene.lends()
         scene.say("damage %d %d ff" % (calls, place), "damaged")
@@ -518,28 +499,37 @@ def of_each_length(_):
     yield scene.trial
 
 
+# Pieces of a snapshot, each with a field whose lowest byte becomes this: more entries than the window's seqnos, a key of another table, more
+# pages than there are, and pages of other numbers.
+CHANGED_PIECES = [
+    (0, Snapshot.COUNT, 5), (1, Key.TABLE.behind(Entry.KEYS), 4), (5, SnapshotPages.COUNT, 4),
+    (6, SnapshotPage.NUMBER, 3), (7, SnapshotPage.NUMBER, 4), (8, SnapshotPage.NUMBER, 0),
+]
+
+
 def changes_of(transfer, is_defined):
     """Changes of one byte: where, and to what; how many parts behind the header stand before it, and how the rest is refused."""
     data = transfer.bytes()
-    yield 0, 0, 0, malformed(0)
+    yield Header.MARK.at, 0, 0, malformed(0)
     if is_defined:
-        yield 8, 0x22, 0, WRONG_CLUSTER
+        yield Header.UUID.at, 0x22, 0, WRONG_CLUSTER
     # The window, and the rows of each table.
-    for place in (25, 30, 34, 38):
-        yield place, data[place] + 1, 0, WRONG_CLUSTER
+    for field in (Header.WINDOW, Header.rows(0), Header.rows(1), Header.rows(2)):
+        yield field.last, data[field.last] + 1, 0, WRONG_CLUSTER
     for index, start in list(enumerate(transfer.starts))[1:]:
-        yield start, ord("X"), index - 1, malformed(start)
+        is_item = data[start : start + 1] == ITEM
+        yield start + LETTER.at, ord("X"), index - 1, malformed(start)
         # A snapshot's position, a record's seqno, the position of the end.
-        place = start + (10 if data[start] == ord("I") else 8)
+        field = Item.at(Record.SEQNO) if is_item else Snapshot.POSITION if index == 1 and transfer.pieces else End.POSITION
+        place = start + field.last
         yield place, data[place] + 1, index - 1, malformed(start)
-        if data[start] == ord("I"):
-            # Its verdict.
-            yield start + 35, (data[start + 35] + 2) % 5, index - 1, malformed(start)
+        if is_item:
+            place = start + Item.at(Record.VERDICT).at
+            yield place, (data[place] + 2) % 5, index - 1, malformed(start)
     if transfer.pieces:
-        # More entries than the window's seqnos, a key of another table, more pages than there are, and pages of other numbers.
-        starts = [HEADER + sum(map(len, transfer.pieces[:at])) for at in range(len(transfer.pieces))]
-        for piece, within, byte in ((0, 10, 5), (1, 9, 4), (5, 1, 4), (6, 1, 3), (7, 1, 4), (8, 1, 0)):
-            yield starts[piece] + within, byte, 0, malformed(HEADER)
+        starts = transfer.piece_starts()
+        for piece, field, byte in CHANGED_PIECES:
+            yield starts[piece] + field.last, byte, 0, malformed(HEADER)
 
 
 def changed(make):
@@ -557,32 +547,49 @@ def changed(make):
 # Bytes at places of the header, of a piece of the snapshot (its head, the entries 5 to 8, the number of pages, the pages 0 to 2), and of the
 # record of an item, that are none of the form, or no part that may come there.
 HEADERS = [
-    ("another mark", 7, "32"), ("no UUID", 8, "00" * 16), ("a window of no seqno", 24, "0000"), ("a window of 257 seqnos", 24, "0101"),
-    ("no table", 26, "00"), ("nine tables", 26, "09"), ("a table without rows", 27, "00000000"), ("rows of a table that is not there", 39, "00000001"),
-    ("more pages than there may be", 27, "0003f000"),
+    ("another mark", Header.MARK.last, "53"), ("a format before the first", Header.FORMAT.at, "30"),
+    ("a format behind the last", Header.FORMAT.at, "33"), ("no UUID", Header.UUID.at, "00" * 16), ("a window of no seqno", Header.WINDOW.at, "0000"),
+    ("a window of 257 seqnos", Header.WINDOW.at, "0101"), ("no table", Header.TABLES.at, "00"), ("nine tables", Header.TABLES.at, "09"),
+    ("a table without rows", Header.rows(0).at, "00000000"), ("rows of a table that is not there", Header.rows(3).at, "00000001"),
+    ("more pages than there may be", Header.rows(0).at, "0003f000"),
 ]
+# The second key of an entry, the first row of a page, and the eighth: the first behind the end of the table that has 70 rows.
+SECOND_KEY, FIRST_ROW, EIGHTH_ROW = Entry.key_at(1), SnapshotPage.row_at(0), SnapshotPage.row_at(7)
 SNAPSHOTS = [
-    ("a position above the last", 0, 1, "1000000000000001"), ("a seqno of 0", 1, 7, "00"), ("a seqno below the window", 1, 7, "04"),
-    ("a seqno twice", 2, 7, "05"), ("seqnos that descend", 3, 7, "05"), ("a seqno above the position", 4, 7, "09"), ("an entry without keys", 4, 8, "00"),
-    ("an entry with 17 keys", 4, 8, "11"), ("a key twice", 2, 14, "0000000001"), ("keys that descend", 2, 14, "0000000000"),
-    ("a row that is not there", 3, 9, "0000000046"), ("a page twice", 7, 0, "0000"), ("a page that is not there", 8, 0, "0004"),
-    ("a row that is neither there nor absent", 6, 2, "02"), ("a row of 63 bytes", 6, 3, "3f"), ("a byte behind a row", 6, 2 + 63, "01"),
-    ("an absent row with a byte", 6, 2 + 2 * 64 + 1, "01"), ("a row behind the table's end", 7, 2 + 7 * 64, "010161"),
+    ("a size of 0", 0, Snapshot.SIZE.at, "0000"), ("a size of 257", 0, Snapshot.SIZE.at, "0101"),
+    ("a size that is less than the entries", 0, Snapshot.SIZE.at, "0003"), ("a floor of 0", 0, Snapshot.FLOOR.at, number_hex(0)),
+    ("a floor below that of the size", 0, Snapshot.FLOOR.at, number_hex(4)), ("an entry below the floor", 0, Snapshot.FLOOR.at, number_hex(6)),
+    ("a floor above the position", 0, Snapshot.FLOOR.at, number_hex(9)), ("a floor by its highest byte", 0, Snapshot.FLOOR.at, "01"),
+    ("a position above the last", 0, Snapshot.POSITION.at, "1000000000000001"), ("a seqno of 0", 1, Entry.SEQNO.last, "00"),
+    ("a seqno below the window", 1, Entry.SEQNO.last, "04"), ("a seqno twice", 2, Entry.SEQNO.last, "05"),
+    ("seqnos that descend", 3, Entry.SEQNO.last, "05"), ("a seqno above the position", 4, Entry.SEQNO.last, "09"),
+    ("an entry without keys", 4, Entry.COUNT.at, "00"), ("an entry with 17 keys", 4, Entry.COUNT.at, "11"),
+    ("a key twice", 2, SECOND_KEY, "0000000001"), ("keys that descend", 2, SECOND_KEY, "0000000000"),
+    ("a row that is not there", 3, Entry.key_at(0), "0000000046"), ("a page twice", 7, SnapshotPage.NUMBER.at, "0000"),
+    ("a page that is not there", 8, SnapshotPage.NUMBER.at, "0004"), ("a row that is neither there nor absent", 6, FIRST_ROW + Row.THERE.at, "02"),
+    ("a row of 63 bytes", 6, FIRST_ROW + Row.LENGTH.at, "3f"), ("a byte behind a row", 6, SnapshotPage.row_at(1) - 1, "01"),
+    ("an absent row with a byte", 6, SnapshotPage.row_at(2) + Row.LENGTH.at, "01"), ("a row behind the table's end", 7, EIGHTH_ROW, "010161"),
 ]
+# The first key of a record without reads, which is that of a write, and behind writes of one byte each the second one.
+ONE_WRITE, TWO_WRITES = Record.key_at(0), Record.key_at(0) + Write.VALUE + 1
 RECORDS = [
-    ("a record that says a byte more", 9, 1, "0036"), ("one that says a byte less", 9, 1, "0034"), ("the seqno 0", 9, 3, "00" * 8),
-    ("the seqno before", 9, 3, bytes_of(8).hex()), ("a seqno above the last", 9, 3, "1000000000000001"), ("a verdict of no number", 9, 35, "05"),
-    ("a conflict with no seqno", 9, 36, "00" * 8), ("a conflict with itself", 9, 36, bytes_of(9).hex()), ("a conflict with another", 9, 36, bytes_of(6).hex()),
-    ("a commit that names a seqno", 10, 43, "01"), ("17 reads", 9, 44, "11"), ("no write", 9, 45, "00"), ("17 writes", 9, 45, "11"),
-    ("a write of another kind", 9, 51, "02"), ("a delete with a value", 9, 51, "00"), ("a value of 63 bytes", 9, 52, "3f"),
-    ("what had seen more", 9, 11, bytes_of(7).hex()), ("what had seen itself", 10, 11, bytes_of(10).hex()), ("a row that is not there", 9, 46, "0000000046"),
-    ("a write twice", 13, 54, "0000000001"), ("writes that descend", 13, 54, "0000000000"), ("a read that conflicts", 12, 46, "0000000001"),
+    ("a record that says a byte more", 9, Record.LENGTH.at, "0036"), ("one that says a byte less", 9, Record.LENGTH.at, "0034"),
+    ("the seqno 0", 9, Record.SEQNO.at, "00" * 8), ("the seqno before", 9, Record.SEQNO.at, number_hex(8)),
+    ("a seqno above the last", 9, Record.SEQNO.at, "1000000000000001"), ("a verdict of no number", 9, Record.VERDICT.at, "05"),
+    ("a conflict with no seqno", 9, Record.CONFLICT.at, "00" * 8), ("a conflict with itself", 9, Record.CONFLICT.at, number_hex(9)),
+    ("a conflict with another", 9, Record.CONFLICT.at, number_hex(6)), ("a commit that names a seqno", 10, Record.CONFLICT.last, "01"),
+    ("17 reads", 9, Record.READS.at, "11"), ("no write", 9, Record.WRITES.at, "00"), ("17 writes", 9, Record.WRITES.at, "11"),
+    ("a write of another kind", 9, ONE_WRITE + Write.KIND.at, "02"), ("a delete with a value", 9, ONE_WRITE + Write.KIND.at, "00"),
+    ("a value of 63 bytes", 9, ONE_WRITE + Write.LENGTH.at, "3f"), ("what had seen more", 9, Record.LAST_SEEN.at, number_hex(7)),
+    ("what had seen itself", 10, Record.LAST_SEEN.at, number_hex(10)), ("a row that is not there", 9, ONE_WRITE, "0000000046"),
+    ("a write twice", 13, TWO_WRITES, "0000000001"), ("writes that descend", 13, TWO_WRITES, "0000000000"),
+    ("a read that conflicts", 12, Record.key_at(0), "0000000001"),
 ]
 
 
 def places_of(transfer):
     """Each of these, with its place in the transfer, how many parts behind the header stand before it, and where its part begins."""
-    starts = [HEADER + sum(map(len, transfer.pieces[:at])) for at in range(len(transfer.pieces))]
+    starts = transfer.piece_starts()
     for title, within, text in HEADERS:
         yield "the header: " + title, within, text, 0, 0
     for title, piece, within, text in SNAPSHOTS:
@@ -590,7 +597,7 @@ def places_of(transfer):
     for title, seqno, within, text in RECORDS:
         before = 1 + seqno - transfer.seqnos[0]
         start = transfer.starts[1 + before]
-        yield "a record: " + title, start + within, text, before, start
+        yield "a record: " + title, start + Item.RECORD + within, text, before, start
 
 
 def of_no_form(_):
@@ -628,7 +635,7 @@ def other_nodes(_):
         scene.donates()
         another = CLUSTER.replace("11", "22", 1)
         fresh(scene)
-        scene.say("put %d 22" % (FIRST[0] + 16), "put")
+        scene.say("put %d 22" % (A.body + Superblock.UUID.at), "put")
         scene.say("open", "open %s:0" % another)
         scene.say("join", WRONG_CLUSTER)
         scene.say("donate", WRONG_CLUSTER, NOTHING)

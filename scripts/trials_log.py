@@ -1,16 +1,20 @@
 """The log by itself: blocks of one item and of two in turn, over the laps of four cells. What fifteen of them leave in the cells, byte by
 byte, and what opens of such bytes from each start; each byte by which a log is none, and what is none of its faults; what a closed cell
 may hold; blocks of the largest records; and syncs that nothing awaits."""
+from lib.formats import (
+    A, CELL, CLOSED_GATE, GATE, OPEN_GATE, Block, Record, Superblock, Window, block_bytes, cell_at, cell_body, cell_gate_at, number_hex,
+)
+from lib.model_bytes import entries_of, record_of
 from node_model import Item, Node, Order
 from trials import SMALL, Life, Script, Trial, putting, replies_to
-from trials_bytes import block, entry
-from trials_joins import record_bytes
-from trials_opening import CELLS, FIRST, LAST, OPEN, PAGES, comes_back, new, number, opens, with_base, with_page, with_puts
+from trials_opening import LAST, OPEN, PAGES, comes_back, new, opens, with_base, with_page, with_puts
 from trials_stops import stopped_within
 
-# Where each cell begins, how far behind that its gate does, and the first two records of a block, of which the first has 53 bytes.
-CELL_0, CELL_1, CELL_2, CELL_3 = (CELLS + 8_192 * cell for cell in range(4))
-GATE, ONE, TWO, END = 7_680, 18, 71, 124
+# Each cell and its gate, and how far behind the cell the first two records begin and end: each has as many bytes as one of a row.
+CELL_0, CELL_1, CELL_2, CELL_3 = map(cell_at, range(4))
+GATE_0, GATE_1, GATE_2, GATE_3 = map(cell_gate_at, range(4))
+SIZE = putting(1, 1).size()
+ONE, TWO, END = Block.RECORDS, Block.RECORDS + SIZE, Block.RECORDS + 2 * SIZE
 BLOCKS = 15
 
 
@@ -37,18 +41,22 @@ ORDER = an_order()
 def body(number_of_block):
     """The bytes of the block, up to the zeros behind its records."""
     some = seqnos(number_of_block)
-    return block(number_of_block, some[0], *(record_bytes(ORDER, seqno).hex() for seqno in some))
+    return block_bytes(number_of_block, some[0], [record_of(ORDER, seqno) for seqno in some])
 
 
 def standing(title, blocks, start, puts=(), position=None):
     """A disk with the last of so many blocks in its cells, whose base stands before the block `start`, with these bytes at these places."""
     position = before(start) if position is None else position
-    trial = with_base(new(title), FIRST, 0, position, 1 if position else 0)
-    entries = [entry(seqno, (0, 1)) for seqno in ORDER.window_at(position)]
-    head = [(FIRST[0] + 80, number(start)), (FIRST[2] + 24, number(len(entries), 2)), (FIRST[2] + 256, "".join(entries))]
+    trial = with_base(new(title), A, 0, position, 1 if position else 0)
+    entries = entries_of(ORDER, position)
+    head = [
+        (A.body + Superblock.START.at, number_hex(start)), (A.window + Window.COUNT.at, number_hex(len(entries), 2)),
+        (A.window + Window.ENTRIES, b"".join(entries).hex()),
+    ]
     if position:
-        with_page(trial, PAGES, 0, position, number(position, 1))
-    cells = [(CELLS + 8_192 * (k % 4) + at, text) for k in range(max(0, blocks - 4), blocks) for at, text in ((0, body(k)), (GATE, OPEN))]
+        with_page(trial, PAGES, 0, position, number_hex(position, 1))
+    last = range(max(0, blocks - 4), blocks)
+    cells = [put for k in last for put in ((cell_at(k % 4), body(k).hex()), (cell_gate_at(k % 4), OPEN))]
     return with_puts(trial, [*head, *cells, *puts])
 
 
@@ -112,9 +120,9 @@ def lie_in_cells(_):
         script.play(trial, count).agrees([(0, 1)])
         for cell in range(4):
             last = [k for k in range(blocks) if k % 4 == cell][-1:]
-            text, gate = (body(last[0]), OPEN) if last else ("", "")
-            trial.say("bytes %d 512" % (CELLS + 8_192 * cell), text.ljust(1_024, "0"))
-            trial.say("bytes %d 512" % (CELLS + 8_192 * cell + GATE), gate.ljust(1_024, "0"))
+            found, gate = (body(last[0]), OPEN_GATE) if last else (b"", CLOSED_GATE)
+            trial.say("bytes %d 512" % cell_at(cell), found.ljust(512, b"\0").hex())
+            trial.say("bytes %d %d" % (cell_gate_at(cell), GATE), gate.hex())
         yield trial
 
 
@@ -138,28 +146,28 @@ def syncs_again(_):
 
 # What is changed, and the start, of a log of the blocks 0, 1 and 2: of the first there are two records, of the second one.
 FAULTS = [
-    ("no record", 0, (CELL_0 + 17, "00")),
-    ("a record too few", 0, (CELL_0 + 17, "01")),
-    ("a record too many", 0, (CELL_0 + 17, "03")),
-    ("65 records", 0, (CELL_0 + 17, "41")),
-    ("another first seqno in the head", 0, (CELL_0 + 15, "02")),
-    ("a shorter record", 0, (CELL_0 + ONE + 1, "34")),
-    ("a longer record", 0, (CELL_0 + TWO + 1, "36")),
-    ("a verdict of number 5", 0, (CELL_0 + ONE + 34, "05")),
-    ("a verdict of number 5 in the last block", 0, (CELL_2 + TWO + 34, "05")),
-    ("a second seqno again", 0, (CELL_0 + TWO + 9, "01")),
+    ("no record", 0, (CELL_0 + Block.COUNT.last, "00")),
+    ("a record too few", 0, (CELL_0 + Block.COUNT.last, "01")),
+    ("a record too many", 0, (CELL_0 + Block.COUNT.last, "03")),
+    ("65 records", 0, (CELL_0 + Block.COUNT.last, "41")),
+    ("another first seqno in the head", 0, (CELL_0 + Block.FIRST.last, "02")),
+    ("a shorter record", 0, (CELL_0 + ONE + Record.LENGTH.last, number_hex(SIZE - 1, 1))),
+    ("a longer record", 0, (CELL_0 + TWO + Record.LENGTH.last, number_hex(SIZE + 1, 1))),
+    ("a verdict of number 5", 0, (CELL_0 + ONE + Record.VERDICT.at, "05")),
+    ("a verdict of number 5 in the last block", 0, (CELL_2 + TWO + Record.VERDICT.at, "05")),
+    ("a second seqno again", 0, (CELL_0 + TWO + Record.SEQNO.last, "01")),
     ("a byte behind the records", 0, (CELL_0 + END, "01")),
-    ("the last byte of a body", 0, (CELL_0 + GATE - 1, "01")),
-    ("a later first seqno", 0, (CELL_1 + 15, "04"), (CELL_1 + ONE + 9, "04")),
-    ("an earlier first seqno", 0, (CELL_1 + 15, "02"), (CELL_1 + ONE + 9, "02")),
-    ("a number of another place", 0, (CELL_1 + 7, "02")),
-    ("an old number of another place", 2, (CELL_1 + 7, "00")),
-    ("a number by its highest byte", 0, (CELL_1, "01")),
-    ("a gap before an open cell", 0, (CELL_1 + GATE, "00")),
-    ("a gap at the start", 0, (CELL_0 + GATE, "00")),
-    ("a block of the next lap behind a gap", 1, (CELL_0 + 7, "04")),
-    ("a block of a later lap", 0, (CELL_3 + GATE, OPEN), (CELL_3 + 7, "07")),
-    ("an open cell of zeros", 0, (CELL_3 + GATE, OPEN)),
+    ("the last byte of a body", 0, (GATE_0 - 1, "01")),
+    ("a later first seqno", 0, (CELL_1 + Block.FIRST.last, "04"), (CELL_1 + ONE + Record.SEQNO.last, "04")),
+    ("an earlier first seqno", 0, (CELL_1 + Block.FIRST.last, "02"), (CELL_1 + ONE + Record.SEQNO.last, "02")),
+    ("a number of another place", 0, (CELL_1 + Block.NUMBER.last, "02")),
+    ("an old number of another place", 2, (CELL_1 + Block.NUMBER.last, "00")),
+    ("a number by its highest byte", 0, (CELL_1 + Block.NUMBER.at, "01")),
+    ("a gap before an open cell", 0, (GATE_1, "00")),
+    ("a gap at the start", 0, (GATE_0, "00")),
+    ("a block of the next lap behind a gap", 1, (CELL_0 + Block.NUMBER.last, "04")),
+    ("a block of a later lap", 0, (GATE_3, OPEN), (CELL_3 + Block.NUMBER.last, "07")),
+    ("an open cell of zeros", 0, (GATE_3, OPEN)),
 ]
 
 
@@ -172,24 +180,24 @@ def other_positions(program):
     """The log's first block begins behind the position of the base, which need not be below its number alone."""
     for start, position in ((0, 1), (1, 1), (1, 3), (2, 2), (2, 5)):
         yield comes_back(program, standing("from %d behind %d" % (start, position), 3, start, position=position), "13 corrupt log")
-    yield opens(with_puts(with_base(new("a start of 4"), FIRST, 0, 4), [(FIRST[0] + 80, number(4))]), 4, 4)
-    yield opens(with_puts(with_base(new("the last start"), FIRST, 0, LAST), [(FIRST[0] + 80, number(LAST))]), LAST, LAST)
+    for title, start in (("a start of 4", 4), ("the last start", LAST)):
+        yield opens(with_puts(with_base(new(title), A, 0, start), [(A.body + Superblock.START.at, number_hex(start))]), start, start)
 
 
 # What is no fault: how many blocks there are, the start, the block behind the last that is found, the cells that stand open then, and
 # what is changed.
 SOUND = [
     ("no cell open", 0, 0, 0, ()),
-    ("a gate of a4 over the next block", 4, 0, 3, (0, 1, 2), (CELL_3 + GATE, "a4")),
-    ("a gate of junk over the next block", 4, 0, 3, (0, 1, 2), (CELL_3 + GATE, "eea5")),
-    ("an open gate whose further bytes are not zero", 3, 0, 3, (0, 1, 2), (CELL_2 + GATE + 1, "01"), (CELL_2 + GATE + 511, "ee")),
+    ("a gate of a4 over the next block", 4, 0, 3, (0, 1, 2), (GATE_3, "a4")),
+    ("a gate of junk over the next block", 4, 0, 3, (0, 1, 2), (GATE_3, "eea5")),
+    ("an open gate whose further bytes are not zero", 3, 0, 3, (0, 1, 2), (GATE_2 + 1, "01"), (GATE_2 + GATE - 1, "ee")),
     ("open cells before the start", 3, 2, 3, (0, 1, 2)),
     (
         "a cell before the start that holds no block behind its number", 3, 2, 3, (0, 1, 2),
-        (CELL_0 + 17, "00"), (CELL_1 + ONE + 34, "05"),
+        (CELL_0 + Block.COUNT.last, "00"), (CELL_1 + ONE + Record.VERDICT.at, "05"),
     ),
     ("only cells before the start", 4, 4, 4, (0, 1, 2, 3)),
-    ("a number of an earlier lap in its place", 6, 4, 6, (0, 1, 3), (CELL_2 + GATE, "00"), (CELL_3 + 7, "03"), (CELL_3 + 8, "ee")),
+    ("a number of an earlier lap in its place", 6, 4, 6, (0, 1, 3), (GATE_2, "00"), (CELL_3 + Block.NUMBER.last, "03"), (CELL_3 + Block.FIRST.at, "ee")),
     ("all cells open and taken", 4, 0, 4, (0, 1, 2, 3)),
     ("all cells open and taken, across the end of the ring", 7, 3, 7, (0, 1, 2, 3)),
 ]
@@ -203,7 +211,7 @@ def what_is_no_fault(_):
 def closed_cells(_):
     """The fourth cell is closed: what its body and the rest of its gate hold is not looked at, and it takes the next block."""
     for byte in ("00", "01", "ee", "ff"):
-        trial = standing("a closed cell of " + byte, 3, 0, [(CELL_3, byte * 8_192)])
+        trial = standing("a closed cell of " + byte, 3, 0, [(CELL_3, byte * CELL)])
         life = found(trial, 0, 3, (0, 1, 2))
         life.stop("drop", [(0, 1)])
         life.goes_on(ORDER, [(0, 1)])
@@ -217,11 +225,11 @@ def widest(seqno):
     return Item(top, puts, [(7, row) for row in range(16)], source=top, trx=seqno)
 
 
-def shows_cell(trial, cell, text):
-    """The cell has these bytes and zeros behind them, and an open gate."""
-    text = text.ljust(2 * GATE, "0") + OPEN.ljust(1_024, "0")
-    for at in range(0, 8_192, 512):
-        trial.say("bytes %d 512" % (CELLS + 8_192 * cell + at), text[2 * at : 2 * at + 1_024])
+def shows_cell(trial, order, cell, seqnos_of_it):
+    """The cell has the block of these items, of its own number, and an open gate."""
+    data = cell_body(cell, seqnos_of_it[0], [record_of(order, seqno) for seqno in seqnos_of_it]) + OPEN_GATE
+    for at in range(0, CELL, 512):
+        trial.say("bytes %d 512" % (cell_at(cell) + at), data[at : at + 512].hex())
 
 
 # The items of three blocks, and how many wait behind each of them: one, 64, and of seven of the largest those six that fill a block.
@@ -244,7 +252,7 @@ def small_and_large(_):
     trial = Trial("their bytes")
     order = small_and_large_life(trial).node.order
     for cell, (first, last, _) in enumerate(SIZES):
-        shows_cell(trial, cell, block(cell, first, *(record_bytes(order, seqno).hex() for seqno in range(first, last + 1))))
+        shows_cell(trial, order, cell, range(first, last + 1))
     yield trial
     trial = Trial("what is found of them")
     life = small_and_large_life(trial)
@@ -293,7 +301,7 @@ def a_full_block(_):
     for seqno, size in enumerate([62] * 62 + [42, 0], 1):
         life.do((seqno, Item(0, [((0, 1), b"\xa5" * size), ((0, 2), b"")], trx=seqno)))
     one_block(life, 64)
-    shows_cell(trial, 0, block(0, 1, *(record_bytes(life.node.order, seqno).hex() for seqno in range(1, 65))))
+    shows_cell(trial, life.node.order, 0, range(1, 65))
     yield trial
 
 

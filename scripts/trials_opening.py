@@ -1,39 +1,45 @@
 """Disks whose bytes are written by hand, at their offsets (docs/formats.md): what an opening refuses, what it does not look at, which
 superblock counts, what rows stand in pages, what an opening makes stable, and the last seqno."""
+from lib.formats import (
+    A, B, CLOSED_GATE, LOG, OPEN_GATE, PAGE_ROWS, TWO, Block, Page, Record, Row, Superblock, Window, block_bytes, cell_at, cell_gate_at, fixed_reach,
+    number_bytes, page_at, page_bytes, record_bytes, superblock_bytes, window_bytes, write_bytes,
+)
+from lib.model_bytes import UUID
 from node_model import CLUSTER
-from trials import BEFORE, SMALL_SIZE, Trial, answers, beside_an_item, full_log, of_one_page, one_item, put, two_laps
+from trials import BEFORE, SMALL, SMALL_SIZE, Trial, answers, beside_an_item, full_log, of_one_page, one_item, put, two_laps
 
-# Where each superblock, its gate and its window begin.
-FIRST, SECOND = (0, 3_584, 8_192), (4_096, 7_680, 31_232)
-# Where the log begins, the gate of its first cell, and the pages.
-CELLS, FIRST_CELL_GATE, PAGES = 54_272, 61_952, 87_040
-UUID = bytes.fromhex(CLUSTER.replace("-", ""))
-OPEN = "a5"
+# The pages of the small parameters' disk begin with the first slot of the first one.
+PAGES = page_at(SMALL[1], 0)
+# The byte by which a gate is open.
+OPEN = OPEN_GATE[:1].hex()
+# Up to where a superblock of at most four pages has other bytes than zeros.
+SUPERBLOCK_HEAD = Superblock.state_at(0) + 1
 # The last seqno, 2^60.
 LAST = 1 << 60
 ROW = "read 0/1 %d"
-# The body of a cell with the block of the item that `one_item` delivers: the cell's number, the first seqno, how many records there
-# are, and the record of 53 bytes.
-BLOCK = (
-    "0000000000000000" "0000000000000001" "0001"
-    "0035" "0000000000000001" "0000000000000000" "0000000000000007" "0000000000000008" "00" "0000000000000000" "00" "01"
-    "0000000001" "01" "01" "61"
-)
+# The block of the item that `one_item` delivers, and its record.
+RECORD = record_bytes(1, 0, (7, 8), 0, [], [write_bytes((0, 1), b"a")])
+BLOCK = block_bytes(0, 1, [RECORD]).hex()
 
 
-def number(value, size=8):
-    return value.to_bytes(size, "big").hex()
-
-
-def superblock(q, position, first_page=0):
+def superblock(q, position, first_page=0, of_format=TWO):
     """The bytes of a superblock of the small parameters, up to its page states: zeros follow. The first page is in no slot (0) or in
     one (1, 2)."""
-    head = b"REPSUPR1".hex() + number(q) + UUID.hex() + number(4, 2) + number(4, 2) + "01" + "000000" + number(126, 4) + "00" * 28
-    return head + number(position) + number(0) + number(2, 2) + "00" * 38 + number(first_page, 1)
+    return superblock_bytes(q, UUID, SMALL, position, 0, [first_page, 0], of_format)[:SUPERBLOCK_HEAD].hex()
+
+
+def empty_window(q, position, of_format=TWO):
+    """An empty window of the small parameters whose size never changed."""
+    return window_bytes(q, position, [], fixed_reach(SMALL[0], position) if of_format == TWO else None)
+
+
+def window_head(q, position, of_format=TWO):
+    """Its bytes, up to the zeros behind what format 2 says."""
+    return empty_window(q, position, of_format)[: Window.ZEROS.at].hex()
 
 
 # All that an opening of a disk with one item reads.
-PENDING = ((FIRST[0], superblock(0, 0)), (FIRST[1], OPEN), (FIRST[2], b"REPWIND1".hex() + "00" * 18), (CELLS, BLOCK), (FIRST_CELL_GATE, OPEN))
+PENDING = ((A.body, superblock(0, 0)), (A.gate, OPEN), (A.window, window_head(0, 0)), (cell_at(0), BLOCK), (cell_gate_at(0), OPEN))
 
 
 def sum_of(data):
@@ -44,28 +50,27 @@ def sum_of(data):
     return "sum %d %d" % (len(data), total)
 
 
-def new_bytes():
+def new_bytes(of_format=TWO):
     """The bytes of a new disk."""
     data = bytearray(SMALL_SIZE)
-    for at, text in ((FIRST[0], superblock(0, 0)), (FIRST[1], OPEN), (FIRST[2], b"REPWIND1".hex())):
+    for at, text in ((A.body, superblock(0, 0, of_format=of_format)), (A.gate, OPEN), (A.window, window_head(0, 0, of_format))):
         data[at : at + len(text) // 2] = bytes.fromhex(text)
     return data
 
 
-def with_base(trial, at, q, position, first_page=0):
+def with_base(trial, at, q, position, first_page=0, of_format=TWO):
     """Writes a superblock at these places, with an open gate, and an empty window of its position."""
-    body, gate, window = at
-    for place, text in (
-        (body, superblock(q, position, first_page)), (gate, OPEN), (window, b"REPWIND1".hex() + number(q) + number(position) + number(0, 2)),
-    ):
+    body, window = superblock(q, position, first_page, of_format), window_head(q, position, of_format)
+    for place, text in ((at.body, body), (at.gate, OPEN), (at.window, window)):
         trial.say("put %d %s" % (place, text), "put")
     return trial
 
 
 def with_page(trial, place, page, position, row=None):
     """Writes a page at this place, whose row 1 has this byte."""
-    head = b"REPPAGE1".hex() + number(page, 2) + "00" + "00" + number(63 * page, 4) + number(position) + "00" * 40
-    trial.say("put %d %s" % (place, head + "00" * 64 + ("0101" + row if row else "")), "put")
+    value = bytes.fromhex(row) if row else b""
+    data = page_bytes(page, 0, PAGE_ROWS * page, position, [None] + [value] * bool(row))
+    trial.say("put %d %s" % (place, data[: Page.row_at(1) + (Row.VALUE + len(value)) * bool(row)].hex()), "put")
     return trial
 
 
@@ -128,7 +133,7 @@ def behind_the_item(trial):
 
 
 def not_formatted(program):
-    for size in (0, 54_271, 54_272, 103_424):
+    for size in (0, LOG - 1, LOG, SMALL_SIZE):
         trial = Trial("%d zero bytes" % size)
         trial.say("disk %d 0" % size, "blank")
         yield comes_back(program, trial, "12 not-formatted")
@@ -137,11 +142,11 @@ def not_formatted(program):
 def too_small(program):
     """A device of one byte less than the parameters need is left as it is; one of as many is not."""
     trial = Trial("one byte less")
-    trial.say("disk 103423 7", "blank")
-    before = last_line(program, "disk 103423 7\nsum\n")
+    trial.say("disk %d 7" % (SMALL_SIZE - 1), "blank")
+    before = last_line(program, trial.text() + "sum\n")
     trial.say("params 4 4 126", "refused 14 too-small 103424")
     trial.say("sum", before)
-    trial.say("disk 103424 7", "blank")
+    trial.say("disk %d 7" % SMALL_SIZE, "blank")
     trial.say("params 4 4 126", "formatted %s:0" % CLUSTER)
     yield trial
 
@@ -151,12 +156,12 @@ def opens_at_nothing(_):
     trial = Trial("of open gates")
     trial.say("disk %d 165" % (SMALL_SIZE + 7), "blank")
     trial.say("params 4 4 126", "formatted %s:0" % CLUSTER)
-    for gate in (SECOND[1], FIRST_CELL_GATE, FIRST_CELL_GATE + 8_192, FIRST_CELL_GATE + 2 * 8_192, FIRST_CELL_GATE + 3 * 8_192):
-        trial.say("bytes %d 512" % gate, "00" * 512)
-    trial.say("bytes %d 512" % FIRST[1], OPEN + "00" * 511)
-    trial.say("bytes 0 129", superblock(0, 0))
-    trial.say("bytes 129 512", "00" * 512)
-    trial.say("bytes 8192 512", b"REPWIND1".hex() + "00" * 504)
+    for gate in (B.gate, *map(cell_gate_at, range(SMALL[1]))):
+        trial.say("bytes %d 512" % gate, CLOSED_GATE.hex())
+    trial.say("bytes %d 512" % A.gate, OPEN_GATE.hex())
+    trial.say("bytes %d %d" % (A.body, SUPERBLOCK_HEAD), superblock(0, 0))
+    trial.say("bytes %d 512" % (A.body + SUPERBLOCK_HEAD), "00" * 512)
+    trial.say("bytes %d 512" % A.window, empty_window(0, 0)[:512].hex())
     for at in range(PAGES, SMALL_SIZE, 512):
         trial.say("bytes %d 512" % at, OPEN * 512)
     trial.say("bytes %d 512" % SMALL_SIZE, OPEN * 7)
@@ -168,39 +173,42 @@ def opens_at_nothing(_):
 
 def item_is_found(_):
     trial = with_item("one item")
-    trial.say("bytes %d 71" % CELLS, BLOCK)
-    trial.say("bytes %d 512" % FIRST_CELL_GATE, OPEN + "00" * 511)
+    trial.say("bytes %d %d" % (cell_at(0), len(BLOCK) // 2), BLOCK)
+    trial.say("bytes %d 512" % cell_gate_at(0), OPEN_GATE.hex())
     yield behind_the_item(trial)
 
 
+# Where the block's record stands; and a stale item in its place, a window without its mark, and a superblock without.
+RECORD_AT = cell_at(0) + Block.RECORDS
+STALE, NO_WINDOW, NO_SUPERBLOCK = (RECORD_AT + Record.VERDICT.at, "02"), (A.window + Window.MARK.at, "00"), (A.body + Superblock.MARK.at, "00")
 # A byte of each part that is not of the form, and what it makes of the device with one item.
 CORRUPT = [
-    ("13 corrupt log", (54_324, "02")),
-    ("13 corrupt log", (54_299, "02")),
-    ("13 corrupt superblock", (0, "00")),
-    ("13 corrupt window", (8_192, "00")),
-    ("13 corrupt window", (8_207, "01")),
-    ("12 not-formatted", (3_584, "00")),
-    ("13 corrupt superblock", (7_680, OPEN)),
+    ("13 corrupt log", STALE),
+    ("13 corrupt log", (RECORD_AT + Record.SEQNO.last, "02")),
+    ("13 corrupt superblock", NO_SUPERBLOCK),
+    ("13 corrupt window", NO_WINDOW),
+    ("13 corrupt window", (A.window + Window.NUMBER.last, "01")),
+    ("12 not-formatted", (A.gate, "00")),
+    ("13 corrupt superblock", (B.gate, OPEN)),
     # The number of the other side, a window of no seqno, a page in both slots, and a byte that is to be zero.
-    ("13 corrupt superblock", (15, "01")),
-    ("13 corrupt superblock", (33, "00")),
-    ("13 corrupt superblock", (128, "03")),
-    ("13 corrupt superblock", (1_152, "01")),
+    ("13 corrupt superblock", (A.body + Superblock.NUMBER.last, "01")),
+    ("13 corrupt superblock", (A.body + Superblock.WINDOW.last, "00")),
+    ("13 corrupt superblock", (A.body + Superblock.state_at(0), "03")),
+    ("13 corrupt superblock", (A.body + Superblock.LAST_ZEROS.at, "01")),
     # A window of another position.
-    ("13 corrupt window", (8_215, "01")),
+    ("13 corrupt window", (A.window + Window.POSITION.last, "01")),
     # A block of the second cell, one of the next lap, a first seqno that does not follow, and a byte behind the record.
-    ("13 corrupt log", (54_279, "01")),
-    ("13 corrupt log", (54_279, "04")),
-    ("13 corrupt log", (54_287, "02")),
-    ("13 corrupt log", (54_343, "01")),
+    ("13 corrupt log", (cell_at(0) + Block.NUMBER.last, "01")),
+    ("13 corrupt log", (cell_at(0) + Block.NUMBER.last, "04")),
+    ("13 corrupt log", (cell_at(0) + Block.FIRST.last, "02")),
+    ("13 corrupt log", (RECORD_AT + len(RECORD), "01")),
     # The first page stands in its first slot, into which none was written.
-    ("13 corrupt pages", (128, "01")),
+    ("13 corrupt pages", (A.body + Superblock.state_at(0), "01")),
     # The undefined node's log holds no block.
-    ("13 corrupt log", (16, "00" * 16)),
+    ("13 corrupt log", (A.body + Superblock.UUID.at, "00" * 16)),
     # Of several the first is answered: superblock, window, log.
-    ("13 corrupt window", (54_324, "02"), (8_192, "00")),
-    ("13 corrupt superblock", (54_324, "02"), (8_192, "00"), (0, "00")),
+    ("13 corrupt window", STALE, NO_WINDOW),
+    ("13 corrupt superblock", STALE, NO_WINDOW, NO_SUPERBLOCK),
 ]
 
 
@@ -208,7 +216,7 @@ def each_part(program):
     for refusal, *puts in CORRUPT:
         title = ", ".join("%d to %s" % changed for changed in puts)
         yield comes_back(program, with_item("%s, %s" % (refusal, title), *puts), refusal)
-    for size, refusal in ((103_423, "13 corrupt superblock"), (54_272, "13 corrupt superblock"), (54_271, "12 not-formatted")):
+    for size, refusal in ((SMALL_SIZE - 1, "13 corrupt superblock"), (LOG, "13 corrupt superblock"), (LOG - 1, "12 not-formatted")):
         trial = with_item("cut to %d bytes" % size)
         trial.say("cut %d" % size, "cut")
         yield comes_back(program, trial, refusal)
@@ -220,14 +228,14 @@ def each_part(program):
 
 def not_looked_at(_):
     """Neither a closed cell nor a page in no slot is looked at, nor a byte behind those that are needed."""
-    for at in (62_464, PAGES, 103_423, 103_424):
+    for at in (cell_at(1), PAGES, SMALL_SIZE - 1, SMALL_SIZE):
         yield opens(with_item("a byte at %d" % at, (at, "01")), 1)
-    yield opens(with_item("a closed gate", (FIRST_CELL_GATE, "00")), 0)
+    yield opens(with_item("a closed gate", (cell_gate_at(0), "00")), 0)
 
 
 def greater_counts(program):
     """Of two superblocks the greater counts. The lesser one has to be of the form too, though its window is not looked at."""
-    make = lambda title: with_base(new(title), SECOND, 1, 3)
+    make = lambda title: with_base(new(title), B, 1, 3)
     trial = opens(make("two superblocks"), 3, 3, "busy")
     trial.say("state", "state %s:3 base 3 window" % CLUSTER)
     for line, *wanted in (
@@ -236,24 +244,26 @@ def greater_counts(program):
     ):
         trial.say(line, *wanted)
     # It starts at the first cell, as the greater one says: the cell's number, its first seqno, and a record of 53 bytes.
-    trial.say("bytes %d 26" % CELLS, number(0) + number(4) + number(1, 2) + number(53, 2) + number(4)[:12])
+    shown = block_bytes(0, 4, [number_bytes(53, 2) + number_bytes(4)])[:26]
+    trial.say("bytes %d %d" % (cell_at(0), len(shown)), shown.hex())
     yield trial
-    yield comes_back(program, with_puts(make("a lesser one of no form"), [(0, "00")]), "13 corrupt superblock")
-    yield opens(with_puts(make("a lesser window of no form"), [(8_192, "00")]), 3, 3, "busy")
-    yield comes_back(program, with_puts(make("a greater window of no form"), [(31_232, "00")]), "13 corrupt window")
+    yield comes_back(program, with_puts(make("a lesser one of no form"), [NO_SUPERBLOCK]), "13 corrupt superblock")
+    yield opens(with_puts(make("a lesser window of no form"), [NO_WINDOW]), 3, 3, "busy")
+    yield comes_back(program, with_puts(make("a greater window of no form"), [(B.window + Window.MARK.at, "00")]), "13 corrupt window")
 
 
 def pages_in_a_slot(program):
     """A page is read, and has to be of the form, of its number and at most of the superblock's position."""
-    make = lambda title: with_base(new(title), SECOND, 1, 3, 2)
+    make = lambda title: with_base(new(title), B, 1, 3, 2)
+    place = page_at(SMALL[1], 0, 1)
     yield comes_back(program, make("no page"), "13 corrupt pages")
-    yield opens(with_page(make("a page"), PAGES + 4_096, 0, 3), 3, 3, "busy")
-    yield comes_back(program, with_page(make("of a later position"), PAGES + 4_096, 0, 4), "13 corrupt pages")
-    yield comes_back(program, with_page(make("of another number"), PAGES + 4_096, 1, 3), "13 corrupt pages")
+    yield opens(with_page(make("a page"), place, 0, 3), 3, 3, "busy")
+    yield comes_back(program, with_page(make("of a later position"), place, 0, 4), "13 corrupt pages")
+    yield comes_back(program, with_page(make("of another number"), place, 1, 3), "13 corrupt pages")
 
 
 def opens_at_the_last(_):
-    trial = opens(with_base(new("the last position"), FIRST, 2, LAST), LAST, LAST)
+    trial = opens(with_base(new("the last position"), A, 2, LAST), LAST, LAST)
     trial.say("window", "window 0")
     trial.say(ROW % (LAST - 1), "refused 8 too-old %d" % LAST)
     trial.say(ROW % LAST, "absent")
@@ -271,15 +281,15 @@ def makes_stable_what_it_finds(_):
         trial.say("stop " + loss, "open %s:1" % CLUSTER)
         yield behind_the_item(trial)
         trial = new("lost bytes, " + loss)
-        trial.say("write %d %s" % (CELLS, BLOCK), "written")
-        trial.say("write %d %s" % (FIRST_CELL_GATE, OPEN), "written")
+        trial.say("write %d %s" % (cell_at(0), BLOCK), "written")
+        trial.say("write %d %s" % (cell_gate_at(0), OPEN), "written")
         trial.say("crash " + loss, "crashed")
         yield opens(trial, 0)
 
 
 def behind_the_last(title):
     """A node behind the item with the last seqno, on a disk that was opened again: its base stands at the one before."""
-    trial = opens(with_base(new(title), FIRST, 0, LAST - 1), LAST - 1, LAST - 1)
+    trial = opens(with_base(new(title), A, 0, LAST - 1), LAST - 1, LAST - 1)
     trial.say(put(LAST - 1, 8, b"a").delivery(LAST), "%d commit" % LAST)
     for line, *wanted in (["log", "wrote"], ["sync", "synced 0"], ["log", "wrote"], ["sync", "synced 1", "reply %d commit 7:8" % LAST]):
         trial.say(line, *wanted)
@@ -322,7 +332,7 @@ def base_at_the_last(_):
 
 def with_a_page(title):
     """A disk whose base stands at the position 1. The first page stands in its first slot, and has `b` in its row 1."""
-    return with_page(with_base(new(title), FIRST, 0, 1, 1), PAGES, 0, 1, "62")
+    return with_page(with_base(new(title), A, 0, 1, 1), PAGES, 0, 1, "62")
 
 
 def rows_until_they_are_written(_):
@@ -443,7 +453,7 @@ def refused_formats(_):
     sync, the body, the window, a sync, the gate, a sync."""
     for call in range(13):
         trial = Trial("formatting, once %d" % call)
-        trial.say("disk 103424 0", "blank")
+        trial.say("disk %d 0" % SMALL_SIZE, "blank")
         trial.say("fail once %d" % call, "armed")
         trial.say("params 4 4 126", "formatted %s:0" % CLUSTER if call == 12 else "refused 2 disk-fault")
         trial.say("failures", "failures %d" % (call < 12))

@@ -1,34 +1,38 @@
 """Pages on their way through the pool: which of them a replica asks its device for, over a base that has one page more than a pool keeps,
 and what stands in the slots of pages, byte by byte."""
+from lib.formats import A, LOG, PAGE, PAGE_ROWS, Key, Row, Superblock, key_bytes, need, number_hex, page_at, row_bytes, states_bytes
+from lib.model_bytes import page_of
 from node_model import Item
 from trials import SMALL_SIZE, Life, Trial
-from trials_joins import page_bytes
-from trials_opening import FIRST, PAGES, number, opens, with_base, with_page, with_puts
+from trials_opening import opens, with_base, with_page, with_puts
 
-# A page more than a pool keeps, of 63 rows each, in their first slots. The opening makes so many calls of the device: a sync, a gate and
-# a body, the other gate, the window, four gates, and the pages.
-COUNT, SIZE = 65, 619_520
+# A page more than a pool keeps, in their first slots, on a device with four cells. The opening makes so many calls of the device: a sync, a
+# gate and a body, the other gate, the window, four gates, and the pages.
+CELLS, COUNT = 4, 65
 OPENING = 1 + 2 + 1 + 1 + 4 + COUNT
 FAULT = "refused 2 disk-fault"
 
 
 def row_of(page):
     """The row of the page that holds its number and one."""
-    return "0/%d" % (63 * page + 1)
+    return "0/%d" % (PAGE_ROWS * page + 1)
 
 
 def value_of(page):
-    return "value " + number(page + 1, 1)
+    return "value " + number_hex(page + 1, 1)
 
 
 def with_pages(title, calls):
     """A node whose base stands at the position 1, on a device that serves so many calls behind the opening."""
     trial = Trial(title)
-    trial.say("disk %d 0" % SIZE, "blank")
-    states = [(40, number(63 * COUNT, 4)), (88, number(COUNT, 2)), (128, "55" * (COUNT // 4) + "01")]
-    with_puts(with_base(trial, FIRST, 0, 1), states)
+    trial.say("disk %d 0" % need(CELLS, COUNT), "blank")
+    states = [
+        (A.body + Superblock.rows(0).at, number_hex(PAGE_ROWS * COUNT, 4)), (A.body + Superblock.PAGES.at, number_hex(COUNT, 2)),
+        (A.body + Superblock.STATES.at, states_bytes([1] * COUNT).hex()),
+    ]
+    with_puts(with_base(trial, A, 0, 1), states)
     for page in range(COUNT):
-        with_page(trial, PAGES + 2 * 4_096 * page, page, 1, number(page + 1, 1))
+        with_page(trial, page_at(CELLS, page), page, 1, number_hex(page + 1, 1))
     trial.say("fail from %d" % (OPENING + calls), "armed")
     return opens(trial, 1, 1)
 
@@ -65,7 +69,7 @@ def first_goes(_):
 
 def a_block(trial, page):
     """The second item puts another row of the page, and is durable by four calls of the device."""
-    trial.say(Item(1, [((0, 63 * page + 2), b"a")], trx=2).delivery(2), "2 commit")
+    trial.say(Item(1, [((0, PAGE_ROWS * page + 2), b"a")], trx=2).delivery(2), "2 commit")
     for line, *wanted in (["log", "wrote"], ["sync", "synced 0"], ["log", "wrote"], ["sync", "synced 1", "reply 2 commit 7:2"]):
         trial.say(line, *wanted)
     trial.say("check", "began 2")
@@ -103,7 +107,7 @@ def left_slots(_):
     for _ in range(4):
         trial.say("check", "wrote")
         trial.say("sync", "synced 0")
-    trial.say("read 0/%d 2" % (63 * 9 + 2), "value 61")
+    trial.say("read 0/%d 2" % (PAGE_ROWS * 9 + 2), "value 61")
     reads(trial, 9, s=2)
     asks(trial, 10, 2)
     yield trial
@@ -118,23 +122,20 @@ def to_the_last_byte(_):
         life.does_what_is_due([(0, 125)])
     life.stop("drop", [(0, 125)])
     trial.say("read 0/125 2", "value " + "bb" * 62)
-    trial.say("bytes %d 65" % (SMALL_SIZE - 64), "013e" + "bb" * 62)
-    trial.say("bytes %d 64" % (SMALL_SIZE - 4_096 - 64), "013e" + "aa" * 62)
+    trial.say("bytes %d %d" % (SMALL_SIZE - Row.SIZE, Row.SIZE + 1), row_bytes(b"\xbb" * 62).hex())
+    trial.say("bytes %d %d" % (SMALL_SIZE - PAGE - Row.SIZE, Row.SIZE), row_bytes(b"\xaa" * 62).hex())
     yield trial
 
 
 def shows_page(trial, order, page, position, slot):
     """The page stands in this slot as the order has it at the position."""
-    firsts = [(table, row) for table, rows in enumerate(order.rows) for row in range(0, rows, 63)]
-    table, row = firsts[page]
-    head = b"REPPAGE1".hex() + number(page, 2) + number(table, 1) + "00" + number(row, 4) + number(position) + "00" * 40
-    text = head + page_bytes(order, page, position)[2:].hex()
-    for at in range(0, 4_096, 512):
-        trial.say("bytes %d 512" % (PAGES + 2 * 4_096 * page + 4_096 * slot + at), text[2 * at : 2 * at + 1_024])
+    data = page_of(order, page, position)
+    for at in range(0, PAGE, 512):
+        trial.say("bytes %d 512" % (page_at(CELLS, page, slot) + at), data[at : at + 512].hex())
 
 
 # Two tables, of which the second has the pages 2 to 4: rows 0 to 62, 63 to 125, and 126 to 129.
-TABLES, TABLES_SIZE = (4, 4, (126, 130)), 128_000
+TABLES, TABLES_SIZE = (4, CELLS, (126, 130)), need(CELLS, 5)
 CHANGES = [
     {(0, 1): b"a"}, {(0, 125): b"b"}, {(1, 126): b"ab", (1, 129): b""}, {(0, 1): b"c"}, {(1, 125): b"c", (1, 126): None}, {(1, 128): b"d"},
 ]
@@ -180,7 +181,7 @@ def at_positions(_):
 def rows_in_pages(_):
     """Rows lie in pages table by table, with which a table begins anew; and none lies behind a table's last."""
     trial = Trial("three tables")
-    life = Life(trial, (4, 4, (64, 63, 1)), 119_808)
+    life = Life(trial, (4, CELLS, (64, 63, 1)), need(CELLS, 4))
     rows = [(0, 0), (0, 62), (0, 63), (1, 0), (1, 62), (2, 0)]
     life.do((1, Item(0, [(key, bytes([at + 1])) for at, key in enumerate(rows)], trx=1)))
     life.does_what_is_due(rows + [(0, 64), (1, 63), (2, 1), (3, 0)])
@@ -200,13 +201,13 @@ def largest_disk(_):
 def widest_window(_):
     """A window of 256 items with 16 keys each has no byte left, and is read again."""
     trial = Trial("256 items of 16 keys")
-    life = Life(trial, (256, 8, (126,)), 54_272 + 8 * 8_192 + 4 * 4_096)
+    life = Life(trial, (256, 8, (126,)), need(8, 2))
     for seqno in range(1, 257):
         life.do((seqno, Item(seqno - 1, [((0, row), None) for row in range(16)], trx=seqno)))
     life.does_what_is_due([(0, 1)])
     life.stop("drop", [(0, 1)])
     # Its window is that of the second superblock, and ends before the log.
-    trial.say("bytes %d 5" % (54_272 - 5), "000000000f")
+    trial.say("bytes %d %d" % (LOG - Key.SIZE, Key.SIZE), key_bytes((0, 15)).hex())
     yield trial
 
 

@@ -1,8 +1,9 @@
 """Stops with each loss: behind each event of scripts, and in each phase of a checkpoint at each stage of a block; what stands behind
 a checkpoint; and a node at its limits, that settles, and that is taken apart."""
+from lib.formats import TWO, need
 from node_model import CLUSTER, LOSSES, Item
 from trials import (
-    BEFORE, Life, Trial, answers, before_items, beside_an_item, conflicting, full_again, full_log,
+    BEFORE, SMALL_SIZE, Life, Trial, answers, before_items, beside_an_item, conflicting, full_again, full_log,
     of_each_kind, of_one_page, one_item, put, putting, replies_to, second_lap, two_items, two_laps,
 )
 
@@ -39,16 +40,22 @@ def of_two(_):
     yield from stopped_behind("two items", two_items(), [(0, 0, 0)] * 5 + [(2, 0, 0), (2, 2, 2)])
 
 
-def stopped_within(title, script, first=0, last=None):
-    """Stops the script with each loss behind so many events: the disk opens where the model says, and goes on there."""
+def stops_within(title, script, first=0, last=None, of_format=TWO):
+    """Stops the script with each loss behind so many events, on a new disk of this format: the disk opens where the model says."""
     last = len(script.events) if last is None else last
     for count in range(first, last + 1):
         for loss in LOSSES:
             trial = Trial("%s, %s behind event %d" % (title, loss, count))
-            life = script.play(trial, count)
+            life = script.play(trial, count, of_format)
             life.stop(loss)
-            life.goes_on(script.order())
-            yield trial
+            yield life
+
+
+def stopped_within(title, script, first=0, last=None):
+    """The same, and it goes on there."""
+    for life in stops_within(title, script, first, last):
+        life.goes_on(script.order())
+        yield life.trial
 
 
 def has_the_older_row(_):
@@ -226,7 +233,7 @@ def quiet_nodes_stay(program):
         given.lines += [("fail from %d" % call, []), ("open", []), ("failures", [])]
         if answers(program, given.text())[0][-2].startswith("open "):
             break
-    found = answers(program, "disk 103424 0\nparams 4 4 126\nopen\nsum\n")[0]
+    found = answers(program, "disk %d 0\nparams 4 4 126\nopen\nsum\n" % SMALL_SIZE)[0]
     trial = Trial("a quiet node")
     trial.new_disk()
     trial.say("fail from %d" % call, "armed")
@@ -303,7 +310,7 @@ def put_together_as_stopped(_):
 def long_log(_):
     """300 blocks of one item each in a log of 1,024 cells: the window has the last 256."""
     trial = Trial("300 blocks")
-    life = Life(trial, (256, 1024, (126,)), 8_459_264)
+    life = Life(trial, (256, 1024, (126,)), need(1024, 2))
     for seqno in range(1, 301):
         assert life.do((seqno, putting(seqno, 1))) == ["%d commit" % seqno]
         for event, wanted in (("log", ["wrote"]), ("sync", ["synced 0"]), ("log", ["wrote"])):
