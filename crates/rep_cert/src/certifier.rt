@@ -132,6 +132,16 @@ impl Certifier {
         verdict_above(seen, self.writers.last_of(item))
     }
 
+    /// The verdict on the item of either kind, were it the next one. It takes no memory. A change of the window's size commits.
+    pub fn judge_item(&self, item: &Item) -> Verdict
+        ensures { result ≡ verdict_of self.now.current item.now }
+    {
+        match item {
+            Item::WriteSet(write_set) => self.judge(write_set),
+            Item::SetWindow(_) => Verdict::Commit,
+        }
+    }
+
     /// Takes the write set as the next item of the order, and says its seqno and its verdict. Whatever
     /// that is, the item has taken the seqno. It takes no memory.
     ///

@@ -1,5 +1,5 @@
 -- What comes of a line, by what it says.
-use Rattle.std.proofs.Common.{◌≡◌, ℕ, ◌<◌, Bool, true, false, cond, ltb, leb, List, [], ◌∷◌, length, take, map, Option, Some, None, Result, Ok, Err, refl, sym, ap, subst, ◌∙◌, arith, inl, inr}
+use Rattle.std.proofs.Common.{◌≡◌, ℕ, ◌<◌, Bool, true, false, cond, ltb, leb, List, [], ◌∷◌, length, take, drop, map, Option, Some, None, Result, Ok, Err, refl, sym, ap, subst, ◌∙◌, arith, inl, inr}
 use Rattle.std.specs.Prelude.{◌&&◌, ◌||◌, IfOk, codes}
 use Rattle.std.specs.List.{list_any}
 use Rattle.std.specs.Option.{option_map}
@@ -17,7 +17,7 @@ use Rattle.rep_types.specs.Settings.{Setting, setting, is_setting, allowed}
 use Rattle.rep_types.specs.Windows.{is_window_size}
 use Rattle.rep_record.specs.Words.{words}
 use Rattle.rep_record.specs.Grammar.{IsItemLine, IsOrderLine, IsParamsLine}
-use Rattle.rep_record.specs.Reading.{is_next, is_long, well_placed, limited, sized, of_kind, limited_item, outcome, item_form, item_outcome, item_line, change_form, change_line, order_form, order_outcome, order_line, params_form, params_outcome, params_line}
+use Rattle.rep_record.specs.Reading.{is_next, is_long, well_placed, limited, sized, of_kind, limited_item, outcome, tail_in, item_form, item_in, item_outcome, item_line, change_in, change_form, change_outcome, order_form, order_outcome, order_line, params_form, params_outcome, params_line}
 use Rattle.rep_record.specs.Drafts.{short_write, drafted, limited_draft, drafted_setting}
 use Rattle.rep_record.proofs.Parts.{item_means, by_first_word, order_means, params_mean}
 
@@ -85,10 +85,24 @@ kind_outcome : {A : Type 0} (kind : A → Item) (number : ℕ) (limit : A → Re
 kind_outcome kind number limit same None = refl
 kind_outcome kind number limit same (Some x) = same x
 
+-- what stands behind the first word, where that is `window`
+change_behind : (line : List ℕ) → is_next (codes "window") (words line) ≡ true → change_form line ≡ change_in (drop 1 (words line))
+change_behind line e = ap (λ b. cond b (change_in (drop 1 (words line))) None) e
+
 -- what comes of a line by its first word
-pub order_by_kind : (number : ℕ) (line : List ℕ) (b : Bool) → is_next (codes "window") (words line) ≡ b → order_line number line ≡ cond b (of_kind OfSetWindow (change_line number line)) (of_kind WriteSet (item_line number line))
-order_by_kind number line true e = ap (order_outcome number) (by_first_word line true e) ∙ kind_outcome OfSetWindow number sized (λ c. refl) (change_form line)
+pub order_by_kind : (number : ℕ) (line : List ℕ) (b : Bool) → is_next (codes "window") (words line) ≡ b
+    → order_line number line ≡ cond b (of_kind OfSetWindow (change_outcome number (change_in (drop 1 (words line))))) (of_kind WriteSet (item_line number line))
+order_by_kind number line true e =
+    ap (order_outcome number) (by_first_word line true e) ∙ kind_outcome OfSetWindow number sized (λ c. refl) (change_form line) ∙ ap (λ form. of_kind OfSetWindow (change_outcome number form)) (change_behind line e)
 order_by_kind number line false e = ap (order_outcome number) (by_first_word line false e) ∙ kind_outcome WriteSet number (limited number) (λ w. refl) (item_form line)
+
+-- what comes of words that say an item, by the first of them
+pub stated_by_kind : (number : ℕ) (words : List (List ℕ)) (b : Bool) → is_next (codes "window") words ≡ b
+    → order_outcome number (item_in words) ≡ cond b (of_kind OfSetWindow (change_outcome number (change_in (drop 1 words)))) (of_kind WriteSet (item_outcome number (tail_in words)))
+stated_by_kind number words true e =
+    ap (λ v. order_outcome number (cond v (option_map OfSetWindow (change_in (drop 1 words))) (option_map WriteSet (tail_in words)))) e ∙ kind_outcome OfSetWindow number sized (λ c. refl) (change_in (drop 1 words))
+stated_by_kind number words false e =
+    ap (λ v. order_outcome number (cond v (option_map OfSetWindow (change_in (drop 1 words))) (option_map WriteSet (tail_in words)))) e ∙ kind_outcome WriteSet number (limited number) (λ w. refl) (tail_in words)
 
 -- ---- what is given is what the line says
 

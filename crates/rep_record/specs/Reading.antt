@@ -160,6 +160,10 @@ change_form line = after (codes "window") change_in (words line)
 abbrev pub order_form : List ℕ → Option Item
 order_form line = if is_next (codes "window") (words line) then option_map OfSetWindow (change_form line) else option_map WriteSet (item_form line)
 
+-- what the words say of an item: a change, `window` and what stands behind it, or a tail
+abbrev pub item_in : List (List ℕ) → Option Item
+item_in words = if is_next (codes "window") words then option_map OfSetWindow (change_in (drop 1 words)) else option_map WriteSet (tail_in words)
+
 -- What a params line says, `params` and what stands behind it, where it is of the form.
 abbrev pub params_form : List ℕ → Option Setting
 params_form line = after (codes "params") setting_in (words line)
@@ -219,10 +223,6 @@ params_outcome number form = outcome allowed number form
 -- What comes of an item's line with this number.
 abbrev pub item_line : ℕ → List ℕ → Result Transaction Refusal
 item_line number line = item_outcome number (item_form line)
-
--- What comes of a change's line with this number.
-abbrev pub change_line : ℕ → List ℕ → Result SetWindow Refusal
-change_line number line = change_outcome number (change_form line)
 
 -- What comes of a line of an order text behind the parameters, of either kind, with this number.
 abbrev pub order_line : ℕ → List ℕ → Result Item Refusal

@@ -24,7 +24,7 @@ pub use laws::{
     fronts_are_determined, lines_make_the_text, reading_is_the_grammar, stays_in_order,
 };
 pub use limits::{BLOCK, MAX_BLOCK, MAX_RECORD, MAX_RECORDS, block_limits_are_these};
-pub use order_line::read_order_line;
+pub use order_line::{read_order_line, read_stated};
 pub use params_line::read_params_line;
 pub use pieces::{cut_at, read_key};
 pub use record::{is_placed, put_record, read_record, records_are_told};

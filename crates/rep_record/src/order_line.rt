@@ -1,12 +1,11 @@
 //! The line of an item of either kind: a write set, or a change of the window's size.
 
-ghost use Rattle.std.specs.Prelude.{◌≡◌, codes, IfOk, Err};
+ghost use Rattle.std.specs.Prelude.{◌≡◌, IfOk, Err};
 ghost use Rattle.rep_types.specs.declared.item.Item.{Item};
-ghost use Rattle.rep_record.specs.Words.{words};
 ghost use Rattle.rep_record.specs.Grammar.{IsOrderLine};
-ghost use Rattle.rep_record.specs.Reading.{is_next, sized, change_form, change_outcome, change_line, limited_item, order_line};
+ghost use Rattle.rep_record.specs.Reading.{sized, change_in, change_outcome, item_in, limited_item, order_outcome, order_line};
 
-use crate::item_line::{read_item_line, read_labels};
+use crate::item_line::{read_item_line, read_labels, read_tail};
 use crate::words::Words;
 use rep_types::{Item, Refusal, SetWindow, WindowSize, read_number};
 use std::marker::Model;
@@ -40,15 +39,11 @@ impl ChangeDraft {
     }
 }
 
-/// What a change's line says.
+/// What stands behind `window`.
 #[tactic(auto, unfolding(crate::specs::Reading::change_in))]
-fn read_change_draft(line: &[u8]) -> Option<ChangeDraft>
-    ensures { result ≡ change_form line.now }
+fn read_change_draft(mut words: Words) -> Option<ChangeDraft>
+    ensures { result ≡ change_in words.entry }
 {
-    let mut words = Words::new(line);
-    if !words.skip(b"window") {
-        return None;
-    }
     let size = read_number(words.next_word()?)?;
     let (source, trx) = read_labels(&mut words)?;
     if !words.is_empty() {
@@ -68,18 +63,24 @@ fn change_of(draft: Option<ChangeDraft>, number: u64) -> Result<SetWindow, Refus
     draft.change()
 }
 
-/// The change of the window's size that the line with this number says.
-fn read_change_line(line: &[u8], number: u64) -> Result<SetWindow, Refusal>
-    ensures { result ≡ change_line number line.now }
+/// The change of the window's size that stands behind `window`, in the line with this number.
+fn read_change(words: Words, number: u64) -> Result<SetWindow, Refusal>
+    ensures { result ≡ change_outcome number (change_in words.entry) }
 {
-    change_of(read_change_draft(line), number)
+    change_of(read_change_draft(words), number)
 }
 
-/// Whether the line's first word is `window`.
-fn is_change(line: &[u8]) -> bool
-    ensures { result ≡ is_next (codes "window") (words line.now) }
+/// The item that the words say, in the line with this number: `window size [id source:trx]`, or a tail.
+///
+/// Refuses as `read_order_line` does.
+#[tactic(auto, using(crate::proofs::Outcomes::stated_by_kind))]
+pub fn read_stated(mut words: Words, number: u64) -> Result<Item, Refusal>
+    ensures { result ≡ order_outcome number (item_in words.entry) }
 {
-    Words::new(line).is_next(b"window")
+    if words.skip(b"window") {
+        return Ok(Item::SetWindow(read_change(words, number)?));
+    }
+    Ok(Item::WriteSet(read_tail(words, number)?))
 }
 
 /// The item of either kind that the line with this number says.
@@ -87,8 +88,9 @@ fn is_change(line: &[u8]) -> bool
 fn read_either(line: &[u8], number: u64) -> Result<Item, Refusal>
     ensures { result ≡ order_line number line.now }
 {
-    if is_change(line) {
-        return Ok(Item::SetWindow(read_change_line(line, number)?));
+    let mut words = Words::new(line);
+    if words.skip(b"window") {
+        return Ok(Item::SetWindow(read_change(words, number)?));
     }
     Ok(Item::WriteSet(read_item_line(line, number)?))
 }
