@@ -9,18 +9,19 @@ use Rattle.rep_types.specs.declared.verdict.Verdict.{Verdict}
 use Rattle.rep_types.specs.declared.refusal.Refusal.{Refusal}
 use Rattle.rep_types.specs.declared.refusal.Refusal.TheVariants.{Stopped, OutOfMemory, DiskFault}
 use Rattle.rep_types.specs.Replies.{reply_of}
-use Rattle.rep_types.specs.Transactions.{Transaction}
+use Rattle.rep_types.specs.declared.item.Item.{Item}
 use Rattle.rep_types.specs.declared.item.Item.TheVariants.{WriteSet}
 use Rattle.rep_types.specs.Settings.{Setting}
 use Rattle.rep_types.specs.Order.{Order, State, verdict, history, state, read, judge}
 use Rattle.rep_record.specs.Fronts.{FrontsAreDetermined}
 use Rattle.rep_steps.specs.declared.event.Event.{Event}
-use Rattle.rep_steps.specs.declared.event.Event.TheVariants.{Deliver, Log, Sync, Check, Flush, Read}
+use Rattle.rep_steps.specs.declared.event.Event.TheVariants.{Deliver, SetWindow, Log, Sync, Check, Flush, Read}
 use Rattle.rep_steps.specs.declared.answer.Answer.{Answer}
 use Rattle.rep_steps.specs.declared.answer.Answer.TheVariants.{Gave, Synced, Row, Refused}
+use Rattle.rep_steps.specs.Events.{change}
 use Rattle.rep_steps.specs.Standings.{Standing, delivered, refusal, refusal_here, read_refusal}
 use Rattle.rep_steps.specs.Moves.{answer, opening, next_item, Fails}
-use Rattle.rep_steps.specs.Nodes.{Node, IsNode, Steps, NodesStayNodes, NodesOutlastFailures, moved, found, passed, state_at, window_at, verdict_on, reached}
+use Rattle.rep_steps.specs.Nodes.{Node, IsNode, Steps, NodesStayNodes, NodesOutlastFailures, moved, found, passed, state_at, window_at, verdict_for, delivered_to, reached}
 use Rattle.rep_steps.specs.Orders.{IsOf, HoldsOf, FollowsTheOrder, accepted, answer_of}
 use Rattle.rep_steps.proofs.Reaching.{OrderLaws, reached_is, judged_next}
 use Rattle.rep_steps.proofs.Keeping.{node_after, stands_with, waiting, passed_within}
@@ -53,9 +54,9 @@ module _ (laws : OrderLaws) (L : Order) (n : Node) (h : IsNode n) (o : IsOf L n)
   whole_is = state_is (delivered n.facts) (omega (arith, count, o.within)) (omega (arith, count)) ∙ ap (λ (M : Order). state p M) (take_all (delivered n.facts) L (omega (arith, count)))
 
   -- the verdict that it finds is the order's
-  pub verdict_is : (seqno : ℕ) (w : Transaction) → verdict_on n (Deliver seqno w) ≡ verdict p (L ++ WriteSet w ∷ []) (length L + 1)
-  verdict_is seqno w =
-      ap (λ k. judge p k (window_at n (delivered n.facts)) (WriteSet w)) count ∙ ap (λ (S : State). judge p (length L) S.kept (WriteSet w)) whole_is ∙ judged_next laws p L (WriteSet w)
+  pub verdict_is : (i : Item) → verdict_for n i ≡ verdict p (L ++ i ∷ []) (length L + 1)
+  verdict_is i =
+      ap (λ k. judge p k (window_at n (delivered n.facts)) i) count ∙ ap (λ (S : State). judge p (length L) S.kept i) whole_is ∙ judged_next laws p L i
 
   -- the items that aren't durable
   pub ahead_is : n.facts.ahead ≡ drop n.facts.durable (history p L)
@@ -72,17 +73,17 @@ module _ (laws : OrderLaws) (L : Order) (n : Node) (h : IsNode n) (o : IsOf L n)
 
   -- ---- what an event makes of it
 
-  delivered_is : (seqno : ℕ) (w : Transaction) → IsOf (L ++ WriteSet w ∷ []) (moved n (Deliver seqno w))
-  delivered_is seqno w = record {
-    within = omega (arith, o.within, length-append L (WriteSet w ∷ []));
-    base = o.base ∙ ap (state p) (sym (take-append-le n.base.position L (WriteSet w ∷ []) o.within));
+  delivered_is : (i : Item) → IsOf (L ++ i ∷ []) (delivered_to n i)
+  delivered_is i = record {
+    within = omega (arith, o.within, length-append L (i ∷ []));
+    base = o.base ∙ ap (state p) (sym (take-append-le n.base.position L (i ∷ []) o.within));
     items =
-        let made : ℕ → Verdict → Judged = λ k v. record { seqno = k + 1; item = WriteSet w; verdict = v } in
-        ap (λ js. js ++ next_item n.facts w (verdict_on n (Deliver seqno w)) ∷ []) o.items
-        ∙ ap (λ v. drop n.base.position (history p L) ++ made (delivered n.facts) v ∷ []) (verdict_is seqno w)
-        ∙ ap (λ k. drop n.base.position (history p L) ++ made k (verdict p (L ++ WriteSet w ∷ []) (length L + 1)) ∷ []) count
-        ∙ sym (drop-append-le n.base.position (history p L) (made (length L) (verdict p (L ++ WriteSet w ∷ []) (length L + 1)) ∷ []) (omega (arith, o.within, laws.items.as_many p L)))
-        ∙ ap (drop n.base.position) (sym (laws.items.one_more p L (WriteSet w)));
+        let made : ℕ → Verdict → Judged = λ k v. record { seqno = k + 1; item = i; verdict = v } in
+        ap (λ js. js ++ next_item n.facts i (verdict_for n i) ∷ []) o.items
+        ∙ ap (λ v. drop n.base.position (history p L) ++ made (delivered n.facts) v ∷ []) (verdict_is i)
+        ∙ ap (λ k. drop n.base.position (history p L) ++ made k (verdict p (L ++ i ∷ []) (length L + 1)) ∷ []) count
+        ∙ sym (drop-append-le n.base.position (history p L) (made (length L) (verdict p (L ++ i ∷ []) (length L + 1)) ∷ []) (omega (arith, o.within, laws.items.as_many p L)))
+        ∙ ap (drop n.base.position) (sym (laws.items.one_more p L (i)));
   }
 
   synced_is : IsOf L (moved n Sync)
@@ -100,7 +101,8 @@ module _ (laws : OrderLaws) (L : Order) (n : Node) (h : IsNode n) (o : IsOf L n)
       }
 
   pub of_after : (e : Event) → IsOf (L ++ accepted e (answer n.facts e (found n e))) (moved n e)
-  of_after (Deliver seqno w) = delivered_is seqno w
+  of_after (Deliver seqno w) = delivered_is (WriteSet w)
+  of_after (SetWindow seqno size source trx) = delivered_is (change size source trx)
   of_after Log = rw (append-nil L) (record { within = o.within; base = o.base; items = o.items })
   of_after Sync = rw (append-nil L) synced_is
   of_after Check = rw (append-nil L) (record { within = o.within; base = o.base; items = o.items })
@@ -108,7 +110,8 @@ module _ (laws : OrderLaws) (L : Order) (n : Node) (h : IsNode n) (o : IsOf L n)
   of_after (Read key at) = rw (append-nil L) o
 
   pub answers : (e : Event) → refusal_here n.facts e ≡ None → answer n.facts e (found n e) ≡ answer_of L n.facts e
-  answers (Deliver seqno w) none = ap Gave (verdict_is seqno w)
+  answers (Deliver seqno w) none = ap Gave (verdict_is (WriteSet w))
+  answers (SetWindow seqno size source trx) none = ap Gave (verdict_is (change size source trx))
   answers Log none = refl
   answers Sync none = ap (λ js. Synced (map reply_of (take (opening n.facts.phase) js))) ahead_is
   answers Check none = refl
@@ -120,6 +123,7 @@ module _ (laws : OrderLaws) (L : Order) (n : Node) (h : IsNode n) (o : IsOf L n)
 -- what is refused delivers nothing
 pub nothing_comes : (L : Order) (e : Event) (r : Refusal) → L ++ accepted e (Refused r) ≡ L
 nothing_comes L (Deliver seqno w) r = append-nil L
+nothing_comes L (SetWindow seqno size source trx) r = append-nil L
 nothing_comes L Log r = append-nil L
 nothing_comes L Sync r = append-nil L
 nothing_comes L Check r = append-nil L

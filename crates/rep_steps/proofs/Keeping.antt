@@ -3,27 +3,30 @@ use Rattle.std.proofs.Common.{◌≡◌, ℕ, ◌+◌, ◌-◌, ◌≤◌, Bool,
 use Rattle.std.proofs.lemmas.Bool.Decides.{nat_tests}
 use Rattle.std.proofs.lemmas.List.{length-drop, length-take-le, drop-append-le, drop-drop}
 use Rattle.rep_types.specs.declared.judged.Judged.{Judged}
-use Rattle.rep_types.specs.Transactions.{Transaction}
+use Rattle.rep_types.specs.declared.verdict.Verdict.{Verdict}
+use Rattle.rep_types.specs.declared.item.Item.{Item}
+use Rattle.rep_types.specs.declared.item.Item.TheVariants.{WriteSet}
 use Rattle.rep_record.specs.Fronts.{FrontsAreDetermined}
 use Rattle.rep_log.specs.declared.phase.Phase.{Phase}
 use Rattle.rep_log.specs.declared.phase.Phase.TheVariants.{Resting, Closing, Filling, Filled, Opening}
 use Rattle.rep_steps.specs.declared.event.Event.{Event}
-use Rattle.rep_steps.specs.declared.event.Event.TheVariants.{Deliver, Log, Sync, Check, Flush, Read}
+use Rattle.rep_steps.specs.declared.event.Event.TheVariants.{Deliver, SetWindow, Log, Sync, Check, Flush, Read}
+use Rattle.rep_steps.specs.Events.{change}
 use Rattle.rep_steps.specs.Standings.{Goal, Flushing, Saving, Ready, SuperFilling, SuperFilled, SuperOpening, Stage, Off, Toward, Retiring, Standing, IsGoal, HasGoal, IsStanding, underway, claimed, gathered, delivery_refusal, log_refusal, check_refusal, refusal_here}
-use Rattle.rep_steps.specs.Moves.{Found, after, opening, taken, logged, synced_phase, checked, flushed, synced_stage, base_after, start_after, next_item}
+use Rattle.rep_steps.specs.Moves.{Found, after, opening, taken, logged, synced_phase, checked, flushed, synced_stage, base_after, start_after, next_item, with_item}
 use Rattle.rep_steps.proofs.Reaching.{reached_position}
-use Rattle.rep_steps.specs.Nodes.{Node, IsNode, moved, found, passed}
+use Rattle.rep_steps.specs.Nodes.{Node, IsNode, moved, found, passed, verdict_for, delivered_to}
 
 -- ---- a delivery
 
-delivers : (s : Standing) (seqno : ℕ) (w : Transaction) (f : Found) → IsStanding s → delivery_refusal s seqno ≡ None → IsStanding (after s (Deliver seqno w) f)
-delivers s seqno w f h none = record {
+delivers : (s : Standing) (seqno : ℕ) (i : Item) (v : Verdict) → IsStanding s → delivery_refusal s seqno ≡ None → IsStanding (with_item s i v)
+delivers s seqno i v h none = record {
   allowed = h.allowed;
   undefined = λ nil. absurd (grind (arith, nat_tests, nil));
   based = h.based;
   near = grind (arith, nat_tests, length-append);
   limit = grind (arith, nat_tests, length-append, h.limit);
-  block = omega (arith, h.block, length-append s.ahead (next_item s w f.verdict ∷ []));
+  block = omega (arith, h.block, length-append s.ahead (next_item s i v ∷ []));
   few = h.few;
   started = h.started;
   room = h.room;
@@ -170,7 +173,8 @@ flushes s page f h = stands_with s.failures s.stopped (flushed page s.stage) s h
 -- ---- any event
 
 pub stands_after : FrontsAreDetermined → (s : Standing) (e : Event) (f : Found) → IsStanding s → refusal_here s e ≡ None → IsStanding (after s e f)
-stands_after fronts s (Deliver seqno w) f h none = delivers s seqno w f h none
+stands_after fronts s (Deliver seqno w) f h none = delivers s seqno (WriteSet w) f.verdict h none
+stands_after fronts s (SetWindow seqno size source trx) f h none = delivers s seqno (change size source trx) f.verdict h none
 stands_after fronts s Log f h none = logs fronts s f h none
 stands_after fronts s Sync f h none = syncs s f h
 stands_after fronts s Check f h none = checks s f h none
@@ -208,13 +212,17 @@ module _ (n : Node) (h : IsNode n) where
     ahead = ahead_synced n.items n.facts.ahead n.facts.base n.facts.durable (base_after n.facts.base n.facts.stage) (opening n.facts.phase) h.ahead leaves_base.above leaves_base.within;
   }
 
-  node_moved : (e : Event) → IsStanding (after n.facts e (found n e)) → IsNode (moved n e)
-  node_moved (Deliver seqno w) stands = record {
+  node_delivered : (i : Item) → IsStanding (with_item n.facts i (verdict_for n i)) → IsNode (delivered_to n i)
+  node_delivered i stands = record {
     facts = stands;
     position = h.position;
-    enough = omega (arith, h.enough, length-append n.items (next_item n.facts w (found n (Deliver seqno w)).verdict ∷ []));
-    ahead = ahead_more n.items (next_item n.facts w (found n (Deliver seqno w)).verdict) (n.facts.durable - n.facts.base) n.facts.ahead (omega (arith, h.enough)) h.ahead;
+    enough = omega (arith, h.enough, length-append n.items (next_item n.facts i (verdict_for n i) ∷ []));
+    ahead = ahead_more n.items (next_item n.facts i (verdict_for n i)) (n.facts.durable - n.facts.base) n.facts.ahead (omega (arith, h.enough)) h.ahead;
   }
+
+  node_moved : (e : Event) → IsStanding (after n.facts e (found n e)) → IsNode (moved n e)
+  node_moved (Deliver seqno w) stands = node_delivered (WriteSet w) stands
+  node_moved (SetWindow seqno size source trx) stands = node_delivered (change size source trx) stands
   node_moved Log stands = record { facts = stands; position = h.position; enough = h.enough; ahead = h.ahead }
   node_moved Sync stands = node_synced stands
   node_moved Check stands = record { facts = stands; position = h.position; enough = h.enough; ahead = h.ahead }

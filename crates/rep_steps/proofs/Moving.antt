@@ -3,7 +3,7 @@ use Rattle.std.proofs.Common.{◌≡◌, ◌⊎◌, inl, inr, Option, None, Some
 use Rattle.std.specs.Prelude.{MatchOption}
 use Rattle.rep_types.specs.declared.refusal.Refusal.{Refusal}
 use Rattle.rep_steps.specs.declared.event.Event.{Event}
-use Rattle.rep_steps.specs.declared.event.Event.TheVariants.{Deliver, Log, Sync, Check, Flush, Read}
+use Rattle.rep_steps.specs.declared.event.Event.TheVariants.{Deliver, SetWindow, Log, Sync, Check, Flush, Read}
 use Rattle.rep_steps.specs.declared.answer.Answer.{Answer}
 use Rattle.rep_steps.specs.declared.answer.Answer.TheVariants.{Refused}
 use Rattle.rep_steps.specs.Standings.{Standing, refusal}
@@ -13,6 +13,7 @@ use Rattle.rep_steps.specs.Nodes.{Node, Finds, found, moved, StepsAreMoves}
 -- the facts of the node after an event
 facts_moved : (n : Node) (e : Event) → (moved n e).facts ≡ after n.facts e (found n e)
 facts_moved n (Deliver seqno w) = refl
+facts_moved n (SetWindow seqno size source trx) = refl
 facts_moved n Log = refl
 facts_moved n Sync = refl
 facts_moved n Check = refl

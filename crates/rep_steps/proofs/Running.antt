@@ -4,19 +4,20 @@ use Rattle.std.proofs.Math.Seq.{take-add, take-append_seam}
 use Rattle.std.proofs.lemmas.List.{drop_all, take_all, take-append-drop, take-append-le, drop-append-le, drop-drop, length-drop, length-take-le, map-append}
 use Rattle.rep_types.specs.declared.judged.Judged.{Judged}
 use Rattle.rep_types.specs.declared.refusal.Refusal.TheVariants.{DiskFault}
-use Rattle.rep_types.specs.Transactions.{Transaction}
+use Rattle.rep_types.specs.declared.item.Item.{Item}
 use Rattle.rep_types.specs.declared.item.Item.TheVariants.{WriteSet}
 use Rattle.rep_types.specs.Replies.{reply_of}
 use Rattle.rep_types.specs.Settings.{Setting}
 use Rattle.rep_types.specs.Order.{Order, history, verdict}
 use Rattle.rep_record.specs.Fronts.{FrontsAreDetermined}
 use Rattle.rep_steps.specs.declared.event.Event.{Event}
-use Rattle.rep_steps.specs.declared.event.Event.TheVariants.{Deliver, Log, Sync, Check, Flush, Read}
+use Rattle.rep_steps.specs.declared.event.Event.TheVariants.{Deliver, SetWindow, Log, Sync, Check, Flush, Read}
 use Rattle.rep_steps.specs.declared.answer.Answer.{Answer}
-use Rattle.rep_steps.specs.declared.answer.Answer.TheVariants.{Wrote, Row, Refused}
+use Rattle.rep_steps.specs.declared.answer.Answer.TheVariants.{Gave, Wrote, Row, Refused}
+use Rattle.rep_steps.specs.Events.{change}
 use Rattle.rep_steps.specs.Standings.{Stage, Off, Toward, Retiring, Standing, delivered}
 use Rattle.rep_steps.specs.Moves.{answer, check_answer, opening}
-use Rattle.rep_steps.specs.Nodes.{Node, IsNode, moved, found}
+use Rattle.rep_steps.specs.Nodes.{Node, IsNode, moved, found, verdict_for, delivered_to}
 use Rattle.rep_steps.specs.Orders.{IsOf, accepted}
 use Rattle.rep_steps.specs.Runs.{Runs, accepted_by, verdict_in, verdicts, replies_in, acknowledged, verdict_of, ComesTo, RunsComeTo, RunsAnswerTheOrder, FedTheRest}
 use Rattle.rep_steps.proofs.Reaching.{OrderLaws}
@@ -95,18 +96,18 @@ check_reply s (Toward goal part) = refl
 check_reply s (Retiring written) = refl
 
 module _ (laws : OrderLaws) (L : Order) (n : Node) (h : IsNode n) (o : IsOf L n) where
-  delivery_steps : (seqno : ℕ) (w : Transaction) → StepsTo L n (Deliver seqno w) (answer n.facts (Deliver seqno w) (found n (Deliver seqno w))) (moved n (Deliver seqno w))
-  delivery_steps seqno w =
+  delivery_steps : (i : Item) (e : Event) → accepted e (Gave (verdict_for n i)) ≡ i ∷ [] → StepsTo L n e (Gave (verdict_for n i)) (delivered_to n i)
+  delivery_steps i e is =
       let p = n.facts.setting in
-      let j : Judged = record { seqno = length L + 1; item = WriteSet w; verdict = verdict p (L ++ WriteSet w ∷ []) (length L + 1) } in
-      let behind : drop (length L) (history p (L ++ WriteSet w ∷ [])) ≡ j ∷ [] =
-      ap (drop (length L)) (laws.items.one_more p L (WriteSet w)) ∙ drop-append-le (length L) (history p L) (j ∷ []) (omega (arith, laws.items.as_many p L)) ∙ ap (λ js. js ++ j ∷ []) (none_behind laws p L) in
+      let j : Judged = record { seqno = length L + 1; item = i; verdict = verdict p (L ++ i ∷ []) (length L + 1) } in
+      let behind : drop (length L) (history p (L ++ i ∷ [])) ≡ j ∷ [] =
+      ap (drop (length L)) (laws.items.one_more p L (i)) ∙ drop-append-le (length L) (history p L) (j ∷ []) (omega (arith, laws.items.as_many p L)) ∙ ap (λ js. js ++ j ∷ []) (none_behind laws p L) in
       record {
         setting = refl;
         uuid = refl;
-        judged = ap (λ v. v ∷ []) (verdict_is laws L n h o seqno w) ∙ sym (ap (map verdict_of) behind);
+        judged = ap (λ v. v ∷ []) (verdict_is laws L n h o i) ∙ sym (ap (map verdict_of) (ap (λ (M : Order). drop (length L) (history p (L ++ M))) is ∙ behind));
         rises = omega arith;
-        replied = no_replies (n.facts.durable - n.facts.durable) (drop n.facts.durable (history p (L ++ WriteSet w ∷ []))) (omega arith);
+        replied = no_replies (n.facts.durable - n.facts.durable) (drop n.facts.durable (history p (L ++ accepted e (Gave (verdict_for n i))))) (omega arith);
       }
 
   sync_steps : StepsTo L n Sync (answer n.facts Sync (found n Sync)) (moved n Sync)
@@ -123,7 +124,8 @@ module _ (laws : OrderLaws) (L : Order) (n : Node) (h : IsNode n) (o : IsOf L n)
       }
 
   done_steps : (e : Event) → StepsTo L n e (answer n.facts e (found n e)) (moved n e)
-  done_steps (Deliver seqno w) = delivery_steps seqno w
+  done_steps (Deliver seqno w) = delivery_steps (WriteSet w) (Deliver seqno w) refl
+  done_steps (SetWindow seqno size source trx) = delivery_steps (change size source trx) (SetWindow seqno size source trx) refl
   done_steps Log = quiet_steps laws L n (moved n Log) Log Wrote (append-nil L) (record { setting = refl; uuid = refl; durable = refl; no_verdict = refl; no_reply = refl })
   done_steps Sync = sync_steps
   done_steps Check = quiet_steps laws L n (moved n Check) Check (check_answer n.facts n.facts.stage) (append-nil L)

@@ -1,3 +1,4 @@
+pub mod Events
 pub mod Standings
 pub mod Moves
 pub mod Nodes
@@ -8,4 +9,5 @@ pub mod Joining
 pub mod Judging
 pub mod Parts
 pub mod FactLaws
+pub mod Deliveries
 pub mod FrontLaws

@@ -6,11 +6,11 @@ use Rattle.rep_types.specs.declared.reply.Reply.{Reply}
 use Rattle.rep_types.specs.declared.refusal.Refusal.TheVariants.{OutOfMemory, DiskFault, Corrupt}
 use Rattle.rep_types.specs.declared.refusal.Part.TheVariants.{Pages}
 use Rattle.rep_types.specs.declared.verdict.Verdict.{Verdict}
+use Rattle.rep_types.specs.declared.item.Item.{Item}
 use Rattle.rep_types.specs.declared.item.Item.TheVariants.{WriteSet}
 use Rattle.rep_types.specs.declared.value.Write.{Write}
 use Rattle.rep_types.specs.Settings.{pages_of}
 use Rattle.rep_types.specs.Replies.{reply_of}
-use Rattle.rep_types.specs.Transactions.{Transaction}
 use Rattle.rep_types.specs.Items.{writes_of}
 use Rattle.rep_types.specs.Order.{counts}
 use Rattle.rep_disk.specs.Calls.{Rises}
@@ -18,9 +18,10 @@ use Rattle.rep_layout.specs.Rows.{row_place}
 use Rattle.rep_log.specs.declared.phase.Phase.{Phase}
 use Rattle.rep_log.specs.declared.phase.Phase.TheVariants.{Resting, Closing, Filling, Filled, Opening}
 use Rattle.rep_steps.specs.declared.event.Event.{Event}
-use Rattle.rep_steps.specs.declared.event.Event.TheVariants.{Deliver, Log, Sync, Check, Flush, Read}
+use Rattle.rep_steps.specs.declared.event.Event.TheVariants.{Deliver, SetWindow, Log, Sync, Check, Flush, Read}
 use Rattle.rep_steps.specs.declared.answer.Answer.{Answer}
 use Rattle.rep_steps.specs.declared.answer.Answer.TheVariants.{Gave, Wrote, Began, Synced, Row, Refused}
+use Rattle.rep_steps.specs.Events.{change}
 use Rattle.rep_steps.specs.Standings.{Part, Flushing, Saving, Ready, SuperFilling, SuperFilled, SuperOpening, Stage, Off, Toward, Retiring, Standing, delivered, gathered, refusal}
 
 -- What a step finds out beyond the facts: the verdict on the item, whether the next cell's gate stands open, the pages that a
@@ -123,12 +124,17 @@ start_after start stage = start
 
 -- ---- a step
 
--- the next item, a write set, with its verdict
-abbrev pub next_item : Standing → Transaction → Verdict → Judged
-next_item s w v = record { seqno = delivered s + 1; item = WriteSet w; verdict = v }
+-- the next item with its verdict
+abbrev pub next_item : Standing → Item → Verdict → Judged
+next_item s i v = record { seqno = delivered s + 1; item = i; verdict = v }
+
+-- the facts with this one more
+abbrev pub with_item : Standing → Item → Verdict → Standing
+with_item s i v = record s { ahead = s.ahead ++ next_item s i v ∷ [] }
 
 abbrev pub answer : Standing → Event → Found → Answer
 answer s (Deliver seqno w) found = Gave found.verdict
+answer s (SetWindow seqno size source trx) found = Gave found.verdict
 answer s Log found = Wrote
 answer s Sync found = Synced (replies s)
 answer s Check found = check_answer s s.stage
@@ -136,7 +142,8 @@ answer s (Flush page) found = Wrote
 answer s (Read key at) found = Row found.row
 
 abbrev pub after : Standing → Event → Found → Standing
-after s (Deliver seqno w) found = record s { ahead = s.ahead ++ next_item s w found.verdict ∷ [] }
+after s (Deliver seqno w) found = with_item s (WriteSet w) found.verdict
+after s (SetWindow seqno size source trx) found = with_item s (change size source trx) found.verdict
 after s Log found = record s { phase = logged (gathered s) found.stale s.phase }
 after s Sync found = record s {
   base = base_after s.base s.stage;
@@ -168,6 +175,7 @@ takes_memory s e = false
 
 abbrev pub takes_device : Standing → Event → Bool
 takes_device s (Deliver seqno w) = false
+takes_device s (SetWindow seqno size source trx) = false
 takes_device s Check = not (is_off s.stage)
 takes_device s e = true
 

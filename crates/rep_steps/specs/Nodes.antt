@@ -5,6 +5,7 @@ use Rattle.rep_types.specs.declared.refusal.Refusal.TheVariants.{Corrupt}
 use Rattle.rep_types.specs.declared.refusal.Part.TheVariants.{Pages}
 use Rattle.rep_types.specs.declared.verdict.Verdict.{Verdict}
 use Rattle.rep_types.specs.declared.verdict.Verdict.TheVariants.{Commit}
+use Rattle.rep_types.specs.declared.item.Item.{Item}
 use Rattle.rep_types.specs.declared.item.Item.TheVariants.{WriteSet}
 use Rattle.rep_types.specs.Settings.{Setting}
 use Rattle.rep_types.specs.Windows.{Window}
@@ -13,11 +14,12 @@ use Rattle.rep_types.specs.Order.{State, counts, content_after, extended, judge}
 use Rattle.rep_log.specs.declared.phase.Phase.{Phase}
 use Rattle.rep_log.specs.declared.phase.Phase.TheVariants.{Closing, Opening}
 use Rattle.rep_steps.specs.declared.event.Event.{Event}
-use Rattle.rep_steps.specs.declared.event.Event.TheVariants.{Deliver, Log, Sync, Check, Flush, Read}
+use Rattle.rep_steps.specs.declared.event.Event.TheVariants.{Deliver, SetWindow, Log, Sync, Check, Flush, Read}
 use Rattle.rep_steps.specs.declared.answer.Answer.{Answer}
 use Rattle.rep_steps.specs.declared.answer.Answer.TheVariants.{Refused}
+use Rattle.rep_steps.specs.Events.{change}
 use Rattle.rep_steps.specs.Standings.{Standing, delivered, refusal, IsStanding}
-use Rattle.rep_steps.specs.Moves.{Found, answer, after, Moves, Fails, next_item, touched, base_after}
+use Rattle.rep_steps.specs.Moves.{Found, answer, after, Moves, Fails, next_item, with_item, touched, base_after}
 
 -- the state after one more judged item, and after some of them
 abbrev pub advanced : Setting → State → Judged → State
@@ -54,8 +56,13 @@ pub record IsNode (n : Node) : Type 0 where
 
 -- ---- what a step finds
 
+-- the verdict on the next item
+abbrev pub verdict_for : Node → Item → Verdict
+verdict_for n i = judge n.facts.setting (delivered n.facts) (window_at n (delivered n.facts)) i
+
 abbrev pub verdict_on : Node → Event → Verdict
-verdict_on n (Deliver seqno w) = judge n.facts.setting (delivered n.facts) (window_at n (delivered n.facts)) (WriteSet w)
+verdict_on n (Deliver seqno w) = verdict_for n (WriteSet w)
+verdict_on n (SetWindow seqno size source trx) = verdict_for n (change size source trx)
 verdict_on n e = Commit
 
 abbrev pub row_on : Node → Event → Option (List ℕ)
@@ -85,11 +92,16 @@ gate_at phase i gates j = gates j
 abbrev pub passed : Standing → ℕ
 passed s = base_after s.base s.stage - s.base
 
-abbrev pub moved : Node → Event → Node
-moved n (Deliver seqno w) = record n {
-  facts = after n.facts (Deliver seqno w) (found n (Deliver seqno w));
-  items = n.items ++ next_item n.facts w (verdict_on n (Deliver seqno w)) ∷ [];
+-- the node with one more item, whatever its kind
+abbrev pub delivered_to : Node → Item → Node
+delivered_to n i = record n {
+  facts = with_item n.facts i (verdict_for n i);
+  items = n.items ++ next_item n.facts i (verdict_for n i) ∷ [];
 }
+
+abbrev pub moved : Node → Event → Node
+moved n (Deliver seqno w) = delivered_to n (WriteSet w)
+moved n (SetWindow seqno size source trx) = delivered_to n (change size source trx)
 moved n Log = record n { facts = after n.facts Log (found n Log) }
 moved n Sync = record {
   facts = after n.facts Sync (found n Sync);

@@ -5,9 +5,10 @@ use Rattle.rep_types.specs.declared.refusal.Refusal.{Refusal}
 use Rattle.rep_types.specs.Replies.{reply_of}
 use Rattle.rep_types.specs.Order.{Order, verdict, history, read, window, state}
 use Rattle.rep_steps.specs.declared.event.Event.{Event}
-use Rattle.rep_steps.specs.declared.event.Event.TheVariants.{Deliver, Log, Sync, Check, Flush, Read}
+use Rattle.rep_steps.specs.declared.event.Event.TheVariants.{Deliver, SetWindow, Log, Sync, Check, Flush, Read}
 use Rattle.rep_steps.specs.declared.answer.Answer.{Answer}
 use Rattle.rep_steps.specs.declared.answer.Answer.TheVariants.{Gave, Wrote, Synced, Row, Refused}
+use Rattle.rep_steps.specs.Events.{change}
 use Rattle.rep_steps.specs.Standings.{Standing, delivered}
 use Rattle.rep_steps.specs.Moves.{opening, check_answer}
 use Rattle.rep_steps.specs.Nodes.{Node, IsNode, Steps, state_at, window_at}
@@ -21,11 +22,13 @@ pub record IsOf (L : Order) (n : Node) : Type 0 where
 -- the item of a delivery that was answered by a verdict
 abbrev pub accepted : Event → Answer → Order
 accepted (Deliver seqno w) (Gave v) = WriteSet w ∷ []
+accepted (SetWindow seqno size source trx) (Gave v) = change size source trx ∷ []
 accepted e a = []
 
 -- What an event is answered where no refusal comes: what the order says.
 abbrev pub answer_of : Order → Standing → Event → Answer
 answer_of L s (Deliver seqno w) = Gave (verdict s.setting (L ++ WriteSet w ∷ []) (length L + 1))
+answer_of L s (SetWindow seqno size source trx) = Gave (verdict s.setting (L ++ change size source trx ∷ []) (length L + 1))
 answer_of L s Log = Wrote
 answer_of L s Sync = Synced (map reply_of (take (opening s.phase) (drop s.durable (history s.setting L))))
 answer_of L s Check = check_answer s s.stage

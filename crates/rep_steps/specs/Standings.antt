@@ -12,7 +12,7 @@ use Rattle.rep_record.specs.Fronts.{fitting}
 use Rattle.rep_log.specs.declared.phase.Phase.{Phase}
 use Rattle.rep_log.specs.declared.phase.Phase.TheVariants.{Resting, Closing, Filling, Filled, Opening}
 use Rattle.rep_steps.specs.declared.event.Event.{Event}
-use Rattle.rep_steps.specs.declared.event.Event.TheVariants.{Deliver, Log, Sync, Check, Flush, Read}
+use Rattle.rep_steps.specs.declared.event.Event.TheVariants.{Deliver, SetWindow, Log, Sync, Check, Flush, Read}
 
 -- what a checkpoint makes the base: the position, and the number of the cell whose block begins behind it
 pub record Goal : Type 0 where
@@ -109,6 +109,7 @@ read_refusal s key at =
 
 abbrev pub refusal_here : Standing → Event → Option Refusal
 refusal_here s (Deliver seqno w) = delivery_refusal s seqno
+refusal_here s (SetWindow seqno size source trx) = delivery_refusal s seqno
 refusal_here s Log = log_refusal s s.phase
 refusal_here s Sync = None
 refusal_here s Check = check_refusal s s.stage

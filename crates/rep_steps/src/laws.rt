@@ -49,7 +49,7 @@ pub fn steps_follow_the_order()
     fronts_are_determined();
 }
 
-/// Over a run the order grows by the write sets whose deliveries were answered by a verdict; those
+/// Over a run the order grows by the items whose deliveries were answered by a verdict; those
 /// verdicts are those of the whole order; and the replies are those of the items that became durable,
 /// in their order, each once.
 pub fn runs_come_to()
@@ -81,7 +81,7 @@ pub fn fed_the_rest()
 }
 
 /// Items that have each the next seqno and the verdict of judging it, from an order's state on, are those of
-/// the order with their write sets at its end; and what stands for an order has such items.
+/// the order with them at its end; and what stands for an order has such items.
 pub fn judged_items_extend_the_order()
     ensures { JudgedItemsExtendTheOrder }
 {
