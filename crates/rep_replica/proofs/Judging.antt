@@ -2,16 +2,14 @@
 use Rattle.std.proofs.Common.{◌≡◌, ℕ, ◌+◌, ◌-◌, false, List, length, length-append, length-drop, sym, ap, ◌∙◌, arith}
 use Rattle.std.proofs.lemmas.List.{take_all}
 use Rattle.rep_types.specs.declared.judged.Judged.{Judged}
-use Rattle.rep_types.specs.declared.item.Item.TheVariants.{WriteSet}
+use Rattle.rep_types.specs.declared.item.Item.{Item}
 use Rattle.rep_types.specs.Windows.{Window}
 use Rattle.rep_types.specs.Settings.{Setting}
-use Rattle.rep_types.specs.Transactions.{Transaction}
 use Rattle.rep_types.specs.Order.{judge}
 use Rattle.rep_disk.specs.History.{History}
 use Rattle.rep_cert.specs.Holdings.{Holding, IsAskable, window_of, verdict_of}
-use Rattle.rep_steps.specs.declared.event.Event.TheVariants.{Deliver}
 use Rattle.rep_steps.specs.Standings.{Standing, delivered}
-use Rattle.rep_steps.specs.Nodes.{Node, reached, window_at, verdict_on}
+use Rattle.rep_steps.specs.Nodes.{Node, reached, window_at, verdict_for}
 use Rattle.rep_engine.specs.Engines.{facts_of as engine_facts}
 use Rattle.rep_replica.specs.Replicas.{Replica, facts_of, IsReplica}
 use Rattle.rep_replica.specs.Holding.{Holds}
@@ -22,7 +20,7 @@ pub record Judges {D : Type 0} (honest : D → Type 0) (history : D → History)
   pub here : r.certifier.current.delivered ≡ delivered n.facts
   pub all : delivered n.facts ≡ n.base.position + length n.items
   pub present : window_of r.certifier.current r.certifier.current.delivered ≡ (reached n.facts.setting n.base n.items).kept
-  pub verdict : (seqno : ℕ) (w : Transaction) → verdict_of r.certifier.current (WriteSet w) ≡ verdict_on n (Deliver seqno w)
+  pub verdict : (i : Item) → verdict_of r.certifier.current i ≡ verdict_for n i
 
 module _ {D : Type 0} (honest : D → Type 0) (history : D → History) (failures : D → ℕ) (r : Replica D) (running : r.stopped ≡ false) (is : IsReplica (engine_facts failures r.engine) r.backlog r.certifier.current r.stopped)
     (n : Node) (holds : Holds honest history failures n r) where
@@ -55,10 +53,10 @@ module _ {D : Type 0} (honest : D → Type 0) (history : D → History) (failure
   window_there : window_at n (delivered n.facts) ≡ (reached p n.base n.items).kept
   window_there = ap (λ (xs : List Judged). (reached p n.base xs).kept) (take_all (delivered n.facts - n.base.position) n.items (omega (arith, all)))
 
-  verdict_is : (seqno : ℕ) (w : Transaction) → verdict_of h (WriteSet w) ≡ verdict_on n (Deliver seqno w)
-  verdict_is seqno w =
-      ap (λ (x : Setting). judge x h.delivered (window_of h h.delivered) (WriteSet w)) setting_is ∙ ap (λ k. judge p k (window_of h h.delivered) (WriteSet w)) here
-      ∙ ap (λ (v : Window). judge p (delivered n.facts) v (WriteSet w)) (present ∙ sym window_there)
+  verdict_is : (i : Item) → verdict_of h i ≡ verdict_for n i
+  verdict_is i =
+      ap (λ (x : Setting). judge x h.delivered (window_of h h.delivered) i) setting_is ∙ ap (λ k. judge p k (window_of h h.delivered) i) here
+      ∙ ap (λ (v : Window). judge p (delivered n.facts) v i) (present ∙ sym window_there)
 
   pub judges_as : Judges honest history failures r n
   judges_as = record { setting = setting_is; here = here; all = all; present = present; verdict = verdict_is }

@@ -18,7 +18,7 @@ use Rattle.rep_disk.specs.History.{History, IsImage, seen}
 use Rattle.rep_disk.specs.Moments.{moment, ImageSince}
 use Rattle.rep_disk.specs.Laws.{MomentsOfCalls}
 use Rattle.rep_steps.specs.declared.event.Event.{Event}
-use Rattle.rep_steps.specs.declared.event.Event.TheVariants.{Deliver, Log, Sync, Check, Flush, Read}
+use Rattle.rep_steps.specs.declared.event.Event.TheVariants.{Deliver, SetWindow, Log, Sync, Check, Flush, Read}
 use Rattle.rep_steps.specs.declared.answer.Answer.{Answer}
 use Rattle.rep_steps.specs.declared.answer.Answer.TheVariants.{Gave, Wrote, Began, Synced, Row, Refused}
 use Rattle.rep_steps.specs.Standings.{Standing, delivered, refusal, read_refusal}
@@ -78,6 +78,7 @@ module _ (hold : NodesHoldTheOrder) (follow : StepsFollowTheOrder) (come : RunsC
   one_row L rest n m (Read key at) (Synced r) h o step = tt
   one_row L rest n m (Read key at) (Refused r) h o step = tt
   one_row L rest n m (Deliver seqno w) a h o step = tt
+  one_row L rest n m (SetWindow seqno size source trx) a h o step = tt
   one_row L rest n m Log a h o step = tt
   one_row L rest n m Sync a h o step = tt
   one_row L rest n m Check a h o step = tt

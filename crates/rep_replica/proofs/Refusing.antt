@@ -9,7 +9,7 @@ use Rattle.rep_types.specs.declared.refusal.Part.TheVariants.{Pages}
 use Rattle.rep_disk.specs.History.{History}
 use Rattle.rep_log.specs.Standing.{due_of}
 use Rattle.rep_steps.specs.declared.event.Event.{Event}
-use Rattle.rep_steps.specs.declared.event.Event.TheVariants.{Deliver, Log, Sync, Check, Flush, Read}
+use Rattle.rep_steps.specs.declared.event.Event.TheVariants.{Deliver, SetWindow, Log, Sync, Check, Flush, Read}
 use Rattle.rep_steps.specs.declared.answer.Answer.TheVariants.{Wrote, Refused}
 use Rattle.rep_steps.specs.Standings.{Standing, refusal}
 use Rattle.rep_steps.specs.Moves.{Moves, Fails, MeetsCorruption}
@@ -123,6 +123,7 @@ module _ {D : Type 0} (honest : D → Type 0) (history : D → History) where
 
   pub spells_stopped : (r : Replica D) (e : Event) → Spells honest history r e (Refused Stopped) r
   spells_stopped r (Deliver seqno w) = tt
+  spells_stopped r (SetWindow seqno size source trx) = tt
   spells_stopped r Log = tt
   spells_stopped r Sync = tt
   spells_stopped r Check = tt

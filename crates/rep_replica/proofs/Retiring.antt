@@ -15,7 +15,7 @@ use Rattle.rep_steps.specs.declared.answer.Answer.TheVariants.{Refused}
 use Rattle.rep_steps.specs.Standings.{Standing, Stage, Off, Retiring, refusal, check_refusal}
 use Rattle.rep_steps.specs.Moves.{Moves, Fails, answer, checked, takes_memory, reads_a_page, is_off}
 use Rattle.rep_steps.specs.Nodes.{Node, Steps, found, moved}
-use Rattle.rep_steps.specs.FactLaws.{after_failures}
+use Rattle.rep_steps.specs.FactLaws.{after_serves}
 use Rattle.rep_steps.specs.Images.{IsFrontAt}
 use Rattle.rep_image.specs.Meanings.{Means}
 use Rattle.rep_replica.specs.Replicas.{Replica, facts_of}
@@ -59,7 +59,7 @@ told_of_none old new e other same = record { fault = λ is. absurd (other is); n
 -- a step tells the device's fault exactly where there was one
 pub step_tells : (s t : Standing) (e : Event) (a : Answer) → refusal s e ≡ None → Moves s e a t → TellsFaults s.failures t.failures (outcome_of a)
 step_tells s t e a none m = elim (went_by s t e a none m) [
-  | inl went ↦ subst Told (sym went.1) (subst (λ (o : Result (Unit {0}) Refusal). TellsFaults s.failures t.failures o) (sym (answer_done s e went.0)) (ap (λ (u : Standing). u.failures) went.2 ∙ after_failures s e went.0))
+  | inl went ↦ subst Told (sym went.1) (subst (λ (o : Result (Unit {0}) Refusal). TellsFaults s.failures t.failures o) (sym (answer_done s e went.0)) (ap (λ (u : Standing). u.failures) went.2 ∙ (after_serves s e went.0).failures))
   | inr failed ↦ elim failed [
     | inl why ↦ elim why [
       | inl hungry ↦ subst Told (sym hungry.1) (told_of_none s.failures t.failures OutOfMemory memory_is_none (ap (λ (u : Standing). u.failures) hungry.2))

@@ -16,11 +16,12 @@ use Rattle.rep_pool.specs.BasePages.{IsBadPage}
 use Rattle.rep_log.specs.declared.phase.Phase.{Phase}
 use Rattle.rep_log.specs.declared.phase.Phase.TheVariants.{Resting}
 use Rattle.rep_steps.specs.declared.event.Event.{Event}
-use Rattle.rep_steps.specs.declared.event.Event.TheVariants.{Deliver, Log, Sync, Check, Flush, Read}
+use Rattle.rep_steps.specs.declared.event.Event.TheVariants.{Deliver, SetWindow, Log, Sync, Check, Flush, Read}
 use Rattle.rep_steps.specs.declared.answer.Answer.{Answer}
 use Rattle.rep_steps.specs.declared.answer.Answer.TheVariants.{Gave, Wrote, Began, Synced, Row, Refused}
 use Rattle.rep_steps.specs.Standings.{Standing, refusal, refusal_here, check_refusal, flush_refusal, Goal, Part, Flushing, Saving, Ready, SuperFilling, SuperFilled, SuperOpening, Stage, Off, Toward, Retiring}
 use Rattle.rep_steps.specs.Moves.{Found, Moves, answer, check_answer, after, reads_a_page, Fails, MeetsCorruption, checked, flushed, synced_stage, synced_phase, start_after, opening, taken}
+use Rattle.rep_steps.specs.FactLaws.{after_serves}
 use Rattle.rep_steps.specs.Runs.{Runs}
 use Rattle.rep_engine.specs.Holding.{wrote, synced}
 use Rattle.rep_replica.specs.Replicas.{Replica, facts_of}
@@ -70,6 +71,7 @@ check_done s (Retiring written) = refl
 
 pub answer_done : (s : Standing) (e : Event) (f : Found) → outcome_of (answer s e f) ≡ Ok tt
 answer_done s (Deliver seqno w) f = refl
+answer_done s (SetWindow seqno size source trx) f = refl
 answer_done s Log f = refl
 answer_done s Sync f = refl
 answer_done s Check f = check_done s s.stage
@@ -179,6 +181,7 @@ module _ {D : Type 0} (honest : D → Type 0) (history : D → History) (failure
 
   bad_page : (e : Event) (a : Answer) → IsOwn e → refusal (facts_of failures old) e ≡ None → IsStep honest history failures old e a new → outcome_of a ≡ Err (Corrupt Pages) → MeetsBadPage honest history new
   bad_page (Deliver seqno w) a own none step corrupt = absurd own
+  bad_page (SetWindow seqno size source trx) a own none step corrupt = absurd own
   bad_page Log a own none step corrupt = absurd (let never : false ≡ true = corrupt_reads (facts_of failures old) (facts_of failures new) Log a none step.moves corrupt in cc)
   bad_page Sync a own none step corrupt = absurd (let never : false ≡ true = corrupt_reads (facts_of failures old) (facts_of failures new) Sync a none step.moves corrupt in cc)
   bad_page Check a own none step corrupt = absurd (let never : false ≡ true = corrupt_reads (facts_of failures old) (facts_of failures new) Check a none step.moves corrupt in cc)
@@ -387,13 +390,8 @@ ok_on (Ok x) p done = p
 ok_on (Err e) p done = absurd (let never : Err e ≡ Ok tt = done in cc)
 
 -- it still runs
-pub still_running : {D : Type 0} (failures : D → ℕ) (old new : Replica D) (e : Event) (f : Found) → IsOwn e → IsRunning old → facts_of failures new ≡ after (facts_of failures old) e f → IsRunning new
-still_running failures old new (Deliver seqno w) f own running is = absurd own
-still_running failures old new Log f own running is = is_running failures new (ap (λ (x : Standing). x.stopped) is ∙ runs_on failures old running)
-still_running failures old new Sync f own running is = is_running failures new (ap (λ (x : Standing). x.stopped) is ∙ runs_on failures old running)
-still_running failures old new Check f own running is = is_running failures new (ap (λ (x : Standing). x.stopped) is ∙ runs_on failures old running)
-still_running failures old new (Flush page) f own running is = is_running failures new (ap (λ (x : Standing). x.stopped) is ∙ runs_on failures old running)
-still_running failures old new (Read key at) f own running is = absurd own
+pub still_running : {D : Type 0} (failures : D → ℕ) (old new : Replica D) (e : Event) (f : Found) → IsRunning old → facts_of failures new ≡ after (facts_of failures old) e f → IsRunning new
+still_running failures old new e f running is = is_running failures new (ap (λ (x : Standing). x.stopped) is ∙ (after_serves (facts_of failures old) e f).stopped ∙ runs_on failures old running)
 
 pub rests_none : (s : Standing) → s.phase ≡ Resting → Rests s s
 rests_none s rests = record { phase = rests; ahead = refl; setting = refl; next = refl; start = refl }

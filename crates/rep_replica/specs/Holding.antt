@@ -2,17 +2,18 @@
 use Rattle.std.specs.Prelude.{◌≡◌, ◌↔◌, ℕ, ◌≤◌, false, List, length, drop, None, Result, Ok, Err}
 use Rattle.rep_disk.specs.History.{History, IsImage}
 use Rattle.rep_disk.specs.Moments.{LeavesOnly}
+use Rattle.rep_types.specs.declared.item.Item.{Item}
 use Rattle.rep_types.specs.declared.item.Item.TheVariants.{WriteSet}
 use Rattle.rep_types.specs.declared.refusal.Refusal.{Refusal}
 use Rattle.rep_types.specs.declared.verdict.Verdict.{Verdict}
-use Rattle.rep_types.specs.Transactions.{Transaction}
+use Rattle.rep_types.specs.declared.verdict.Verdict.TheVariants.{Commit}
 use Rattle.rep_cert.specs.Holdings.{Holding, IsAskable, window_of, verdict_of}
 use Rattle.rep_steps.specs.declared.event.Event.{Event}
-use Rattle.rep_steps.specs.declared.event.Event.TheVariants.{Deliver}
+use Rattle.rep_steps.specs.declared.event.Event.TheVariants.{Deliver, SetWindow}
 use Rattle.rep_steps.specs.declared.answer.Answer.{Answer}
 use Rattle.rep_steps.specs.declared.answer.Answer.TheVariants.{Gave, Refused}
 use Rattle.rep_steps.specs.Moves.{Moves}
-use Rattle.rep_steps.specs.Nodes.{Node, IsNode, Steps, verdict_on, window_at}
+use Rattle.rep_steps.specs.Nodes.{Node, IsNode, Steps, verdict_for, window_at}
 use Rattle.rep_steps.specs.Parts.{part_of}
 use Rattle.rep_steps.specs.Images.{IsFrontAt, IsEndOf, AreJudgedFrom}
 use Rattle.rep_image.specs.Meanings.{Means}
@@ -52,9 +53,10 @@ abbrev pub gave : Result Verdict Refusal → Answer
 gave (Ok verdict) = Gave verdict
 gave (Err refusal) = Refused refusal
 
--- The verdict by which a delivery is answered is the certifier's, on any device.
+-- The verdict by which a delivery is answered is the certifier's, on any device; a change of the window's size commits.
 abbrev pub IsJudgedBy : Holding → Event → Answer → Type 0
 IsJudgedBy h (Deliver seqno w) (Gave v) = v ≡ verdict_of h (WriteSet w)
+IsJudgedBy h (SetWindow seqno size source trx) (Gave v) = v ≡ Commit
 IsJudgedBy h e a = Unit {0}
 
 -- More is so while it isn't stopped: each image means a front that ends exactly at what is durable, or, where a log's gate is opening,
@@ -64,4 +66,4 @@ LeavesItsEnds honest history failures r = (n : Node) → Holds honest history fa
 
 -- What its certifier says of an item is what the node that it stands for does.
 abbrev pub JudgesAsItsNode : {D : Type 0} → (D → Type 0) → (D → History) → (D → ℕ) → Replica D → Type 0
-JudgesAsItsNode honest history failures r = (n : Node) → Holds honest history failures n r → (seqno : ℕ) (w : Transaction) → verdict_of r.certifier.current (WriteSet w) ≡ verdict_on n (Deliver seqno w)
+JudgesAsItsNode honest history failures r = (n : Node) → Holds honest history failures n r → (i : Item) → verdict_of r.certifier.current i ≡ verdict_for n i

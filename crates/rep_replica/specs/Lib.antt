@@ -9,5 +9,6 @@ pub mod Stopping
 pub mod Lives
 pub mod Episodes
 pub mod Settling
+pub mod SettlingLaws
 pub mod Installing
 pub mod Donating

@@ -8,7 +8,7 @@ use Rattle.rep_log.specs.declared.phase.Phase.{Phase}
 use Rattle.rep_log.specs.declared.phase.Phase.TheVariants.{Resting, Closing, Filling, Filled, Opening}
 use Rattle.rep_log.specs.Standing.{stands_at, index_of}
 use Rattle.rep_steps.specs.declared.event.Event.{Event}
-use Rattle.rep_steps.specs.declared.event.Event.TheVariants.{Deliver, Log, Sync, Check, Flush, Read}
+use Rattle.rep_steps.specs.declared.event.Event.TheVariants.{Deliver, SetWindow, Log, Sync, Check, Flush, Read}
 use Rattle.rep_steps.specs.declared.answer.Answer.{Answer}
 use Rattle.rep_steps.specs.declared.answer.Answer.TheVariants.{Refused}
 use Rattle.rep_steps.specs.Standings.{Standing, Part, Flushing, Saving, Ready, SuperFilling, SuperFilled, SuperOpening, Stage, Off, Toward, Retiring}
@@ -72,6 +72,7 @@ IsDue s e a t = (due s ≡ Some e) × Moves s e a t
 -- a step of its own: no delivery, and no read
 abbrev pub IsOwn : Event → Type 0
 IsOwn (Deliver seqno w) = ⊥
+IsOwn (SetWindow seqno size source trx) = ⊥
 IsOwn (Read key at) = ⊥
 IsOwn e = Unit {0}
 

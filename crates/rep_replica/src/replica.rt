@@ -1,13 +1,11 @@
 //! What a replica holds, and what it says of itself.
 
 ghost use Rattle.std.specs.Prelude.{◌≡◌, ◌≤◌, ◌||◌, ◌↔◌, ℕ, false, length, is_some, Some, IfOk, IfErr};
-ghost use Rattle.rep_types.specs.declared.item.Item.TheVariants.{WriteSet as OfWriteSet};
 ghost use Rattle.rep_layout.specs.declared.page_state.PageState.TheVariants.{Nowhere};
 ghost use Rattle.rep_pages.specs.Slots.{state_of_page};
 ghost use Rattle.rep_cert.specs.Holdings.{window_of, verdict_of};
-ghost use Rattle.rep_steps.specs.declared.event.Event.TheVariants.{Deliver};
 ghost use Rattle.rep_steps.specs.Standings.{delivered};
-ghost use Rattle.rep_steps.specs.Nodes.{Node, verdict_on, window_at};
+ghost use Rattle.rep_steps.specs.Nodes.{Node, verdict_for, window_at};
 ghost use Rattle.rep_engine.specs.Engines.{facts_of as engine_facts, gtid_of, durable_of};
 ghost use Rattle.rep_replica.specs.Replicas.{IsReplica, facts_of};
 ghost use Rattle.rep_replica.specs.Holding.{Holds};
@@ -16,7 +14,7 @@ use rep_backlog::Backlog;
 use rep_cert::Certifier;
 use rep_disk::Disk;
 use rep_engine::Engine;
-use rep_types::{Gtid, Params, Refusal, Verdict, Window, WriteSet};
+use rep_types::{Gtid, Item, Params, Refusal, Verdict, Window};
 use std::alloc::Global;
 use std::marker::Model;
 use uuid::Uuid;
@@ -150,12 +148,13 @@ impl<D: Disk> Replica<D> {
         self.engine.gtid()
     }
 
-    /// The verdict on the write set, were it the next item, behind the last that was delivered. It takes no memory.
-    pub fn judge(&self, item: &WriteSet) -> Verdict
-        ensures certifier { result ≡ verdict_of self.now.certifier.current (OfWriteSet item.now) }
-        ensures node { (n : Node) → (seqno : ℕ) → Holds D.honest D.history D.failures n self.now → result ≡ verdict_on n (Deliver seqno item.now) }
+    /// The verdict on the item, were it the next one, behind the last that was delivered. It takes no memory. A change of
+    /// the window's size commits.
+    pub fn judge(&self, item: &Item) -> Verdict
+        ensures certifier { result ≡ verdict_of self.now.certifier.current item.now }
+        ensures node { (n : Node) → Holds D.honest D.history D.failures n self.now → result ≡ verdict_for n item.now }
     {
-        self.certifier.judge(item)
+        self.certifier.judge_item(item)
     }
 
     /// Whether the base has this page in a slot. The rows of one that it doesn't have are absent.

@@ -6,7 +6,8 @@ ghost use Rattle.rep_record.specs.Fronts.{fitting};
 ghost use Rattle.rep_disk.specs.Calls.{IsCall};
 ghost use Rattle.rep_log.specs.Standing.{due_of};
 ghost use Rattle.rep_log.specs.Moves.{fault_of, after_sync, started};
-ghost use Rattle.rep_steps.specs.declared.event.Event.TheVariants.{Deliver, Log, Sync, Check, Flush, Read};
+ghost use Rattle.rep_steps.specs.declared.event.Event.TheVariants.{Log, Sync, Check, Flush, Read};
+ghost use Rattle.rep_steps.specs.Events.{delivery};
 ghost use Rattle.rep_steps.specs.Standings.{delivery_refusal};
 ghost use Rattle.rep_steps.specs.declared.answer.Answer.TheVariants.{Refused};
 ghost use Rattle.rep_steps.specs.Nodes.{Node};
@@ -28,7 +29,7 @@ use rep_steps::{
     Answer, Event, Replies, judging_goes_on, nodes_stay_nodes, parts_step_as_the_whole,
     verdicts_have_a_place,
 };
-use rep_types::{Item, Judged, Key, MAX_AHEAD, MAX_SEQNO, Refusal, Value, Verdict, WriteSet};
+use rep_types::{Item, Judged, Key, MAX_AHEAD, MAX_SEQNO, Refusal, SetWindow, Value, Verdict};
 
 /// What a delivery answers.
 fn gave(outcome: Result<Verdict, Refusal>) -> Answer
@@ -106,26 +107,26 @@ impl<D: Disk> Replica<D> {
     }
 
     /// Takes the item with this seqno.
-    fn deliver(&mut self, seqno: u64, item: WriteSet) -> Result<Verdict, Refusal>
+    fn deliver(&mut self, seqno: u64, item: Item) -> Result<Verdict, Refusal>
         requires running { (self.old.stopped ≡ false) × (self.old.engine.halted ≡ None) }
-        ensures step { IsStep D.honest D.history D.failures self.old (Deliver seqno item) (gave result) self.new }
-        ensures judged { IsJudgedBy self.old.certifier.current (Deliver seqno item) (gave result) }
+        ensures step { IsStep D.honest D.history D.failures self.old (delivery seqno item) (gave result) self.new }
+        ensures judged { IsJudgedBy self.old.certifier.current (delivery seqno item) (gave result) }
     {
         nodes_stay_nodes();
         judging_goes_on();
         verdicts_have_a_place();
         certifiers_hold_windows();
-        // For its clause: what holds of every write set.
-        item.writes();
+        // For its clause: what holds of every item.
+        item.limits();
         if let Some(refusal) = self.delivery_refusal(seqno) {
             return Err(refusal);
         }
-        let Ok((seqno, verdict)) = self.certifier.admit(&item) else {
+        let Ok((seqno, verdict)) = self.certifier.admit_item(&item) else {
             unreachable!();
         };
         let judged = Judged {
             seqno,
-            item: Item::WriteSet(item),
+            item,
             verdict,
         };
         if self.backlog.push(judged).is_err() {
@@ -242,9 +243,9 @@ impl<D: Disk> Replica<D> {
 
     /// Does one step, and answers what came of it.
     ///
-    /// - `Deliver` gives the verdict on the item. It is refused, in this order, with `Undefined` where the node
-    ///   belongs to no cluster, `Exhausted` where no seqno is left, `OutOfOrder` where the seqno is not the next
-    ///   one, and `Backlogged` where 256 items are delivered and not durable.
+    /// - `Deliver` gives the verdict on the write set, and `SetWindow`, a change of the window's size, commits. Either is
+    ///   refused, in this order, with `Undefined` where the node belongs to no cluster, `Exhausted` where no seqno is left,
+    ///   `OutOfOrder` where the seqno is not the next one, and `Backlogged` where 256 items are delivered and not durable.
     /// - `Log` writes the next thing: the closed gate of a stale cell, a block of the longest front of the items
     ///   that are not durable which fits (64 records, 7,662 bytes), and, once that is stable, the open gate behind
     ///   it. It is refused with `NotDue` where there is no such item or what was written awaits its sync, with
@@ -253,8 +254,8 @@ impl<D: Disk> Replica<D> {
     ///   replies to the items' origins; after that of a superblock its base is the replica's. It is refused with
     ///   `DiskFault`.
     /// - `Check` takes the checkpoint's next step: it begins one to what is durable and says its position; writes
-    ///   the window once its pages are stable, then the superblock, its open gate, and the closed gate of the
-    ///   superblock before it, each once what it builds upon is stable. It is refused with `NotDue` where the base
+    ///   the window once no page is left; then, once these are stable, the superblock, its open gate, and the closed
+    ///   gate of the superblock before it, each once the one before is stable. It is refused with `NotDue` where the base
     ///   stands at what is durable, pages are left, or a write awaits its sync, with `OutOfMemory` where one would
     ///   begin, and with `DiskFault`.
     /// - `Flush` writes a page that the checkpoint has left, as it is at the checkpoint's position. It is refused
@@ -277,7 +278,14 @@ impl<D: Disk> Replica<D> {
             return Answer::Refused(Refusal::Stopped);
         }
         match event {
-            Event::Deliver(seqno, item) => gave(self.deliver(seqno, item)),
+            Event::Deliver(seqno, write_set) => gave(self.deliver(
+                seqno,
+                Item::WriteSet(write_set),
+            )),
+            Event::SetWindow(seqno, size, source, trx) => {
+                let change = SetWindow { size, source, trx };
+                gave(self.deliver(seqno, Item::SetWindow(change)))
+            }
             Event::Log => self.log(),
             Event::Sync => self.sync(),
             Event::Check => self.check(),

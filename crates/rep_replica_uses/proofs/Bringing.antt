@@ -6,11 +6,10 @@ use Rattle.std.proofs.lemmas.Slice.Eq.{bytes_eq-Decides}
 use Rattle.uuid.specs.Parts.{is_nil_bytes, zero_bytes}
 use Rattle.rep_types.specs.declared.judged.Judged.{Judged}
 use Rattle.rep_types.specs.declared.limits.TheConstants.{MAX_SEQNO, MAX_AHEAD}
-use Rattle.rep_types.specs.declared.item.Item.TheVariants.{WriteSet}
+use Rattle.rep_types.specs.declared.item.Item.{Item}
 use Rattle.rep_types.specs.declared.refusal.Refusal.{Refusal}
 use Rattle.rep_types.specs.declared.refusal.Refusal.TheVariants.{Undefined, Exhausted, OutOfOrder, Backlogged, Stopped, DiskFault}
 use Rattle.rep_types.specs.Settings.{Setting}
-use Rattle.rep_types.specs.Transactions.{Transaction}
 use Rattle.rep_types.specs.Windows.{Window}
 use Rattle.rep_types.specs.Order.{State, judge}
 use Rattle.rep_disk.specs.History.{History}
@@ -20,7 +19,8 @@ use Rattle.rep_layout.specs.Supers.{IsNil}
 use Rattle.rep_layout.specs.declared.super_body.SuperBody.{SuperBody}
 use Rattle.rep_pages.specs.Rows.{Rows}
 use Rattle.rep_log.specs.declared.phase.Phase.{Phase}
-use Rattle.rep_steps.specs.declared.event.Event.TheVariants.{Deliver}
+use Rattle.rep_steps.specs.Events.{delivery}
+use Rattle.rep_steps.specs.Deliveries.{delivery_refused}
 use Rattle.rep_steps.specs.Standings.{Standing, delivered, delivery_refusal, refusal}
 use Rattle.rep_steps.specs.Nodes.{Node, state_at, reached}
 use Rattle.rep_steps.specs.Images.{IsFrontAt}
@@ -58,9 +58,9 @@ module _ (b : SuperBody) (y : State) (m : Node) (h : IsInstalled b y m) where
       → (if is_nil_bytes uuid then Some Undefined else if n == MAX_SEQNO then Some Exhausted else if not (seqno == n + 1) then Some (OutOfOrder (n + 1)) else if nat_le MAX_AHEAD (length js) then Some Backlogged else None) ≡ None
   free_by uuid n seqno js nil most order few = rw nil (rw most (rw order (rw few refl)))
 
-  next_free : (IsNil s.uuid → ⊥) → y.position < MAX_SEQNO → (w : Transaction) → refusal s (Deliver (y.position + 1) w) ≡ None
-  next_free not below w =
-      ap (λ t. if t then Some Stopped else delivery_refusal s (y.position + 1)) h.running
+  next_free : (IsNil s.uuid → ⊥) → y.position < MAX_SEQNO → (i : Item) → refusal s (delivery (y.position + 1) i) ≡ None
+  next_free not below i =
+      delivery_refused (y.position + 1) s i ∙ ap (λ t. if t then Some Stopped else delivery_refusal s (y.position + 1)) h.running
       ∙ free_by s.uuid (delivered s) (y.position + 1) s.ahead (not_nil s.uuid not (is_nil_bytes s.uuid) refl) (grind (arith, nat_tests, all_there, below)) (grind (arith, nat_tests, all_there)) (grind (arith, nat_tests, ap length h.ahead))
 
   pub goes_on : GoesOn y m
@@ -68,7 +68,7 @@ module _ (b : SuperBody) (y : State) (m : Node) (h : IsInstalled b y m) where
     rows = λ key. ap (λ (z : State). z.content key) (state_there y.position);
     window = ap (λ (z : State). z.kept) (state_there s.durable);
     next = next_free;
-    verdict = λ w. ap (λ (z : State). judge s.setting (delivered s) z.kept (WriteSet w)) (state_there (delivered s)) ∙ ap (λ k. judge s.setting k y.kept (WriteSet w)) all_there;
+    verdict = λ i. ap (λ (z : State). judge s.setting (delivered s) z.kept i) (state_there (delivered s)) ∙ ap (λ k. judge s.setting k y.kept i) all_there;
     free = h.off;
   }
 

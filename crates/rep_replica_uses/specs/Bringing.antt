@@ -3,17 +3,17 @@ use Rattle.std.specs.Prelude.{◌≡◌, ◌⊎◌, ℕ, ◌+◌, ◌<◌, true,
 use Rattle.rep_types.specs.declared.key.Key.{Key}
 use Rattle.rep_types.specs.declared.limits.TheConstants.{MAX_SEQNO}
 use Rattle.rep_types.specs.declared.refusal.Refusal.{Refusal}
-use Rattle.rep_types.specs.declared.item.Item.TheVariants.{WriteSet}
-use Rattle.rep_types.specs.Transactions.{Transaction}
+use Rattle.rep_types.specs.declared.item.Item.{Item}
 use Rattle.rep_types.specs.Order.{State, judge}
 use Rattle.rep_disk.specs.History.{History}
 use Rattle.rep_disk.specs.Moments.{LeavesOnly}
 use Rattle.rep_layout.specs.Supers.{IsNil}
 use Rattle.rep_layout.specs.declared.super_body.SuperBody.{SuperBody}
 use Rattle.rep_pages.specs.Rows.{Rows}
-use Rattle.rep_steps.specs.declared.event.Event.TheVariants.{Deliver, Read}
+use Rattle.rep_steps.specs.declared.event.Event.TheVariants.{Read}
+use Rattle.rep_steps.specs.Events.{delivery}
 use Rattle.rep_steps.specs.Standings.{Off, refusal}
-use Rattle.rep_steps.specs.Nodes.{Node, window_at, verdict_on, row_on}
+use Rattle.rep_steps.specs.Nodes.{Node, window_at, verdict_for, row_on}
 use Rattle.rep_steps.specs.Images.{IsFrontAt}
 use Rattle.rep_image.specs.Meanings.{Means}
 use Rattle.rep_checkpoint.specs.Coming.{with_page}
@@ -53,8 +53,8 @@ pub record Brings {D : Type 0} (honest : D → Type 0) (history : D → History)
 pub record GoesOn (y : State) (m : Node) : Type 0 where
   pub rows : (key : Key) → row_on m (Read key y.position) ≡ y.content key
   pub window : window_at m m.facts.durable ≡ y.kept
-  pub next : (IsNil m.facts.uuid → ⊥) → y.position < MAX_SEQNO → (w : Transaction) → refusal m.facts (Deliver (y.position + 1) w) ≡ None
-  pub verdict : (w : Transaction) → verdict_on m (Deliver (y.position + 1) w) ≡ judge m.facts.setting y.position y.kept (WriteSet w)
+  pub next : (IsNil m.facts.uuid → ⊥) → y.position < MAX_SEQNO → (i : Item) → refusal m.facts (delivery (y.position + 1) i) ≡ None
+  pub verdict : (i : Item) → verdict_for m i ≡ judge m.facts.setting y.position y.kept i
   pub free : m.facts.stage ≡ Off
 
 abbrev pub InstalledNodesGoOn : Type 0

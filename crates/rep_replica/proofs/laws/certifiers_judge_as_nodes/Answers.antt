@@ -2,5 +2,5 @@ use Rattle.rep_replica.proofs.Judging.{judges_as}
 use Rattle.rep_replica.proofs.laws.certifiers_judge_as_nodes.Goals as goal
 
 pub returns : goal.returns
-returns g c n holds seqno w =
-    (judges_as g.D.Disk.honest g.D.Disk.history g.D.Disk.failures c.args.replica.now holds.running c.durable.ensures.replica n holds).verdict seqno w
+returns g c n holds i =
+    (judges_as g.D.Disk.honest g.D.Disk.history g.D.Disk.failures c.args.replica.now holds.running c.durable.ensures.replica n holds).verdict i

@@ -3,9 +3,8 @@ use Rattle.std.specs.Prelude.{◌||◌, is_some, IsErr}
 use Rattle.std.specs.Result.{is_ok, is_err}
 use Rattle.rep_types.specs.declared.limits.TheConstants.{MAX_AHEAD}
 use Rattle.rep_types.specs.declared.judged.Judged.{Judged}
-use Rattle.rep_types.specs.declared.item.Item.TheVariants.{WriteSet}
 use Rattle.rep_cert.specs.Holdings.{verdict_of}
-use Rattle.rep_steps.specs.declared.event.Event.TheVariants.{Deliver}
+use Rattle.rep_steps.specs.Events.{delivery}
 use Rattle.rep_steps.specs.declared.answer.Answer.{Answer}
 use Rattle.rep_steps.specs.declared.answer.Answer.TheVariants.{Gave}
 use Rattle.rep_steps.specs.Standings.{delivery_refusal}
@@ -13,23 +12,23 @@ use Rattle.rep_replica.specs.Replicas.{Replica, facts_of}
 use Rattle.rep_replica.specs.Holding.{IsStep}
 use Rattle.rep_replica.proofs.Keeping.{runs_inside}
 use Rattle.rep_replica.proofs.Stepping.{refused_step}
-use Rattle.rep_replica.proofs.Delivering.{running_refusal, not_full, replica_delivers, delivered_step}
+use Rattle.rep_replica.proofs.Delivering.{running_refusal, not_full, replica_delivers, delivered_step, judged_by, judged_none, spelled_none}
 use Rattle.rep_replica.proofs.replica.Replica.deliver.Goals as goal
 
 abbrev old : (g : _) (c : goal.Else-is_err g) → Replica g.row.D.Denot
 old g c = record { engine = c.self.inside.engine; backlog = c.self.inside.backlog; certifier = c.self.inside.certifier; stopped = c.self.inside.stopped }
 
 abbrev new : (g : _) (c : goal.Else-is_err g) → Replica g.row.D.Denot
-new g c = record { engine = c.self.inside.engine; backlog = c.push.new.self; certifier = c.admit.new.self; stopped = c.self.inside.stopped }
+new g c = record { engine = c.self.inside.engine; backlog = c.push.new.self; certifier = c.admit_item.new.self; stopped = c.self.inside.stopped }
 
 abbrev item : (g : _) (c : goal.Else-is_err g) → Judged
-item g c = record { seqno = c.in-Ok.seqno; item = WriteSet c.args.item; verdict = c.in-Ok.verdict }
+item g c = record { seqno = c.in-Ok.seqno; item = c.args.item; verdict = c.in-Ok.verdict }
 
 none : (g : _) (c : goal.Else-is_err g) → delivery_refusal (facts_of g.D.Disk.failures (old g c)) c.args.seqno ≡ None
 none g c = ap (λ (r : Replica g.row.D.Denot). delivery_refusal (facts_of g.D.Disk.failures r) c.args.seqno) c.self.view_is ∙ sym c.delivery_refusal.ensures ∙ c.in_default.is
 
-item_is : (g : _) (c : goal.Else-is_err g) → item g c ≡ record { seqno = c.self.inside.certifier.current.delivered + 1; item = WriteSet c.args.item; verdict = verdict_of c.self.inside.certifier.current (WriteSet c.args.item) }
-item_is g c = ap (λ n. record { seqno = n; item = WriteSet c.args.item; verdict = c.in-Ok.verdict }) c.in-Ok.ensures.seqno ∙ ap (λ v. record { seqno = c.self.inside.certifier.current.delivered + 1; item = WriteSet c.args.item; verdict = v }) c.in-Ok.ensures.verdict
+item_is : (g : _) (c : goal.Else-is_err g) → item g c ≡ record { seqno = c.self.inside.certifier.current.delivered + 1; item = c.args.item; verdict = verdict_of c.self.inside.certifier.current c.args.item }
+item_is g c = ap (λ n. record { seqno = n; item = c.args.item; verdict = c.in-Ok.verdict }) c.in-Ok.ensures.seqno ∙ ap (λ v. record { seqno = c.self.inside.certifier.current.delivered + 1; item = c.args.item; verdict = v }) c.in-Ok.ensures.verdict
 
 on_ok : {T E P : Type 0} (r : Result T E) → is_ok r ≡ true → OnOk r P → P
 on_ok (Ok x) ok p = p
@@ -44,7 +43,7 @@ returns-in-Some g c =
     let r : Replica g.row.D.Denot = c.args.self.now in
     let runs : (facts_of g.D.Disk.failures r).stopped ≡ false = ap (λ b. b || is_some r.engine.halted) c.requires.running.0 ∙ ap is_some c.requires.running.1 in
     let due = running_refusal (facts_of g.D.Disk.failures r) c.args.seqno c.args.item runs ∙ sym c.delivery_refusal.ensures ∙ c.in-Some.is in
-    record { step = refused_step g.D.Disk.honest g.D.Disk.history g.D.Disk.failures r (Deliver c.args.seqno c.args.item) c.in-Some.refusal due tt; judged = tt }
+    record { step = refused_step g.D.Disk.honest g.D.Disk.history g.D.Disk.failures r (delivery c.args.seqno c.args.item) c.in-Some.refusal due (spelled_none g.D.Disk.honest g.D.Disk.history r r c.args.seqno c.args.item c.in-Some.refusal); judged = judged_none r.certifier.current c.args.seqno c.args.item c.in-Some.refusal }
 
 -- the backlog has room for one that is not
 is_an_err : {T E : Type 0} (r : Result T E) → true ≡ is_err r → IsErr r
@@ -63,7 +62,7 @@ pub invariant_of-self : goal.invariant_of-self
 invariant_of-self g c =
     let runs = runs_inside c.self.view_is c.requires.running in
     replica_delivers g.D.Disk.honest g.D.Disk.history g.D.Disk.failures (old g c) (new g c) c.args.seqno c.args.item (item g c) runs.0 runs.1 (none g c) c.self.invariant (item_is g c) c.in-Ok.ensures.admitted refl (pushed g c) refl c.judging_goes_on.ensures
-    c.verdicts_have_a_place.ensures c.certifiers_hold_windows.ensures c.writes.ensures.limits
+    c.verdicts_have_a_place.ensures c.certifiers_hold_windows.ensures c.limits.ensures
 
 pub returns : goal.returns
 returns g c =
@@ -71,7 +70,7 @@ returns g c =
     let step = delivered_step g.D.Disk.honest g.D.Disk.history g.D.Disk.failures (old g c) (new g c) c.args.seqno c.args.item (item g c) runs.0 runs.1 (none g c) c.self.invariant (item_is g c) c.in-Ok.ensures.admitted refl (pushed g c) refl c.judging_goes_on.ensures c.nodes_stay_nodes.ensures in
     record {
       step =
-          subst (λ (r : Replica g.row.D.Denot). IsStep g.D.Disk.honest g.D.Disk.history g.D.Disk.failures r (Deliver c.args.seqno c.args.item) (Gave c.in-Ok.verdict) (new g c)) c.self.view_is
-          (subst (λ (a : Answer). IsStep g.D.Disk.honest g.D.Disk.history g.D.Disk.failures (old g c) (Deliver c.args.seqno c.args.item) a (new g c)) (ap Gave (sym c.in-Ok.ensures.verdict)) step);
-      judged = c.in-Ok.ensures.verdict ∙ ap (λ (r : Replica g.row.D.Denot). verdict_of r.certifier.current (WriteSet c.args.item)) c.self.view_is;
+          subst (λ (r : Replica g.row.D.Denot). IsStep g.D.Disk.honest g.D.Disk.history g.D.Disk.failures r (delivery c.args.seqno c.args.item) (Gave c.in-Ok.verdict) (new g c)) c.self.view_is
+          (subst (λ (a : Answer). IsStep g.D.Disk.honest g.D.Disk.history g.D.Disk.failures (old g c) (delivery c.args.seqno c.args.item) a (new g c)) (ap Gave (sym c.in-Ok.ensures.verdict)) step);
+      judged = judged_by c.args.self.now.certifier.current c.args.seqno c.args.item c.in-Ok.verdict (c.in-Ok.ensures.verdict ∙ ap (λ (r : Replica g.row.D.Denot). verdict_of r.certifier.current c.args.item) c.self.view_is);
     }

@@ -24,10 +24,10 @@ returns-in-Sync g c =
     let done = one_done g.D.Disk.honest g.D.Disk.history g.D.Disk.failures old new Sync c.sync.result c.outcome.result c.outcome.ensures tt c.requires.running refl c.sync.ensures.step in
     record {
       works = one_works g.D.Disk.honest g.D.Disk.history g.D.Disk.failures old new Sync c.sync.result c.outcome.result c.outcome.ensures tt c.requires.running refl c.sync.ensures.step c.runs_are_joined.ensures (sync_due g.D.Disk.failures old c.requires.running engine c.requires.off c.requires.some due);
-      running = on_ok c.outcome.result (λ ok. still_running g.D.Disk.failures old new Sync (done ok).0 tt c.requires.running (done ok).1);
+      running = on_ok c.outcome.result (λ ok. still_running g.D.Disk.failures old new Sync (done ok).0 c.requires.running (done ok).1);
       off = on_ok c.outcome.result (λ ok. ap (λ (s : Standing). s.stage) (done ok).1 ∙ ap synced_stage c.requires.off);
       less = on_ok c.outcome.result (λ ok.
-          synced_less g.D.Disk.failures old new c.requires.running (still_running g.D.Disk.failures old new Sync (done ok).0 tt c.requires.running (done ok).1) engine new.engine.checkpoint.base.start (done ok).0 due c.requires.off (done ok).1
+          synced_less g.D.Disk.failures old new c.requires.running (still_running g.D.Disk.failures old new Sync (done ok).0 c.requires.running (done ok).1) engine new.engine.checkpoint.base.start (done ok).0 due c.requires.off (done ok).1
           (c.sync.ensures.log (sym c.outcome.ensures ∙ ok)));
       early = one_early g.D.Disk.honest g.D.Disk.history g.D.Disk.failures old new Sync c.sync.result c.outcome.result c.outcome.ensures tt c.requires.running refl c.sync.ensures.step;
     }
@@ -50,10 +50,10 @@ returns-in-Recycle g c =
     let done = one_done g.D.Disk.honest g.D.Disk.history g.D.Disk.failures old new Log c.log.result result c.outcome-in-Recycle.ensures tt c.requires.running none c.log.ensures.step in
     record {
       works = one_works g.D.Disk.honest g.D.Disk.history g.D.Disk.failures old new Log c.log.result result c.outcome-in-Recycle.ensures tt c.requires.running none c.log.ensures.step c.runs_are_joined.ensures (log_due g.D.Disk.failures old c.requires.running engine c.requires.off c.requires.some write);
-      running = on_ok result (λ ok. still_running g.D.Disk.failures old new Log (done ok).0 tt c.requires.running (done ok).1);
+      running = on_ok result (λ ok. still_running g.D.Disk.failures old new Log (done ok).0 c.requires.running (done ok).1);
       off = on_ok result (λ ok. ap (λ (s : Standing). s.stage) (done ok).1 ∙ c.requires.off);
       less = on_ok result (λ ok.
-          written_less g.D.Disk.failures old new c.requires.running (still_running g.D.Disk.failures old new Log (done ok).0 tt c.requires.running (done ok).1) engine (length new.engine.block) (done ok).0 write (done ok).1
+          written_less g.D.Disk.failures old new c.requires.running (still_running g.D.Disk.failures old new Log (done ok).0 c.requires.running (done ok).1) engine (length new.engine.block) (done ok).0 write (done ok).1
           (c.log.ensures.log (sym c.outcome-in-Recycle.ensures ∙ ok)));
       early = one_early g.D.Disk.honest g.D.Disk.history g.D.Disk.failures old new Log c.log.result result c.outcome-in-Recycle.ensures tt c.requires.running none c.log.ensures.step;
     }

@@ -27,7 +27,7 @@ module _ {D : Type 0} (honest : D → Type 0) (history : D → History) (failure
   began = one_done honest history failures old mid Check a result is tt running (can_begin failures old running engine off due) step (ok_of result went)
 
   runs : IsRunning mid
-  runs = still_running failures old mid Check began.0 tt running began.1
+  runs = still_running failures old mid Check began.0 running began.1
 
   rests : (facts_of failures mid).phase ≡ Resting
   rests = ap (λ (x : Standing). x.phase) began.1 ∙ phase_is failures old running engine ∙ (full_due old.engine.log due).0
