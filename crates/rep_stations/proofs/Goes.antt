@@ -11,7 +11,7 @@ use Rattle.rep_types.specs.Replies.{reply_of}
 use Rattle.rep_types.specs.Settings.{Setting}
 use Rattle.rep_types.specs.Order.{State}
 use Rattle.rep_steps.specs.declared.event.Event.{Event}
-use Rattle.rep_steps.specs.declared.event.Event.TheVariants.{Deliver, Log, Sync, Check, Flush, Read}
+use Rattle.rep_steps.specs.declared.event.Event.TheVariants.{Deliver, SetWindow, Log, Sync, Check, Flush, Read}
 use Rattle.rep_steps.specs.declared.answer.Answer.{Answer}
 use Rattle.rep_steps.specs.declared.answer.Answer.TheVariants.{Gave, Wrote, Began, Synced, Row, Refused}
 use Rattle.rep_steps.specs.Standings.{Standing, refusal, refusal_here}
@@ -48,6 +48,7 @@ fails_go s t e a (inr h) = failed s t h.3
 -- what was done
 done : (s : Standing) (e : Event) (f : Found) → IsOfAnEngine e → (e ≡ Sync → opening s.phase ≤ length s.ahead) → FactsGo s (after s e f)
 done s (Deliver seqno w) f own few = absurd own
+done s (SetWindow seqno size source trx) f own few = absurd own
 done s Log f own few = record { uuid = refl; setting = refl; told = 0; few = omega arith; durable = omega arith; ahead = refl }
 done s Sync f own few = record { uuid = refl; setting = refl; told = opening s.phase; few = few refl; durable = refl; ahead = refl }
 done s Check f own few = record { uuid = refl; setting = refl; told = 0; few = omega arith; durable = omega arith; ahead = refl }
@@ -76,6 +77,7 @@ facts_go s t e a own few moves =
 -- what makes nothing durable
 nothing_done : (s : Standing) (e : Event) (f : Found) → MakesNothingDurable e → (after s e f).durable ≡ s.durable
 nothing_done s (Deliver seqno w) f own = absurd own
+nothing_done s (SetWindow seqno size source trx) f own = absurd own
 nothing_done s Log f own = refl
 nothing_done s Sync f own = absurd own
 nothing_done s Check f own = refl
@@ -152,6 +154,7 @@ pub record NodeGoes (n m : Node) : Type 0 where
 
 node_moved : (n : Node) (e : Event) → IsOfAnEngine e → IsNode n → NodeGoes n (moved n e)
 node_moved n (Deliver seqno w) own node = absurd own
+node_moved n (SetWindow seqno size source trx) own node = absurd own
 node_moved n Log own node = record { setting = refl; uuid = refl; past = 0; few = omega arith; base = refl; items = refl }
 node_moved n Sync own node =
     let few = passed_by n.facts.base n.facts.durable n.facts.start n.facts.next n.facts.stage node.facts.goal node.facts.based in

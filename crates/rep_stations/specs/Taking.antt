@@ -8,7 +8,7 @@ use Rattle.rep_types.specs.Replies.{reply_of}
 use Rattle.rep_disk.specs.History.{History}
 use Rattle.rep_cert.specs.Holdings.{Holding, IsAskable, window_of}
 use Rattle.rep_steps.specs.declared.event.Event.{Event}
-use Rattle.rep_steps.specs.declared.event.Event.TheVariants.{Deliver, Log, Sync, Check, Flush, Read}
+use Rattle.rep_steps.specs.declared.event.Event.TheVariants.{Deliver, SetWindow, Log, Sync, Check, Flush, Read}
 use Rattle.rep_steps.specs.declared.answer.Answer.{Answer}
 use Rattle.rep_steps.specs.declared.answer.Answer.TheVariants.{Synced}
 use Rattle.rep_steps.specs.Moves.{Moves}
@@ -60,6 +60,7 @@ TakesMore {D} honest history failures old waits count new =
 -- an engine's events: all but a delivery
 abbrev pub IsOfAnEngine : Event → Type 0
 IsOfAnEngine (Deliver seqno w) = ⊥
+IsOfAnEngine (SetWindow seqno size source trx) = ⊥
 IsOfAnEngine Log = Unit {0}
 IsOfAnEngine Sync = Unit {0}
 IsOfAnEngine Check = Unit {0}
@@ -69,6 +70,7 @@ IsOfAnEngine (Read key at) = Unit {0}
 -- and those of them that make nothing durable
 abbrev pub MakesNothingDurable : Event → Type 0
 MakesNothingDurable (Deliver seqno w) = ⊥
+MakesNothingDurable (SetWindow seqno size source trx) = ⊥
 MakesNothingDurable Log = Unit {0}
 MakesNothingDurable Sync = ⊥
 MakesNothingDurable Check = Unit {0}
