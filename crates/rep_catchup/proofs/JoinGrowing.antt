@@ -9,33 +9,36 @@ use Rattle.std.proofs.lemmas.Slice.Eq.{bytes_eq-Decides}
 use Rattle.uuid.specs.Parts.{is_nil_bytes, zero_bytes}
 use Rattle.rep_types.specs.declared.judged.Judged.{Judged}
 use Rattle.rep_types.specs.declared.item.Item.{Item}
-use Rattle.rep_types.specs.declared.item.Item.TheVariants.{WriteSet}
+use Rattle.rep_types.specs.declared.item.Item.TheVariants.{WriteSet, SetWindow as OfChange}
 use Rattle.rep_types.specs.declared.verdict.Verdict.{Verdict}
 use Rattle.rep_types.specs.declared.refusal.Refusal.{Refusal}
 use Rattle.rep_types.specs.declared.refusal.Refusal.TheVariants.{Stopped, Undefined, NotDue, LogFull, Exhausted, OutOfOrder, Backlogged, OutOfMemory, DiskFault, Corrupt, Malformed}
 use Rattle.rep_types.specs.declared.refusal.Part.TheVariants.{Pages}
 use Rattle.rep_types.specs.declared.limits.TheConstants.{MAX_SEQNO, MAX_AHEAD}
 use Rattle.rep_types.specs.Settings.{Setting}
-use Rattle.rep_types.specs.Transactions.{Transaction}
 use Rattle.rep_types.specs.Order.{Order, items_of, history, verdict}
 use Rattle.rep_types.specs.ByItems.{HistoryByItems}
 use Rattle.rep_disk.specs.History.{History}
-use Rattle.rep_cert.specs.Holdings.{verdict_of}
+use Rattle.rep_cert.specs.Holdings.{Holding, verdict_of}
 use Rattle.rep_layout.specs.Supers.{IsNil}
 use Rattle.rep_log.specs.declared.phase.Phase.{Phase}
 use Rattle.rep_log.specs.declared.phase.Phase.TheVariants.{Resting, Closing, Filling, Filled, Opening}
 use Rattle.rep_steps.specs.declared.event.Event.{Event}
-use Rattle.rep_steps.specs.declared.event.Event.TheVariants.{Deliver, Log, Sync, Check, Flush, Read}
+use Rattle.rep_steps.specs.declared.event.Event.TheVariants.{Deliver, SetWindow, Log, Sync, Check, Flush, Read}
 use Rattle.rep_steps.specs.declared.answer.Answer.{Answer}
 use Rattle.rep_steps.specs.declared.answer.Answer.TheVariants.{Gave, Refused}
+use Rattle.rep_steps.specs.Events.{delivery}
+use Rattle.rep_steps.specs.Deliveries.{delivery_refused, delivery_answer, delivery_after, delivery_answered, delivery_accepted, delivery_not_accepted}
+use Rattle.rep_steps.specs.FactLaws.{move_stays, move_serves}
 use Rattle.rep_steps.specs.Standings.{Standing, Flushing, Saving, Ready, SuperFilling, SuperFilled, SuperOpening, Stage, Off, Toward, Retiring, delivered, underway, gathered, refusal, refusal_here, delivery_refusal, log_refusal, check_refusal, flush_refusal}
 use Rattle.rep_steps.specs.Moves.{Found, Moves, Fails, MeetsCorruption, answer, check_answer, after, next_item, opening}
 use Rattle.rep_steps.specs.Nodes.{Node, IsNode, Steps, moved, found, NodesStayNodes}
 use Rattle.rep_steps.specs.Orders.{IsOf, accepted, answer_of, StepsFollowTheOrder, NodesHoldTheOrder}
 use Rattle.rep_steps.specs.Runs.{Runs, accepted_by, RunsComeTo}
 use Rattle.rep_replica.specs.Replicas.{Replica, facts_of}
-use Rattle.rep_replica.specs.Holding.{Holds, IsStep}
+use Rattle.rep_replica.specs.Holding.{Holds, IsStep, IsJudgedBy}
 use Rattle.rep_replica.specs.Running.{RunsAreJoined}
+use Rattle.rep_replica.specs.SettlingLaws.{settling_stays, settling_serves, done_is_none}
 use Rattle.rep_replica.specs.Settling.{IsRunning, IsDue, IsOwn, AreOwn, AreDone, EndsEarly, outcome_of, Works}
 use Rattle.rep_transfer.specs.declared.part.Part.TheVariants.{Record}
 use Rattle.rep_catchup.specs.Growing.{Grows, Grown, EndsRunning}
@@ -65,6 +68,7 @@ is_running r is = let both = runs_by r.stopped r.engine.halted is in record { in
 
 own_accepted : (e : Event) (a : Answer) → IsOwn e → accepted e a ≡ []
 own_accepted (Deliver seqno w) a own = absurd own
+own_accepted (SetWindow seqno size source trx) a own = absurd own
 own_accepted Log a own = refl
 own_accepted Sync a own = refl
 own_accepted Check a own = refl
@@ -89,49 +93,9 @@ runs_paired one [] (a ∷ answers) s t run = absurd run
 runs_paired one (e ∷ events) [] s t run = absurd run
 runs_paired one (e ∷ events) (a ∷ answers) s t run = omega (arith, runs_paired one events answers run.0 t run.2)
 
--- what is there after steps of its own: the cluster and the parameters, and no less delivered
-pub record Stays (s t : Standing) : Type 0 where
-  pub uuid : t.uuid ≡ s.uuid
-  pub setting : t.setting ≡ s.setting
-  pub count : delivered s ≤ delivered t
-
-stays_here : (s : Standing) → Stays s s
-stays_here s = record { uuid = refl; setting = refl; count = omega arith }
-
-stays_failed : (s : Standing) (failures : ℕ) → Stays s (record s { failures = failures; stopped = true })
-stays_failed s failures = record { uuid = refl; setting = refl; count = omega arith }
-
-stays_then : (s t u : Standing) → Stays s t → Stays t u → Stays s u
-stays_then s t u a b = record { uuid = b.uuid ∙ a.uuid; setting = b.setting ∙ a.setting; count = omega (arith, a.count, b.count) }
-
-own_stays : (s : Standing) (e : Event) (f : Found) → IsOwn e → Stays s (after s e f)
-own_stays s (Deliver seqno w) f own = absurd own
-own_stays s Log f own = record { uuid = refl; setting = refl; count = omega arith }
-own_stays s Sync f own = record { uuid = refl; setting = refl; count = omega (arith, length-drop (opening s.phase) s.ahead) }
-own_stays s Check f own = record { uuid = refl; setting = refl; count = omega arith }
-own_stays s (Flush page) f own = record { uuid = refl; setting = refl; count = omega arith }
-own_stays s (Read key at) f own = absurd own
-
 -- what came of a step where no refusal applied
 abbrev pub Outcome : Standing → Event → Answer → Standing → Type 0
 Outcome s e a t = ((found : Found) × (a ≡ answer s e found) × (t ≡ after s e found)) ⊎ (Fails s e a t ⊎ MeetsCorruption s e a t)
-
--- so it is where one failed
-failed_stays : (s : Standing) (e : Event) (a : Answer) (t : Standing) → Fails s e a t ⊎ MeetsCorruption s e a t → Stays s t
-failed_stays s e a t (inl (inl hungry)) = subst (Stays s) (sym hungry.2) (stays_here s)
-failed_stays s e a t (inl (inr fault)) = subst (Stays s) (sym fault.3) (stays_failed s t.failures)
-failed_stays s e a t (inr corrupt) = subst (Stays s) (sym corrupt.2) (stays_here s)
-
-move_stays_by : (s : Standing) (e : Event) (a : Answer) (t : Standing) → IsOwn e → (o : Option Refusal) → MatchOption o (Outcome s e a t) (λ r. (a ≡ Refused r) × (t ≡ s)) → Stays s t
-move_stays_by s e a t own (Some r) m = subst (Stays s) (sym m.1) (stays_here s)
-move_stays_by s e a t own None (inl went) = subst (Stays s) (sym went.2) (own_stays s e went.0 own)
-move_stays_by s e a t own None (inr failed) = failed_stays s e a t failed
-
-runs_stay : (events : List Event) (answers : List Answer) (s t : Standing) → AreOwn events → Runs IsDue s events answers t → Stays s t
-runs_stay [] [] s t own run = subst (Stays s) run (stays_here s)
-runs_stay [] (a ∷ answers) s t own run = absurd run
-runs_stay (e ∷ events) [] s t own run = absurd run
-runs_stay (e ∷ events) (a ∷ answers) s t own run = stays_then s run.0 t (move_stays_by s e a run.0 own.0 (refusal s e) run.1.1) (runs_stay events answers run.0 t own.1 run.2)
 
 -- ---- whether it is stopped then
 
@@ -190,6 +154,7 @@ module _ (x : Refusal) (not_due : NotDue ≡ x → ⊥) (not_full : LogFull ≡ 
 
   pub here_other : (s : Standing) (e : Event) → IsOwn e → refusal_here s e ≡ Some x → ⊥
   here_other s (Deliver seqno w) own is = absurd own
+  here_other s (SetWindow seqno size source trx) own is = absurd own
   here_other s Log own is = log_other s s.phase is
   here_other s Sync own is = none_other is
   here_other s Check own is = check_other s s.stage is
@@ -208,6 +173,7 @@ not_a_fault = refusal_other DiskFault (λ is. let never : NotDue ≡ DiskFault =
 -- no own step is answered by a refusal where none came
 pub answers_none : (r : Refusal) (s : Standing) (e : Event) (f : Found) → IsOwn e → Refused r ≡ answer s e f → ⊥
 answers_none r s (Deliver seqno w) f own is = absurd own
+answers_none r s (SetWindow seqno size source trx) f own is = absurd own
 answers_none r s Log f own is = cc
 answers_none r s Sync f own is = cc
 answers_none r s Check f own is = begins s.stage is
@@ -218,14 +184,6 @@ answers_none r s Check f own is = begins s.stage is
     begins (Retiring written) is = cc
 answers_none r s (Flush page) f own is = cc
 answers_none r s (Read key at) f own is = absurd own
-
-own_runs : (s : Standing) (e : Event) (f : Found) → IsOwn e → (after s e f).stopped ≡ s.stopped
-own_runs s (Deliver seqno w) f own = absurd own
-own_runs s Log f own = refl
-own_runs s Sync f own = refl
-own_runs s Check f own = refl
-own_runs s (Flush page) f own = refl
-own_runs s (Read key at) f own = absurd own
 
 -- Where a device failed it is stopped, and nowhere else.
 abbrev pub StopsBy : Refusal → Standing → Type 0
@@ -242,13 +200,6 @@ failed_stops s e r t running (inl (inl hungry)) = let is = same_refusal OutOfMem
 failed_stops s e r t running (inl (inr fault)) = inl (same_refusal DiskFault r fault.1, ap (λ (u : Standing). u.stopped) fault.3)
 failed_stops s e r t running (inr corrupt) = let is = same_refusal (Corrupt Pages) r corrupt.1 in inr (λ fault. corrupt_is_none (sym is ∙ fault), ap (λ (u : Standing). u.stopped) corrupt.2 ∙ running)
 
-done_runs : (s : Standing) (e : Event) (a : Answer) (t : Standing) → IsOwn e → outcome_of a ≡ Ok tt → (o : Option Refusal) → MatchOption o (Outcome s e a t) (λ r. (a ≡ Refused r) × (t ≡ s)) → t.stopped ≡ s.stopped
-done_runs s e a t own done (Some r) m = absurd (not_refused r a m.0 done)
-done_runs s e a t own done None (inl went) = ap (λ (u : Standing). u.stopped) went.2 ∙ own_runs s e went.0 own
-done_runs s e a t own done None (inr (inl (inl hungry))) = absurd (not_refused OutOfMemory a hungry.1 done)
-done_runs s e a t own done None (inr (inl (inr fault))) = absurd (not_refused DiskFault a fault.1 done)
-done_runs s e a t own done None (inr (inr corrupt)) = absurd (not_refused (Corrupt Pages) a corrupt.1 done)
-
 -- none of them tells that it is stopped; and where one is refused the replica is stopped by the device alone
 last_stops : (s : Standing) (e : Event) (r : Refusal) (t : Standing) → s.stopped ≡ false → IsOwn e → (o : Option Refusal) → refusal s e ≡ o → MatchOption o (Outcome s e (Refused r) t) (λ q. (Refused r ≡ Refused q) × (t ≡ s)) → (r ≢ Stopped) × StopsBy r t
 last_stops s e r t running own (Some q) is m =
@@ -264,18 +215,12 @@ last_stops s e r t running own None is (inr failed) = (other failed, failed_stop
     other (inl (inr fault)) is = let never : DiskFault ≡ Stopped = sym (same_refusal DiskFault r fault.1) ∙ is in cc
     other (inr corrupt) is = let never : Corrupt Pages ≡ Stopped = sym (same_refusal (Corrupt Pages) r corrupt.1) ∙ is in cc
 
-runs_on : (events : List Event) (answers : List Answer) (s t : Standing) → AreOwn events → AreDone answers → Runs IsDue s events answers t → t.stopped ≡ s.stopped
-runs_on [] [] s t own done run = ap (λ (u : Standing). u.stopped) (sym run)
-runs_on [] (a ∷ answers) s t own done run = absurd run
-runs_on (e ∷ events) [] s t own done run = absurd run
-runs_on (e ∷ events) (a ∷ answers) s t own done run = runs_on events answers run.0 t own.1 done.1 run.2 ∙ done_runs s e a run.0 own.0 done.0 (refusal s e) run.1.1
-
 runs_stop : (r : Refusal) (done : List Answer) (events : List Event) (s t : Standing) → s.stopped ≡ false → AreOwn events → AreDone done → Runs IsDue s events (done ++ Refused r ∷ []) t → (r ≢ Stopped) × StopsBy r t
 runs_stop r [] [] s t running own are run = absurd run
 runs_stop r [] (e ∷ []) s t running own are run = subst (λ (u : Standing). (r ≢ Stopped) × StopsBy r u) run.2 (last_stops s e r run.0 running own.0 (refusal s e) refl run.1.1)
 runs_stop r [] (e ∷ (f ∷ events)) s t running own are run = absurd run.2
 runs_stop r (a ∷ done) [] s t running own are run = absurd run
-runs_stop r (a ∷ done) (e ∷ events) s t running own are run = runs_stop r done events run.0 t (done_runs s e a run.0 own.0 are.0 (refusal s e) run.1.1 ∙ running) own.1 are.1 run.2
+runs_stop r (a ∷ done) (e ∷ events) s t running own are run = runs_stop r done events run.0 t ((move_serves s e a run.0 (done_is_none a are.0) run.1.1).stopped ∙ running) own.1 are.1 run.2
 
 -- ---- the same of a node: as much was delivered then
 
@@ -288,6 +233,7 @@ opening_within (Opening n) = omega arith
 
 own_count : (n : Node) (e : Event) → IsNode n → IsOwn e → delivered (moved n e).facts ≡ delivered n.facts
 own_count n (Deliver seqno w) node own = absurd own
+own_count n (SetWindow seqno size source trx) node own = absurd own
 own_count n Log node own = refl
 own_count n Sync node own = omega (arith, length-drop (opening n.facts.phase) n.facts.ahead, opening_within n.facts.phase, node.facts.block)
 own_count n Check node own = refl
@@ -396,7 +342,7 @@ module _ (by_items : HistoryByItems) where
     -- it settled, as far as it came
     pub settled : NodesStayNodes → RunsComeTo → (old new : Replica D) (result : Result (Unit {0}) Refusal) → Works honest history_of failures old new result → Grown honest history_of failures old new []
     settled stay comes old new result w =
-        let stays = runs_stay w.events w.answers (facts_of failures old) (facts_of failures new) w.own w.moves in
+        let stays = settling_stays w.events w.answers (facts_of failures old) (facts_of failures new) w.moves in
         record {
           uuid = stays.uuid;
           setting = stays.setting;
@@ -420,7 +366,7 @@ module _ (by_items : HistoryByItems) where
         runs_stop e w.ends.0 w.events (facts_of failures old) (facts_of failures new) (is_stopped failures old running) w.own w.ends.1 (subst (λ (answers : List Answer). Runs IsDue (facts_of failures old) w.events answers (facts_of failures new)) w.ends.2 w.moves)
 
     pub settled_ends : (old new : Replica D) (result : Result (Unit {0}) Refusal) → IsRunning old → Works honest history_of failures old new result → EndsRunning result new
-    settled_ends old new (Ok x) running w = is_running new (runs_on w.events w.answers (facts_of failures old) (facts_of failures new) w.own w.ends w.moves ∙ is_stopped failures old running)
+    settled_ends old new (Ok x) running w = is_running new ((settling_serves w.events w.answers (facts_of failures old) (facts_of failures new) w.ends w.moves).stopped ∙ is_stopped failures old running)
     settled_ends old new (Err e) running w = ends_running new e (ended_in old new e running w).1
 
     pub settle_early : (old new : Replica D) (result : Result (Unit {0}) Refusal) → IsRunning old → Works honest history_of failures old new result → IfErr result (λ e. (e ≡ Stopped) ⊎ EndsEarly e) → IfErr result EndsEarly
@@ -430,19 +376,20 @@ module _ (by_items : HistoryByItems) where
 
     -- ---- an item was delivered
 
-    module _ (joined : RunsAreJoined honest history_of failures) (holds_order : NodesHoldTheOrder) (follow : StepsFollowTheOrder) (old new : Replica D) (seqno : ℕ) (w : Transaction) where
+    module _ (joined : RunsAreJoined honest history_of failures) (holds_order : NodesHoldTheOrder) (follow : StepsFollowTheOrder) (old new : Replica D) (seqno : ℕ) (i : Item) where
       abbrev one_item : ℕ → Verdict → List Judged
-      one_item k v = record { seqno = k; item = WriteSet w; verdict = v } ∷ []
+      one_item k v = record { seqno = k; item = i; verdict = v } ∷ []
 
-      item_is : (L : Order) (n : Node) (v : Verdict) → IsNode n → seqno ≡ delivered n.facts + 1 → IsOf L n → ((r : Refusal) × (Gave v ≡ Refused r)) ⊎ (Gave v ≡ answer_of L n.facts (Deliver seqno w))
-          → one_item seqno v ≡ (drop (length L) (history n.facts.setting (L ++ WriteSet w ∷ [])))
+      item_is : (L : Order) (n : Node) (v : Verdict) → IsNode n → seqno ≡ delivered n.facts + 1 → IsOf L n → ((r : Refusal) × (Gave v ≡ Refused r)) ⊎ (Gave v ≡ answer_of L n.facts (delivery seqno i))
+          → one_item seqno v ≡ (drop (length L) (history n.facts.setting (L ++ i ∷ [])))
       item_is L n v node next of (inl refused) = absurd cc
       item_is L n v node next of (inr gave) =
           let p : Setting = n.facts.setting in
           let count : seqno ≡ length L + 1 = omega (arith, next, (holds_order L n node of).count) in
-          let told : v ≡ verdict p (L ++ WriteSet w ∷ []) (length L + 1) = cc in
+          let same : Gave v ≡ Gave (verdict p (L ++ i ∷ []) (length L + 1)) = gave ∙ delivery_answered seqno L n.facts i in
+          let told : v ≡ verdict p (L ++ i ∷ []) (length L + 1) = cc in
           ap (λ (k : ℕ). one_item k v) count ∙ ap (one_item (length L + 1)) told
-          ∙ sym (one_behind p L (WriteSet w))
+          ∙ sym (one_behind p L i)
 
       pub record Came (s t : Standing) : Type 0 where
         pub uuid : t.uuid ≡ s.uuid
@@ -450,80 +397,75 @@ module _ (by_items : HistoryByItems) where
         pub count : delivered t ≡ delivered s + 1
         pub stopped : t.stopped ≡ s.stopped
 
-      came_by : (s t : Standing) (v : Verdict) (o : Option Refusal) → MatchOption o (Outcome s (Deliver seqno w) (Gave v) t) (λ r. (Gave v ≡ Refused r) × (t ≡ s)) → Came s t
+      came_by : (s t : Standing) (v : Verdict) (o : Option Refusal) → MatchOption o (Outcome s (delivery seqno i) (Gave v) t) (λ r. (Gave v ≡ Refused r) × (t ≡ s)) → Came s t
       came_by s t v (Some r) m = let never = m.0 in absurd cc
-      came_by s t v None (inl went) = subst (Came s) (sym went.2) (record { uuid = refl; setting = refl; count = omega (arith, length_push s.ahead (next_item s w went.0.verdict)); stopped = refl })
+      came_by s t v None (inl went) = subst (Came s) (sym (went.2 ∙ delivery_after seqno s i went.0)) (record { uuid = refl; setting = refl; count = omega (arith, length_push s.ahead (next_item s i went.0.verdict)); stopped = refl })
       came_by s t v None (inr (inl (inl hungry))) = let never = hungry.1 in absurd cc
       came_by s t v None (inr (inl (inr fault))) = let never = fault.1 in absurd cc
       came_by s t v None (inr (inr corrupt)) = let never = corrupt.1 in absurd cc
 
-      pub came : (v : Verdict) → Moves (facts_of failures old) (Deliver seqno w) (Gave v) (facts_of failures new) → Came (facts_of failures old) (facts_of failures new)
-      came v m = came_by (facts_of failures old) (facts_of failures new) v (refusal (facts_of failures old) (Deliver seqno w)) m
+      pub came : (v : Verdict) → Moves (facts_of failures old) (delivery seqno i) (Gave v) (facts_of failures new) → Came (facts_of failures old) (facts_of failures new)
+      came v m = came_by (facts_of failures old) (facts_of failures new) v (refusal (facts_of failures old) (delivery seqno i)) m
 
-      pub delivered_runs : (v : Verdict) → IsRunning old → Moves (facts_of failures old) (Deliver seqno w) (Gave v) (facts_of failures new) → IsRunning new
+      pub delivered_runs : (v : Verdict) → IsRunning old → Moves (facts_of failures old) (delivery seqno i) (Gave v) (facts_of failures new) → IsRunning new
       delivered_runs v running m = is_running new ((came v m).stopped ∙ is_stopped failures old running)
 
-      delivered_one : (v : Verdict) → seqno ≡ delivered (facts_of failures old) + 1 → IsStep honest history_of failures old (Deliver seqno w) (Gave v) new → Grown honest history_of failures old new (record { seqno = seqno; item = WriteSet w; verdict = v } ∷ [])
+      delivered_one : (v : Verdict) → seqno ≡ delivered (facts_of failures old) + 1 → IsStep honest history_of failures old (delivery seqno i) (Gave v) new → Grown honest history_of failures old new (record { seqno = seqno; item = i; verdict = v } ∷ [])
       delivered_one v next step =
           let is = came v step.moves in
           record {
             uuid = is.uuid;
             setting = is.setting;
             count = omega (arith, is.count);
-            events = Deliver seqno w ∷ [];
+            events = delivery seqno i ∷ [];
             answers = Gave v ∷ [];
             paired = refl;
-            ran = joined.one_run old new (Deliver seqno w) (Gave v) step;
-            accepted = refl;
+            ran = joined.one_run old new (delivery seqno i) (Gave v) step;
+            accepted = ap (λ (M : Order). M ++ []) (delivery_accepted seqno i v);
             node = λ n holds.
                 let st = step.steps n holds in
                 let there : seqno ≡ delivered n.facts + 1 = next ∙ ap (λ (s : Standing). delivered s + 1) (sym holds.facts) in (
                   st.0,
                   record {
                     count = ap delivered st.2.facts ∙ is.count ∙ ap (λ (s : Standing). delivered s + 1) (sym holds.facts);
-                    order = λ L of. (follow L n st.0 (Deliver seqno w) (Gave v) holds.node of st.1).order;
-                    judged = λ L of. item_is L n v holds.node there of (follow L n st.0 (Deliver seqno w) (Gave v) holds.node of st.1).answered;
+                    order = λ L of. subst (λ (M : Order). IsOf (L ++ M) st.0) (delivery_accepted seqno i v) (follow L n st.0 (delivery seqno i) (Gave v) holds.node of st.1).order;
+                    judged = λ L of. item_is L n v holds.node there of (follow L n st.0 (delivery seqno i) (Gave v) holds.node of st.1).answered;
                   },
                   st.2,
                 );
           }
 
-      pub delivered_judged : (j : Judged) (v : Verdict) → j.seqno ≡ seqno → j.item ≡ WriteSet w → v ≡ j.verdict → seqno ≡ delivered (facts_of failures old) + 1 → IsStep honest history_of failures old (Deliver seqno w) (Gave v) new
+      pub delivered_judged : (j : Judged) (v : Verdict) → j.seqno ≡ seqno → j.item ≡ i → v ≡ j.verdict → seqno ≡ delivered (facts_of failures old) + 1 → IsStep honest history_of failures old (delivery seqno i) (Gave v) new
           → Grown honest history_of failures old new (j ∷ [])
       delivered_judged j v at item judged next step =
           subst (λ (k : Judged). Grown honest history_of failures old new (k ∷ []))
-          (ap (λ (n : ℕ). judged_as n (WriteSet w) v) (sym at) ∙ ap (λ (i : Item). judged_as j.seqno i v) (sym item) ∙ ap (judged_as j.seqno j.item) judged)
+          (ap (λ (n : ℕ). judged_as n i v) (sym at) ∙ ap (λ (i : Item). judged_as j.seqno i v) (sym item) ∙ ap (judged_as j.seqno j.item) judged)
           (delivered_one v next step)
 
       -- one that was refused
 
-      pub refused_stays : (r : Refusal) (s t : Standing) (o : Option Refusal) → MatchOption o (Outcome s (Deliver seqno w) (Refused r) t) (λ q. (Refused r ≡ Refused q) × (t ≡ s)) → Stays s t
-      refused_stays r s t (Some q) m = subst (Stays s) (sym m.1) (stays_here s)
-      refused_stays r s t None (inl went) = let never = went.1 in absurd cc
-      refused_stays r s t None (inr failed) = failed_stays s (Deliver seqno w) (Refused r) t failed
-
       refused_count : (r : Refusal) (n m : Node) (o : Option Refusal)
-          → MatchOption o (((Refused r ≡ answer n.facts (Deliver seqno w) (found n (Deliver seqno w))) × (m ≡ moved n (Deliver seqno w))) ⊎ (Fails n.facts (Deliver seqno w) (Refused r) m.facts × (m ≡ record n { facts = m.facts }))) (λ q. (Refused r ≡ Refused q) × (m ≡ n))
+          → MatchOption o (((Refused r ≡ answer n.facts (delivery seqno i) (found n (delivery seqno i))) × (m ≡ moved n (delivery seqno i))) ⊎ (Fails n.facts (delivery seqno i) (Refused r) m.facts × (m ≡ record n { facts = m.facts }))) (λ q. (Refused r ≡ Refused q) × (m ≡ n))
           → delivered m.facts ≡ delivered n.facts
       refused_count r n m (Some q) st = ap (λ (k : Node). delivered k.facts) st.1
-      refused_count r n m None (inl went) = let never = went.0 in absurd cc
-      refused_count r n m None (inr (failed, rest)) = failed_count n m (Deliver seqno w) (Refused r) failed
+      refused_count r n m None (inl went) = let never = went.0 ∙ delivery_answer seqno n.facts i (found n (delivery seqno i)) in absurd cc
+      refused_count r n m None (inr (failed, rest)) = failed_count n m (delivery seqno i) (Refused r) failed
 
-      pub delivered_none : (r : Refusal) → IsStep honest history_of failures old (Deliver seqno w) (Refused r) new → Grown honest history_of failures old new []
+      pub delivered_none : (r : Refusal) → IsStep honest history_of failures old (delivery seqno i) (Refused r) new → Grown honest history_of failures old new []
       delivered_none r step =
-          let stays = refused_stays r (facts_of failures old) (facts_of failures new) (refusal (facts_of failures old) (Deliver seqno w)) step.moves in
+          let stays = move_stays (facts_of failures old) (delivery seqno i) (Refused r) (facts_of failures new) step.moves in
           record {
             uuid = stays.uuid;
             setting = stays.setting;
             count = omega (arith, stays.count);
-            events = Deliver seqno w ∷ [];
+            events = delivery seqno i ∷ [];
             answers = Refused r ∷ [];
             paired = refl;
-            ran = joined.one_run old new (Deliver seqno w) (Refused r) step;
-            accepted = refl;
+            ran = joined.one_run old new (delivery seqno i) (Refused r) step;
+            accepted = ap (λ (M : Order). M ++ []) (delivery_not_accepted seqno i r);
             node = λ n holds.
                 let st = step.steps n holds in
-                (st.0, grows_none n st.0 (refused_count r n st.0 (refusal n.facts (Deliver seqno w)) st.1) (λ L of. (follow L n st.0 (Deliver seqno w) (Refused r) holds.node of st.1).order), st.2);
+                (st.0, grows_none n st.0 (refused_count r n st.0 (refusal n.facts (delivery seqno i)) st.1) (λ L of. subst (λ (M : Order). IsOf (L ++ M) st.0) (delivery_not_accepted seqno i r) (follow L n st.0 (delivery seqno i) (Refused r) holds.node of st.1).order), st.2);
           }
 
 -- ---- why an item is refused that is the next one
@@ -536,51 +478,48 @@ free_by : (uuid : List ℕ) (n seqno : ℕ) (js : List Judged) → is_nil_bytes 
     → (if is_nil_bytes uuid then Some Undefined else if n == MAX_SEQNO then Some Exhausted else if not (seqno == n + 1) then Some (OutOfOrder (n + 1)) else if nat_le MAX_AHEAD (length js) then Some Backlogged else None) ≡ None
 free_by uuid n seqno js nil most order few = rw nil (rw most (rw order (rw few refl)))
 
-pub next_free : (s : Standing) (seqno : ℕ) (w : Transaction) → s.stopped ≡ false → (IsNil s.uuid → ⊥) → seqno ≡ delivered s + 1 → seqno ≤ MAX_SEQNO → length s.ahead < MAX_AHEAD → refusal s (Deliver seqno w) ≡ None
-next_free s seqno w running not next limit few =
-    ap (λ t. if t then Some Stopped else delivery_refusal s seqno) running
+pub next_free : (s : Standing) (seqno : ℕ) (i : Item) → s.stopped ≡ false → (IsNil s.uuid → ⊥) → seqno ≡ delivered s + 1 → seqno ≤ MAX_SEQNO → length s.ahead < MAX_AHEAD → refusal s (delivery seqno i) ≡ None
+next_free s seqno i running not next limit few =
+    delivery_refused seqno s i ∙ ap (λ t. if t then Some Stopped else delivery_refusal s seqno) running
     ∙ free_by s.uuid (delivered s) seqno s.ahead (not_nil s.uuid not (is_nil_bytes s.uuid) refl) (grind (arith, nat_tests, next, limit)) (grind (arith, nat_tests, next)) (grind (arith, nat_tests, few))
 
 -- a delivery is answered by a verdict or a refusal
-pub delivery_answers : (s t : Standing) (seqno : ℕ) (w : Transaction) (a : Answer) → Moves s (Deliver seqno w) a t → ((v : Verdict) × (a ≡ Gave v)) ⊎ ((r : Refusal) × (a ≡ Refused r))
-delivery_answers s t seqno w a m = by (refusal s (Deliver seqno w)) m
+pub delivery_answers : (s t : Standing) (seqno : ℕ) (i : Item) (a : Answer) → Moves s (delivery seqno i) a t → ((v : Verdict) × (a ≡ Gave v)) ⊎ ((r : Refusal) × (a ≡ Refused r))
+delivery_answers s t seqno i a m = by (refusal s (delivery seqno i)) m
   where
-    by : (o : Option Refusal) → MatchOption o (Outcome s (Deliver seqno w) a t) (λ r. (a ≡ Refused r) × (t ≡ s)) → ((v : Verdict) × (a ≡ Gave v)) ⊎ ((r : Refusal) × (a ≡ Refused r))
+    by : (o : Option Refusal) → MatchOption o (Outcome s (delivery seqno i) a t) (λ r. (a ≡ Refused r) × (t ≡ s)) → ((v : Verdict) × (a ≡ Gave v)) ⊎ ((r : Refusal) × (a ≡ Refused r))
     by (Some r) m = inr (r, m.0)
-    by None (inl went) = inl (went.0.verdict, went.1)
+    by None (inl went) = inl (went.0.verdict, went.1 ∙ delivery_answer seqno s i went.0)
     by None (inr (inl (inl hungry))) = inr (OutOfMemory, hungry.1)
     by None (inr (inl (inr fault))) = inr (DiskFault, fault.1)
     by None (inr (inr corrupt)) = inr (Corrupt Pages, corrupt.1)
 
-early_by : (s t : Standing) (seqno : ℕ) (w : Transaction) (e : Refusal) → s.stopped ≡ false → Outcome s (Deliver seqno w) (Refused e) t → EndsEarly e × StopsBy e t
-early_by s t seqno w e running (inl went) = let never = went.1 in absurd cc
-early_by s t seqno w e running (inr failed) = (by failed, failed_stops s (Deliver seqno w) e t running failed)
+early_by : (s t : Standing) (seqno : ℕ) (i : Item) (e : Refusal) → s.stopped ≡ false → Outcome s (delivery seqno i) (Refused e) t → EndsEarly e × StopsBy e t
+early_by s t seqno i e running (inl went) = let never = went.1 ∙ delivery_answer seqno s i went.0 in absurd cc
+early_by s t seqno i e running (inr failed) = (by failed, failed_stops s (delivery seqno i) e t running failed)
   where
-    by : Fails s (Deliver seqno w) (Refused e) t ⊎ MeetsCorruption s (Deliver seqno w) (Refused e) t → EndsEarly e
+    by : Fails s (delivery seqno i) (Refused e) t ⊎ MeetsCorruption s (delivery seqno i) (Refused e) t → EndsEarly e
     by (inl (inl hungry)) = inl (same_refusal OutOfMemory e hungry.1)
     by (inl (inr fault)) = inr (inl (same_refusal DiskFault e fault.1))
     by (inr corrupt) = inr (inr (same_refusal (Corrupt Pages) e corrupt.1))
 
-pub delivery_early : (s t : Standing) (seqno : ℕ) (w : Transaction) (e : Refusal) → s.stopped ≡ false → (IsNil s.uuid → ⊥) → seqno ≡ delivered s + 1 → seqno ≤ MAX_SEQNO → length s.ahead < MAX_AHEAD → Moves s (Deliver seqno w) (Refused e) t → EndsEarly e × StopsBy e t
-delivery_early s t seqno w e running not next limit few m =
-    early_by s t seqno w e running
-    (subst (λ (o : Option Refusal). MatchOption o (Outcome s (Deliver seqno w) (Refused e) t) (λ r. (Refused e ≡ Refused r) × (t ≡ s)))
-    (next_free s seqno w running not next limit few) m)
+pub delivery_early : (s t : Standing) (seqno : ℕ) (i : Item) (e : Refusal) → s.stopped ≡ false → (IsNil s.uuid → ⊥) → seqno ≡ delivered s + 1 → seqno ≤ MAX_SEQNO → length s.ahead < MAX_AHEAD → Moves s (delivery seqno i) (Refused e) t → EndsEarly e × StopsBy e t
+delivery_early s t seqno i e running not next limit few m =
+    early_by s t seqno i e running
+    (subst (λ (o : Option Refusal). MatchOption o (Outcome s (delivery seqno i) (Refused e) t) (λ r. (Refused e ≡ Refused r) × (t ≡ s)))
+    (next_free s seqno i running not next limit few) m)
 
 -- ---- why an item isn't the next one
-
-same_set : (v w : Transaction) → WriteSet v ≡ WriteSet w → v ≡ w
-same_set v w is = cc
 
 module _ {D : Type 0} (failures : D → ℕ) (r : Replica D) (j : Judged) (at : ℕ) where
   pub out_by_seqno : (n : ℕ) → n ≡ delivered (facts_of failures r) → (j.seqno ≡ n + 1 → ⊥) → IsOut failures r (Record j) at (Malformed at)
   out_by_seqno n here other = inr (refl, λ may. other (may.1.seqno ∙ ap (λ k. k + 1) (sym here)))
 
-  pub out_by_verdict : (w : Transaction) → j.item ≡ WriteSet w → (verdict_of r.certifier.current (WriteSet w) ≡ j.verdict → ⊥) → IsOut failures r (Record j) at (Malformed at)
-  out_by_verdict w is other =
-      inr (
-        refl,
-        λ may.
-            let same : may.1.write_set ≡ w = same_set may.1.write_set w (sym may.1.item ∙ is) in
-            other (ap (λ (x : Transaction). verdict_of r.certifier.current (WriteSet x)) (sym same) ∙ sym may.1.verdict),
-      )
+  pub out_by_verdict : (verdict_of r.certifier.current j.item ≡ j.verdict → ⊥) → IsOut failures r (Record j) at (Malformed at)
+  out_by_verdict other = inr (refl, λ may. other (sym may.1.verdict))
+
+-- ---- by which verdict it is answered
+
+pub judged_is : (h : Holding) (seqno : ℕ) (i : Item) (v : Verdict) → IsJudgedBy h (delivery seqno i) (Gave v) → v ≡ verdict_of h i
+judged_is h seqno (WriteSet w) v is = is
+judged_is h seqno (OfChange c) v is = is

@@ -8,29 +8,31 @@ use Rattle.rep_types.specs.declared.refusal.Part.TheVariants.{Pages}
 use Rattle.rep_types.specs.declared.judged.Judged.{Judged}
 use Rattle.rep_types.specs.declared.verdict.Verdict.{Verdict}
 use Rattle.rep_types.specs.declared.limits.TheConstants.{MAX_SEQNO, MAX_AHEAD}
-use Rattle.rep_types.specs.Transactions.{Transaction}
+use Rattle.rep_types.specs.declared.item.Item.{Item}
 use Rattle.rep_disk.specs.History.{History}
 use Rattle.rep_disk.specs.Calls.{Rises, IsCall}
 use Rattle.rep_layout.specs.declared.format.Format.{Format}
 use Rattle.rep_layout.specs.Supers.{IsNil}
 use Rattle.rep_log.specs.Moves.{fault_of}
 use Rattle.rep_steps.specs.declared.event.Event.{Event}
-use Rattle.rep_steps.specs.declared.event.Event.TheVariants.{Deliver}
+use Rattle.rep_steps.specs.Events.{delivery}
+use Rattle.rep_steps.specs.Deliveries.{delivery_answer, delivery_reads_nothing}
 use Rattle.rep_steps.specs.declared.answer.Answer.{Answer}
 use Rattle.rep_steps.specs.declared.answer.Answer.TheVariants.{Gave, Refused}
 use Rattle.rep_steps.specs.Standings.{Standing, delivered, refusal, refusal_here}
 use Rattle.rep_steps.specs.Moves.{Moves, Fails, MeetsCorruption, answer}
 use Rattle.rep_steps.specs.Nodes.{Node, Steps, moved, found}
-use Rattle.rep_steps.specs.FactLaws.{after_failures}
+use Rattle.rep_steps.specs.FactLaws.{move_serves}
 use Rattle.rep_steps.specs.Runs.{Runs}
 use Rattle.rep_replica.specs.Replicas.{Replica, facts_of}
 use Rattle.rep_replica.specs.Refusing.{IsFaultToldBy, TellsFaults}
 use Rattle.rep_replica.specs.Holding.{Holds}
-use Rattle.rep_replica.specs.Settling.{IsDue, IsOwn, AreOwn, AreDone, outcome_of, Works}
+use Rattle.rep_replica.specs.SettlingLaws.{settling_serves, done_is_none}
+use Rattle.rep_replica.specs.Settling.{IsDue, IsOwn, AreOwn, AreDone, Works}
 use Rattle.rep_catchup.specs.Growing.{Grown, IsToldBy, Tells}
 use Rattle.rep_catchup.specs.Joining.{RefusesHeader}
 use Rattle.rep_catchup.specs.Snapshots.{BringsEarly}
-use Rattle.rep_catchup.proofs.JoinGrowing.{Outcome, not_refused, same_refusal, answers_none, memory_is_none, corrupt_is_none, if_other, here_other, next_free}
+use Rattle.rep_catchup.proofs.JoinGrowing.{Outcome, same_refusal, answers_none, memory_is_none, corrupt_is_none, if_other, here_other, next_free}
 
 -- ---- which refusal is which
 
@@ -85,14 +87,6 @@ own_refusal x not_due not_full not_stopped s e own is = if_other x not_due not_f
 
 -- ---- steps of its own
 
--- one that is done counts no failure
-done_failures : (s : Standing) (e : Event) (a : Answer) (t : Standing) → outcome_of a ≡ Ok tt → (o : Option Refusal) → MatchOption o (Outcome s e a t) (λ r. (a ≡ Refused r) × (t ≡ s)) → t.failures ≡ s.failures
-done_failures s e a t done (Some r) m = absurd (not_refused r a m.0 done)
-done_failures s e a t done None (inl went) = ap (λ (u : Standing). u.failures) went.2 ∙ after_failures s e went.0
-done_failures s e a t done None (inr (inl (inl hungry))) = absurd (not_refused OutOfMemory a hungry.1 done)
-done_failures s e a t done None (inr (inl (inr fault))) = absurd (not_refused DiskFault a fault.1 done)
-done_failures s e a t done None (inr (inr corrupt)) = absurd (not_refused (Corrupt Pages) a corrupt.1 done)
-
 -- one that failed tells of the device exactly where that did
 failed_tells : (s : Standing) (e : Event) (r : Refusal) (t : Standing) → Fails s e (Refused r) t ⊎ MeetsCorruption s e (Refused r) t → IsFaultToldBy s.failures t.failures r
 failed_tells s e r t (inl (inl hungry)) = subst (IsFaultToldBy s.failures t.failures) (sym (same_refusal OutOfMemory r hungry.1)) (told_of_none s.failures t.failures OutOfMemory memory_is_none (ap (λ (u : Standing). u.failures) hungry.2))
@@ -106,18 +100,12 @@ last_tells s e r t own (Some q) is m =
 last_tells s e r t own None is (inl went) = absurd (answers_none r s e went.0 own went.1)
 last_tells s e r t own None is (inr failed) = failed_tells s e r t failed
 
-runs_count_none : (events : List Event) (answers : List Answer) (s t : Standing) → AreDone answers → Runs IsDue s events answers t → t.failures ≡ s.failures
-runs_count_none [] [] s t done run = ap (λ (u : Standing). u.failures) (sym run)
-runs_count_none [] (a ∷ answers) s t done run = absurd run
-runs_count_none (e ∷ events) [] s t done run = absurd run
-runs_count_none (e ∷ events) (a ∷ answers) s t done run = runs_count_none events answers run.0 t done.1 run.2 ∙ done_failures s e a run.0 done.0 (refusal s e) run.1.1
-
 runs_tell : (r : Refusal) (done : List Answer) (events : List Event) (s t : Standing) → AreOwn events → AreDone done → Runs IsDue s events (done ++ Refused r ∷ []) t → IsFaultToldBy s.failures t.failures r
 runs_tell r [] [] s t own are run = absurd run
 runs_tell r [] (e ∷ []) s t own are run = subst (λ (u : Standing). IsFaultToldBy s.failures u.failures r) run.2 (last_tells s e r run.0 own.0 (refusal s e) refl run.1.1)
 runs_tell r [] (e ∷ (f ∷ events)) s t own are run = absurd run.2
 runs_tell r (a ∷ done) [] s t own are run = absurd run
-runs_tell r (a ∷ done) (e ∷ events) s t own are run = subst (λ (k : ℕ). IsFaultToldBy k t.failures r) (done_failures s e a run.0 are.0 (refusal s e) run.1.1) (runs_tell r done events run.0 t own.1 are.1 run.2)
+runs_tell r (a ∷ done) (e ∷ events) s t own are run = subst (λ (k : ℕ). IsFaultToldBy k t.failures r) (move_serves s e a run.0 (done_is_none a are.0) run.1.1).failures (runs_tell r done events run.0 t own.1 are.1 run.2)
 
 -- ---- steps of its own at a node: none meets a page that is not of its form
 
@@ -137,19 +125,19 @@ runs_are_whole part r (a ∷ done) (e ∷ events) n m own is run = runs_are_whol
 
 -- ---- an item that is delivered
 
-pub gave_tells : (s t : Standing) (seqno : ℕ) (w : Transaction) (v : Verdict) → Moves s (Deliver seqno w) (Gave v) t → t.failures ≡ s.failures
-gave_tells s t seqno w v m = done_failures s (Deliver seqno w) (Gave v) t refl (refusal s (Deliver seqno w)) m
+pub gave_tells : (s t : Standing) (seqno : ℕ) (i : Item) (v : Verdict) → Moves s (delivery seqno i) (Gave v) t → t.failures ≡ s.failures
+gave_tells s t seqno i v m = (move_serves s (delivery seqno i) (Gave v) t (done_is_none (Gave v) refl) m).failures
 
 -- it reads no page
-delivery_is_whole : (s t : Standing) (seqno : ℕ) (w : Transaction) (e : Refusal) (part : Part) → Outcome s (Deliver seqno w) (Refused e) t → e ≢ Corrupt part
-delivery_is_whole s t seqno w e part (inl went) is = let never = went.1 in absurd cc
-delivery_is_whole s t seqno w e part (inr (inl (inl hungry))) is = memory_is_whole part (sym (same_refusal OutOfMemory e hungry.1) ∙ is)
-delivery_is_whole s t seqno w e part (inr (inl (inr fault))) is = fault_is_whole part (sym (same_refusal DiskFault e fault.1) ∙ is)
-delivery_is_whole s t seqno w e part (inr (inr corrupt)) is = let never : false ≡ true = corrupt.0 in cc
+delivery_is_whole : (s t : Standing) (seqno : ℕ) (i : Item) (e : Refusal) (part : Part) → Outcome s (delivery seqno i) (Refused e) t → e ≢ Corrupt part
+delivery_is_whole s t seqno i e part (inl went) is = let never = went.1 ∙ delivery_answer seqno s i went.0 in absurd cc
+delivery_is_whole s t seqno i e part (inr (inl (inl hungry))) is = memory_is_whole part (sym (same_refusal OutOfMemory e hungry.1) ∙ is)
+delivery_is_whole s t seqno i e part (inr (inl (inr fault))) is = fault_is_whole part (sym (same_refusal DiskFault e fault.1) ∙ is)
+delivery_is_whole s t seqno i e part (inr (inr corrupt)) is = let never : false ≡ true = sym (delivery_reads_nothing seqno i) ∙ corrupt.0 in cc
 
-delivery_tells : (s t : Standing) (seqno : ℕ) (w : Transaction) (e : Refusal) → Outcome s (Deliver seqno w) (Refused e) t → IsFaultToldBy s.failures t.failures e
-delivery_tells s t seqno w e (inl went) = let never = went.1 in absurd cc
-delivery_tells s t seqno w e (inr failed) = failed_tells s (Deliver seqno w) e t failed
+delivery_tells : (s t : Standing) (seqno : ℕ) (i : Item) (e : Refusal) → Outcome s (delivery seqno i) (Refused e) t → IsFaultToldBy s.failures t.failures e
+delivery_tells s t seqno i e (inl went) = let never = went.1 ∙ delivery_answer seqno s i went.0 in absurd cc
+delivery_tells s t seqno i e (inr failed) = failed_tells s (delivery seqno i) e t failed
 
 -- ---- of a replica
 
@@ -191,7 +179,7 @@ module _ {D : Type 0} (honest : D → Type 0) (history : D → History) (failure
   -- ---- it settles
 
   pub settled_tells : (old new : Replica D) (result : Result (Unit {0}) Refusal) → Works honest history failures old new result → Tells honest history failures old new result
-  settled_tells old new (Ok x) w = runs_count_none w.events w.answers (facts_of failures old) (facts_of failures new) w.ends w.moves
+  settled_tells old new (Ok x) w = (settling_serves w.events w.answers (facts_of failures old) (facts_of failures new) w.ends w.moves).failures
   settled_tells old new (Err e) w = record {
     faults = runs_tell e w.ends.0 w.events (facts_of failures old) (facts_of failures new) w.own w.ends.1 (subst (λ (answers : List Answer). Runs IsDue (facts_of failures old) w.events answers (facts_of failures new)) w.ends.2 w.moves);
     corrupt = λ is. w.corrupt (ap Err is);
@@ -202,14 +190,14 @@ module _ {D : Type 0} (honest : D → Type 0) (history : D → History) (failure
 
   -- ---- an item is refused
 
-  pub delivery_told : (old new : Replica D) (seqno : ℕ) (w : Transaction) (e : Refusal) → (facts_of failures old).stopped ≡ false → (IsNil (facts_of failures old).uuid → ⊥) → seqno ≡ delivered (facts_of failures old) + 1 → seqno ≤ MAX_SEQNO
-      → length (facts_of failures old).ahead < MAX_AHEAD → Moves (facts_of failures old) (Deliver seqno w) (Refused e) (facts_of failures new) → IsToldBy honest history failures old new e
-  delivery_told old new seqno w e running not next limit few m =
+  pub delivery_told : (old new : Replica D) (seqno : ℕ) (i : Item) (e : Refusal) → (facts_of failures old).stopped ≡ false → (IsNil (facts_of failures old).uuid → ⊥) → seqno ≡ delivered (facts_of failures old) + 1 → seqno ≤ MAX_SEQNO
+      → length (facts_of failures old).ahead < MAX_AHEAD → Moves (facts_of failures old) (delivery seqno i) (Refused e) (facts_of failures new) → IsToldBy honest history failures old new e
+  delivery_told old new seqno i e running not next limit few m =
       let s = facts_of failures old in
       let t = facts_of failures new in
-      let here : Outcome s (Deliver seqno w) (Refused e) t =
-      subst (λ (o : Option Refusal). MatchOption o (Outcome s (Deliver seqno w) (Refused e) t) (λ r. (Refused e ≡ Refused r) × (t ≡ s))) (next_free s seqno w running not next limit few) m in
-      record { faults = delivery_tells s t seqno w e here; corrupt = λ is. absurd (delivery_is_whole s t seqno w e Pages here is); whole = λ n holds part. delivery_is_whole s t seqno w e part here }
+      let here : Outcome s (delivery seqno i) (Refused e) t =
+      subst (λ (o : Option Refusal). MatchOption o (Outcome s (delivery seqno i) (Refused e) t) (λ r. (Refused e ≡ Refused r) × (t ≡ s))) (next_free s seqno i running not next limit few) m in
+      record { faults = delivery_tells s t seqno i e here; corrupt = λ is. absurd (delivery_is_whole s t seqno i e Pages here is); whole = λ n holds part. delivery_is_whole s t seqno i e part here }
 
   -- ---- a snapshot is brought
 

@@ -6,9 +6,7 @@ use Rattle.rep_types.specs.declared.judged.Judged.{Judged}
 use Rattle.rep_types.specs.declared.refusal.Refusal.{Refusal}
 use Rattle.rep_types.specs.declared.refusal.Refusal.TheVariants.{OutOfMemory, DiskFault, Corrupt, Malformed, WrongCluster, StreamFault}
 use Rattle.rep_types.specs.declared.refusal.Part.TheVariants.{Pages}
-use Rattle.rep_types.specs.declared.item.Item.TheVariants.{WriteSet}
 use Rattle.rep_types.specs.Settings.{Setting}
-use Rattle.rep_types.specs.Transactions.{Transaction}
 use Rattle.rep_types.specs.Order.{Order, items_of, state, history as history_of}
 use Rattle.rep_record.specs.Records.{IsRecord}
 use Rattle.rep_cert.specs.Holdings.{verdict_of}
@@ -110,9 +108,7 @@ pub record Joined {D : Type 0} (honest : D → Type 0) (history : D → History)
 -- The record is the replica's next item, and its certifier judges it so: as the node does that the replica stands for, where it stands for one.
 pub record IsNext {D : Type 0} (failures : D → ℕ) (r : Replica D) (j : Judged) : Type 0 where
   pub seqno : j.seqno ≡ delivered (facts_of failures r) + 1
-  pub write_set : Transaction
-  pub item : j.item ≡ WriteSet write_set
-  pub verdict : j.verdict ≡ verdict_of r.certifier.current (WriteSet write_set)
+  pub verdict : j.verdict ≡ verdict_of r.certifier.current j.item
 
 -- The part may come behind what the replica took: it is of a cluster; a record is its next item, an end is where it is. No second snapshot
 -- comes.

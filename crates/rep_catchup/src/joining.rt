@@ -4,7 +4,6 @@ ghost use Rattle.std.specs.Prelude.{◌≡◌, ◌↔◌, ◌||◌, ◌⊎◌, �
 ghost use Rattle.std.specs.Io.KnownBytes.{Consumes};
 ghost use Rattle.rep_types.specs.declared.refusal.Refusal.TheVariants.{Stopped};
 ghost use Rattle.rep_types.specs.declared.limits.TheConstants.{MAX_SEQNO, MAX_AHEAD};
-ghost use Rattle.rep_types.specs.declared.item.Item.TheVariants.{WriteSet as OfWriteSet};
 ghost use Rattle.rep_record.specs.Records.{IsRecord};
 ghost use Rattle.rep_cert.specs.Holdings.{verdict_of};
 ghost use Rattle.rep_layout.specs.Supers.{IsNil};
@@ -27,7 +26,7 @@ use rep_steps::{
     Answer, Event, nodes_hold_the_order, nodes_stay_nodes, runs_come_to, steps_follow_the_order,
 };
 use rep_transfer::{Header, Part, TransferReader, next_part};
-use rep_types::{Item, Judged, MAX_AHEAD, Refusal, Verdict, WriteSet, history_by_items};
+use rep_types::{Item, Judged, MAX_AHEAD, Refusal, Verdict, history_by_items};
 use std::alloc::Global;
 use std::io::Read;
 
@@ -86,9 +85,9 @@ fn make_room<D: Disk>(replica: &mut Replica<D>) -> Result<(), Refusal>
     Ok(())
 }
 
-/// Whether the replica judges the write set so, were it the next item.
-fn judges_so<D: Disk>(replica: &Replica<D>, item: &WriteSet, verdict: Verdict) -> bool
-    ensures { (result ≡ true) ↔ (verdict_of replica.now.certifier.current (OfWriteSet item.now) ≡ verdict) }
+/// Whether the replica judges the item so, were it the next one.
+fn judges_so<D: Disk>(replica: &Replica<D>, item: &Item, verdict: Verdict) -> bool
+    ensures { (result ≡ true) ↔ (verdict_of replica.now.certifier.current item.now ≡ verdict) }
 {
     replica.judge(item) == verdict
 }
@@ -117,13 +116,10 @@ fn deliver<D: Disk>(replica: &mut Replica<D>, judged: Judged, at: u64) -> Result
         item,
         verdict,
     } = judged;
-    let Item::WriteSet(item) = item else {
-        return Err(malformed);
-    };
     if seqno != replica.delivered() + 1 || !judges_so(replica, &item, verdict) {
         return Err(malformed);
     }
-    match replica.step(Event::Deliver(seqno, item)) {
+    match replica.step(Event::delivery(seqno, item)) {
         Answer::Gave(_) => Ok(()),
         Answer::Refused(refusal) => Err(refusal),
         _ => Err(malformed),
@@ -299,7 +295,6 @@ fn take_parts<D: Disk, R: Read>(
 ///
 /// The transfer is of either format, as its header says. A snapshot of format 2 brings its window with size and floor; one of format 1
 /// tells neither: the size is that of the parameters, and the floor the least seqno that this size spans at the position, 1 or more.
-/// The items are write sets: a record of a change of the window's size may not come yet.
 ///
 /// It settles first and last. Refuses with `Stopped`; and else with the first that the transfer meets: `StreamFault` where the reader
 /// fails; `Malformed`, `at` being the number of bytes before the part that is not of its form, is cut short, or may not come there: a

@@ -4,6 +4,7 @@ pub mod Haves
 pub mod Pieces
 pub mod Taking
 pub mod Transfers
+pub mod Telling
 pub mod TransferLaws
 pub mod PieceLaws
 pub mod Writing
