@@ -10,17 +10,15 @@ use Rattle.std.proofs.lemmas.List.{drop_all, map-append, take_all}
 use Rattle.std.proofs.lemmas.List.Sums.{sum_by-cons}
 use Rattle.std.proofs.lemmas.List.Elements.{All-nil, All-cons}
 use Rattle.std.proofs.lemmas.List.Sorted.{All-permutation, IsPermutation-map, length_permutation, sum_by-IsPermutation}
-use Rattle.std.proofs.lemmas.Option.{slice_get-map, slice_get_read}
+use Rattle.std.proofs.lemmas.Option.{slice_get_read}
 use mathlib.Core.Logic.{dite}
 use native.Mathlib.Decide.{ℕ_discrete}
 use Rattle.atomic_table.specs.Seated.{TableId}
 use Rattle.rep_types.specs.declared.item.Item.{Item}
-use Rattle.rep_types.specs.declared.item.Item.TheVariants.{WriteSet as OfWriteSet}
 use Rattle.rep_types.specs.declared.judged.Judged.{Judged}
 use Rattle.rep_types.specs.declared.verdict.Verdict.{Verdict}
 use Rattle.rep_types.specs.declared.refusal.Refusal.{Refusal}
 use Rattle.rep_types.specs.declared.refusal.Refusal.TheVariants.{Stopped}
-use Rattle.rep_types.specs.Transactions.{Transaction}
 use Rattle.rep_disk.specs.History.{History}
 use Rattle.rep_ordered.specs.declared.view.Joined.{Joined}
 use Rattle.rep_ordered.specs.declared.view.View.{View}
@@ -37,7 +35,7 @@ use Rattle.rep_node.specs.declared.batch.Share.{Share}
 use Rattle.rep_node.specs.Seats.{DrewOne, IsGiven, IsSeat, Joins, PassedOrStopped, own_entry}
 use Rattle.rep_ordered.specs.Beginnings.{shorter}
 use Rattle.rep_node.proofs.Moves.{seat_still}
-use Rattle.rep_node.specs.Batches.{Ascends, ComeFrom, IsBatch, IsReceipt, IsWhole, carried, entry_of, index_of, items_of, seqno_of}
+use Rattle.rep_node.specs.Batches.{Ascends, ComeFrom, IsBatch, IsReceipt, IsWhole, carried, entry_of, index_of, seqno_of}
 use Rattle.rep_node.specs.Jobs.{Adjoin, Among, Gathered, IsAll, IsDone, IsJob, IsNoted, IsPart, IsReady, IsShare, Worked, regaining}
 
 -- ---- lists
@@ -261,8 +259,8 @@ some_each count workers some pos = go (count / workers + min 1 (count % workers)
     go zero le = absurd (omega arith)
     go (suc m) le = omega arith
 
-pub item_at : (ws : List Transaction) (i : ℕ) (w : Transaction) → i < length ws → w ≡ get_or ws i w → slice_get (items_of ws) i ≡ Some (OfWriteSet w)
-item_at ws i w inside is = slice_get-map OfWriteSet ws i ∙ ap (Rattle.std.specs.Option.option_map OfWriteSet) (slice_get_read ws (length ws) i w refl inside is)
+pub item_at : (items : List Item) (i : ℕ) (x : Item) → i < length items → x ≡ get_or items i x → slice_get items i ≡ Some x
+item_at items i x inside is = slice_get_read items (length items) i x refl inside is
 
 abbrev pub full : {A : Type 0} → Option A → Type 0
 full None = ⊥

@@ -2,16 +2,14 @@
 use Rattle.std.proofs.Common.{◌≡◌, ◌⊎◌, inl, inr, ⊎_elim, Bool, ℕ, ◌+◌, ◌-◌, ◌<◌, ◌≤◌, ◌||◌, true, false, Option, Some, None, List, [], ◌∷◌, ◌++◌, length, sym, refl, ap, ◌∙◌, subst, arith, length-append, append_assoc}
 use Rattle.std.specs.Prelude.{slice_get, is_some, IfSome, IsFalse}
 use Rattle.std.specs.List.{AllZip}
-use Rattle.std.proofs.lemmas.List.{length-map}
 use Rattle.std.proofs.lemmas.Option.{none-some, same_Some}
 use Rattle.rep_types.specs.declared.item.Item.{Item}
-use Rattle.rep_types.specs.declared.item.Item.TheVariants.{WriteSet as OfWriteSet}
+use Rattle.rep_types.specs.declared.item.Item.{Item}
 use Rattle.rep_types.specs.declared.judged.Judged.{Judged}
 use Rattle.rep_types.specs.declared.refusal.Refusal.{Refusal}
 use Rattle.rep_types.specs.declared.refusal.Refusal.TheVariants.{Exhausted, OutOfMemory, Stopped}
 use Rattle.rep_types.specs.declared.limits.TheConstants.{MAX_SEQNO}
 use Rattle.rep_types.specs.Order.{Order, items_of as items_in}
-use Rattle.rep_types.specs.Transactions.{Transaction}
 use Rattle.rep_disk.specs.History.{History}
 use Rattle.rep_cert.specs.Holdings.{Holdings}
 use Rattle.rep_engine.specs.Engines.{Engine, durable_of, facts_of}
@@ -38,7 +36,7 @@ use Rattle.rep_node.specs.declared.batch.Receipt.{Receipt}
 use Rattle.rep_node.specs.Homes.{Start}
 use Rattle.rep_node.specs.Seats.{PassedOrStopped}
 use Rattle.rep_node.specs.Ending.{StartsFrom, EndsAs}
-use Rattle.rep_node.specs.Batches.{Ascends, IsBatch, IsReceipt, IsWhole, entry_of, items_of}
+use Rattle.rep_node.specs.Batches.{Ascends, IsBatch, IsReceipt, IsWhole, entry_of}
 use Rattle.rep_node.specs.Served.{EndedFor, IsReceiptOf, IsServed, IsTold}
 use Rattle.rep_node.proofs.Batching.{every_to}
 
@@ -169,19 +167,19 @@ module _ {D : Type 0} where
 module _ {D : Type 0} (honest : D → Type 0) (history : D → History) (failures : D → ℕ) where
   -- ---- what it came to
 
-  pub served : HistoriesExtendTheOrder honest history failures → (old new : Replica D) (ws : List Transaction) (v w : View (Home D) Judged) (watch : List (Watching Origin)) (receipts : List Receipt) (end : Option Refusal)
-      → v.start ≡ durable_of old.engine.log + 1 → v.own ≡ [] → StartsFrom honest history failures old v watch → Went v w → IsBatch (items_of ws) 0 (length ws) v w receipts → Ascends receipts → (end ≡ None → IsWhole 0 (length ws) v w receipts)
-      → SeatEnded w.halted v.allowance (length ws) v.own w.own receipts end → EndsAs honest history failures w new → IsServed honest history failures old (items_of ws) new receipts end
-  served extend old new ws v w watch receipts end starts own s went batch up whole ended e = record {
+  pub served : HistoriesExtendTheOrder honest history failures → (old new : Replica D) (items : List Item) (v w : View (Home D) Judged) (watch : List (Watching Origin)) (receipts : List Receipt) (end : Option Refusal)
+      → v.start ≡ durable_of old.engine.log + 1 → v.own ≡ [] → StartsFrom honest history failures old v watch → Went v w → IsBatch items 0 (length items) v w receipts → Ascends receipts → (end ≡ None → IsWhole 0 (length items) v w receipts)
+      → SeatEnded w.halted v.allowance (length items) v.own w.own receipts end → EndsAs honest history failures w new → IsServed honest history failures old items new receipts end
+  served extend old new items v w watch receipts end starts own s went batch up whole ended e = record {
     judged = w.seen;
     legal = legal;
-    told = every_to (IsReceipt (items_of ws) v w) (IsTold (items_of ws) (durable_of old.engine.log) (durable_of new.engine.log) w.seen) receipts (λ r h. told (items_of ws) v w (durable_of old.engine.log) (durable_of new.engine.log) r (went.goes.start ∙ starts) e.durable h) batch.told;
+    told = every_to (IsReceipt items v w) (IsTold items (durable_of old.engine.log) (durable_of new.engine.log) w.seen) receipts (λ r h. told items v w (durable_of old.engine.log) (durable_of new.engine.log) r (went.goes.start ∙ starts) e.durable h) batch.told;
     places = batch.places;
-    count = λ ended. let count = (whole ended).count in let long : length (items_of ws) ≡ length ws = length-map ws OfWriteSet in omega arith;
+    count = λ ended. let count = (whole ended).count in omega arith;
     whole = λ ended. let drawn = (whole ended).drawn in let none : length v.own ≡ 0 = ap (λ (l : List ℕ). length l) own in let few = e.drawn in
-        let each = every_to (IsReceipt (items_of ws) v w) (IsAt (items_of ws) w.start w.seen) receipts (at_seqno (items_of ws) v w) batch.told in
-        zipped (items_of ws) w.start w.seen [] w.seen receipts refl (omega arith) (all_from (items_of ws) w.start (w.start + 0) w.seen receipts (omega arith) each) up each;
-    idle = idle_as w.halted v.allowance (length ws) v.own w.own receipts end w.seen own e.drawn ended;
+        let each = every_to (IsReceipt items v w) (IsAt items w.start w.seen) receipts (at_seqno items v w) batch.told in
+        zipped items w.start w.seen [] w.seen receipts refl (omega arith) (all_from items w.start (w.start + 0) w.seen receipts (omega arith) each) up each;
+    idle = idle_as w.halted v.allowance (length items) v.own w.own receipts end w.seen own e.drawn ended;
     entries = λ L n of holds. extend.entries L n old.engine old.certifier.current w.seen of (s.stands n holds) legal;
     stands = λ L n of holds running. e.stands L n of (starts_as n holds) running;
     taken = e.taken;

@@ -9,7 +9,7 @@ use Rattle.rep_disk.specs.History.{History}
 use Rattle.rep_log.specs.declared.phase.Phase.{Phase}
 use Rattle.rep_cert.specs.Holdings.{Holding}
 use Rattle.rep_steps.specs.declared.event.Event.{Event}
-use Rattle.rep_steps.specs.declared.event.Event.TheVariants.{Deliver, Log, Sync, Check, Flush, Read}
+use Rattle.rep_steps.specs.declared.event.Event.TheVariants.{Deliver, SetWindow, Log, Sync, Check, Flush, Read}
 use Rattle.rep_steps.specs.declared.answer.Answer.{Answer}
 use Rattle.rep_steps.specs.declared.answer.Answer.TheVariants.{Gave, Wrote, Began, Synced, Row, Refused}
 use Rattle.rep_steps.specs.Standings.{Stage, Off, Toward, Retiring, Flushing, Saving, Ready, SuperFilling, SuperFilled, SuperOpening, Standing, HasGoal, refusal}
@@ -59,6 +59,7 @@ goal_rises base durable start next (Retiring written) h = omega arith
 
 done_rises : (s : Standing) (e : Event) (f : Found) (a : Answer) → IsOfAnEngine e → HasGoal s.base s.durable s.start s.next s.stage → Rises s (after s e f) a
 done_rises s (Deliver seqno w) f a own goal = absurd own
+done_rises s (SetWindow seqno size source trx) f a own goal = absurd own
 done_rises s Log f a own goal = record { durable = omega arith; base = omega arith; stopped = λ _. refl }
 done_rises s Sync f a own goal = record { durable = omega arith; base = goal_rises s.base s.durable s.start s.next s.stage goal; stopped = λ _. refl }
 done_rises s Check f a own goal = record { durable = omega arith; base = omega arith; stopped = λ _. refl }

@@ -1,9 +1,7 @@
 -- Items that a seat hands in, several at once, and what stands in the history for them.
 use Rattle.std.specs.Prelude.{◌≡◌, ℕ, ◌+◌, ◌<◌, ◌≤◌, Option, Some, List, [], ◌∷◌, ◌++◌, length, map, slice_get}
 use Rattle.rep_types.specs.declared.item.Item.{Item}
-use Rattle.rep_types.specs.declared.item.Item.TheVariants.{WriteSet as OfWriteSet}
 use Rattle.rep_types.specs.declared.judged.Judged.{Judged}
-use Rattle.rep_types.specs.Transactions.{Transaction}
 use Rattle.rep_ordered.specs.declared.view.Joined.{Joined}
 use Rattle.rep_ordered.specs.declared.view.View.{View}
 use Rattle.rep_ordered.specs.Counts.{times}
@@ -11,10 +9,6 @@ use Rattle.rep_ordered.specs.Views.{Every, OwnEntry}
 use Rattle.rep_node.specs.declared.home.Home.{Home}
 use Rattle.rep_node.specs.declared.batch.Receipt.{Receipt}
 use Rattle.rep_node.specs.Seats.{own_entry}
-
--- the write sets of a batch, as items
-abbrev pub items_of : List Transaction → List Item
-items_of ws = map OfWriteSet ws
 
 -- what a receipt says of its item, as an entry of the history
 abbrev pub entry_of : Item → Receipt → Judged

@@ -8,14 +8,14 @@ ghost use Rattle.rep_ordered.specs.Steps.{Learns};
 ghost use Rattle.rep_ordered.specs.Views.{Every, both, giving};
 ghost use Rattle.rep_node.specs.Homes.{IsLegal};
 ghost use Rattle.rep_node.specs.Seats.{IsSeat, PassedOrStopped, SeesLegal};
-ghost use Rattle.rep_node.specs.Batches.{Ascends, IsBatch, IsWhole, items_of};
+ghost use Rattle.rep_node.specs.Batches.{Ascends, IsBatch, IsWhole};
 ghost use Rattle.rep_node.specs.Jobs.{AreJobs, AreShares, Gathered, IsReady, Worked};
 
 use crate::node::{LockSeat, Node};
 use crate::pace::Pace;
 use crate::seat::Seat;
 use rep_disk::Disk;
-use rep_types::{Refusal, Verdict, WriteSet};
+use rep_types::{Item, Refusal, Verdict};
 use std::alloc::Global;
 use std::sync::Wait;
 use std::thread::{Threads, for_each_mut};
@@ -92,9 +92,9 @@ fn shares_of(alloc: Global, count: usize, workers: usize) -> Result<Vec<Share>, 
 
 impl<D: Disk> Node<D> {
     /// Hands in a worker's items, one after the other, until one is refused.
-    fn work<R: Wait, P: Pace>(&self, rt: &R, items: &[WriteSet], job: &mut Job<D>, pace: &P)
+    fn work<R: Wait, P: Pace>(&self, rt: &R, items: &[Item], job: &mut Job<D>, pace: &P)
         requires ready { IsReady D.honest D.history D.failures self.now (length items.now) job.old }
-        ensures worked { Worked (items_of items.now) job.old job.new }
+        ensures worked { Worked items.now job.old job.new }
     {
         for place in job.from..job.to {
             match self.submit(rt, &mut job.seat, &items[place], pace) {
@@ -166,7 +166,7 @@ impl<D: Disk + Send> Node<D> {
     fn work_all<R: Threads + Wait + Sync, P: Pace + Sync>(
         &self,
         rt: &R,
-        items: &[WriteSet],
+        items: &[Item],
         jobs: &mut [Job<D>],
         workers: usize,
         pace: &P,
@@ -174,7 +174,7 @@ impl<D: Disk + Send> Node<D> {
         requires workers { 0 < workers }
         requires ready { Every (IsReady D.honest D.history D.failures self.now (length items.now)) jobs.old }
         ensures len { length jobs.new ≡ length jobs.old }
-        ensures worked { (i : ℕ) (d : Job D) → i < length jobs.old → Worked (items_of items.now) (slice_index_or jobs.old i d) (slice_index_or jobs.new i d) }
+        ensures worked { (i : ℕ) (d : Job D) → i < length jobs.old → Worked items.now (slice_index_or jobs.old i d) (slice_index_or jobs.new i d) }
     {
         for_each_mut(
             rt,
@@ -182,7 +182,7 @@ impl<D: Disk + Send> Node<D> {
             workers,
             &|_place: usize, job: &mut Job<D>|
                 requires { IsReady D.honest D.history D.failures self.now (length items.now) job.old }
-                ensures { Worked (items_of items.entry.now) job.old job.new }
+                ensures { Worked items.entry.now job.old job.new }
             { self.work(rt, items, job, pace) },
         );
     }
@@ -193,7 +193,7 @@ impl<D: Disk + Send> Node<D> {
         &self,
         rt: &R,
         seat: &mut LockSeat<D>,
-        items: &[WriteSet],
+        items: &[Item],
         mut jobs: Vec<Job<D>>,
         receipts: &mut Vec<Receipt>,
         workers: usize,
@@ -207,7 +207,7 @@ impl<D: Disk + Send> Node<D> {
         requires room { (receipts.old.items ≡ []) × (length items.now ≤ vec_capacity receipts.old) }
         requires jobs { AreJobs self.now seat.old.view (length items.now) jobs.items }
         ensures lock { seat.new.lock ≡ seat.old.lock }
-        ensures gathered { Gathered (items_of items.now) 0 (length items.now) seat.old.view seat.new.view receipts.new.items result }
+        ensures gathered { Gathered items.now 0 (length items.now) seat.old.view seat.new.view receipts.new.items result }
     {
         self.work_all(rt, items, jobs.as_mut_slice(), workers, pace);
         let mut end = None;
@@ -224,7 +224,7 @@ impl<D: Disk + Send> Node<D> {
         rt: &R,
         alloc: Global,
         seat: &mut LockSeat<D>,
-        items: &[WriteSet],
+        items: &[Item],
         workers: usize,
         pace: &P,
     ) -> Result<Batch, Refusal>
@@ -239,7 +239,7 @@ impl<D: Disk + Send> Node<D> {
         ensures seat { IsSeat D.honest D.history D.failures seat.new.view }
         ensures passed { PassedOrStopped seat.new.view }
         ensures sees { IfOk result (λ batch. SeesLegal seat.old.view seat.new.view) }
-        ensures batch { IfOk result (λ batch. IsBatch (items_of items.now) 0 (length items.now) seat.old.view seat.new.view batch.receipts.items) }
+        ensures batch { IfOk result (λ batch. IsBatch items.now 0 (length items.now) seat.old.view seat.new.view batch.receipts.items) }
         ensures order { IfOk result (λ batch. Ascends batch.receipts.items) }
         ensures whole { IfOk result (λ batch. batch.end ≡ None → IsWhole 0 (length items.now) seat.old.view seat.new.view batch.receipts.items) }
         ensures stopped { IfOk result (λ batch. IfSome batch.end (λ refusal. (refusal ≡ is_stopped) × (seat.new.view.halted ≡ 1))) }
@@ -255,7 +255,7 @@ impl<D: Disk + Send> Node<D> {
         Ok(Batch { receipts, end })
     }
 
-    /// Hands in a batch of write sets by so many workers, 1 to 64, each in a thread of its own where there is one: each draws a seqno for
+    /// Hands in a batch of items by so many workers, 1 to 64, each in a thread of its own where there is one: each draws a seqno for
     /// its next item, waits until that is at most 256 above what is durable, has it judged and queued, and waits until it is durable. The
     /// pace is asked behind each step, and says whether it goes on.
     ///
@@ -269,7 +269,7 @@ impl<D: Disk + Send> Node<D> {
         rt: &R,
         alloc: Global,
         seat: &mut Seat<D>,
-        items: &[WriteSet],
+        items: &[Item],
         workers: usize,
         pace: &P,
     ) -> Batch
@@ -280,7 +280,7 @@ impl<D: Disk + Send> Node<D> {
         ensures went { Went seat.old.view seat.new.view }
         ensures sees { SeesLegal seat.old.view seat.new.view }
         ensures passed { PassedOrStopped seat.new.view }
-        ensures batch { IsBatch (items_of items.now) 0 (length items.now) seat.old.view seat.new.view result.receipts.items }
+        ensures batch { IsBatch items.now 0 (length items.now) seat.old.view seat.new.view result.receipts.items }
         ensures order { Ascends result.receipts.items }
         ensures whole { result.end ≡ None → IsWhole 0 (length items.now) seat.old.view seat.new.view result.receipts.items }
         ensures ended { IfSome result.end (λ refusal. ((refusal ≡ is_stopped) × (seat.new.view.halted ≡ 1)) ⊎ ((((refusal ≡ Exhausted) × (seat.old.view.allowance ≤ length items.now)) ⊎ (refusal ≡ OutOfMemory)) × (seat.new.view.own ≡ seat.old.view.own) × (result.receipts.items ≡ []))) }

@@ -5,7 +5,6 @@ ghost use Rattle.uuid.specs.Parts.{is_nil_bytes};
 ghost use Rattle.rep_types.specs.declared.refusal.Refusal.TheVariants.{Stopped as is_stopped};
 ghost use Rattle.rep_replica.specs.Replicas.{facts_of};
 ghost use Rattle.rep_replica.specs.Settling.{is_quiet, IsRunning};
-ghost use Rattle.rep_node.specs.Batches.{items_of};
 ghost use Rattle.rep_node.specs.Served.{EndedFor, IsServed};
 
 use crate::batch::Batch;
@@ -14,7 +13,7 @@ use crate::pace::Pace;
 use rep_disk::Disk;
 use rep_replica::Replica;
 use rep_stations::{histories_extend_the_order, histories_lie_between_replicas};
-use rep_types::{Refusal, WriteSet};
+use rep_types::{Item, Refusal};
 use std::alloc::Global;
 use std::sync::Wait;
 use std::thread::Threads;
@@ -34,7 +33,7 @@ pub fn serve_batch<D: Disk + Send, R: Threads + Wait + Sync, P: Pace + Sync>(
     rt: &R,
     alloc: Global,
     replica: Replica<D>,
-    items: &[WriteSet],
+    items: &[Item],
     workers: usize,
     pace: &P,
 ) -> (Replica<D>, Batch)
@@ -42,7 +41,7 @@ pub fn serve_batch<D: Disk + Send, R: Threads + Wait + Sync, P: Pace + Sync>(
     requires defined { IsFalse (is_nil_bytes replica.engine.checkpoint.base.uuid) }
     requires workers { (0 < workers) × (workers ≤ 64) }
     ensures stopped { (replica.stopped || is_some replica.engine.halted) ≡ true → (result.0 ≡ replica) × (result.1.receipts.items ≡ []) × (result.1.end ≡ Some is_stopped) }
-    ensures served { IsRunning replica → IsServed D.honest D.history D.failures replica (items_of items.now) result.0 result.1.receipts.items result.1.end }
+    ensures served { IsRunning replica → IsServed D.honest D.history D.failures replica items.now result.0 result.1.receipts.items result.1.end }
     ensures ended { IfSome result.1.end (EndedFor replica (length items.now) result.0 result.1.receipts.items) }
 {
     histories_lie_between_replicas::<D>();

@@ -7,7 +7,7 @@ ghost use Rattle.rep_types.specs.declared.refusal.Refusal.TheVariants.{Exhausted
 ghost use Rattle.rep_ordered.specs.Going.{Went};
 ghost use Rattle.rep_ordered.specs.Views.{Later};
 ghost use Rattle.rep_node.specs.Seats.{PassedOrStopped, SeesLegal, WentIdle};
-ghost use Rattle.rep_node.specs.Batches.{Ascends, IsBatch, IsWhole, items_of};
+ghost use Rattle.rep_node.specs.Batches.{Ascends, IsBatch, IsWhole};
 ghost use Rattle.rep_node.specs.Serving.{HandedIn};
 
 use crate::batch::Batch;
@@ -18,7 +18,7 @@ use crate::seat::Seat;
 use crossbeam_utils::Backoff;
 use crossbeam_utils::atomic::AtomicCell;
 use rep_disk::Disk;
-use rep_types::{Refusal, WriteSet};
+use rep_types::{Item, Refusal};
 use std::alloc::Global;
 use std::sync::Wait;
 use std::thread::Threads;
@@ -125,7 +125,7 @@ impl<D: Disk + Send> Node<D> {
         &self,
         rt: &R,
         alloc: Global,
-        items: &[WriteSet],
+        items: &[Item],
         workers: usize,
         pace: &P,
         goes: &AtomicCell<bool>,
@@ -137,7 +137,7 @@ impl<D: Disk + Send> Node<D> {
         requires passed { PassedOrStopped seat.old.view }
         requires workers { (0 < workers) × (workers ≤ 64) }
         ensures lock { seat.new.lock ≡ seat.old.lock }
-        ensures handed_in { HandedIn (items_of items.now) (length items.now) seat.old.view seat.new.view result }
+        ensures handed_in { HandedIn items.now (length items.now) seat.old.view seat.new.view result }
     {
         if !beside {
             goes.store(false);
@@ -155,7 +155,7 @@ impl<D: Disk + Send> Node<D> {
         &self,
         rt: &R,
         alloc: Global,
-        items: &[WriteSet],
+        items: &[Item],
         workers: usize,
         pace: &P,
         keeper: &mut Seat<D>,
@@ -167,7 +167,7 @@ impl<D: Disk + Send> Node<D> {
         requires workers { (0 < workers) × (workers ≤ 64) }
         ensures lock { (keeper.new.lock ≡ keeper.old.lock) × (seat.new.lock ≡ seat.old.lock) }
         ensures idle { WentIdle keeper.old.view keeper.new.view }
-        ensures handed_in { HandedIn (items_of items.now) (length items.now) seat.old.view seat.new.view result }
+        ensures handed_in { HandedIn items.now (length items.now) seat.old.view seat.new.view result }
     {
         let cell = AtomicCell::new(true);
         let goes = &cell;
@@ -177,7 +177,7 @@ impl<D: Disk + Send> Node<D> {
         { self.keep_while(rt, goes, keeper) };
         let mut hand_in = |beside: bool| -> Batch
             requires { IsSync R.row × (seat.now.lock ≡ self.now) × (length items.now < seat.now.view.allowance) × PassedOrStopped seat.now.view × (0 < workers) × (workers ≤ 64) }
-            ensures { (seat.exit.now.lock ≡ seat.entry.now.lock) × HandedIn (items_of items.entry.now) (length items.entry.now) seat.entry.now.view seat.exit.now.view result }
+            ensures { (seat.exit.now.lock ≡ seat.entry.now.lock) × HandedIn items.entry.now (length items.entry.now) seat.entry.now.view seat.exit.now.view result }
         { self.hand_in(rt, alloc, items, workers, pace, goes, beside, seat) };
         let (_kept, batch) = join_beside(rt, &mut keep, &mut hand_in);
         batch
@@ -197,7 +197,7 @@ impl<D: Disk + Send> Node<D> {
         rt: &R,
         alloc: Global,
         seat: &mut Seat<D>,
-        items: &[WriteSet],
+        items: &[Item],
         workers: usize,
         pace: &P,
     ) -> Batch
@@ -208,7 +208,7 @@ impl<D: Disk + Send> Node<D> {
         ensures went { Went seat.old.view seat.new.view }
         ensures sees { SeesLegal seat.old.view seat.new.view }
         ensures passed { PassedOrStopped seat.new.view }
-        ensures batch { IsBatch (items_of items.now) 0 (length items.now) seat.old.view seat.new.view result.receipts.items }
+        ensures batch { IsBatch items.now 0 (length items.now) seat.old.view seat.new.view result.receipts.items }
         ensures order { Ascends result.receipts.items }
         ensures whole { result.end ≡ None → IsWhole 0 (length items.now) seat.old.view seat.new.view result.receipts.items }
         ensures ended { IfSome result.end (λ refusal. ((refusal ≡ is_stopped) × (seat.new.view.halted ≡ 1)) ⊎ ((((refusal ≡ Exhausted) × (seat.old.view.allowance ≤ length items.now + 1)) ⊎ (refusal ≡ OutOfMemory)) × (seat.new.view.own ≡ seat.old.view.own) × (result.receipts.items ≡ []))) }

@@ -1,8 +1,6 @@
 //! The way of an item: it is numbered, judged, queued, and waited for.
 
 ghost use Rattle.std.specs.Prelude.{◌≡◌, ℕ, ◌+◌, ◌<◌, ◌≤◌, ◌++◌, ◌∷◌, [], true, IfOk, IfErr, OnOk, List};
-ghost use Rattle.rep_types.specs.declared.item.Item.TheVariants.{WriteSet as OfWriteSet};
-ghost use Rattle.rep_types.specs.Items.{is_write_set};
 ghost use Rattle.rep_types.specs.declared.judged.Judged.{Judged as Entry};
 ghost use Rattle.rep_ordered.specs.declared.view.Joined.{Joined};
 ghost use Rattle.rep_ordered.specs.Views.{Later, OwnEntry, reached_at};
@@ -15,7 +13,7 @@ use crate::pace::{Pace, Point};
 use crate::parts::{certifier_of, queue_of};
 use rep_disk::Disk;
 use rep_stations::{histories_go_on, judge_next};
-use rep_types::{Item, Judged, MAX_AHEAD, MAX_SEQNO, Refusal, Verdict, WriteSet};
+use rep_types::{Item, Judged, MAX_AHEAD, MAX_SEQNO, Refusal, Verdict};
 use std::sync::Wait;
 
 impl<D: Disk> Node<D> {
@@ -32,7 +30,6 @@ impl<D: Disk> Node<D> {
         requires free { seat.old.view.held ≡ [] }
         requires ticket { Drew ticket seat.old.view × (ticket ≤ MAX_SEQNO) }
         requires room { ticket ≤ seat.old.view.durable + MAX_AHEAD }
-        requires item { is_write_set item ≡ true }
         ensures lock { seat.new.lock ≡ seat.old.lock }
         ensures went { Went seat.old.view seat.new.view }
         ensures own { seat.new.view.own ≡ seat.old.view.own }
@@ -107,7 +104,7 @@ impl<D: Disk> Node<D> {
         &self,
         rt: &R,
         seat: &mut LockSeat<D>,
-        item: &WriteSet,
+        item: &Item,
         pace: &P,
     ) -> Result<(u64, Verdict), Refusal>
         requires lock { seat.old.lock ≡ self.now }
@@ -116,16 +113,16 @@ impl<D: Disk> Node<D> {
         requires allowance { 0 < seat.old.view.allowance }
         ensures lock { seat.new.lock ≡ seat.old.lock }
         ensures drawn { (number : ℕ) × DrewOne D.honest D.history D.failures number seat.old.view seat.new.view × IfOk result (λ given. given.0 ≡ number) }
-        ensures joined { Joins (OfWriteSet item.now) seat.old.view seat.new.view }
+        ensures joined { Joins item.now seat.old.view seat.new.view }
         ensures sees { SeesLegal seat.old.view seat.new.view }
-        ensures receipt { IfOk result (λ given. IsGiven (OfWriteSet item.now) given.0 given.1 seat.old.view seat.new.view) }
+        ensures receipt { IfOk result (λ given. IsGiven item.now given.0 given.1 seat.old.view seat.new.view) }
         ensures passed { PassedOrStopped seat.old.view → PassedOrStopped seat.new.view }
         ensures stopped { IfErr result (λ refusal. (refusal ≡ Refusal.Stopped) × (seat.new.view.halted ≡ 1)) }
     {
         let ticket = self.lock.claim(seat);
         self.paced(seat, pace, Point::Claimed, ticket)?;
         self.wait_durable(rt, seat, ticket.saturating_sub(u64::from(MAX_AHEAD)))?;
-        let judged = self.certify(rt, seat, ticket, Item::WriteSet(item.copied()))?;
+        let judged = self.certify(rt, seat, ticket, item.copied())?;
         let verdict = judged.verdict;
         self.paced(seat, pace, Point::Certified, ticket)?;
         self.queue(rt, seat, judged)?;

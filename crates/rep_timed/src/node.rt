@@ -13,7 +13,7 @@ use items::{batch, params};
 use readers::Watchers;
 use rep_disk::FileDisk;
 use rep_layout::need;
-use rep_types::WriteSet;
+use rep_types::Item;
 use serving::{Outcome, serve_on};
 use std::env::Args;
 use std::fs::{File, Files};
@@ -44,7 +44,7 @@ fn report<R: Print>(rt: &R, durable: u64, came: Outcome, has_rates: bool) -> Res
 fn serve_in_file<R: Files<File = File> + AllocGlobal + Clock + Threads + Wait + Sync>(
     rt: &R,
     path: &str,
-    items: &[WriteSet],
+    items: &[Item],
     counts: Counts,
     watchers: &mut Watchers,
 ) -> Result<(u64, Outcome)>

@@ -7,7 +7,7 @@ use super::replicas::{
 use rep_disk::{Disk, Faults, FaultyDisk, Fuse, Held, HeldDisk, MemDisk, Once};
 use rep_node::{Batch, Point};
 use rep_replica::Replica;
-use rep_types::{Params, Refusal, WriteSet};
+use rep_types::{Item, Params, Refusal};
 use std::alloc::Global;
 use std::process::Abort;
 use std::sync::Wait;
@@ -19,7 +19,7 @@ use std::thread::Threads;
 fn while_the_engine_writes<R: Threads + Wait + Sync>(
     rt: &R,
     alloc: Global,
-    items: &[WriteSet],
+    items: &[Item],
 ) -> Result<bool, Refusal> {
     let crossing = Crossing::new();
     let disk = HeldDisk::new(new_disk(alloc)?, Held::by(Writes(&crossing)));
@@ -165,7 +165,7 @@ fn comes_so<R: Threads + Wait + Sync>(
     rt: &R,
     alloc: Global,
     trial: &Trial,
-    items: &[WriteSet],
+    items: &[Item],
 ) -> Result<bool, Refusal> {
     let (stop, until) = trial.held;
     let pace = HeldWorkers::new(stop, until);
@@ -212,7 +212,7 @@ fn told_of(batch: &Batch, durable: u64) -> Result<usize, Refusal> {
 fn told_on<R: Threads + Wait + Sync, F: Faults + Drop + Send>(
     rt: &R,
     alloc: Global,
-    items: &[WriteSet],
+    items: &[Item],
     faults: F,
 ) -> Result<usize, Refusal> {
     let pace = HeldWorkers::new(None, Some(2));
@@ -226,7 +226,7 @@ fn told_on<R: Threads + Wait + Sync, F: Faults + Drop + Send>(
 fn told_at<R: Threads + Wait + Sync>(
     rt: &R,
     alloc: Global,
-    items: &[WriteSet],
+    items: &[Item],
     call: u64,
     all_behind: bool,
 ) -> Result<usize, Refusal> {

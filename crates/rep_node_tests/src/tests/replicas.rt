@@ -6,7 +6,7 @@ use rep_layout::need;
 use rep_node::{Batch, Pace, serve_batch};
 use rep_recover::format_disk;
 use rep_replica::Replica;
-use rep_types::{Key, Params, Refusal, Value, Verdict, Write, WriteSet};
+use rep_types::{Item, Key, Params, Refusal, Value, Verdict, Write, WriteSet};
 use std::alloc::Global;
 use std::sync::Wait;
 use std::thread::Threads;
@@ -67,12 +67,12 @@ pub(crate) fn writing(last_seen: u64, key: Key, byte: Option<u8>) -> Result<Writ
 }
 
 /// An item that had seen nothing, and puts a byte under a row of its own of the first table.
-fn putting(row: u32) -> Result<WriteSet, Refusal> {
-    writing(0, Key { table: 0, row }, Some(byte_for(row)))
+fn putting(row: u32) -> Result<Item, Refusal> {
+    Ok(Item::WriteSet(writing(0, Key { table: 0, row }, Some(byte_for(row)))?))
 }
 
 /// So many items that had seen nothing, each of which puts a byte under a row of its own.
-pub(crate) fn putting_each(alloc: Global, count: u32) -> Result<Vec<WriteSet>, Refusal> {
+pub(crate) fn putting_each(alloc: Global, count: u32) -> Result<Vec<Item>, Refusal> {
     let mut items = Vec::new(alloc);
     for row in 0..count {
         items.push(putting(row)?)?;
@@ -88,7 +88,7 @@ pub(crate) fn served<R: Threads + Wait + Sync, D: Disk + Drop + Send, P: Pace + 
     rt: &R,
     alloc: Global,
     disk: D,
-    items: &[WriteSet],
+    items: &[Item],
     workers: usize,
     pace: &P,
 ) -> Result<(Replica<D>, Batch), Refusal> {

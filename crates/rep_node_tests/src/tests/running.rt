@@ -8,7 +8,7 @@ use rep_node::{Batch, Node, NodeReader, NodeRows, Seat};
 use rep_replica::Replica;
 use rep_session::Session;
 use rep_snap::Peek;
-use rep_types::{Key, Refusal, Verdict, WriteSet};
+use rep_types::{Item, Key, Refusal, Verdict, WriteSet};
 use std::alloc::Global;
 use std::marker::Model;
 use std::sync::Wait;
@@ -183,7 +183,8 @@ impl<D: Disk + Send> Running<D> {
             mut seat,
             reader,
         } = self;
-        let batch = node.serve(rt, alloc, &mut seat, &[item], 1, &AtOnce);
+        let items = [Item::WriteSet(item)];
+        let batch = node.serve(rt, alloc, &mut seat, &items, 1, &AtOnce);
         (Running { node, seat, reader }, verdict_of(&batch))
     }
 }

@@ -3,7 +3,7 @@
 ghost use Rattle.std.specs.Prelude.{◌<◌};
 
 use rep_snap::Peek;
-use rep_types::{Key, Params, Refusal, Value, Write, WriteSet};
+use rep_types::{Item, Key, Params, Refusal, Value, Write, WriteSet};
 use std::alloc::Global;
 
 /// How many rows there are. An item writes one of them.
@@ -26,12 +26,13 @@ pub(crate) fn row_of(number: u64) -> Key {
 }
 
 /// The item of this number, from 1, which writes its number.
-fn item(number: u64) -> Result<WriteSet, Refusal> {
+fn item(number: u64) -> Result<Item, Refusal> {
     let write = Write {
         key: row_of(number),
         value: Some(Value::new(&number.to_be_bytes())?),
     };
-    WriteSet::new(1, number, number.saturating_sub(UNSEEN), &[], &[write])
+    let seen = number.saturating_sub(UNSEEN);
+    Ok(Item::WriteSet(WriteSet::new(1, number, seen, &[], &[write])?))
 }
 
 /// The number of the item at a place of a batch of which each worker hands in so many, one behind the other: the seqno that it gets where
@@ -47,7 +48,7 @@ fn number_at(place: usize, each: usize, workers: usize) -> u64
 }
 
 /// A batch of so many items, for so many workers.
-pub(crate) fn batch(alloc: Global, count: usize, workers: usize) -> Result<Vec<WriteSet>, Refusal>
+pub(crate) fn batch(alloc: Global, count: usize, workers: usize) -> Result<Vec<Item>, Refusal>
     requires { 0 < workers }
 {
     let each = count.div_ceil(workers).max(1);

@@ -13,7 +13,7 @@ use rep_disk::Disk;
 use rep_node::{Node, NodeReader, Pace, Point, Seat};
 use rep_recover::format_disk;
 use rep_replica::Replica;
-use rep_types::{Refusal, WriteSet};
+use rep_types::{Item, Refusal};
 use std::alloc::Global;
 use std::sync::Wait;
 use std::thread::Threads;
@@ -100,7 +100,7 @@ fn serve_watched<R: Clock + Threads + Wait + Sync, D: Disk + Send>(
     alloc: Global,
     node: &Node<D>,
     seat: &mut Seat<D>,
-    items: &[WriteSet],
+    items: &[Item],
     workers: usize,
     watchers: &mut Watchers,
 ) -> Outcome
@@ -127,7 +127,7 @@ fn serve_settled<R: Clock + Threads + Wait + Sync, D: Disk + Drop + Send>(
     rt: &R,
     alloc: Global,
     replica: Replica<D>,
-    items: &[WriteSet],
+    items: &[Item],
     workers: usize,
     readers: usize,
     watchers: &mut Watchers,
@@ -151,7 +151,7 @@ pub(crate) fn serve_on<R: Clock + Threads + Wait + Sync, D: Disk + Drop + Send>(
     rt: &R,
     alloc: Global,
     disk: D,
-    items: &[WriteSet],
+    items: &[Item],
     workers: usize,
     readers: usize,
     watchers: &mut Watchers,

@@ -2,7 +2,6 @@ use Rattle.std.proofs.Common.{length, ap, sym, ◌∙◌}
 use Rattle.rep_types.specs.declared.judged.Judged.{Judged}
 use Rattle.rep_ordered.specs.declared.view.View.{View}
 use Rattle.rep_node.specs.declared.home.Home.{Home}
-use Rattle.rep_node.specs.Batches.{items_of}
 use Rattle.rep_node.proofs.Serves.{ended_as, has_all, not_both, not_running, passed_none, refused_as, refused_served, served, stopped_as}
 use Rattle.rep_node.proofs.served.serve_batch.Goals as goal
 
@@ -20,7 +19,7 @@ pub returns-in-Err-clause-stopped : goal.returns-in-Err-clause-stopped
 returns-in-Err-clause-stopped g c stopped = absurd (not_both c.is_stopped.result _ c.is_stopped.ensures c.if-is_stopped.false stopped)
 
 pub returns-in-Err-clause-served : goal.returns-in-Err-clause-served
-returns-in-Err-clause-served g c running = refused_served g.D.Disk.honest g.D.Disk.history g.D.Disk.failures c.histories_lie_between_replicas.ensures c.histories_extend_the_order.ensures c.args.replica c.in-Err.replica (items_of c.args.items.now) c.refused-in-Err.result.receipts.items c.refused-in-Err.result.end c.in-Err.refusal
+returns-in-Err-clause-served g c running = refused_served g.D.Disk.honest g.D.Disk.history g.D.Disk.failures c.histories_lie_between_replicas.ensures c.histories_extend_the_order.ensures c.args.replica c.in-Err.replica c.args.items.now c.refused-in-Err.result.receipts.items c.refused-in-Err.result.end c.in-Err.refusal
     c.durable-position.ensures.replica running c.requires.quiet c.in-Err.ensures.refused.0 c.refused-in-Err.ensures.0 c.refused-in-Err.ensures.1
 
 pub returns-in-Err-clause-ended : goal.returns-in-Err-clause-ended

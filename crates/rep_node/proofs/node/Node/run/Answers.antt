@@ -9,7 +9,6 @@ use Rattle.rep_node.specs.declared.batch.Job.{Job}
 use Rattle.rep_node.specs.declared.batch.Receipt.{Receipt}
 use Rattle.rep_node.specs.declared.home.Home.{Home}
 use Rattle.rep_node.specs.Homes.{IsLegal}
-use Rattle.rep_node.specs.Batches.{items_of}
 use Rattle.rep_node.specs.Jobs.{Adjoin, Gathered, IsDone, IsJob, IsReady, job_from, job_to}
 use Rattle.rep_node.proofs.Batching.{adjoin_changed, adjoin_each, adjoin_last, done_of, gathered_next, gathered_none, lent_whole, ready_of}
 use Rattle.rep_node.proofs.node.Node.run.Goals as goal
@@ -25,7 +24,7 @@ work_all-requires-clause-ready g c κs within = let jobs : c.as_mut_slice.result
     (subst (Adjoin job_from job_to (IsJob c.args.self.now c.args.seat.now.view (length c.args.items.now)) 0 (length c.args.items.now)) (sym jobs) c.requires.jobs)
 
 pub loop-job-init : goal.loop-job-init
-loop-job-init g c = let jobs : c.as_mut_slice.result.now ≡ c.args.jobs.items = search rules in let count : ℕ = length c.args.items.now in let v : View (Home g.row.D.Denot) Judged = c.args.seat.now.view in let ws : List Item = items_of c.args.items.now in
+loop-job-init g c = let jobs : c.as_mut_slice.result.now ≡ c.args.jobs.items = search rules in let count : ℕ = length c.args.items.now in let v : View (Home g.row.D.Denot) Judged = c.args.seat.now.view in let ws : List Item = c.args.items.now in
     let len : c.args.jobs.len ≡ length c.args.jobs.items = search rules in let same : length c.work_all.new.jobs ≡ length c.args.jobs.items = c.work_all.ensures.len ∙ ap (λ (l : List (Job g.row.D.Denot)). length l) jobs in (
       refl,
       omega arith,
@@ -39,19 +38,19 @@ loop-job-init g c = let jobs : c.as_mut_slice.result.now ≡ c.args.jobs.items =
 
 pub take_in-requires-clause-lock : goal.take_in-requires-clause-lock
 take_in-requires-clause-lock g c = let inv = c.loop-job.invariant in let items : c.loop-job.jobs.items ≡ c.pop.new.self.items ++ c.in-Some.job ∷ [] = search rules in
-    let n = next c.args.seat.now.lock c.args.seat.now.view (items_of c.args.items.now) (length c.args.items.now) inv.2 c.loop-job.jobs.items c.pop.new.self.items c.in-Some.job items inv.3 in (inv.0 ∙ c.requires.lock, n.1.lock ∙ c.requires.lock)
+    let n = next c.args.seat.now.lock c.args.seat.now.view c.args.items.now (length c.args.items.now) inv.2 c.loop-job.jobs.items c.pop.new.self.items c.in-Some.job items inv.3 in (inv.0 ∙ c.requires.lock, n.1.lock ∙ c.requires.lock)
 
 pub take_in-requires-clause-free : goal.take_in-requires-clause-free
 take_in-requires-clause-free g c = let inv = c.loop-job.invariant in let items : c.loop-job.jobs.items ≡ c.pop.new.self.items ++ c.in-Some.job ∷ [] = search rules in
-    let n = next c.args.seat.now.lock c.args.seat.now.view (items_of c.args.items.now) (length c.args.items.now) inv.2 c.loop-job.jobs.items c.pop.new.self.items c.in-Some.job items inv.3 in n.1.went.free
+    let n = next c.args.seat.now.lock c.args.seat.now.view c.args.items.now (length c.args.items.now) inv.2 c.loop-job.jobs.items c.pop.new.self.items c.in-Some.job items inv.3 in n.1.went.free
 
 pub take_in-requires-clause-room : goal.take_in-requires-clause-room
 take_in-requires-clause-room g c = let inv = c.loop-job.invariant in let items : c.loop-job.jobs.items ≡ c.pop.new.self.items ++ c.in-Some.job ∷ [] = search rules in
-    let n = next c.args.seat.now.lock c.args.seat.now.view (items_of c.args.items.now) (length c.args.items.now) inv.2 c.loop-job.jobs.items c.pop.new.self.items c.in-Some.job items inv.3 in
+    let n = next c.args.seat.now.lock c.args.seat.now.view c.args.items.now (length c.args.items.now) inv.2 c.loop-job.jobs.items c.pop.new.self.items c.in-Some.job items inv.3 in
     let at = n.2 in let room = c.requires.room.1 in let cap = inv.1 in let few = n.1.part.few in let most = n.1.part.most in let other = inv.4.part.few in let others = inv.4.part.most in omega arith
 
 pub loop-job-preserved : goal.loop-job-preserved
-loop-job-preserved g c = let inv = c.loop-job.invariant in let items : c.loop-job.jobs.items ≡ c.pop.new.self.items ++ c.in-Some.job ∷ [] = search rules in let count : ℕ = length c.args.items.now in let v : View (Home g.row.D.Denot) Judged = c.args.seat.now.view in let ws : List Item = items_of c.args.items.now in
+loop-job-preserved g c = let inv = c.loop-job.invariant in let items : c.loop-job.jobs.items ≡ c.pop.new.self.items ++ c.in-Some.job ∷ [] = search rules in let count : ℕ = length c.args.items.now in let v : View (Home g.row.D.Denot) Judged = c.args.seat.now.view in let ws : List Item = c.args.items.now in
     let k : Job g.row.D.Denot = c.in-Some.job in let n = next c.args.seat.now.lock v ws count inv.2 c.loop-job.jobs.items c.pop.new.self.items k items inv.3 in
     let end : c.or-end.result ≡ option_or k.end c.loop-job.end = c.or-end.ensures ∙ ap (λ (e : Option Refusal). option_or e c.loop-job.end) c.take_in.ensures.end in
     let gathered : Gathered ws k.to count v c.loop-job.seat.view c.loop-job.receipts.items c.loop-job.end = subst (λ place. Gathered ws place count v c.loop-job.seat.view c.loop-job.receipts.items c.loop-job.end) (sym n.2) inv.4 in (

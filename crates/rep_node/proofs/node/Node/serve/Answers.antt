@@ -5,7 +5,6 @@ use Rattle.rep_ordered.specs.Seats.{Place}
 use Rattle.rep_ordered.specs.Views.{given, giving}
 use Rattle.rep_node.specs.declared.home.Home.{Home}
 use Rattle.rep_node.specs.Homes.{IsLegal}
-use Rattle.rep_node.specs.Batches.{items_of}
 use Rattle.rep_node.specs.Seats.{WentIdle}
 use Rattle.rep_node.specs.Serving.{HandedIn}
 use Rattle.rep_node.proofs.Batching.{batch_later, batch_none}
@@ -15,10 +14,10 @@ use Rattle.rep_node.proofs.node.Node.serve.Goals as goal
 use Rattle.rep_node.proofs.node.Node.serve.Goals.{After-is_halted-halted}
 
 pub returns-then-is_halted-clause-batch : goal.returns-then-is_halted-clause-batch
-returns-then-is_halted-clause-batch g c = batch_none (items_of c.args.items.now) (length c.args.items.now) c.args.seat.now.view c.is_halted.new.seat.view c.refused.result.receipts.items c.is_halted.ensures.later c.refused.ensures.0
+returns-then-is_halted-clause-batch g c = batch_none c.args.items.now (length c.args.items.now) c.args.seat.now.view c.is_halted.new.seat.view c.refused.result.receipts.items c.is_halted.ensures.later c.refused.ensures.0
 
 pub returns-then-saturating_sub-items-clause-batch : goal.returns-then-saturating_sub-items-clause-batch
-returns-then-saturating_sub-items-clause-batch g c = batch_none (items_of c.args.items.now) (length c.args.items.now) c.args.seat.now.view c.is_halted.new.seat.view c.refused-then-saturating_sub-items.result.receipts.items c.is_halted.ensures.later c.refused-then-saturating_sub-items.ensures.0
+returns-then-saturating_sub-items-clause-batch g c = batch_none c.args.items.now (length c.args.items.now) c.args.seat.now.view c.is_halted.new.seat.view c.refused-then-saturating_sub-items.result.receipts.items c.is_halted.ensures.later c.refused-then-saturating_sub-items.ensures.0
 
 -- there is a seqno for the keeper
 some : (g : Over) (c : After-is_halted-halted g) → 0 < c.is_halted.new.seat.view.allowance
@@ -27,19 +26,19 @@ some g c = let left = c.left.ensures.left.0 in let enough = c.if-saturating_sub-
 kept : (g : Over) (c : After-is_halted-halted g) → WentIdle (given 1 c.is_halted.new.seat.view) c.serve_by_two-batch.new.keeper.view
 kept g c = subst (λ (z : Place (Home g.row.D.Denot) Judged). WentIdle z.view c.serve_by_two-batch.new.keeper.view) c.split-keeper.ensures.given c.serve_by_two-batch.ensures.idle
 
-handed : (g : Over) (c : After-is_halted-halted g) → HandedIn (items_of c.args.items.now) (length c.args.items.now) (giving 1 c.is_halted.new.seat.view) c.serve_by_two-batch.new.seat.view c.serve_by_two-batch.result
-handed g c = subst (λ (z : Place (Home g.row.D.Denot) Judged). HandedIn (items_of c.args.items.now) (length c.args.items.now) z.view c.serve_by_two-batch.new.seat.view c.serve_by_two-batch.result) c.split-keeper.ensures.seat c.serve_by_two-batch.ensures.handed_in
+handed : (g : Over) (c : After-is_halted-halted g) → HandedIn c.args.items.now (length c.args.items.now) (giving 1 c.is_halted.new.seat.view) c.serve_by_two-batch.new.seat.view c.serve_by_two-batch.result
+handed g c = subst (λ (z : Place (Home g.row.D.Denot) Judged). HandedIn c.args.items.now (length c.args.items.now) z.view c.serve_by_two-batch.new.seat.view c.serve_by_two-batch.result) c.split-keeper.ensures.seat c.serve_by_two-batch.ensures.handed_in
 
 pub returns-clause-went : goal.returns-clause-went
 returns-clause-went g c = let at = (goal.at.returns-clause-went g c).After-is_halted-halted in
     went_on c.args.seat.now.view c.is_halted.new.seat.view c.is_halted-halted.new.seat.view c.is_halted.ensures.idle.0
-    (came_went (items_of c.args.items.now) (length c.args.items.now) (IsLegal c.serve_by_two-batch.new.seat.view.first) c.is_halted.new.seat.view c.serve_by_two-batch.new.keeper.view c.serve_by_two-batch.new.seat.view c.join.new.seat.view c.is_halted-halted.new.seat.view c.serve_by_two-batch.result (some g at) (kept g at) (handed g at) c.join.ensures.joined c.is_halted-halted.ensures.later)
+    (came_went c.args.items.now (length c.args.items.now) (IsLegal c.serve_by_two-batch.new.seat.view.first) c.is_halted.new.seat.view c.serve_by_two-batch.new.keeper.view c.serve_by_two-batch.new.seat.view c.join.new.seat.view c.is_halted-halted.new.seat.view c.serve_by_two-batch.result (some g at) (kept g at) (handed g at) c.join.ensures.joined c.is_halted-halted.ensures.later)
 
 pub returns-clause-passed : goal.returns-clause-passed
 returns-clause-passed g c = let at = (goal.at.returns-clause-passed g c).After-is_halted-halted in
-    came_passed (items_of c.args.items.now) (length c.args.items.now) (IsLegal c.serve_by_two-batch.new.seat.view.first) c.is_halted.new.seat.view c.serve_by_two-batch.new.keeper.view c.serve_by_two-batch.new.seat.view c.join.new.seat.view c.is_halted-halted.new.seat.view c.serve_by_two-batch.result (some g at) (kept g at) (handed g at) c.join.ensures.joined c.is_halted-halted.ensures.later
+    came_passed c.args.items.now (length c.args.items.now) (IsLegal c.serve_by_two-batch.new.seat.view.first) c.is_halted.new.seat.view c.serve_by_two-batch.new.keeper.view c.serve_by_two-batch.new.seat.view c.join.new.seat.view c.is_halted-halted.new.seat.view c.serve_by_two-batch.result (some g at) (kept g at) (handed g at) c.join.ensures.joined c.is_halted-halted.ensures.later
 
 pub returns-clause-batch : goal.returns-clause-batch
 returns-clause-batch g c = let at = (goal.at.returns-clause-batch g c).After-is_halted-halted in
-    batch_later (items_of c.args.items.now) 0 (length c.args.items.now) c.args.seat.now.view c.is_halted.new.seat.view c.is_halted-halted.new.seat.view c.serve_by_two-batch.result.receipts.items c.is_halted.ensures.later
-    (came_batch (items_of c.args.items.now) (length c.args.items.now) (IsLegal c.serve_by_two-batch.new.seat.view.first) c.is_halted.new.seat.view c.serve_by_two-batch.new.keeper.view c.serve_by_two-batch.new.seat.view c.join.new.seat.view c.is_halted-halted.new.seat.view c.serve_by_two-batch.result (some g at) (kept g at) (handed g at) c.join.ensures.joined c.is_halted-halted.ensures.later)
+    batch_later c.args.items.now 0 (length c.args.items.now) c.args.seat.now.view c.is_halted.new.seat.view c.is_halted-halted.new.seat.view c.serve_by_two-batch.result.receipts.items c.is_halted.ensures.later
+    (came_batch c.args.items.now (length c.args.items.now) (IsLegal c.serve_by_two-batch.new.seat.view.first) c.is_halted.new.seat.view c.serve_by_two-batch.new.keeper.view c.serve_by_two-batch.new.seat.view c.join.new.seat.view c.is_halted-halted.new.seat.view c.serve_by_two-batch.result (some g at) (kept g at) (handed g at) c.join.ensures.joined c.is_halted-halted.ensures.later)

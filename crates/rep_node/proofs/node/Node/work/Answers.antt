@@ -1,21 +1,19 @@
 use Rattle.std.proofs.Common.{rules, ◌≡◌, ℕ, ◌+◌, ◌<◌, [], ◌∷◌, ◌++◌, arith, sym, ◌∙◌, subst}
 use Rattle.std.specs.Prelude.{slice_get, Some}
-use Rattle.rep_types.specs.declared.item.Item.TheVariants.{WriteSet as OfWriteSet}
 use Rattle.rep_node.specs.declared.batch.Receipt.{Receipt}
-use Rattle.rep_node.specs.Batches.{items_of}
 use Rattle.rep_node.proofs.Batching.{AtPlace, at_next, at_refused, full, item_at}
 use Rattle.rep_node.proofs.node.Node.work.Goals as goal
 
 pub returns-in-Err : goal.returns-in-Err
 returns-in-Err g c = let inv = c.loop-place.invariant in let ready = c.requires.ready in let place : ℕ = c.loop-place.place in let to = inv.2 in let drew = c.in-Err.ensures.drawn.1 in
     let below : place < c.args.job.now.to = omega arith in let most = ready.range.1 in
-    let at : slice_get (items_of c.args.items.now) place ≡ Some (OfWriteSet c.index-items-place.result) = item_at c.args.items.now place c.index-items-place.result (omega arith) c.index-items-place.is in record {
+    let at : slice_get c.args.items.now place ≡ Some c.index-items-place.result = item_at c.args.items.now place c.index-items-place.result (omega arith) c.index-items-place.is in record {
       worked = record {
         lock = c.submit.ensures.lock ∙ inv.0;
         range = (inv.1, inv.2);
         went = Rattle.rep_ordered.specs.GoingLaws.went_on c.args.job.now.seat.view c.loop-place.job.seat.view c.submit.new.seat.view inv.5.went drew.went;
         passed = c.submit.ensures.passed inv.5.passed;
-        part = at_refused g.D.Disk.honest g.D.Disk.history g.D.Disk.failures (items_of c.args.items.now) c.args.job.now.from place c.args.job.now.to c.in-Err.ensures.drawn.0 (OfWriteSet c.index-items-place.result) c.args.job.now.seat.view c.loop-place.job.seat.view c.submit.new.seat.view c.loop-place.job.receipts.items inv.5
+        part = at_refused g.D.Disk.honest g.D.Disk.history g.D.Disk.failures c.args.items.now c.args.job.now.from place c.args.job.now.to c.in-Err.ensures.drawn.0 c.index-items-place.result c.args.job.now.seat.view c.loop-place.job.seat.view c.submit.new.seat.view c.loop-place.job.receipts.items inv.5
             (let n = inv.5.all.count in omega arith) below at drew c.submit.ensures.joined;
         all = λ none. absurd (subst full none tt);
         stopped = c.in-Err.ensures.stopped;
@@ -25,7 +23,7 @@ returns-in-Err g c = let inv = c.loop-place.invariant in let ready = c.requires.
 pub loop-place-preserved : goal.loop-place-preserved
 loop-place-preserved g c = let inv = c.loop-place.invariant in let ready = c.requires.ready in let place : ℕ = c.loop-place.place in let to = inv.2 in let drew = c.in-Ok.ensures.drawn.1 in let number = c.in-Ok.ensures.drawn.2 in
     let below : place < c.args.job.now.to = omega arith in let most = ready.range.1 in
-    let at : slice_get (items_of c.args.items.now) place ≡ Some (OfWriteSet c.index-items-place.result) = item_at c.args.items.now place c.index-items-place.result (omega arith) c.index-items-place.is in
+    let at : slice_get c.args.items.now place ≡ Some c.index-items-place.result = item_at c.args.items.now place c.index-items-place.result (omega arith) c.index-items-place.is in
     let r : Receipt = record { index = place; seqno = c.in-Ok.seqno; verdict = c.in-Ok.verdict } in
     let items : c.push_reserved.new.self.items ≡ c.loop-place.job.receipts.items ++ r ∷ [] = search rules in (
       c.submit.ensures.lock ∙ inv.0,
@@ -33,7 +31,7 @@ loop-place-preserved g c = let inv = c.loop-place.invariant in let ready = c.req
       inv.2,
       inv.3,
       c.push_reserved.ensures.capacity ∙ inv.4,
-      subst (AtPlace g.D.Disk.honest g.D.Disk.history g.D.Disk.failures (items_of c.args.items.now) c.args.job.now.from (place + 1) c.args.job.now.seat.view c.submit.new.seat.view) (sym items)
-          (at_next g.D.Disk.honest g.D.Disk.history g.D.Disk.failures (items_of c.args.items.now) c.args.job.now.from place c.in-Ok.seqno c.in-Ok.verdict (OfWriteSet c.index-items-place.result) c.args.job.now.seat.view c.loop-place.job.seat.view c.submit.new.seat.view c.loop-place.job.receipts.items inv.5
+      subst (AtPlace g.D.Disk.honest g.D.Disk.history g.D.Disk.failures c.args.items.now c.args.job.now.from (place + 1) c.args.job.now.seat.view c.submit.new.seat.view) (sym items)
+          (at_next g.D.Disk.honest g.D.Disk.history g.D.Disk.failures c.args.items.now c.args.job.now.from place c.in-Ok.seqno c.in-Ok.verdict c.index-items-place.result c.args.job.now.seat.view c.loop-place.job.seat.view c.submit.new.seat.view c.loop-place.job.receipts.items inv.5
           (let n = inv.5.all.count in omega arith) at (subst (λ n. Rattle.rep_node.specs.Seats.DrewOne g.D.Disk.honest g.D.Disk.history g.D.Disk.failures n c.loop-place.job.seat.view c.submit.new.seat.view) (sym number) drew) c.submit.ensures.passed c.in-Ok.ensures.receipt),
     )
