@@ -1,10 +1,12 @@
 -- What is answered, and what of it waits.
-use Rattle.std.proofs.Common.{ℕ, ◌+◌, List, [], ◌++◌, length, take, Option, Some, refl, sym, ap, ◌∙◌, arith, append_assoc}
+use Rattle.std.proofs.Common.{ℕ, ◌+◌, List, [], ◌++◌, length, take, Option, Some, Err, refl, sym, ap, ◌∙◌, arith, append_assoc}
 use Rattle.std.specs.Io.KnownBytes.{Appends}
 use Rattle.std.proofs.KnownBytes.{Appends-trans, Appends-nil}
 use Rattle.std.proofs.lemmas.List.{take_all}
 use Rattle.std.proofs.Math.Seq.{take-append-add}
-use Rattle.rep_script.specs.Answering.{Answered}
+use Rattle.rep_types.specs.declared.refusal.Refusal.{Refusal}
+use Rattle.rep_types.specs.declared.refusal.Refusal.TheVariants.{StreamFault}
+use Rattle.rep_script.specs.Answering.{Answered, Tells}
 
 -- nothing is answered yet
 pub nothing_answered : (before : Option (List ℕ)) → Answered before before [] []
@@ -46,3 +48,8 @@ pub answered_front : (before mid after : Option (List ℕ)) (waiting bytes : Lis
     (n : ℕ) × Appends before after (take n bytes)
 answered_front before mid after waiting bytes k (sent, is, first) second =
     (length sent + k, rw (is, take-append-add sent waiting k) (Appends-trans before mid after sent (take k waiting) first second))
+
+-- where it is refused before, nothing of the line is written
+pub nothing_told : (line : List ℕ) (at : Option (List ℕ)) (e : Refusal) → Tells line at at (Err e)
+nothing_told line at StreamFault = (0, Appends-nil at)
+nothing_told line at e = Appends-nil at

@@ -1,7 +1,6 @@
 -- What a donor and a joiner say.
 use Rattle.std.proofs.Common.{◌≡◌, ℕ, true, List, Option, None, Some, Result, Ok, Err, sym, ◌∙◌}
 use Rattle.std.specs.Prelude.{◌≢◌, IfOk, IfErr, IfSome, OnOk}
-use Rattle.std.proofs.KnownBytes.{Appends-nil}
 use Rattle.rep_types.specs.declared.refusal.Refusal.{Refusal}
 use Rattle.rep_types.specs.declared.refusal.Refusal.TheVariants.{DiskFault, Corrupt, StreamFault}
 use Rattle.rep_types.specs.declared.refusal.Part.{Part}
@@ -13,13 +12,7 @@ use Rattle.rep_replica.specs.Holding.{Holds}
 use Rattle.rep_replica.specs.Settling.{is_quiet}
 use Rattle.rep_catchup.specs.Growing.{Tells as TellsOfDevice}
 use Rattle.rep_catchup.specs.Joining.{Joined, TookTransfer}
-use Rattle.rep_script.specs.Answering.{Tells}
 use Rattle.rep_script.specs.CatchingUp.{Taken}
-
--- where it is refused before, nothing of the line is written
-pub nothing_told : (line : List ℕ) (at : Option (List ℕ)) (e : Refusal) → Tells line at at (Err e)
-nothing_told line at StreamFault = (0, Appends-nil at)
-nothing_told line at e = Appends-nil at
 
 -- ---- a joiner
 

@@ -1,8 +1,10 @@
 -- Answers that wait until they are written together, and lines that are written at once.
-use Rattle.std.specs.Prelude.{◌≡◌, ℕ, List, [], ◌++◌, take, Option, Result, Ok, Err}
+use Rattle.std.specs.Prelude.{◌≡◌, ℕ, List, [], ◌++◌, take, codes, Option, Result, Ok, Err}
+use Rattle.std.specs.Fmt.{decimal}
 use Rattle.std.specs.Io.KnownBytes.{Appends}
 use Rattle.rep_types.specs.declared.refusal.Refusal.{Refusal}
 use Rattle.rep_types.specs.declared.refusal.Refusal.TheVariants.{StreamFault}
+use Rattle.rep_types.specs.Windows.{Window}
 
 -- Of these bytes, which are answered, all but those that wait were written.
 abbrev pub Answered : Option (List ℕ) → Option (List ℕ) → List ℕ → List ℕ → Type 0
@@ -13,3 +15,7 @@ abbrev pub Tells : List ℕ → Option (List ℕ) → Option (List ℕ) → Resu
 Tells line old new (Ok _) = Appends old new line
 Tells line old new (Err StreamFault) = (k : ℕ) × Appends old new (take k line)
 Tells line old new (Err refusal) = Appends old new []
+
+-- the line that is said of a window's limits: how many seqnos it spans, and the least seqno that it can hold
+abbrev pub limits_line : Window → List ℕ
+limits_line v = codes "size " ++ decimal v.size ++ codes " floor " ++ decimal v.floor ++ codes "\n"

@@ -1,16 +1,17 @@
 -- What a line of a script asks for: functions of its words, each None where there is nothing of the form.
 use Rattle.std.specs.Prelude.{ℕ, ◌^◌, ◌==◌, if◌then◌else◌, List, length, drop, codes, Option, None, Some, Result, Ok, Err}
+use Rattle.rep_types.specs.declared.item.Item.{Item}
 use Rattle.rep_types.specs.declared.refusal.Refusal.{Refusal}
 use Rattle.rep_types.specs.declared.refusal.Refusal.TheVariants.{Malformed}
-use Rattle.rep_types.specs.Transactions.{Transaction}
 use Rattle.rep_forms.specs.Options.{◌>>=◌}
 use Rattle.rep_record.specs.Words.{words}
-use Rattle.rep_record.specs.Reading.{number_in, given, key_in, is_next, next, tail_in, outcome, item_outcome}
+use Rattle.rep_record.specs.Reading.{number_in, given, key_in, is_next, next, item_in, outcome, order_outcome}
 use Rattle.rep_disk.specs.declared.memory.Loss.{Loss}
 use Rattle.rep_disk.specs.declared.memory.Loss.TheVariants.{Keep, Drop, Junk}
-use Rattle.rep_steps.specs.declared.event.Event.TheVariants.{Deliver, Log, Sync, Check, Flush, Read}
+use Rattle.rep_steps.specs.declared.event.Event.TheVariants.{Log, Sync, Check, Flush, Read}
+use Rattle.rep_steps.specs.Events.{delivery}
 use Rattle.rep_script.specs.declared.script_line.Command.{Command}
-use Rattle.rep_script.specs.declared.script_line.Command.TheVariants.{Step, State, Stop}
+use Rattle.rep_script.specs.declared.script_line.Command.TheVariants.{Step, State, Limits, Stop}
 
 -- what a stop loses, and the words after it
 unfoldable pub loss_in : List (List ℕ) → Option (Loss × List (List ℕ))
@@ -39,6 +40,7 @@ plain_in words =
     else if is_next (codes "sync") words then Some (Step Sync, drop 1 words)
     else if is_next (codes "check") words then Some (Step Check, drop 1 words)
     else if is_next (codes "state") words then Some (State, drop 1 words)
+    else if is_next (codes "limits") words then Some (Limits, drop 1 words)
     else if is_next (codes "flush") words then flush_in (drop 1 words)
     else if is_next (codes "read") words then read_in (drop 1 words)
     else if is_next (codes "stop") words then stop_in (drop 1 words)
@@ -49,18 +51,18 @@ unfoldable pub whole_in : List (List ℕ) → Option Command
 whole_in words = plain_in words >>= λ x. given (length x.1 == 0) x.0
 
 -- the delivery of an item under this seqno
-abbrev pub delivered : ℕ → Result Transaction Refusal → Result Command Refusal
-delivered seqno (Ok w) = Ok (Step (Deliver seqno w))
+abbrev pub delivered : ℕ → Result Item Refusal → Result Command Refusal
+delivered seqno (Ok i) = Ok (Step (delivery seqno i))
 delivered seqno (Err refusal) = Err refusal
 
--- a delivery by its seqno and the words of its tail
-abbrev pub delivery : ℕ → Option (ℕ × List (List ℕ)) → Result Command Refusal
-delivery number None = Err (Malformed number)
-delivery number (Some x) = delivered x.0 (item_outcome number (tail_in x.1))
+-- a delivery by its seqno and the words that say its item
+abbrev pub delivery_of : ℕ → Option (ℕ × List (List ℕ)) → Result Command Refusal
+delivery_of number None = Err (Malformed number)
+delivery_of number (Some x) = delivered x.0 (order_outcome number (item_in x.1))
 
--- What comes of a script's line with this number: `deliver seqno tail`, `log`, `sync`, `check`, `flush p`, `read key s`, `state`, `stop keep`,
--- `stop drop` or `stop junk`.
+-- What comes of a script's line with this number: `deliver seqno tail`, `deliver seqno window size [id source:trx]`, `log`, `sync`, `check`,
+-- `flush p`, `read key s`, `state`, `limits`, `stop keep`, `stop drop` or `stop junk`.
 abbrev pub script_line : ℕ → List ℕ → Result Command Refusal
 script_line number line =
-    if is_next (codes "deliver") (words line) then delivery number (next (number_in (2 ^ 64)) (drop 1 (words line)))
+    if is_next (codes "deliver") (words line) then delivery_of number (next (number_in (2 ^ 64)) (drop 1 (words line)))
     else outcome Ok number (whole_in (words line))

@@ -17,7 +17,7 @@ use Rattle.rep_replica.specs.Replicas.{Replica}
 use Rattle.rep_replica.specs.Holding.{IsStep}
 use Rattle.rep_replica.specs.Opening.{Begins as BeginsOn, Opens}
 use Rattle.rep_script.specs.declared.script_line.Command.{Command}
-use Rattle.rep_script.specs.declared.script_line.Command.TheVariants.{Step, State, Stop}
+use Rattle.rep_script.specs.declared.script_line.Command.TheVariants.{Step, State, Limits, Stop}
 use Rattle.rep_script.specs.ScriptLines.{script_line}
 use Rattle.rep_script.specs.Judging.{Reading, said_by, text_of}
 
@@ -31,6 +31,7 @@ script text = text_of script_line 1 0 (raw_lines text)
 abbrev pub unless_stop : ℕ → Result Command Refusal → Result Command Refusal
 unless_stop number (Ok (Step e)) = Ok (Step e)
 unless_stop number (Ok State) = Ok State
+unless_stop number (Ok Limits) = Ok Limits
 unless_stop number (Ok (Stop loss)) = Err (Malformed number)
 unless_stop number (Err refusal) = Err refusal
 
@@ -83,17 +84,19 @@ pub record Stops {D : Type 0} (size failures : D → ℕ) (honest : D → Type 0
 
 -- ---- what running a script does
 
--- What a command does to a replica on a disk that does not crash at a line's word: it makes this step, whatever it answers, or its state is
--- looked at.
+-- What a command does to a replica on a disk that does not crash at a line's word: it makes this step, whatever it answers, or its state or its
+-- window's limits are looked at.
 abbrev pub Does : {D : Type 0} → (D → Type 0) → (D → History) → (D → ℕ) → Replica D → Command → Replica D → Type 0
 Does honest history failures old (Step e) new = (a : Answer) × IsStep honest history failures old e a new
 Does honest history failures old State new = new ≡ old
+Does honest history failures old Limits new = new ≡ old
 Does honest history failures old (Stop loss) new = ⊥
 
 -- The same on a disk that a stop makes crash, and opens again.
 abbrev pub DoesOrStops : {D : Type 0} → (D → ℕ) → (D → ℕ) → (D → Type 0) → (D → History) → (Loss → D → D → Type 0) → Replica D → Command → Replica D → Type 0
 DoesOrStops size failures honest history crashes old (Step e) new = (a : Answer) × IsStep honest history failures old e a new
 DoesOrStops size failures honest history crashes old State new = new ≡ old
+DoesOrStops size failures honest history crashes old Limits new = new ≡ old
 DoesOrStops size failures honest history crashes old (Stop loss) new = Stops size failures honest history crashes loss old (Ok new)
 
 -- These commands were done one after another, each once.
@@ -157,6 +160,7 @@ ScriptEnds size failures honest history crashes r (Err refusal) =
 abbrev pub RunsCommand : {D : Type 0} → (D → Type 0) → (D → History) → (D → ℕ) → Replica D → Command → Result (Option Loss) Refusal → Replica D → Type 0
 RunsCommand honest history failures old (Step e) result new = Does honest history failures old (Step e) new × MatchResult result (λ asked. asked ≡ None) (λ refusal. refusal ≡ StreamFault)
 RunsCommand honest history failures old State result new = Does honest history failures old State new × MatchResult result (λ asked. asked ≡ None) (λ refusal. refusal ≡ StreamFault)
+RunsCommand honest history failures old Limits result new = Does honest history failures old Limits new × MatchResult result (λ asked. asked ≡ None) (λ refusal. refusal ≡ StreamFault)
 RunsCommand honest history failures old (Stop loss) result new = (result ≡ Ok (Some loss)) × (new ≡ old)
 
 -- what a line does to a replica, by what it says, and what comes of it

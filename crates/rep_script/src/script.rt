@@ -10,6 +10,7 @@ ghost use Rattle.rep_script.specs.Scripts.{script, script_on_disk, disk_line, Op
 use crate::answers::{write_answer, write_open, write_refused, write_state};
 use crate::exchange::{Counted, Waiting, next_line, send};
 use crate::judge::read_params;
+use crate::limits::answer_limits;
 use crate::script_line::{Command, read_command};
 use arrayvec::ArrayVec;
 use rep_disk::{Disk, Loss, MemDisk};
@@ -92,6 +93,7 @@ fn run_command<D: Disk, W: Write>(
             Ok(window) => write_state(writer, replica, window.entries())?,
             Err(refusal) => write_refused(writer, refusal)?,
         },
+        Command::Limits => answer_limits(alloc, replica, writer)?,
         Command::Stop(loss) => return Ok(Some(loss)),
     }
     Ok(None)
@@ -160,11 +162,11 @@ fn run_from<R: Read, W: Write>(
 /// Does what each further line asks for, and writes what came of it before the reader is asked for what comes after the
 /// line. At a stop the disk loses of what is not stable what the line says, and is opened again.
 ///
-/// A step that the replica refuses is written as such, and the script goes on; so is want of memory, which `log`
-/// and the line of the state may meet. A write or a sync for which the disk in memory finds no room is a failure
+/// A step that the replica refuses is written as such, and the script goes on; so is want of memory, which `log`, `check`
+/// and the lines of the state and of the limits may meet. A write or a sync for which the disk in memory finds no room is a failure
 /// of the disk: the replica is then stopped up to the next stop of the script.
 ///
-/// Refuses a params line as `read_params_line` does, a line that cannot be read as `read_item_line`
+/// Refuses a params line as `read_params_line` does, a line that cannot be read as `read_command`
 /// does, a disk that cannot be made or opened with `OutOfMemory` or `DiskFault`, and with `StreamFault` a reader
 /// or a writer that fails and a text of more than 67,108,864 bytes. What was written before stands.
 pub fn run_script<R: Read, W: Write>(

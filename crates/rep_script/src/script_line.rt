@@ -3,10 +3,10 @@
 ghost use Rattle.std.specs.Prelude.{◌≡◌, ◌^◌};
 ghost use Rattle.rep_record.specs.Reading.{number_in, next};
 ghost use Rattle.rep_record.specs.Drafts.{Gives};
-ghost use Rattle.rep_script.specs.ScriptLines.{loss_in, flush_in, read_in, stop_in, plain_in, whole_in, delivery, script_line};
+ghost use Rattle.rep_script.specs.ScriptLines.{loss_in, flush_in, read_in, stop_in, plain_in, whole_in, delivery_of, script_line};
 
 use rep_disk::Loss;
-use rep_record::{Words, read_key, read_tail};
+use rep_record::{Words, read_key, read_stated};
 use rep_steps::Event;
 use rep_types::{Refusal, read_number};
 
@@ -17,6 +17,8 @@ pub enum Command {
     Step(Event),
     /// The line of the replica's state.
     State,
+    /// The line of the limits of the replica's window.
+    Limits,
     /// A stop, with this loss, and the opening of what is left.
     Stop(Loss),
 }
@@ -85,6 +87,8 @@ fn read_plain(words: &mut Words) -> Option<Command>
         Some(Command::Step(Event::Check))
     } else if words.skip(b"state") {
         Some(Command::State)
+    } else if words.skip(b"limits") {
+        Some(Command::Limits)
     } else if words.skip(b"flush") {
         read_flush(words)
     } else if words.skip(b"read") {
@@ -110,20 +114,21 @@ fn read_whole(mut words: Words) -> Option<Command>
 
 /// The delivery of the item that the words say behind its seqno, in the line with this number.
 fn read_delivery(mut words: Words, number: u64) -> Result<Command, Refusal>
-    ensures { result ≡ delivery number (next (number_in (2 ^ 64)) words.entry) }
+    ensures { result ≡ delivery_of number (next (number_in (2 ^ 64)) words.entry) }
 {
     let Some(seqno) = next_number(&mut words) else {
         return Err(Refusal::Malformed { at: number });
     };
-    let item = read_tail(words, number)?;
-    Ok(Command::Step(Event::Deliver(seqno, item)))
+    let item = read_stated(words, number)?;
+    Ok(Command::Step(Event::delivery(seqno, item)))
 }
 
-/// What the line with this number asks for: `deliver seqno tail`, `log`, `sync`, `check`, `flush p`,
-/// `read key s`, `state`, `stop keep`, `stop drop` or `stop junk`.
+/// What the line with this number asks for: `deliver seqno tail`, `deliver seqno window size
+/// [id source:trx]`, `log`, `sync`, `check`, `flush p`, `read key s`, `state`, `limits`, `stop keep`,
+/// `stop drop` or `stop junk`.
 ///
-/// Refuses with `Malformed`, `at` being the line's number, a line of no such form, and a tail as
-/// `read_item_line` does.
+/// Refuses with `Malformed`, `at` being the line's number, a line of no such form; and the item of a
+/// delivery as `read_stated` does, whatever its seqno: a size outside 1 to 256 with `BadParams`.
 pub fn read_command(line: &[u8], number: u64) -> Result<Command, Refusal>
     ensures { result ≡ script_line number line.now }
 {

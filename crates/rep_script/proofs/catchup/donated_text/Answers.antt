@@ -1,6 +1,6 @@
 use Rattle.std.proofs.lemmas.Result.{err_from_is_err_and}
 use Rattle.rep_script.specs.CatchingUp.{donated_line}
-use Rattle.rep_script.proofs.CatchingUp.{nothing_told}
+use Rattle.rep_script.proofs.Answering.{nothing_told}
 use Rattle.rep_script.proofs.catchup.donated_text.Goals as goal
 
 -- ---- where it is refused

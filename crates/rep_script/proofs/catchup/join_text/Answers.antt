@@ -5,7 +5,8 @@ use Rattle.rep_types.specs.declared.refusal.Refusal.TheVariants.{StreamFault}
 use Rattle.rep_engine.specs.Engines.{gtid_of}
 use Rattle.rep_script.specs.Answering.{Tells}
 use Rattle.rep_script.specs.CatchingUp.{joined_line}
-use Rattle.rep_script.proofs.CatchingUp.{nothing_told, taken, either_way, line_tells}
+use Rattle.rep_script.proofs.Answering.{nothing_told}
+use Rattle.rep_script.proofs.CatchingUp.{taken, either_way, line_tells}
 use Rattle.rep_script.proofs.catchup.join_text.Goals as goal
 
 -- ---- where it is refused
