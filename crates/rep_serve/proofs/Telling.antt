@@ -1,26 +1,25 @@
 -- What is written of a batch, receipt by receipt.
-use Rattle.std.proofs.Common.{◌≡◌, ℕ, zero, suc, arith, ◌+◌, ◌<◌, List, [], ◌∷◌, ◌++◌, length, take, drop, slice_get, slice_index_or, Option, None, Some, Result, Ok, Err, inl, inr, map, sym, ap, subst, ◌∙◌, append-nil}
+use Rattle.std.proofs.Common.{◌≡◌, ℕ, zero, suc, arith, ◌+◌, ◌<◌, List, [], ◌∷◌, ◌++◌, length, take, drop, slice_get, slice_index_or, Option, None, Some, Result, Ok, Err, inl, inr, sym, ap, subst, ◌∙◌, append-nil}
 use Rattle.std.specs.Io.KnownBytes.{Appends}
-use Rattle.std.proofs.lemmas.List.{length-map, take_all, take_more, take-append-drop}
+use Rattle.std.proofs.lemmas.List.{take_all, take_more, take-append-drop}
 use Rattle.std.proofs.Math.Seq.{take-append-add}
 use Rattle.std.proofs.lemmas.List.Concat.{flat_map-append}
 use Rattle.std.proofs.lemmas.Option.{slice_get-get_or, slice_get_within}
 use Rattle.std.proofs.KnownBytes.{Appends-trans}
 use Rattle.std.specs.Prelude.{OnOk, OnErr}
-use Rattle.rep_types.specs.declared.item.Item.TheVariants.{WriteSet as OfWriteSet}
+use Rattle.rep_types.specs.declared.item.Item.{Item}
 use Rattle.rep_types.specs.declared.judged.Judged.{Judged}
 use Rattle.rep_types.specs.declared.refusal.Refusal.{Refusal}
 use Rattle.rep_types.specs.declared.refusal.Refusal.TheVariants.{StreamFault}
 use Rattle.rep_ordered.specs.Views.{Every}
 use Rattle.rep_node.specs.Served.{IsTold}
-use Rattle.rep_types.specs.Transactions.{Transaction}
 use Rattle.rep_node.specs.declared.batch.Receipt.{Receipt}
 use Rattle.rep_script.specs.Answering.{Answered}
 use Rattle.rep_script.proofs.Answering.{answered_cut, answered_front, answered_more, answered_on}
 use Rattle.rep_script.proofs.Progress.{take_front}
 use Rattle.rep_serve.specs.Serving.{AddsLine, TellsBatch, line_of, receipt_line, receipt_lines}
 
-abbrev of_its_place : List Transaction → Receipt → List ℕ
+abbrev of_its_place : List Item → Receipt → List ℕ
 of_its_place items r = line_of r (slice_get items r.index)
 
 -- what holds of each holds of the one at a place
@@ -30,27 +29,27 @@ every_at P (x ∷ xs) zero d e inside = e.0
 every_at P (x ∷ xs) (suc i) d e inside = every_at P xs i d e.1 (omega arith)
 
 -- the item of a receipt stands at its place
-pub item_at : (items : List Transaction) (receipts : List Receipt) (i : ℕ) (d : Receipt) (w e : Transaction) → Every (λ (r : Receipt). r.index < length items) receipts → i < length receipts → w ≡ slice_index_or items (slice_index_or receipts i d).index e
+pub item_at : (items : List Item) (receipts : List Receipt) (i : ℕ) (d : Receipt) (w e : Item) → Every (λ (r : Receipt). r.index < length items) receipts → i < length receipts → w ≡ slice_index_or items (slice_index_or receipts i d).index e
     → slice_get items (slice_index_or receipts i d).index ≡ Some w
 item_at items receipts i d w e places within is =
     slice_get-get_or items (slice_index_or receipts i d).index e (every_at (λ (r : Receipt). r.index < length items) receipts i d places within) ∙ ap Some (sym is)
 
 -- one more receipt, one more line
-pub lines_more : (items : List Transaction) (receipts : List Receipt) (i : ℕ) (d : Receipt) (w : Transaction) → i < length receipts → slice_get items (slice_index_or receipts i d).index ≡ Some w
+pub lines_more : (items : List Item) (receipts : List Receipt) (i : ℕ) (d : Receipt) (w : Item) → i < length receipts → slice_get items (slice_index_or receipts i d).index ≡ Some w
     → receipt_lines items (take (i + 1) receipts) ≡ receipt_lines items (take i receipts) ++ receipt_line (slice_index_or receipts i d) w
 lines_more items receipts i d w within at =
     let r = slice_index_or receipts i d in
     ap (receipt_lines items) (take_more receipts i d within) ∙ flat_map-append (of_its_place items) (take i receipts) (r ∷ []) ∙ ap (λ l. receipt_lines items (take i receipts) ++ l) (append-nil (of_its_place items r) ∙ ap (line_of r) at)
 
 -- the first lines are a front of all
-pub lines_front : (items : List Transaction) (receipts : List Receipt) (i k : ℕ) → (n : ℕ) × (take n (receipt_lines items receipts) ≡ take k (receipt_lines items (take i receipts)))
+pub lines_front : (items : List Item) (receipts : List Receipt) (i k : ℕ) → (n : ℕ) × (take n (receipt_lines items receipts) ≡ take k (receipt_lines items (take i receipts)))
 lines_front items receipts i k =
     let whole : receipt_lines items receipts ≡ receipt_lines items (take i receipts) ++ receipt_lines items (drop i receipts) = ap (receipt_lines items) (sym (take-append-drop i receipts)) ∙ flat_map-append (of_its_place items) (take i receipts) (drop i receipts) in
     let front = take_front k (receipt_lines items (take i receipts)) (receipt_lines items (drop i receipts)) in
     (front.0, ap (take front.0) whole ∙ front.1)
 
 -- where the writer fails, a front of all lines is answered
-pub lines_cut : (items : List Transaction) (receipts : List Receipt) (i k : ℕ) (before mid after : Option (List ℕ)) (waiting left : List ℕ) → Answered before mid waiting (receipt_lines items (take i receipts)) → Answered mid after left (take k waiting)
+pub lines_cut : (items : List Item) (receipts : List Receipt) (i k : ℕ) (before mid after : Option (List ℕ)) (waiting left : List ℕ) → Answered before mid waiting (receipt_lines items (take i receipts)) → Answered mid after left (take k waiting)
     → (n : ℕ) × Answered before after left (take n (receipt_lines items receipts))
 lines_cut items receipts i k before mid after waiting left first second =
     let cut = answered_cut before mid after waiting left (receipt_lines items (take i receipts)) k first second in
@@ -58,7 +57,7 @@ lines_cut items receipts i k before mid after waiting left first second =
     (front.0, subst (Answered before after left) (sym front.1) cut.1)
 
 -- where a line has no room, so it is too
-pub line_cut : (items : List Transaction) (receipts : List Receipt) (i k : ℕ) (d : Receipt) (w : Transaction) (before mid after : Option (List ℕ)) (waiting room left : List ℕ) → i < length receipts → slice_get items (slice_index_or receipts i d).index ≡ Some w
+pub line_cut : (items : List Item) (receipts : List Receipt) (i k : ℕ) (d : Receipt) (w : Item) (before mid after : Option (List ℕ)) (waiting room left : List ℕ) → i < length receipts → slice_get items (slice_index_or receipts i d).index ≡ Some w
     → Answered before mid waiting (receipt_lines items (take i receipts)) → Answered mid after room waiting → Appends (Some room) (Some left) (take k (receipt_line (slice_index_or receipts i d) w)) → (n : ℕ) × Answered before after left (take n (receipt_lines items receipts))
 line_cut items receipts i k d w before mid after waiting room left is at first second third =
     let r = slice_index_or receipts i d in
@@ -69,7 +68,7 @@ line_cut items receipts i k d w before mid after waiting room left is at first s
     (front.0, subst (Answered before after left) (sym (front.1 ∙ ap (take n) (lines_more items receipts i d w is at) ∙ take-append-add (receipt_lines items (take i receipts)) (receipt_line r w) k)) put)
 
 -- one more line is answered
-pub line_put : (items : List Transaction) (receipts : List Receipt) (i : ℕ) (d : Receipt) (w : Transaction) (before mid after : Option (List ℕ)) (waiting room more : List ℕ) → i < length receipts → slice_get items (slice_index_or receipts i d).index ≡ Some w
+pub line_put : (items : List Item) (receipts : List Receipt) (i : ℕ) (d : Receipt) (w : Item) (before mid after : Option (List ℕ)) (waiting room more : List ℕ) → i < length receipts → slice_get items (slice_index_or receipts i d).index ≡ Some w
     → Answered before mid waiting (receipt_lines items (take i receipts)) → Answered mid after room waiting → Appends (Some room) (Some more) (receipt_line (slice_index_or receipts i d) w) → Answered before after more (receipt_lines items (take (i + 1) receipts))
 line_put items receipts i d w before mid after waiting room more is at first second third =
     let r = slice_index_or receipts i d in
@@ -104,9 +103,9 @@ tells_line lines before mid after (Err e) written adds = elim adds [
 ]
 
 -- the receipts of a batch are of places of it
-pub places_within : (items : List Transaction) (position upto : ℕ) (history : List Judged) (receipts : List Receipt) → Every (IsTold (map OfWriteSet items) position upto history) receipts → Every (λ (r : Receipt). r.index < length items) receipts
+pub places_within : (items : List Item) (position upto : ℕ) (history : List Judged) (receipts : List Receipt) → Every (IsTold items position upto history) receipts → Every (λ (r : Receipt). r.index < length items) receipts
 places_within items position upto history [] told = tt
 places_within items position upto history (r ∷ rs) told = (
-  let within = slice_get_within (map OfWriteSet items) r.index told.0.receipt.item told.0.receipt.at in let same = length-map items (λ (w : Transaction). OfWriteSet w) in omega (arith, within, same),
+  slice_get_within items r.index told.0.receipt.item told.0.receipt.at,
   places_within items position upto history rs told.1,
 )

@@ -1,15 +1,15 @@
 -- What comes of a text of items that a node serves which threads run.
-use Rattle.std.specs.Prelude.{◌≡◌, ◌⊎◌, ℕ, true, List, [], ◌∷◌, ◌++◌, length, map, take, slice_get, Option, None, Some, IfSome, Result, Ok, Err}
+use Rattle.std.specs.Prelude.{◌≡◌, ◌⊎◌, ℕ, true, List, [], ◌∷◌, ◌++◌, length, take, slice_get, Option, None, Some, IfSome, Result, Ok, Err}
 use Rattle.std.specs.Fmt.{decimal}
 use Rattle.std.specs.List.{flat_map}
 use Rattle.std.specs.Io.KnownBytes.{Appends, Keeps}
-use Rattle.rep_types.specs.declared.item.Item.TheVariants.{WriteSet as OfWriteSet}
+use Rattle.rep_types.specs.declared.item.Item.{Item}
 use Rattle.rep_types.specs.declared.refusal.Refusal.{Refusal}
 use Rattle.rep_types.specs.declared.refusal.Refusal.TheVariants.{OutOfMemory, StreamFault}
 use Rattle.rep_types.specs.Texts.{verdict_text}
-use Rattle.rep_types.specs.Transactions.{Transaction}
+use Rattle.rep_types.specs.Items.{source_of, trx_of}
 use Rattle.rep_record.specs.Lines.{raw_lines}
-use Rattle.rep_record.specs.Reading.{item_line}
+use Rattle.rep_record.specs.Reading.{order_line}
 use Rattle.rep_disk.specs.History.{History}
 use Rattle.rep_replica.specs.Replicas.{Replica, facts_of}
 use Rattle.rep_replica.specs.Settling.{Works, is_quiet}
@@ -18,19 +18,19 @@ use Rattle.rep_node.specs.Served.{EndedFor, IsServed}
 use Rattle.rep_script.specs.Judging.{said_by}
 
 -- the line of a receipt: the seqno, the verdict, and the labels of its item
-abbrev pub receipt_line : Receipt → Transaction → List ℕ
-receipt_line r w = decimal r.seqno ++ (32 ∷ verdict_text r.verdict ++ (32 ∷ decimal w.source ++ (58 ∷ decimal w.trx ++ 10 ∷ [])))
+abbrev pub receipt_line : Receipt → Item → List ℕ
+receipt_line r i = decimal r.seqno ++ (32 ∷ verdict_text r.verdict ++ (32 ∷ decimal (source_of i) ++ (58 ∷ decimal (trx_of i) ++ 10 ∷ [])))
 
 -- that of a receipt of one of these items, and nothing where there is no item at its place
-abbrev pub line_of : Receipt → Option Transaction → List ℕ
+abbrev pub line_of : Receipt → Option Item → List ℕ
 line_of r None = []
-line_of r (Some w) = receipt_line r w
+line_of r (Some i) = receipt_line r i
 
-abbrev pub receipt_lines : List Transaction → List Receipt → List ℕ
+abbrev pub receipt_lines : List Item → List Receipt → List ℕ
 receipt_lines items receipts = flat_map (λ (r : Receipt). line_of r (slice_get items r.index)) receipts
 
 -- The refusal of a text of which the lines say this: its first fault, or one of the reader or of memory.
-abbrev pub IsFaultOf : List Transaction × Option Refusal → Refusal → Type 0
+abbrev pub IsFaultOf : List Item × Option Refusal → Refusal → Type 0
 IsFaultOf said OutOfMemory = Unit {0}
 IsFaultOf said StreamFault = Unit {0}
 IsFaultOf said refusal = said.1 ≡ Some refusal
@@ -47,18 +47,18 @@ TellsBatch lines (Some end) before after (Ok x) = ⊥
 TellsBatch lines None before after (Err e) = (state : List ℕ) × (((e ≡ OutOfMemory) × Appends before after lines) ⊎ ((e ≡ StreamFault) × ((k : ℕ) × Appends before after (take k (lines ++ state)))))
 TellsBatch lines (Some end) before after (Err e) = ((e ≡ end) × Appends before after lines) ⊎ ((e ≡ StreamFault) × ((k : ℕ) × Appends before after (take k lines)))
 
--- what the lines of a text say, each an item
-abbrev pub items_in : List ℕ → List Transaction × Option Refusal
-items_in text = said_by item_line 1 0 (raw_lines text)
+-- what the lines of a text say, each an item of either kind
+abbrev pub items_in : List ℕ → List Item × Option Refusal
+items_in text = said_by order_line 1 0 (raw_lines text)
 
 module _ {D : Type 0} (honest : D → Type 0) (history : D → History) (failures : D → ℕ) where
   -- All items of the text were handed in, and what came of them was written.
   pub record ServedText (text : Option (List ℕ)) (old new : Replica D) (before after : Option (List ℕ)) (result : Result (Unit {0}) Refusal) : Type 0 where
-    pub items : List Transaction
+    pub items : List Item
     pub read : IfSome text (λ bytes. items_in bytes ≡ (items, None))
     pub receipts : List Receipt
     pub end : Option Refusal
-    pub served : IsServed honest history failures old (map OfWriteSet items) new receipts end
+    pub served : IsServed honest history failures old items new receipts end
     pub ended : IfSome end (EndedFor old (length items) new receipts)
     pub told : TellsBatch (receipt_lines items receipts) end before after result
 

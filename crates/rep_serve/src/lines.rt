@@ -9,7 +9,7 @@ ghost use Rattle.rep_serve.specs.Serving.{receipt_line, receipt_lines};
 
 use rep_node::Receipt;
 use rep_script::{Waiting, send, write_line};
-use rep_types::{Refusal, WriteSet};
+use rep_types::{Item, Refusal};
 use std::io::Write;
 
 /// More bytes than the line of a receipt has.
@@ -32,7 +32,7 @@ fn make_room<W: Write>(writer: &mut W, waiting: &mut Waiting) -> Result<(), Refu
 /// Puts the line of the receipt, with the labels of its item, behind the lines that wait.
 ///
 /// A line without room would be refused as a writer that fails.
-fn put_receipt(item: &WriteSet, receipt: &Receipt, waiting: &mut Waiting) -> Result<(), Refusal>
+fn put_receipt(item: &Item, receipt: &Receipt, waiting: &mut Waiting) -> Result<(), Refusal>
     ensures ok { OnOk result (Appends (Some waiting.old.items) (Some waiting.new.items) (receipt_line receipt.now item.now)) }
     ensures cut { OnErr result ((k : ℕ) × Appends (Some waiting.old.items) (Some waiting.new.items) (take k (receipt_line receipt.now item.now))) }
     ensures err { IfErr result (λ refusal. refusal ≡ Refusal.StreamFault) }
@@ -51,7 +51,7 @@ fn put_receipt(item: &WriteSet, receipt: &Receipt, waiting: &mut Waiting) -> Res
 ///
 /// Refuses with `StreamFault` where the writer fails.
 fn put_receipts<W: Write>(
-    items: &[WriteSet],
+    items: &[Item],
     receipts: &[Receipt],
     writer: &mut W,
     waiting: &mut Waiting,
@@ -73,7 +73,7 @@ fn put_receipts<W: Write>(
 ///
 /// Refuses with `StreamFault` where the writer fails, which has then taken a front of the lines.
 pub(crate) fn write_receipts<W: Write>(
-    items: &[WriteSet],
+    items: &[Item],
     receipts: &[Receipt],
     writer: &mut W,
 ) -> Result<(), Refusal>

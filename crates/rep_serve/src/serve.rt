@@ -4,7 +4,7 @@ ghost use Rattle.std.specs.Prelude.{◌≡◌, ◌||◌, ◌<◌, ◌≤◌, tru
 ghost use Rattle.std.specs.Io.KnownBytes.{Keeps};
 ghost use Rattle.uuid.specs.Parts.{is_nil_bytes};
 ghost use Rattle.rep_record.specs.Lines.{ahead};
-ghost use Rattle.rep_record.specs.Reading.{item_line};
+ghost use Rattle.rep_record.specs.Reading.{order_line};
 ghost use Rattle.rep_replica.specs.Replicas.{facts_of};
 ghost use Rattle.rep_replica.specs.Settling.{is_quiet, IsRunning};
 ghost use Rattle.rep_ordered.specs.Views.{Every};
@@ -16,10 +16,10 @@ use crate::lines::write_receipts;
 use arrayvec::ArrayVec;
 use rep_disk::Disk;
 use rep_node::{Batch, Pace, Point, serve_batch};
-use rep_record::{TextReader, is_blank, read_item_line};
+use rep_record::{TextReader, is_blank, read_order_line};
 use rep_replica::Replica;
 use rep_script::{Waiting, send, write_state};
-use rep_types::{Refusal, WriteSet};
+use rep_types::{Item, Refusal};
 use std::alloc::Global;
 use std::io::{Read, Write};
 use std::sync::Wait;
@@ -36,21 +36,21 @@ impl Pace for AtOnce {
 
 /// Reads the items of the rest of the text, one from each line that has words, into a list that has none yet.
 ///
-/// Refuses a line as `read_item_line` does, want of memory with `OutOfMemory`, and a line or a text that is too long, and a reader that
+/// Refuses a line as `read_order_line` does, want of memory with `OutOfMemory`, and a line or a text that is too long, and a reader that
 /// fails, as `TextReader::next_line` does.
 fn read_into<R: Read>(
-    items: &mut Vec<WriteSet>,
+    items: &mut Vec<Item>,
     text: &mut TextReader,
     reader: &mut R,
 ) -> Result<(), Refusal>
     requires { items.old.items ≡ [] }
-    ensures read { IfSome (ahead text.old (R.remaining reader.old)) (λ known. OnOk result (said_ahead item_line text.old known ≡ (items.new.items, None))) }
-    ensures refused { IfSome (ahead text.old (R.remaining reader.old)) (λ known. IfErr result (IsFaultOf (said_ahead item_line text.old known))) }
+    ensures read { IfSome (ahead text.old (R.remaining reader.old)) (λ known. OnOk result (said_ahead order_line text.old known ≡ (items.new.items, None))) }
+    ensures refused { IfSome (ahead text.old (R.remaining reader.old)) (λ known. IfErr result (IsFaultOf (said_ahead order_line text.old known))) }
 {
     let mut line = ArrayVec::new();
     'lines: while text.next_line(reader, &mut line)? {
         if !is_blank(&line) {
-            items.push(read_item_line(&line, text.number())?)?;
+            items.push(read_order_line(&line, text.number())?)?;
         }
     }
     Ok(())
@@ -59,7 +59,7 @@ fn read_into<R: Read>(
 /// Reads the items of a text.
 ///
 /// Refuses as `read_into` does.
-fn read_items<R: Read>(alloc: Global, reader: &mut R) -> Result<Vec<WriteSet>, Refusal>
+fn read_items<R: Read>(alloc: Global, reader: &mut R) -> Result<Vec<Item>, Refusal>
     ensures read { IfSome (R.remaining reader.old) (λ known. IfOk result (λ items. items_in known ≡ (items.items, None))) }
     ensures refused { IfSome (R.remaining reader.old) (λ known. IfErr result (IsFaultOf (items_in known))) }
 {
@@ -92,7 +92,7 @@ fn write_state_of<D: Disk, W: Write>(
 fn tell<D: Disk, W: Write>(
     alloc: Global,
     replica: &Replica<D>,
-    items: &[WriteSet],
+    items: &[Item],
     batch: &Batch,
     writer: &mut W,
 ) -> Result<(), Refusal>
@@ -132,7 +132,7 @@ fn serve_settled<T: Threads + Wait + Sync, D: Disk + Send, R: Read, W: Write>(
     (replica, outcome)
 }
 
-/// Serves the items of a text: settles the replica, reads all of the text, one item from each line that has words, starts a node of
+/// Serves the items of a text: settles the replica, reads all of the text, one item of either kind from each line that has words, starts a node of
 /// so many workers, 1 to 64, and hands the items in together. Beside, a keeper makes them durable, and runs a checkpoint where the log is full.
 /// Behind that it writes a line for each durable item, in the order of the seqnos, `<seqno> <verdict> <source>:<trx>`, and the line of the
 /// replica's state. The replica comes back beside the answer.
@@ -140,7 +140,7 @@ fn serve_settled<T: Threads + Wait + Sync, D: Disk + Send, R: Read, W: Write>(
 /// The items are judged in the order in which the workers draw seqnos, and each stands in the order once. Each line that is written is of
 /// an item that is durable.
 ///
-/// Refuses with `Undefined` where the replica belongs to no cluster; then as `Replica::settle` does; then a line as `read_item_line` does, want
+/// Refuses with `Undefined` where the replica belongs to no cluster; then as `Replica::settle` does; then a line as `read_order_line` does, want
 /// of memory with `OutOfMemory`, and with `StreamFault` a reader that fails and a text of more than 67,108,864 bytes: nothing was handed in
 /// then, and no line is written. Behind the lines of the durable items it refuses with `Stopped` where the node was halted, since its device
 /// failed, a page of its base is not of its form, or there was no memory: which other items stand in the order the disk tells; with

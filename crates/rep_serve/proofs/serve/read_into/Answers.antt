@@ -1,7 +1,7 @@
 use Rattle.std.proofs.Common.{rules, ◌≡◌, Some, None, Ok, Err, true, false, [], ◌∷◌, ◌++◌, refl}
 use Rattle.std.proofs.lemmas.Result.{err_from_is_err_and}
 use Rattle.rep_record.specs.Lines.{ahead}
-use Rattle.rep_record.specs.Reading.{item_line}
+use Rattle.rep_record.specs.Reading.{order_line}
 use Rattle.rep_script.specs.Judging.{content}
 use Rattle.rep_serve.proofs.Reading.{line_read, read_refused, read_all, read_more, read_faulty}
 use Rattle.rep_serve.proofs.serve.read_into.Goals as goal
@@ -13,34 +13,34 @@ returns-in_err-next_line-clause-refused g c =
     rw (p.1, p.2) (read_refused (ahead c.args.text.now (left c.args.reader.now)) (left c.lines.reader) (left c.next_line.new.reader) c.args.text.now c.lines.text c.next_line.new.self c.lines.items.items
     c.in_err-next_line.field-0.0 c.next_line.new.line.items c.lines.invariant (rw c.in_err-next_line.was at c.next_line.ensures.known))
 
-pub returns-in_err-read_item_line-clause-refused :
-    goal.returns-in_err-read_item_line-clause-refused
-returns-in_err-read_item_line-clause-refused g c =
+pub returns-in_err-read_order_line-clause-refused :
+    goal.returns-in_err-read_order_line-clause-refused
+returns-in_err-read_order_line-clause-refused g c =
     let left = g.R.Read.remaining in
-    let p = err_from_is_err_and c.from_residual-in_err-read_item_line.result c.from_residual-in_err-read_item_line.ensures.1 in
+    let p = err_from_is_err_and c.from_residual-in_err-read_order_line.result c.from_residual-in_err-read_order_line.ensures.1 in
     let was : c.next_line.result ≡ Ok true = rw (← c.if-branch.true) c.in_ok-next_line.was in
     let counts = rw was at c.next_line.ensures.ok in
-    let says : content item_line c.next_line.new.self.number c.next_line.new.line.items ≡ Some (Err c.in_err-read_item_line.field-0.0) = search rules in
+    let says : content order_line c.next_line.new.self.number c.next_line.new.line.items ≡ Some (Err c.in_err-read_order_line.field-0.0) = search rules in
     rw (p.1, p.2) (read_faulty (ahead c.args.text.now (left c.args.reader.now)) (left c.lines.reader) (left c.next_line.new.reader) c.args.text.now c.lines.text c.next_line.new.self c.lines.items.items
-    c.in_err-read_item_line.field-0.0 c.next_line.new.line.items c.lines.invariant (rw was at c.next_line.ensures.known) counts.0 says)
+    c.in_err-read_order_line.field-0.0 c.next_line.new.line.items c.lines.invariant (rw was at c.next_line.ensures.known) counts.0 says)
 
 pub lines-preserved-in_ok-push : goal.lines-preserved-in_ok-push
 lines-preserved-in_ok-push g c =
     let left = g.R.Read.remaining in
     let was : c.next_line.result ≡ Ok true = rw (← c.if-branch.true) c.in_ok-next_line.was in
     let counts = rw was at c.next_line.ensures.ok in
-    let says : content item_line c.next_line.new.self.number c.next_line.new.line.items ≡ Some (Ok c.in_ok-read_item_line.field-0) = search rules in
-    let pushed : c.push.new.self.items ≡ c.lines.items.items ++ c.in_ok-read_item_line.field-0 ∷ [] = search rules in
+    let says : content order_line c.next_line.new.self.number c.next_line.new.line.items ≡ Some (Ok c.in_ok-read_order_line.field-0) = search rules in
+    let pushed : c.push.new.self.items ≡ c.lines.items.items ++ c.in_ok-read_order_line.field-0 ∷ [] = search rules in
     read_more (ahead c.args.text.now (left c.args.reader.now)) (left c.lines.reader) (left c.next_line.new.reader) c.args.text.now c.lines.text c.next_line.new.self c.lines.items.items c.push.new.self.items
     c.next_line.new.line.items c.lines.invariant (rw was at c.next_line.ensures.known) counts.0
-    (λ later. rw pushed (line_read c.lines.items.items (content item_line c.next_line.new.self.number c.next_line.new.line.items) c.in_ok-read_item_line.field-0 later says))
+    (λ later. rw pushed (line_read c.lines.items.items (content order_line c.next_line.new.self.number c.next_line.new.line.items) c.in_ok-read_order_line.field-0 later says))
 
 pub lines-preserved : goal.lines-preserved
 lines-preserved g c =
     let left = g.R.Read.remaining in
     let was : c.next_line.result ≡ Ok true = rw (← c.if-branch.true) c.in_ok-next_line.was in
     let counts = rw was at c.next_line.ensures.ok in
-    let says : content item_line c.next_line.new.self.number c.next_line.new.line.items ≡ None = search rules in
+    let says : content order_line c.next_line.new.self.number c.next_line.new.line.items ≡ None = search rules in
     read_more (ahead c.args.text.now (left c.args.reader.now)) (left c.lines.reader) (left c.next_line.new.reader) c.args.text.now c.lines.text c.next_line.new.self c.lines.items.items c.lines.items.items
     c.next_line.new.line.items c.lines.invariant (rw was at c.next_line.ensures.known) counts.0
     (λ later. rw says refl)

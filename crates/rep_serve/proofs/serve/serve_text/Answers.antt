@@ -3,7 +3,8 @@ use Rattle.std.specs.Prelude.{IsFalse}
 use Rattle.std.proofs.KnownBytes.{Keeps-refl}
 use Rattle.uuid.specs.Parts.{is_nil_bytes}
 use Rattle.rep_replica.specs.Replicas.{facts_of}
-use Rattle.rep_serve.proofs.Settling.{neither, not_refused, steps_stay}
+use Rattle.rep_replica.specs.SettlingLaws.{settling_stays, settling_serves}
+use Rattle.rep_serve.proofs.Settling.{neither, not_refused}
 use Rattle.rep_serve.proofs.serve.serve_text.Goals as goal
 
 pub returns-in-Err-clause-stopped : goal.returns-in-Err-clause-stopped
@@ -20,8 +21,8 @@ pub serve_settled-requires-clause-running : goal.serve_settled-requires-clause-r
 serve_settled-requires-clause-running g c κs within =
     let stands = not_refused (c.args.replica.stopped || is_some c.args.replica.engine.halted) _ c.settle.result c.in_default.field-0 _ c.in_default.is c.settle.ensures.stopped in
     let works = rw c.in_default.is at (c.settle.ensures.works stands) in
-    let stays = steps_stay works.events works.answers (facts_of g.D.Disk.failures c.args.replica) (facts_of g.D.Disk.failures c.settle.new.self) works.ends works.moves in
-    let ran = neither c.settle.new.self.stopped c.settle.new.self.engine.halted (stays.stopped ∙ stands) in
+    let serves = settling_serves works.events works.answers (facts_of g.D.Disk.failures c.args.replica) (facts_of g.D.Disk.failures c.settle.new.self) works.ends works.moves in
+    let ran = neither c.settle.new.self.stopped c.settle.new.self.engine.halted (serves.stopped ∙ stands) in
     record { inside = ran.0; device = ran.1 }
 
 pub serve_settled-requires-clause-defined : goal.serve_settled-requires-clause-defined
@@ -29,7 +30,7 @@ serve_settled-requires-clause-defined g c κs within =
     let stands = not_refused (c.args.replica.stopped || is_some c.args.replica.engine.halted) _ c.settle.result c.in_default.field-0 _ c.in_default.is c.settle.ensures.stopped in
     let works = rw c.in_default.is at (c.settle.ensures.works stands) in
     let before : IsFalse (is_nil_bytes c.args.replica.engine.checkpoint.base.uuid) = search rules in
-    let stays = steps_stay works.events works.answers (facts_of g.D.Disk.failures c.args.replica) (facts_of g.D.Disk.failures c.settle.new.self) works.ends works.moves in
+    let stays = settling_stays works.events works.answers (facts_of g.D.Disk.failures c.args.replica) (facts_of g.D.Disk.failures c.settle.new.self) works.moves in
     subst (λ u. IsFalse (is_nil_bytes u)) (sym stays.uuid) before
 
 pub returns-clause-serves : goal.returns-clause-serves
