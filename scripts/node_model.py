@@ -32,19 +32,14 @@ def key_text(key):
     return "%d/%d" % key
 
 
-class Item:
-    """What a transaction read and wrote, and how many items it had seen. A write has a value, or None where it deletes."""
+class Labelled:
+    """What an item of either kind has: the labels of its source and of it there, and its writes."""
 
-    def __init__(self, last_seen, writes, reads=(), source=7, trx=0):
-        self.last_seen, self.writes, self.reads, self.source, self.trx = last_seen, list(writes), list(reads), source, trx
+    def __init__(self, source, trx, writes):
+        self.source, self.trx, self.writes = source, trx, writes
 
-    def tail(self):
-        """The item as the end of a line."""
-        words = ["%d id %d:%d" % (self.last_seen, self.source, self.trx)]
-        if self.reads:
-            words.append("r " + " ".join(key_text(key) for key in self.reads))
-        words.append("w " + " ".join(key_text(key) + ("-" if value is None else "=" + value.hex()) for key, value in self.writes))
-        return " ".join(words)
+    def labels(self):
+        return "id %d:%d" % (self.source, self.trx)
 
     def delivery(self, seqno):
         return "deliver %d %s" % (seqno, self.tail())
@@ -53,8 +48,24 @@ class Item:
         """The keys that it writes."""
         return [key for key, _ in self.writes]
 
+
+class Item(Labelled):
+    """What a transaction read and wrote, and how many items it had seen. A write has a value, or None where it deletes."""
+
+    def __init__(self, last_seen, writes, reads=(), source=7, trx=0):
+        super().__init__(source, trx, list(writes))
+        self.last_seen, self.reads = last_seen, reads
+
+    def tail(self):
+        """The item as the end of a line."""
+        words = ["%d %s" % (self.last_seen, self.labels())]
+        if self.reads:
+            words.append("r " + " ".join(key_text(key) for key in self.reads))
+        words.append("w " + " ".join(key_text(key) + ("-" if value is None else "=" + value.hex()) for key, value in self.writes))
+        return " ".join(words)
+
     def line(self):
-        """The item as a line of an order text."""
+        """The item as a line of an order text, or of a batch."""
         return "item " + self.tail()
 
     def size(self):
@@ -62,17 +73,18 @@ class Item:
         return 45 + 5 * len(self.reads) + sum(7 + len(value or b"") for _, value in self.writes)
 
 
-class SizeChange:
+class SizeChange(Labelled):
     """An item that changes the window's size, and reads and writes nothing. It always commits."""
 
     def __init__(self, window, source=7, trx=0):
-        self.window, self.source, self.trx, self.writes = window, source, trx, []
+        super().__init__(source, trx, [])
+        self.window = window
+
+    def tail(self):
+        return "window %d %s" % (self.window, self.labels())
 
     def line(self):
-        return "window %d id %d:%d" % (self.window, self.source, self.trx)
-
-    def keys(self):
-        return []
+        return self.tail()
 
     def size(self):
         return 47
@@ -407,11 +419,15 @@ class Node:
             return self.read((int(table), int(row)), int(words[2]))
         if words[0] == "flush":
             return ["wrote"] if self.checkpoint.flush(int(words[1])) else NOT_DUE
-        return {"log": self.write_log, "sync": self.sync, "check": self.check, "state": self.state}[line]()
+        return {"log": self.write_log, "sync": self.sync, "check": self.check, "state": self.state, "limits": self.limits}[line]()
 
     def state(self):
         words = ["state %s base %d window" % (self.gtid(), self.base())]
         return [" ".join(words + [str(m) for m in self.order.window_at(self.durable)])]
+
+    def limits(self):
+        """The window's size and floor."""
+        return ["size %d floor %d" % self.order.reach_at(self.durable)]
 
     def window(self):
         """The lines of the window with its keys."""

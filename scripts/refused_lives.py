@@ -5,7 +5,7 @@ from copy import deepcopy
 
 from node_model import does
 from proved import Wrong
-from trials import BEFORE, SMALL_SIZE, Life, Trial, before_items, beside_an_item, full_log, one_item, two_laps
+from trials import BEFORE, SMALL_SIZE, Life, Trial, before_items, beside_an_item, full_log, one_item, resized, two_laps
 from trials_faults import STOPPED, standing_at
 
 ENDED, REFUSED, FAULT = "fault 1 out-of-memory", "refused 1 out-of-memory", "refused 2 disk-fault"
@@ -13,7 +13,7 @@ ENDED, REFUSED, FAULT = "fault 1 out-of-memory", "refused 1 out-of-memory", "ref
 # twelfth event of the third the body of the item's block is stable, and a page of the checkpoint is left.
 LIVES = (
     (one_item, None, False), (one_item, 1, True), (beside_an_item, 12, False), (beside_an_item, None, False), (before_items, None, False),
-    (two_laps, None, False), (full_log, BEFORE, False),
+    (two_laps, None, False), (full_log, BEFORE, False), (resized, 24, False),
 )
 # What shows between which steps a settling stands.
 PROBES = ("log", "sync", "check", "flush 0", "flush 1")
@@ -100,7 +100,7 @@ class Refused:
             could_be.append(deepcopy(node))
             node.answer(node.next_step())
         for probe in PROBES:
-            found, status = self.answers(behind(front, ("settle", []), (probe, []), ("settle", []), ("node", []), ("window", [])))
+            found, status = self.answers(behind(front, ("settle", []), (probe, []), ("settle", []), ("node", []), ("limits", []), ("window", [])))
             if status or found[len(behind_answers(front)) :][0] != REFUSED:
                 raise Wrong("with growth %d refused: %r" % (self.growth, found[-4:]))
             could_be = [it for it in could_be if found[len(behind_answers(front)) + 1 :] == answers_of(deepcopy(it), probe)]
@@ -120,6 +120,7 @@ class Refused:
         life.agrees()
         life.deliver_the_rest(self.lived.script.order())
         trial.say("settle", "settled")
+        trial.say("limits", *self.lived.life.node.limits())
         trial.say("window", *self.lived.life.node.window())
         self.has(trial)
 
@@ -157,12 +158,12 @@ def answers_of(node, probe):
     """What this node answers to the probe, to a settling behind it, and to what then shows it."""
     said = node.answer(probe)
     does(node.settle())
-    return said + ["settled"] + node.shown() + node.window()
+    return said + ["settled"] + node.shown() + node.limits() + node.window()
 
 
 # By which lines growths are refused, and by which the disk has failed.
 WANTED = {
-    REFUSED: {"open", "log", "check", "settle", "state", "window"},
+    REFUSED: {"open", "log", "check", "settle", "state", "limits", "window"},
     FAULT: {"params", "open", "log", "flush", "check", "sync", "settle"},
     ENDED: {"disk", "cut"},
 }

@@ -1,7 +1,10 @@
 """What is drawn for the lives of scripts/soak: their parameters, their items, and what happens next."""
 import random
 
-from node_model import Item, key_text
+from node_model import Item, SizeChange, key_text
+
+# What the window's size becomes: mostly less than items lag behind, and now and then more than before.
+SIZES = (1, 1, 2, 2, 3, 4, 5, 8, 16, 64, 255, 256)
 
 
 class Draws(random.Random):
@@ -36,8 +39,10 @@ class Cast:
         self.outside = [(len(node.order.rows), 0), (0, node.order.rows[0]), (255, 4_294_967_295)]
         self.deliveries, self.most = draws.choice((15, 25, 35, 50, 70, 90)), draws.choice((30, 60, 100, 160))
         self.due = draws.choice((35, 55, 75))
+        # How many of a hundred items change the window's size.
+        self.changes = draws.choice((0, 2, 5, 10, 25))
         # Where no checkpoint is begun before one is due, the log is full often.
-        self.events = ("log", "log", "sync", "sync", "flush", "read", "state") + ("check",) * draws.choice((0, 1, 2))
+        self.events = ("log", "log", "sync", "sync", "flush", "read", "state", "limits") + ("check",) * draws.choice((0, 1, 2))
 
     def some_keys(self, count):
         """Up to so many keys, seldom with one outside the schema, ascending."""
@@ -47,9 +52,11 @@ class Cast:
         return sorted(keys)
 
     def item(self, node):
-        """The next item of the order: it had mostly seen what came shortly before it."""
+        """The next item of the order, a change of the window's size or a write set: that had mostly seen what came shortly before it."""
         draws, delivered = self.draws, node.delivered
-        behind = draws.choices((0, draws.randrange(3), draws.randrange(node.order.window + 4), -1), (50, 25, 22, 3))[0]
+        if draws.chance(self.changes):
+            return SizeChange(draws.choice(SIZES), draws.randrange(1 << 64), delivered + 1)
+        behind = draws.choices((0, draws.randrange(3), draws.randrange(node.order.sizes[-1] + 4), -1), (50, 25, 22, 3))[0]
         writes = self.some_keys(16 if draws.chance(4) else draws.choice((1, 1, 2, 2, 3, 4)))
         reads = self.some_keys(16 if draws.chance(3) else draws.choice((0, 0, 0, 1, 2)))
         return Item(max(delivered - behind, 0), [(key, draws.value()) for key in writes], reads, draws.randrange(1 << 64), delivered + 1)

@@ -1,7 +1,7 @@
 """The lives of scripts/soak: programs on the files of nodes, each ended in a drawn way, beside the model of what they leave."""
 import os
 
-from node_model import CLUSTER, Node, does, key_text
+from node_model import CLUSTER, Node, SizeChange, does, key_text
 from proved import Wrong
 from soak_checks import differs, has_ended, holds, is_front, is_met, part_of
 from soak_draws import Cast, Draws
@@ -128,8 +128,8 @@ def is_stopped(replica, script):
 
 
 def meets_fault(replica, script):
-    """A call fails, with a part of a write's bytes written: it is refused, and so is all behind it but the state. A write that failed is
-    as one that is not synced."""
+    """A call fails, with a part of a write's bytes written: it is refused, and so is all behind it but the state and the window's size. A
+    write that failed is as one that is not synced."""
     stop, event, kind = drawn_call(replica, script, True)
     ended = replica.run(script.text(), stop)
     is_met(ended, stop, kind)
@@ -140,7 +140,8 @@ def meets_fault(replica, script):
         return [script.start]
     has_ended(ended, 0)
     node = script.at(event)
-    behind = [node.state()[0] if line == "state" else "refused 3 stopped" for line in script.events[event + 1 :]]
+    told = {"state": node.state()[0], "limits": node.limits()[0]}
+    behind = [told.get(line, "refused 3 stopped") for line in script.events[event + 1 :]]
     holds(differs(ended.lines, script.lines(0, event) + ["refused 2 disk-fault"] + behind))
     return [node] if kind == "sync" else [node, script.at(event + 1)]
 
@@ -205,14 +206,15 @@ class Replica:
             self.counts["stops of an opening before its sync"] += 1
         self.counts["losses: " + loss] += 1
         gates = self.disk.gates(self.cells())
-        ended = self.disk.run(self.words(), "state\n")
+        ended = self.disk.run(self.words(), "state\nlimits\n")
         has_ended(ended, 0)
         self.node = self.opened(nodes, gates, loss, max([most] + [node.delivered for node in nodes]), ended.lines)
         self.told = self.node.durable if self.node.is_defined else -1
         self.counts["openings"] += 1
 
     def opened(self, nodes, gates, loss, most, lines):
-        """Which of these nodes it is, stopped with this loss, that stands open with these gates and tells this state."""
+        """Which of these nodes it is, stopped with this loss, that stands open with these gates and tells this state, with the window's
+        size and floor."""
         if len(nodes) == 1 and loss != "some":
             found = [stopped_with(nodes[0], loss)]
         else:
@@ -223,9 +225,9 @@ class Replica:
             raise Wrong("it opens with %r" % lines) from None
         if not self.told <= position <= most:
             raise Wrong("it opens at %d, and told durable were %d, of %d that were delivered" % (position, self.told, most))
-        left = [node for node in found if has_gates(node, gates) and node.state() == lines]
+        left = [node for node in found if has_gates(node, gates) and node.state() + node.limits() == lines]
         if not left:
-            could_be = [(it.state(), it.log.open, it.phase()) for it in found][:4]
+            could_be = [(it.state(), it.limits(), it.log.open, it.phase()) for it in found][:4]
             raise Wrong("it opens with %r and the gates %r, wanted was one of %r" % (lines, gates, could_be))
         return left[0]
 
@@ -248,6 +250,7 @@ def runs_a_script(life):
     for key in draws.sample(life.cast.keys, min(len(life.cast.keys), 4)):
         script.do("read %s %d" % (key_text(key), draws.randint(script.node.base(), script.node.durable)))
     script.do("state")
+    script.do("limits")
     for _ in range(draws.choice((3, 10, 20, 40, 40, 80, 300))):
         script.do(life.cast.turn(script.node))
     for lines in script.answers:
@@ -426,6 +429,7 @@ class Life:
             for key in self.cast.keys:
                 script.do("read %s %d" % (key_text(key), s))
         script.do("state")
+        script.do("limits")
         replica.opens(ends_whole(replica, script))
         assert replica.node.durable == replica.node.base() == len(order.items)
         replica.tells_state()
@@ -433,4 +437,5 @@ class Life:
         found, why = answers(replica.words("judge"), "\n".join(lines) + "\n")
         holds(why or differs(found, wanted))
         self.counts["items"] += len(order.items)
+        self.counts["items that change the window's size"] += sum(isinstance(item, SizeChange) for item in order.items)
         self.counts["laps of a log"] += replica.node.log.laps()

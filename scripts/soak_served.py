@@ -29,7 +29,7 @@ class Batch:
     def __init__(self, replica, items, workers):
         self.replica, self.items, self.workers = replica, items, workers
         self.words = replica.words("serve", replica.disk.path, "--workers", str(workers))
-        self.text = "".join("item %s\n" % item.tail() for item in items)
+        self.text = "".join(item.line() + "\n" for item in items)
         self.keeper = Keeper(replica.node, replica.disk.path, parts_of(items, workers))
 
     def rounds(self):

@@ -2,7 +2,7 @@
 import subprocess
 
 from lib.formats import A, ONE, TWO, Superblock, Window, digit, need
-from node_model import CLUSTER, Item, Node, does
+from node_model import CLUSTER, Item, Node, SizeChange, does
 
 # A window of 4, four cells and one table of 126 rows, and the size of its disk.
 SMALL = (4, 4, (126,))
@@ -103,10 +103,15 @@ class Life:
         self.trial.say("node", *self.node.shown())
         self.do("state")
 
+    def shows_window(self):
+        """The window's size and floor, and its entries with their keys."""
+        self.do("limits")
+        self.trial.say("window", *self.node.window())
+
     def agrees(self, keys=KEYS):
         """What the node says of itself, its window, and these rows at each position."""
         self.shows()
-        self.trial.say("window", *self.node.window())
+        self.shows_window()
         for s in range(self.node.durable + 1):
             for key in keys:
                 self.do("read %d/%d %d" % (*key, s))
@@ -349,6 +354,37 @@ def second_lap():
     """A second lap whose first block is durable, with an item that waits for the next: its cell stands open."""
     script = on_from_the_first_lap(5)
     script.commit(6, 1, 70)
+    return script
+
+
+def resizing():
+    """Seven items, each with its verdict: a change to a smaller window, by which the fourth is stale, and one to a larger window, into which what
+    the smaller one has left out does not come back: the sixth is stale too."""
+    writing = lambda last_seen, row, trx: Item(last_seen, [((0, row), bytes([row]))], trx=trx)
+    return [
+        (writing(0, 1, 1), "commit"), (SizeChange(2, trx=2), "commit"), (writing(0, 2, 3), "commit"), (writing(0, 3, 4), "stale"),
+        (SizeChange(4, trx=5), "commit"), (writing(1, 4, 6), "stale"), (writing(2, 5, 7), "commit"),
+    ]
+
+
+def resized():
+    """These items in six blocks, with a checkpoint to the fifth, beside which the sixth waits. The last two blocks are of the second lap."""
+    script, items = Script(), resizing()
+
+    def deliver(*seqnos):
+        """They are delivered. Gives the replies to them."""
+        for seqno in seqnos:
+            script.deliver(seqno, *items[seqno - 1])
+        return ["reply %d %s 7:%d" % (seqno, items[seqno - 1][1], seqno) for seqno in seqnos]
+
+    for seqnos in ((1,), (2,), (3, 4), (5,)):
+        script.make_durable(*deliver(*seqnos))
+    script.push("check", "began 5")
+    script.push("flush 0", "wrote")
+    replies = deliver(6)
+    script.become_base()
+    script.make_durable_again(*replies)
+    script.make_durable_again(*deliver(7))
     return script
 
 

@@ -172,6 +172,7 @@ WINDOWS = [
 def each_window(program):
     trial = opens(with_window("a full window", BASE, *FULL), BASE, BASE, "busy")
     keys = ["key 0/%d" % row for row in range(16)]
+    trial.say("limits", "size 4 floor 7")
     trial.say("window", "window 4", "entry 7 1", "key 0/1", "entry 8 1", "key 0/2", "entry 9 16", *keys, "entry 10 2", "key 0/0", "key 0/125")
     yield trial
     for title, *entries in WINDOWS:
@@ -374,6 +375,7 @@ def of_five_pages(title):
         (LAST_PAGE, page_bytes(4, 1, 126, 3, [b"ab", None, None, b""])[: Page.row_at(4)].hex()),
     ]
     opens(with_puts(trial, puts), 9, 9)
+    trial.say("limits", "size 4 floor 6")
     trial.say("window", "window 2", "entry 6 1", "key 0/0", "entry 9 2", "key 0/0", "key 0/1")
     return with_puts(trial, in_cell(2, TENTH))
 
@@ -404,7 +406,7 @@ ZEROS = [
 def is_as_it_was(trial):
     opens(trial, 10, 9)
     for line, *wanted in (
-        ["window", "window 2", "entry 9 2", "key 0/0", "key 0/1", "entry 10 1", "key 0/1"],
+        ["limits", "size 4 floor 7"], ["window", "window 2", "entry 9 2", "key 0/0", "key 0/1", "entry 10 1", "key 0/1"],
         ["read 1/126 9", "value 6162"], ["read 1/127 9", "absent"], ["read 1/129 9", "value"], ["read 0/1 10", "value 61"],
     ):
         trial.say(line, *wanted)

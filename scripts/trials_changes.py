@@ -1,16 +1,17 @@
 """Changes of the window's size in logs and in transfers (docs/formats.md). A log of items of both kinds over a base of either format is judged
-again as the order has it, and what comes behind it too. A record of a change that is none of the form is refused. Such logs are written here byte
-by byte: no event changes the size yet, and so a transfer is taken up to the first change in it."""
+again as the order has it, and what comes behind it too; so is a transfer with such items. A record of a change that is none of the form is
+refused, in a log and in a transfer. Such logs are written here byte by byte, so that each base stands behind each number of items;
+trials_items.py has them by deliveries."""
 from lib.formats import (
     A, B, CELL_BODY, FORMATS, ONE, TWO, VERDICTS, Block, Change, Record, Superblock, Window, block_bytes, cell_at, cell_gate_at, change_bytes,
-    fixed_reach, number_bytes, page_at, pages_of, record_bytes, side_of, superblock_bytes, with_length, write_bytes,
+    fixed_reach, item_bytes, number_bytes, page_at, pages_of, record_bytes, side_of, superblock_bytes, with_length, write_bytes,
 )
 from lib.model_bytes import UUID, page_of, record_of, window_of
 from node_model import CLUSTER, LOSSES, Item, Node, Order, SizeChange, does
 from trials import Life, Trial
 from trials_formats import shows_base
 from trials_installs import PARAMS, SIZE
-from trials_joins import Meeting, malformed
+from trials_joins import ENDINGS, HEADER, Meeting, is_cut, malformed
 from trials_opening import OPEN, comes_back, opens, with_puts
 
 CORRUPT_LOG = "13 corrupt log"
@@ -241,8 +242,7 @@ def judged_by_the_change(program):
 def meeting(title, base, last=ALL, of_format=TWO):
     """A donor on a written disk, whose base stands there, with all of the items up to the last."""
     scene = Meeting(title, [], KEYS)
-    scene.order = order_to(last)
-    scene.trial.orders[:] = [(scene.order, PARAMS[1])]
+    scene.is_of(order_to(last))
     stands(scene, base, last, of_format)
     scene.is_lent()
     return scene
@@ -255,25 +255,90 @@ def stands(scene, base, last, of_format=TWO):
     scene.open_as(node)
 
 
+def goes_on(scene):
+    """Two items are judged as the order has it, all becomes durable, and so it is behind a stop."""
+    probes(scene.life)
+    scene.life.does_what_is_due(KEYS)
+    scene.life.stop("drop", KEYS)
+    probes(scene.life)
+    return scene.trial
+
+
+# Where joiners stand: nowhere, which is of no cluster, or a base, and what is durable, and the format of the base.
+STANDS = [None, (0, 0, ONE), (0, 1, ONE), (1, 3, ONE), (1, 4, ONE), (2, 6, TWO), (7, 7, ONE), (7, 9, ONE), (8, 12, TWO), (11, 13, TWO), (10, 14, TWO)]
+
+
 def meets(title, base, place, of_format=TWO):
-    """A donor on a base of this format, and a node whose base and whose last durable item are these."""
     scene = meeting("%s, a donor from %d, %r" % (title, base, place), base, of_format=of_format)
-    stands(scene, *place)
+    if place is None:
+        scene.new_node(is_defined=False)
+    else:
+        stands(scene, *place)
     return scene
 
 
-def not_taken(_):
-    """No node is handed a change of the size yet: of a transfer what comes before the first one is taken, and stays."""
+def joins(_):
+    """A donor from each base writes for each of these nodes, which then judges as the order has it."""
+    for base in (0, 1, 2, 3, 5, 7, 8, 10, 11, 13, 14):
+        for place in STANDS:
+            scene = meets("joins", base, place)
+            scene.joins()
+            scene.life.stop(LOSSES[base % 3], KEYS)
+            if scene.node().checkpoint.risen > (place[0] > 0 if place else 0):
+                shows_base(scene.life)
+                scene.open_as(scene.node())
+            yield goes_on(scene)
+
+
+def joins_by_format_1(_):
+    """Records of both kinds stand in a transfer of format 1 too."""
+    for base in (0, 1, 7):
+        for place in STANDS:
+            scene = meets("joins by format 1", base, place, ONE)
+            scene.donates_format_1()
+            scene.takes()
+            scene.say("node", *scene.node().shown())
+            scene.life.agrees(KEYS)
+            yield goes_on(scene)
+
+
+def of_no_form(_):
+    """A transfer with a record in it that is none: what came before it is taken."""
     for of_format in FORMATS:
-        for durable, changed in ((1, 2), (3, 5), (6, 8)):
-            for loss in LOSSES:
-                scene = meets("a change at %d, %s" % (changed, loss), 0, (0, durable, of_format), of_format)
+        # The first part of what a node at 1 gets is the change at 2, and the fourth that at 5.
+        for seqno in (2, 5):
+            for number, (title, record) in enumerate(no_changes(seqno)):
+                ending = ENDINGS[number % 5]
+                scene = meets("a change %s at %d, %s" % (title, seqno, ending), 0, (0, 1, of_format), of_format)
                 transfer = scene.donates() if of_format == TWO else scene.donates_format_1()
-                does(transfer.taken(scene.node(), changed - durable - 1))
-                scene.say("join", malformed(transfer.starts[changed - durable]))
-                scene.life.agrees(KEYS)
-                scene.life.stop(loss, KEYS)
-                yield scene.trial
+                place = transfer.starts[seqno - 1]
+                data = transfer.bytes()
+                scene.becomes(data, data[:place] + item_bytes(record))
+                yield is_cut(scene, transfer, seqno - 2, malformed(place), ending)
+
+
+def cut_within_changes(_):
+    """A transfer is cut behind each byte of a change of the size, the first of its parts or a later one."""
+    scene = meets("cut within a change", 0, (0, 4, TWO))
+    transfer = scene.donates()
+    start, end = transfer.starts[1:3]
+    assert (start, end) == (HEADER, HEADER + 1 + Change.END)
+    for length in range(end - 1, start - 1, -1):
+        scene.say("shorten %d" % length, "spoilt %d" % length)
+        scene.say("join", malformed(start))
+    scene.say("node", "node 4 4 0 quiet running")
+    scene.joins()
+    yield goes_on(scene)
+    for length in range(48):
+        scene = meets("cut within a later one at %d" % length, 0, (0, 1, TWO))
+        transfer = scene.donates()
+        start = transfer.starts[4]
+        scene.say("shorten %d" % (start + length), "spoilt %d" % (start + length))
+        does(transfer.taken(scene.node(), 3))
+        scene.say("join", malformed(start))
+        scene.say("node", "node 4 1 0 busy running")
+        scene.life.agrees(KEYS)
+        yield scene.trial
 
 
 TRIALS = [
@@ -281,5 +346,8 @@ TRIALS = [
     ("a change of the size over a base of format 1", first_change),
     ("a record of a change is of no form", no_records),
     ("an item is judged by the size before it", judged_by_the_change),
-    ("a change of the size in a transfer is not taken", not_taken),
+    ("a node joins by a transfer with changes of the size", joins),
+    ("a transfer of format 1 with changes of the size", joins_by_format_1),
+    ("a change of the size in a transfer is of no form", of_no_form),
+    ("a transfer is cut within a change of the size", cut_within_changes),
 ]

@@ -1,7 +1,7 @@
-"""Lives of one node that are drawn: items, events, stops and settlings, each until its base rose several times and the log's blocks
-went twice through its cells."""
+"""Lives of one node that are drawn: items of both kinds, events, stops and settlings, each until its base rose several times and the log's
+blocks went twice through its cells."""
 from lib.formats import need
-from node_model import LOSSES, Item
+from node_model import LOSSES, Item, SizeChange
 from trials import Life, Trial
 
 # The rows that items write and reads are of, in four groups, of which each ends one page or begins one: the first table has two pages,
@@ -9,8 +9,10 @@ from trials import Life, Trial
 GROUPS = [[(0, 0), (0, 1), (0, 2), (0, 3)], [(0, 61), (0, 62), (0, 63), (0, 64)], [(0, 66), (0, 67), (0, 68), (0, 69)], [(1, 0), (1, 1), (1, 2), (1, 3)]]
 ROWS = [key for group in GROUPS for key in group]
 OUTSIDE = (1, 4)
-# A window of 8 seqnos, six cells, and three pages.
+# A window of 8 seqnos at first, six cells, and three pages.
 PARAMS, SIZE = (8, 6, (70, 4)), need(6, 3)
+# What the window's size becomes: mostly less than items lag behind.
+SIZES = (1, 2, 3, 3, 4, 5, 6, 8, 8, 10, 12, 256)
 # How many turns a node has at most.
 TURNS = 6_000
 PHASES = {"off", "flushing", "saving", "ready", "filling", "filled", "opening", "retiring", "closing"}
@@ -19,6 +21,8 @@ KINDS = {
     "commit", "conflict", "stale", "future", "badkey", "wrote", "began", "synced none", "synced some", "absent", "value", "out-of-order",
     "log-full", "not-due", "too-old", "not-yet", "bad-key",
 }
+# Changes of the window's size, and what is stale though the size of its window would reach it: a smaller one had left it out before.
+CHANGES = {"to a smaller size", "to a larger size", "to the same size", "left out before"}
 
 
 def kind_of(wanted):
@@ -68,7 +72,10 @@ class Draws:
         return found
 
     def item(self, delivered):
-        """The item behind so many: it had mostly seen some of them, and reads at most one row."""
+        """The item behind so many, now and then a change of the window's size. A transaction had mostly seen some of them, and reads at
+        most one row."""
+        if self.below(12) == 0:
+            return SizeChange(SIZES[self.below(len(SIZES))], 3, delivered)
         last_seen = max(delivered + 1 - self.below(12), 0)
         reads = [self.row_of(400, 0)] if self.below(3) == 0 else []
         return Item(last_seen, self.writes(), reads, 3, delivered)
@@ -108,14 +115,23 @@ class Draws:
 
 
 class Seen:
-    """What there was in lives: kinds of answers, and the phases, stages and losses of stops."""
+    """What there was in lives: kinds of answers, the phases, stages and losses of stops, and changes of the window's size."""
 
     def __init__(self):
-        self.kinds, self.phases, self.stages, self.losses, self.settled = set(), set(), set(), set(), False
+        self.kinds, self.phases, self.stages, self.losses, self.settled, self.changes = set(), set(), set(), set(), False, set()
+
+    def sees_changes(self, order):
+        """Which changes the order has, and what they left out."""
+        for seqno, (item, verdict, size) in enumerate(zip(order.items, order.verdicts, order.sizes), 1):
+            if isinstance(item, SizeChange):
+                self.changes.add("to %s size" % ("a smaller" if item.window < size else "a larger" if item.window > size else "the same"))
+            elif verdict == "stale" and seqno - item.last_seen <= size + 1:
+                self.changes.add("left out before")
 
     def has_everything(self, is_backlogged):
         assert self.kinds == KINDS | ({"backlogged"} if is_backlogged else set()), self.kinds
         assert (self.phases, self.stages, self.losses, self.settled) == (PHASES, STAGES, set(LOSSES), True)
+        assert self.changes == CHANGES, self.changes
 
 
 def turned(life, draws, seen):
@@ -146,6 +162,7 @@ def drawn_life(seed, deliveries, rises, seen):
         if risen >= rises and life.node.log.laps() >= 2:
             life.does_what_is_due(ROWS)
             life.stop("drop", ROWS)
+            seen.sees_changes(life.node.order)
             return trial
     raise AssertionError("the base rose too seldom")
 

@@ -213,9 +213,10 @@ def all_is_refused(_):
     trial.say("open", "open %s:0" % CLUSTER)
     trial.say("deliver 1 0 w 0/1=61", "1 commit")
     trial.say("log", FAULT)
-    for line in ("log", "sync", "check", "flush 0", "read 0/1 0", "deliver 1 0 w 0/1=61", "settle"):
+    for line in ("log", "sync", "check", "flush 0", "read 0/1 0", "deliver 1 0 w 0/1=61", "deliver 2 window 2", "settle"):
         trial.say(line, STOPPED)
     trial.say("state", "state %s:0 base 0 window" % CLUSTER)
+    trial.say("limits", "size 4 floor 1")
     trial.say("node", "node 1 0 0 busy stopped")
     yield trial
 

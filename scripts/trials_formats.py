@@ -43,9 +43,10 @@ def with_window(title, position, entries, reach=None, of_format=None):
 
 
 def judges(trial, position, reach):
-    """Six items come behind the position, of which each puts a row of its own. Of each two the first saw one item less than it has to, and is
-    stale; the other saw just that, and commits. The floor rises with the position, as far as the size has it."""
+    """The window is of this reach. Six items come behind the position, of which each puts a row of its own. Of each two the first saw one item
+    less than it has to, and is stale; the other saw just that, and commits. The floor rises with the position, as far as the size has it."""
     size, floor = reach
+    trial.say("limits", "size %d floor %d" % reach)
     for seqno in range(position + 1, position + 7):
         is_stale = floor > 1 and (seqno - position) % 2 == 1
         item = Item(floor - 2 if is_stale else floor - 1, [((0, 30 + seqno - position), b"a")])
@@ -114,6 +115,7 @@ def fixed_windows(program):
     stale."""
     for side, number in ((A, 2), (B, 1)):
         trial = opens(with_base(new("a base of format 1 at 9"), side, number, 9, of_format=ONE), 9, 9, "quiet" if side == A else "busy")
+        trial.say("limits", "size 4 floor 6")
         trial.say("window", "window 0")
         trial.say("deliver 10 0 w 0/1=61", "10 stale")
         trial.say("deliver 11 5 w 0/1=61", "11 stale")

@@ -38,8 +38,8 @@ ITEMS = [
     (14, {(1, 4): b"\x0f"}, [], "badkey"),
     (15, {(2, 62): b"\x10"}, [], "commit"),
 ]
-# The windows there, and the rows, by hand: those of page 0, 1, 2 and 3.
-WINDOWS = {AT: "5 6 7 8", LATER: "10 11"}
+# The windows there, with their sizes and floors, and the rows, by hand: those of page 0, 1, 2 and 3.
+WINDOWS, LIMITS = {AT: "5 6 7 8", LATER: "10 11"}, {AT: "size 4 floor 5", LATER: "size 4 floor 9"}
 WITH_KEYS = {
     AT: [
         "window 4", "entry 5 2", "key 1/0", "key 1/3", "entry 6 2", "key 0/1", "key 0/69", "entry 7 1", "key 0/62", "entry 8 1", "key 0/0",
@@ -67,10 +67,14 @@ class Scene:
     """A trial of several nodes of one order: what is done to the one on the disk, and to the donor beside it."""
 
     def __init__(self, title, items=ITEMS, keys=KEYS):
-        self.trial, self.order, self.life, self.keys = Trial(title), order_of(items), None, keys
-        self.trial.orders.append((self.order, PARAMS[1]))
+        self.trial, self.life, self.keys = Trial(title), None, keys
+        self.is_of(order_of(items))
         # The pages that came of the snapshot that is on its way.
         self.came = []
+
+    def is_of(self, order):
+        """The nodes are all of this order."""
+        self.order, self.trial.orders = order, [(order, PARAMS[1])]
 
     def say(self, line, *wanted):
         self.trial.say(line, *wanted)
@@ -137,11 +141,16 @@ class Scene:
         self.puts(range(4), position)
         self.ends(position)
 
+    def shows_window(self, position=AT):
+        """The window is that of the snapshot, at which the node stands."""
+        self.say("state", "state %s:%d base %d window %s" % (CLUSTER, position, position, WINDOWS[position]))
+        self.say("limits", LIMITS[position])
+        self.say("window", *WITH_KEYS[position])
+
     def stands_at(self, position=AT):
         """The node stands at the snapshot, and nothing is left to do: by hand, and by the model."""
         self.say("node", "node %d %d %d quiet running" % (position, position, position))
-        self.say("state", "state %s:%d base %d window %s" % (CLUSTER, position, position, WINDOWS[position]))
-        self.say("window", *WITH_KEYS[position])
+        self.shows_window(position)
         for key, row in zip(KEYS, ROWS[position]):
             self.say("read %d/%d %d" % (*key, position), row)
             self.say("read %d/%d %d" % (*key, position - 1), "refused 8 too-old %d" % position)
@@ -347,8 +356,7 @@ def is_refused(scene, before, done):
     if done == CALLS:
         # These were all of its calls: the one that fails is that of a read.
         scene.say("node", "node 8 8 8 quiet running")
-        scene.say("state", "state %s:8 base 8 window 5 6 7 8" % CLUSTER)
-        scene.say("window", *WITH_KEYS[AT])
+        scene.shows_window()
         scene.say("read 0/0 8", FAULT)
         return
     is_risen = done > GATE
@@ -571,7 +579,7 @@ def lines_are_off(_):
     scene.brings()
     first = scene.order.items[6].delivery(7)
     lines = [first, "log", "sync", "check", "flush 0", "read 0/1 6", "state", "stop keep", "settle", "apart", "apart stopped", "node"]
-    for line in lines + ["window", "batch 1\n" + first, "bring"]:
+    for line in lines + ["limits", "window", "batch 1\n" + first, "bring"]:
         scene.say(line, OFF)
     for line, wanted in (
         ("page 1", "page"), ("page 1", "not a new page"), ("page 4", "no page"), ("page 4294967295", "no page"), ("page 3", "no page"),

@@ -129,7 +129,7 @@ class Meeting(Scene):
     def shows_stopped(self):
         self.say("node", *self.node().shown(stopped=True))
         self.life.do("state")
-        self.say("window", *self.node().window())
+        self.life.shows_window()
 
     def opens_again(self, loss):
         """A stop with this loss, and an opening."""

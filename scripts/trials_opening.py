@@ -124,8 +124,8 @@ def behind_the_item(trial):
     """What opens behind the one item: its row, its window, and how the next items are judged over that."""
     opens(trial, 1)
     for line, *wanted in (
-        ["state", "state %s:1 base 0 window 1" % CLUSTER], ["window", "window 1", "entry 1 1", "key 0/1"], [ROW % 1, "value 61"],
-        [ROW % 0, "absent"], [ROW % 2, "refused 9 not-yet 1"], ["log", "refused 7 not-due"], ["deliver 2 0 w 0/1-", "2 conflict 1"],
+        ["state", "state %s:1 base 0 window 1" % CLUSTER], ["limits", "size 4 floor 1"], ["window", "window 1", "entry 1 1", "key 0/1"],
+        [ROW % 1, "value 61"], [ROW % 0, "absent"], [ROW % 2, "refused 9 not-yet 1"], ["log", "refused 7 not-due"], ["deliver 2 0 w 0/1-", "2 conflict 1"],
         ["deliver 3 1 w 0/1-", "3 commit"], ["deliver 4 2 w 0/1-", "4 conflict 3"],
     ):
         trial.say(line, *wanted)
@@ -166,7 +166,9 @@ def opens_at_nothing(_):
         trial.say("bytes %d 512" % at, OPEN * 512)
     trial.say("bytes %d 512" % SMALL_SIZE, OPEN * 7)
     opens(trial, 0)
-    for line, wanted in (("window", "window 0"), (ROW % 0, "absent"), ("log", "refused 7 not-due"), ("check", "refused 7 not-due")):
+    for line, wanted in (
+        ("limits", "size 4 floor 1"), ("window", "window 0"), (ROW % 0, "absent"), ("log", "refused 7 not-due"), ("check", "refused 7 not-due"),
+    ):
         trial.say(line, wanted)
     yield trial
 
@@ -264,10 +266,12 @@ def pages_in_a_slot(program):
 
 def opens_at_the_last(_):
     trial = opens(with_base(new("the last position"), A, 2, LAST), LAST, LAST)
+    trial.say("limits", "size 4 floor %d" % (LAST - 3))
     trial.say("window", "window 0")
     trial.say(ROW % (LAST - 1), "refused 8 too-old %d" % LAST)
     trial.say(ROW % LAST, "absent")
     trial.say("deliver %d 0 w 0/1-" % (LAST + 1), "refused 23 exhausted")
+    trial.say("deliver %d window 2" % (LAST + 1), "refused 23 exhausted")
     yield trial
 
 

@@ -1,16 +1,18 @@
 """Stops with each loss: behind each event of scripts, and in each phase of a checkpoint at each stage of a block; what stands behind
 a checkpoint; and a node at its limits, that settles, and that is taken apart."""
-from lib.formats import TWO, need
+from lib.formats import TWO, fixed_reach, need
 from node_model import CLUSTER, LOSSES, Item
 from trials import (
-    BEFORE, SMALL_SIZE, Life, Trial, answers, before_items, beside_an_item, conflicting, full_again, full_log,
-    of_each_kind, of_one_page, one_item, put, putting, replies_to, second_lap, two_items, two_laps,
+    BEFORE, SMALL, SMALL_SIZE, Life, Trial, answers, before_items, beside_an_item, conflicting, full_again, full_log,
+    of_each_kind, of_one_page, one_item, put, putting, replies_to, resized, second_lap, two_items, two_laps,
 )
 
 
-def opens_at(trial, base, position, window, quiet="quiet"):
-    """Pins what a node shows that was opened: written by hand, where the model could be wrong in the same way."""
+def opens_at(trial, base, position, window, quiet="quiet", size=SMALL[0]):
+    """Pins what a node shows that was opened: written by hand, where the model could be wrong in the same way. Its window was always of this
+    size."""
     trial.say("state", "state %s:%d base %d window%s" % (CLUSTER, position, base, "".join(" %d" % m for m in window)))
+    trial.say("limits", "size %d floor %d" % fixed_reach(size, position))
     trial.say("node", "node %d %d %d %s running" % (position, position, base, quiet))
 
 
@@ -273,13 +275,13 @@ def at_the_limits(_):
         life.do(event)
     assert life.do("sync") == ["synced 1"] + replies_to(257, 257)
     life.stop("drop")
-    opens_at(trial, 256, 257, range(2, 258))
+    opens_at(trial, 256, 257, range(2, 258), size=256)
     yield trial
 
 
 def taken_apart(_):
     """A node that is taken apart behind each event and put together again shows the same, and goes on the same."""
-    for script in (two_items(), beside_an_item()):
+    for script in (two_items(), beside_an_item(), resized()):
         for count in range(len(script.events) + 1):
             trial = Trial("taken apart behind %d" % count)
             life = script.play(trial, count)
@@ -298,7 +300,8 @@ def put_together_as_stopped(_):
     life = script.play(trial)
     trial.say("apart stopped", "node 2 2 0 quiet stopped")
     trial.say("state", "state %s:2 base 0 window 1" % CLUSTER)
-    for line in (put(0, 9, b"c").delivery(3), "log", "sync", "check", "flush 0", "read 0/1 1", "settle"):
+    trial.say("limits", "size 4 floor 1")
+    for line in (put(0, 9, b"c").delivery(3), "deliver 3 window 2", "log", "sync", "check", "flush 0", "read 0/1 1", "settle"):
         trial.say(line, "refused 3 stopped")
     trial.say("apart", "node 2 2 0 quiet stopped")
     trial.say("open", "open %s:2" % CLUSTER)

@@ -5,7 +5,9 @@ use crate::shown::{write_node, write_window};
 use rep_disk::Disk;
 use rep_record::write_verdict;
 use rep_replica::{Installation, Replica};
-use rep_script::{Command, write_answer, write_line, write_open, write_refused, write_state};
+use rep_script::{
+    Command, write_answer, write_limits, write_line, write_open, write_refused, write_state,
+};
 use rep_steps::{Answer, Event};
 use rep_types::Refusal;
 use std::alloc::Global;
@@ -66,6 +68,18 @@ fn show_state<D: Disk, W: Write>(
     }
 }
 
+/// Shows the size and the floor of the node's window.
+fn show_limits<D: Disk, W: Write>(
+    alloc: Global,
+    node: &Replica<D>,
+    writer: &mut W,
+) -> Result<(), Refusal> {
+    match node.window(alloc) {
+        Ok(window) => write_limits(writer, &window),
+        Err(refusal) => write_refused(writer, refusal),
+    }
+}
+
 /// Takes the node apart and puts it together again, as a stopped one or as it was.
 fn together<D: Disk>(node: Replica<D>, stopped: bool) -> Replica<D> {
     let stopped = stopped || node.is_stopped();
@@ -90,6 +104,7 @@ fn at_node<D: Disk, W: Write>(
 ) -> Result<(), Refusal> {
     match order {
         NodeOrder::Script(Command::Step(event)) => step(node, event, writer),
+        NodeOrder::Script(Command::Limits) => show_limits(alloc, node, writer),
         NodeOrder::Script(_) => show_state(alloc, node, false, writer),
         NodeOrder::Settle => settle(node, writer),
         NodeOrder::Window => show_state(alloc, node, true, writer),
@@ -118,6 +133,9 @@ fn write_answer_to<D: Disk, W: Write>(
 ) -> Result<(), Refusal> {
     match (event, answer) {
         (Event::Deliver(seqno, _), Answer::Gave(verdict)) => {
+            write_verdict(writer, *seqno, *verdict)
+        }
+        (Event::SetWindow(seqno, _, _, _), Answer::Gave(verdict)) => {
             write_verdict(writer, *seqno, *verdict)
         }
         _ => write_answer(writer, node, answer),

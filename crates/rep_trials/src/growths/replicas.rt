@@ -7,7 +7,7 @@ use rep_layout::need;
 use rep_recover::format_disk;
 use rep_replica::Replica;
 use rep_steps::{Answer, Event};
-use rep_types::{Entry, Key, Refusal, Window};
+use rep_types::{Entry, Key, Refusal, Window, WindowSize};
 use std::alloc::{AllocError, Global};
 use uuid::Uuid;
 
@@ -76,19 +76,20 @@ fn window(alloc: Global, replica: &Replica<MemDisk>) -> Result<Window, Refusal> 
     }
 }
 
-/// Delivers an item for each row, and makes them durable.
+/// Delivers an item for each row and one that changes the window's size to 2, and makes them durable.
 fn serve(replica: &mut Replica<MemDisk>) -> Result<(), Refusal> {
     for (before, row) in ROWS.iter().enumerate() {
         let seqno = before as u64 + 1;
         step(replica, &Event::Deliver(seqno, item(*row, 0)?))?;
     }
-    for event in [Event::Log, Event::Sync, Event::Log, Event::Sync] {
+    let change = Event::SetWindow(4, WindowSize::new(2)?, 1, 1);
+    for event in [change, Event::Log, Event::Sync, Event::Log, Event::Sync] {
         step(replica, &event)?;
     }
     Ok(())
 }
 
-/// The device of a replica to which an item for each row was delivered and is durable, behind a stop.
+/// The device of a replica to which these items were delivered and are durable, behind a stop.
 fn served(alloc: Global) -> Result<MemDisk, Refusal> {
     let mut replica = opened(alloc, formatted(alloc)?)?;
     let served = serve(&mut replica);
@@ -111,7 +112,7 @@ fn settle(replica: &mut Replica<MemDisk>) -> Result<(), Refusal> {
 /// Delivers five items more, each of which the replica makes durable by settling. For the fourth the log has no cell: a checkpoint
 /// comes before it.
 fn settle_each(replica: &mut Replica<MemDisk>) -> Result<(), Refusal> {
-    for before in 3..8 {
+    for before in 4..9 {
         step(replica, &Event::Deliver(before + 1, item(70, before)?))?;
         settle(replica)?;
     }
