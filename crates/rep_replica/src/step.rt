@@ -278,10 +278,10 @@ impl<D: Disk> Replica<D> {
             return Answer::Refused(Refusal::Stopped);
         }
         match event {
-            Event::Deliver(seqno, write_set) => gave(self.deliver(
-                seqno,
-                Item::WriteSet(write_set),
-            )),
+            Event::Deliver(seqno, write_set) => {
+                let item = Item::WriteSet(write_set);
+                gave(self.deliver(seqno, item))
+            }
             Event::SetWindow(seqno, size, source, trx) => {
                 let change = SetWindow { size, source, trx };
                 gave(self.deliver(seqno, Item::SetWindow(change)))
