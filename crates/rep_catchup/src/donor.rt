@@ -93,7 +93,7 @@ fn count_pages<D: Disk>(replica: &Replica<D>) -> u16
 }
 
 /// Writes the entries that a window still hands out.
-fn write_entries<W: Write>(window: WindowReader<'_>, writer: &mut W) -> Result<(), Refusal>
+fn write_entries<W: Sink>(window: WindowReader<'_>, writer: &mut W) -> Result<(), Refusal>
     ensures written { Wrote (W.contents writer.old) (W.contents writer.new) (flat_map entry_bytes window.entry.kept.entries) result }
     ensures fit { OnOk result (AllByRecursion EntryFits window.entry.kept.entries) }
 {
@@ -105,7 +105,7 @@ fn write_entries<W: Write>(window: WindowReader<'_>, writer: &mut W) -> Result<(
 }
 
 /// Writes the position of the base, and its window: size and floor, how many entries it has, and these.
-fn write_window<D: Disk, W: Write>(replica: &mut Replica<D>, writer: &mut W) -> Result<(), Refusal>
+fn write_window<D: Disk, W: Sink>(replica: &mut Replica<D>, writer: &mut W) -> Result<(), Refusal>
     requires { IsRunning replica.old }
     ensures leaves { Leaves D.honest D.history D.failures replica.old replica.new result }
     ensures written { (n : Node) → Holds D.honest D.history D.failures n replica.old → OnOk result (WroteWindow replica.old.engine.checkpoint.base n.base.kept (W.contents writer.old) (W.contents writer.new)) }
@@ -119,7 +119,7 @@ fn write_window<D: Disk, W: Write>(replica: &mut Replica<D>, writer: &mut W) -> 
 }
 
 /// Writes the page of this number, where the base has it in a slot.
-fn write_base_page<D: Disk, W: Write>(
+fn write_base_page<D: Disk, W: Sink>(
     replica: &mut Replica<D>,
     number: u16,
     writer: &mut W,
@@ -141,7 +141,7 @@ fn write_base_page<D: Disk, W: Write>(
 }
 
 /// Writes the pages that the base has in a slot.
-fn write_pages<D: Disk, W: Write>(replica: &mut Replica<D>, writer: &mut W) -> Result<(), Refusal>
+fn write_pages<D: Disk, W: Sink>(replica: &mut Replica<D>, writer: &mut W) -> Result<(), Refusal>
     requires { IsRunning replica.old }
     ensures leaves { Leaves D.honest D.history D.failures replica.old replica.new result }
     ensures written { (n : Node) → Holds D.honest D.history D.failures n replica.old → OnOk result (WrotePages replica.old.engine.checkpoint.base n.base.content (pages_of replica.old.engine.checkpoint.base.params.rows) (W.contents writer.old) (W.contents writer.new)) }
@@ -153,7 +153,7 @@ fn write_pages<D: Disk, W: Write>(replica: &mut Replica<D>, writer: &mut W) -> R
 }
 
 /// Writes a snapshot of the base.
-fn write_snapshot<D: Disk, W: Write>(
+fn write_snapshot<D: Disk, W: Sink>(
     replica: &mut Replica<D>,
     writer: &mut W,
 ) -> Result<(), Refusal>
@@ -169,7 +169,7 @@ fn write_snapshot<D: Disk, W: Write>(
 }
 
 /// Writes a snapshot of the base, where the joiner needs one, and answers the position behind which the records come.
-fn write_base<D: Disk, W: Write>(
+fn write_base<D: Disk, W: Sink>(
     replica: &mut Replica<D>,
     have: &Have,
     writer: &mut W,
@@ -186,7 +186,7 @@ fn write_base<D: Disk, W: Write>(
 }
 
 /// Writes the record if it is above the position.
-fn write_above<W: Write>(judged: &Judged, position: u64, writer: &mut W) -> Result<(), Refusal>
+fn write_above<W: Sink>(judged: &Judged, position: u64, writer: &mut W) -> Result<(), Refusal>
     requires { IsRecord judged.now }
     ensures { Wrote (W.contents writer.old) (W.contents writer.new) (flat_map record_part (above position (judged.now ∷ []))) result }
 {
@@ -198,7 +198,7 @@ fn write_above<W: Write>(judged: &Judged, position: u64, writer: &mut W) -> Resu
 }
 
 /// Writes the block's records above the position.
-fn write_block<W: Write>(
+fn write_block<W: Sink>(
     block: BlockReader<'_>,
     position: u64,
     writer: &mut W,
@@ -214,7 +214,7 @@ fn write_block<W: Write>(
 }
 
 /// Writes the durable items behind the base that are above the position.
-fn write_tail<D: Disk, W: Write>(
+fn write_tail<D: Disk, W: Sink>(
     replica: &mut Replica<D>,
     position: u64,
     writer: &mut W,
@@ -235,7 +235,7 @@ fn write_tail<D: Disk, W: Write>(
 }
 
 /// Writes the transfer of a donor of a cluster that is not stopped, and answers where it ends.
-fn write_transfer<D: Disk, W: Write>(
+fn write_transfer<D: Disk, W: Sink>(
     replica: &mut Replica<D>,
     have: &Have,
     writer: &mut W,
@@ -267,7 +267,7 @@ fn write_transfer<D: Disk, W: Write>(
 /// another cluster, or of another first window size or schema; and with `Ahead` one that has more of the order than is durable here: so far nothing
 /// is written. Then with `StreamFault` where the writer fails; with `DiskFault` where the device fails, and then the replica is stopped;
 /// and with `Corrupt` where the device shows what is not of its form: what was written is then no transfer.
-pub fn donate<D: Disk, W: Write>(
+pub fn donate<D: Disk, W: Sink>(
     replica: &mut Replica<D>,
     have: &Have,
     writer: &mut W,

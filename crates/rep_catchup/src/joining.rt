@@ -34,7 +34,7 @@ use std::io::Read;
 ///
 /// Refuses with `StreamFault` where the reader fails, with `Malformed` what is no header, and with `WrongCluster` one of another cluster
 /// than the replica's, or of another window or schema.
-fn take_header<D: Disk, R: Read>(
+fn take_header<D: Disk, R: Source>(
     replica: &Replica<D>,
     transfer: &mut TransferReader,
     reader: &mut R,
@@ -171,7 +171,7 @@ fn take_part<D: Disk>(replica: &mut Replica<D>, part: Part, at: u64) -> Result<O
 }
 
 /// Takes the parts behind those that were taken, to the transfer's end, and answers its position.
-fn follow<D: Disk, R: Read>(
+fn follow<D: Disk, R: Source>(
     replica: &mut Replica<D>,
     transfer: &mut TransferReader,
     reader: &mut R,
@@ -198,7 +198,7 @@ fn follow<D: Disk, R: Read>(
 
 /// Takes this part, which stands at `at` of the transfer, and those behind it, to the transfer's end, where no snapshot comes: the
 /// replica is of a cluster then.
-fn follow_from<D: Disk, R: Read>(
+fn follow_from<D: Disk, R: Source>(
     replica: &mut Replica<D>,
     part: Part,
     at: u64,
@@ -227,7 +227,7 @@ fn follow_from<D: Disk, R: Read>(
 
 /// Takes the rest of a snapshot of this position, which stands at `at` of the transfer that begins so, and the parts behind it, to the
 /// transfer's end.
-fn take_snapshot<D: Disk, R: Read>(
+fn take_snapshot<D: Disk, R: Source>(
     alloc: Global,
     replica: Replica<D>,
     header: &Header,
@@ -258,7 +258,7 @@ fn take_snapshot<D: Disk, R: Read>(
 }
 
 /// Takes the parts behind the header of a transfer of this cluster.
-fn take_parts<D: Disk, R: Read>(
+fn take_parts<D: Disk, R: Source>(
     alloc: Global,
     replica: Replica<D>,
     header: &Header,
@@ -303,7 +303,7 @@ fn take_parts<D: Disk, R: Read>(
 /// `WrongCluster` a transfer of another cluster, first window size or schema; and
 /// `OutOfMemory`, `DiskFault` and `Corrupt` as settling, installing and delivering do. The items before the refusal stay delivered; a
 /// snapshot that was not taken whole leaves the replica as it was; after `DiskFault` it is stopped.
-pub fn join<D: Disk, R: Read>(
+pub fn join<D: Disk, R: Source>(
     alloc: Global,
     replica: Replica<D>,
     reader: &mut R,

@@ -42,7 +42,7 @@ fn fixed_reach(params: &Params, position: u64) -> Reach
 }
 
 /// Takes the size and the floor of a window, as format 2 tells them.
-fn read_reach<R: Read>(
+fn read_reach<R: Source>(
     at: u64,
     transfer: &mut TransferReader,
     reader: &mut R,
@@ -64,7 +64,7 @@ fn read_reach<R: Read>(
 }
 
 /// Takes how far back the window of a snapshot of this format and position reaches. Nothing else depends on the format.
-fn take_reach<R: Read>(
+fn take_reach<R: Source>(
     format: Format,
     params: &Params,
     position: u64,
@@ -82,7 +82,7 @@ fn take_reach<R: Read>(
 }
 
 /// Takes so many entries of a window.
-fn take_entries<R: Read>(
+fn take_entries<R: Source>(
     alloc: Global,
     count: u16,
     at: u64,
@@ -110,7 +110,7 @@ fn is_window_at(params: &Params, position: u64, window: &Window) -> bool
 }
 
 /// Takes the window of a snapshot of this format and position.
-fn take_kept<R: Read>(
+fn take_kept<R: Source>(
     alloc: Global,
     format: Format,
     params: &Params,
@@ -140,7 +140,7 @@ fn take_kept<R: Read>(
 }
 
 /// Takes so many pages, and puts each beside the base.
-fn take_pages<D: Disk, R: Read>(
+fn take_pages<D: Disk, R: Source>(
     installation: &mut Installation<D>,
     count: u16,
     at: u64,
@@ -179,7 +179,7 @@ fn may_come<D: Disk>(replica: &Replica<D>, position: u64) -> bool
 
 /// Takes the window of a snapshot of this format and position, and how many pages come behind it. In format 1 the window's size is that of
 /// the parameters, and its floor the least seqno that this size spans at the position, 1 or more; in format 2 they are told.
-fn take_window<D: Disk, R: Read>(
+fn take_window<D: Disk, R: Source>(
     alloc: Global,
     replica: &Replica<D>,
     format: Format,
@@ -208,7 +208,7 @@ fn take_window<D: Disk, R: Read>(
 /// Refuses with `Malformed` what is no snapshot for the replica, with `OutOfMemory`, and with `StreamFault` where the reader fails: the
 /// replica is then as it was. Refuses with `DiskFault` where the device fails: the replica is then stopped, and what is opened on its
 /// disk is what it was, or the snapshot.
-pub(crate) fn bring<D: Disk, R: Read>(
+pub(crate) fn bring<D: Disk, R: Source>(
     alloc: Global,
     replica: Replica<D>,
     header: &Header,

@@ -1,6 +1,7 @@
 //! What a joiner has.
 
 ghost use Rattle.std.specs.Prelude.{◌≡◌, ◌↔◌, ◌⊎◌, ◌<◌, [], length, true, false, IfOk, IfErr, IfSome, IsSome, Ok, Err};
+ghost use Rattle.rep_streams.specs.Streams.{Notes};
 ghost use Rattle.rep_transfer.specs.Haves.{IsHave, have_bytes, have_form};
 
 use crate::reader::read_into;
@@ -9,8 +10,8 @@ use arrayvec::ArrayVec;
 use rep_forms::{
     Exact, Form, Put, put_bytes, put_u64, read_front, read_part, read_u64, strip_front,
 };
+use rep_streams::Source;
 use rep_types::Refusal;
-use std::io::Read;
 use uuid::Uuid;
 
 /// The first eight bytes of the format.
@@ -104,12 +105,13 @@ impl Have {
     }
 }
 
-/// Whether the reader has ended.
+/// Whether the source has ended.
 ///
 /// Refuses with `StreamFault` where it fails.
-fn has_ended<R: Read>(reader: &mut R) -> Result<bool, Refusal>
+fn has_ended<R: Source>(reader: &mut R) -> Result<bool, Refusal>
     ensures ended { IfOk result (λ ended. ended ≡ true → IfSome (R.remaining reader.old) (λ bytes. bytes ≡ [])) }
     ensures more { IfOk result (λ ended. ended ≡ false → IfSome (R.remaining reader.old) (λ bytes. 0 < length bytes)) }
+    ensures notes { Notes (R.failed reader.old) (R.failed reader.new) result }
     ensures refused { IfErr result (λ e. e ≡ Refusal.StreamFault) }
 {
     let mut room = [0; 1];
@@ -117,15 +119,16 @@ fn has_ended<R: Read>(reader: &mut R) -> Result<bool, Refusal>
     Ok(!is_full)
 }
 
-/// Reads what a joiner has, which is all that the reader gives.
+/// Reads what a joiner has, which is all that the source gives.
 ///
-/// Refuses with `StreamFault` where the reader fails, and with `Malformed`, at 0, what is not of the form that `read_bytes` says.
+/// Refuses with `StreamFault` exactly where the source fails, and with `Malformed`, at 0, what is not of the form that `read_bytes` says.
 #[tactic(auto, using(crate::specs::PieceLaws::have_size))]
-pub fn read_have<R: Read>(reader: &mut R) -> Result<Have, Refusal>
+pub fn read_have<R: Source>(reader: &mut R) -> Result<Have, Refusal>
     // What is read is all of the known bytes, and spelled so.
     ensures found { IfOk result (λ have. IsHave have × IfSome (R.remaining reader.old) (λ bytes. bytes ≡ have_bytes have)) }
-    // What is spelled so is read, unless the reader fails.
+    // What is spelled so is read, unless the source fails.
     ensures only { (have : Have) → IsHave have → IfSome (R.remaining reader.old) (λ bytes. bytes ≡ have_bytes have → (result ≡ Ok have) ⊎ (result ≡ Err Refusal.StreamFault)) }
+    ensures notes { Notes (R.failed reader.old) (R.failed reader.new) result }
     ensures refused { IfErr result (λ e. (e ≡ Refusal.StreamFault) ⊎ (e ≡ Refusal.Malformed 0)) }
 {
     let mut room = [0; HAVE];

@@ -1,12 +1,13 @@
 //! The parts of a transfer behind its header.
 
 ghost use Rattle.std.specs.Prelude.{◌≡◌, length, IfSome, IfOk, IfErr};
+ghost use Rattle.rep_streams.specs.Streams.{Notes};
 ghost use Rattle.rep_transfer.specs.Taking.{counted, TakesOne};
 ghost use Rattle.rep_transfer.specs.Transfers.{PartFits, part_bytes};
 
 use crate::reader::TransferReader;
+use rep_streams::Source;
 use rep_types::{Judged, Refusal};
-use std::io::Read;
 
 /// The letter of a snapshot.
 pub(crate) const SNAPSHOT: u8 = b'S';
@@ -30,8 +31,8 @@ pub enum Part {
 
 /// Takes the next part, of a snapshot its position; None where the stream has ended before its end, or does not have one there.
 ///
-/// Refuses with `StreamFault` where the reader fails. After a refusal, and after None, the rest of the stream is not to be read.
-pub fn next_part<R: Read>(
+/// Refuses with `StreamFault` exactly where the source fails. After a refusal, and after None, the rest of the stream is not to be read.
+pub fn next_part<R: Source>(
     transfer: &mut TransferReader,
     reader: &mut R,
 ) -> Result<Option<Part>, Refusal>
@@ -40,6 +41,7 @@ pub fn next_part<R: Read>(
     // At any reader.
     ensures fits { IfOk result (λ found. IfSome found PartFits) }
     ensures taken { IfOk result (λ found. IfSome found (λ p. transfer.new ≡ counted transfer.old (length (part_bytes p)))) }
+    ensures notes { Notes (R.failed reader.old) (R.failed reader.new) result }
     ensures refused { IfErr result (λ e. e ≡ Refusal.StreamFault) }
 {
     let Some(letter) = transfer.next::<u8, R>(reader)? else {

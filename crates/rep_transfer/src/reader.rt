@@ -2,48 +2,43 @@
 
 ghost use Rattle.std.specs.Prelude.{◌≡◌, ◌+◌, ◌<◌, ◌≤◌, ℕ, length, take, true, false, None, IfSome, IfOk, IfErr};
 ghost use Rattle.std.specs.Io.KnownBytes.{Consumes};
+ghost use Rattle.rep_streams.specs.Streams.{Notes};
 ghost use Rattle.rep_transfer.specs.Taking.{counted, TakesOne, BeginWithNone};
 
 use crate::pieces::{PIECE, Piece};
+use rep_streams::Source;
 use rep_types::Refusal;
-use std::io::{ErrorKind, Read};
 use std::marker::Model;
 
-/// Reads until the room is full, and answers whether it is; else the stream has ended before. A read that was interrupted is tried
-/// again.
+/// Reads until the room is full, and answers whether it is; else the stream has ended before.
 ///
-/// Refuses with `StreamFault` where the reader fails.
-pub(crate) fn read_into<R: Read>(reader: &mut R, room: &mut [u8]) -> Result<bool, Refusal>
+/// Refuses with `StreamFault` where the source fails.
+pub(crate) fn read_into<R: Source>(reader: &mut R, room: &mut [u8]) -> Result<bool, Refusal>
     ensures full { IfOk result (λ full. full ≡ true → Consumes (R.remaining reader.old) (R.remaining reader.new) room.new) }
     ensures short { IfOk result (λ full. full ≡ false → IfSome (R.remaining reader.old) (λ bytes. length bytes < length room.new)) }
+    ensures notes { Notes (R.failed reader.old) (R.failed reader.new) result }
     ensures refused { IfErr result (λ e. e ≡ Refusal.StreamFault) }
 {
     let mut count = 0;
-    for _ in 0..u64::MAX {
-        if count == room.len() {
-            return Ok(true);
-        }
-        let taken = match reader.read(&mut room[count..]) {
-            Ok(taken) => taken,
-            Err(error) if error.kind() == ErrorKind::Interrupted => continue,
-            Err(_) => return Err(Refusal::StreamFault),
-        };
+    while count < room.len() {
+        let taken = reader.read(&mut room[count..])?;
         if taken == 0 {
             return Ok(false);
         }
         count += taken;
     }
-    Err(Refusal::StreamFault)
+    Ok(true)
 }
 
 /// Reads as many bytes into the room as the first of them say that a piece has, and answers how many; None where the stream has fewer,
 /// or the room.
 ///
-/// Refuses with `StreamFault` where the reader fails.
-fn fill<T: Piece, R: Read>(reader: &mut R, room: &mut [u8; PIECE]) -> Result<Option<usize>, Refusal>
+/// Refuses with `StreamFault` where the source fails.
+fn fill<T: Piece, R: Source>(reader: &mut R, room: &mut [u8; PIECE]) -> Result<Option<usize>, Refusal>
     ensures found { IfOk result (λ found. IfSome found (λ size. Consumes (R.remaining reader.old) (R.remaining reader.new) (take size room.new))) }
     ensures size { IfOk result (λ found. IfSome found (λ size. (size ≡ T.head + T.more (take T.head room.new)) × (size ≤ PIECE))) }
     ensures none { IfOk result (λ found. found ≡ None → IfSome (R.remaining reader.old) (BeginWithNone T.piece.Fits T.piece.spell)) }
+    ensures notes { Notes (R.failed reader.old) (R.failed reader.new) result }
     ensures refused { IfErr result (λ e. e ≡ Refusal.StreamFault) }
 {
     let head = T::head_size();
@@ -95,14 +90,15 @@ impl TransferReader {
 
     /// Takes the next piece; None where the stream has ended before its end, or does not have one there. What follows it is not read.
     ///
-    /// Refuses with `StreamFault` where the reader fails; an interrupted read is tried again. After a refusal, and after None, the rest
-    /// of the stream is not to be read.
-    pub fn next<T: Piece, R: Read>(&mut self, reader: &mut R) -> Result<Option<T>, Refusal>
+    /// Refuses with `StreamFault` exactly where the source fails. After a refusal, and after None, the rest of the stream is not to be
+    /// read.
+    pub fn next<T: Piece, R: Source>(&mut self, reader: &mut R) -> Result<Option<T>, Refusal>
         // Where the bytes are known.
         ensures known { IfSome (R.remaining reader.old) (λ bytes. TakesOne T.piece.Fits T.piece.spell bytes (R.remaining reader.new) result) }
         // At any reader.
         ensures fits { IfOk result (λ found. IfSome found T.piece.Fits) }
         ensures taken { IfOk result (λ found. IfSome found (λ x. self.new ≡ counted self.old (length (T.piece.spell x)))) }
+        ensures notes { Notes (R.failed reader.old) (R.failed reader.new) result }
         ensures refused { IfErr result (λ e. e ≡ Refusal.StreamFault) }
     {
         let Some(size) = fill::<T, R>(reader, &mut self.room)? else {

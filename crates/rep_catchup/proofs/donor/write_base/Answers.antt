@@ -19,10 +19,10 @@ returns-clause-written g c = λ n holds.
     let old = c.args.replica.now in
     let now = c.write_snapshot.new.replica in
     let same : now.engine.checkpoint.base.position ≡ old.engine.checkpoint.base.position = same_of g.D.Disk.honest g.D.Disk.history g.D.Disk.failures (λ (r : Replica g.row.D.Denot). r.engine.checkpoint.base.position) old now c.in_ok-write_snapshot.ensures.leaves.reads refl in
-    base_with n (facts_of g.D.Disk.failures old) c.args.have.now c.base.result (g.W.Write.contents c.args.writer.now) (g.W.Write.contents c.write_snapshot.new.writer) holds.facts (c.needs_snapshot.ensures.0 c.if-not-needs_snapshot.false)
+    base_with n (facts_of g.D.Disk.failures old) c.args.have.now c.base.result (g.W.Sink.contents c.args.writer.now) (g.W.Sink.contents c.write_snapshot.new.writer) holds.facts (c.needs_snapshot.ensures.0 c.if-not-needs_snapshot.false)
     (c.base.ensures ∙ same) (c.in_ok-write_snapshot.ensures.written n holds)
 
 pub returns-then-not-needs_snapshot-clause-written : goal.returns-then-not-needs_snapshot-clause-written
 returns-then-not-needs_snapshot-clause-written g c = λ n holds.
     let never : NeedsSnapshot (facts_of g.D.Disk.failures c.args.replica.now) c.args.have.now → ⊥ = search rules in
-    base_without n (facts_of g.D.Disk.failures c.args.replica.now) c.args.have.now (g.W.Write.contents c.args.writer.now) holds.facts never
+    base_without n (facts_of g.D.Disk.failures c.args.replica.now) c.args.have.now (g.W.Sink.contents c.args.writer.now) holds.facts never

@@ -32,4 +32,4 @@ returns-in-None-clause-written g c = λ n holds.
     let old = c.args.replica.now in
     let none = no_page old.engine.checkpoint.base n.base.content c.args.number c.from.result c.in_ok-found.field-0 c.in-None.is c.from.ensures c.in_ok-found.ensures.none
     (c.in_ok-found.ensures.absent n holds (not_halted old.stopped old.engine.halted c.requires)) in
-    inr (none.0, none.1, Appends-nil (g.W.Write.contents c.args.writer.now))
+    inr (none.0, none.1, Appends-nil (g.W.Sink.contents c.args.writer.now))

@@ -9,21 +9,21 @@ use Rattle.rep_catchup.proofs.donor.write_block.Goals as goal
 pub write_above-requires : goal.write_above-requires
 write_above-requires g c =
     next_is IsRecord (bytes_above c.args.position) c.args.block.records c.loop-judged.block.records c.next_record.new.self.records c.in-Some.judged
-    (g.W.Write.contents c.args.writer.now) (g.W.Write.contents c.loop-judged.writer) c.loop-judged.invariant (ap (λ (b : Contents). b.records) c.in-Some.ensures) c.requires.are_records
+    (g.W.Sink.contents c.args.writer.now) (g.W.Sink.contents c.loop-judged.writer) c.loop-judged.invariant (ap (λ (b : Contents). b.records) c.in-Some.ensures) c.requires.are_records
 
 pub loop-judged-preserved : goal.loop-judged-preserved
 loop-judged-preserved g c =
     let judged = c.in-Some.judged in
     let same = ap (λ (b : Contents). b.records) c.in-Some.ensures in
     writing_more IsRecord (bytes_above c.args.position) (bytes_join c.args.position) c.args.block.records c.loop-judged.block.records c.next_record.new.self.records judged (bytes_above c.args.position (judged ∷ []))
-    (g.W.Write.contents c.args.writer.now) (g.W.Write.contents c.loop-judged.writer) (g.W.Write.contents c.write_above.new.writer) refl c.loop-judged.invariant same
+    (g.W.Sink.contents c.args.writer.now) (g.W.Sink.contents c.loop-judged.writer) (g.W.Sink.contents c.write_above.new.writer) refl c.loop-judged.invariant same
     (next_is IsRecord (bytes_above c.args.position) c.args.block.records c.loop-judged.block.records c.next_record.new.self.records judged
-    (g.W.Write.contents c.args.writer.now) (g.W.Write.contents c.loop-judged.writer) c.loop-judged.invariant same c.requires.are_records) c.in_ok-write_above.ensures.done
+    (g.W.Sink.contents c.args.writer.now) (g.W.Sink.contents c.loop-judged.writer) c.loop-judged.invariant same c.requires.are_records) c.in_ok-write_above.ensures.done
 
 pub returns-in_err-write_above : goal.returns-in_err-write_above
 returns-in_err-write_above g c =
     let judged = c.in-Some.judged in
     let p = err_from_is_err_and c.from_residual.result c.from_residual.ensures.1 in
     rw (p.1, p.2) (writing_cut IsRecord (bytes_above c.args.position) (bytes_join c.args.position) c.args.block.records c.loop-judged.block.records c.next_record.new.self.records judged (bytes_above c.args.position (judged ∷ []))
-    (g.W.Write.contents c.args.writer.now) (g.W.Write.contents c.loop-judged.writer) (g.W.Write.contents c.write_above.new.writer) c.in_err-write_above.field-0.0 refl c.loop-judged.invariant
+    (g.W.Sink.contents c.args.writer.now) (g.W.Sink.contents c.loop-judged.writer) (g.W.Sink.contents c.write_above.new.writer) c.in_err-write_above.field-0.0 refl c.loop-judged.invariant
     (ap (λ (b : Contents). b.records) c.in-Some.ensures) c.in_err-write_above.ensures)

@@ -6,7 +6,7 @@ use Rattle.rep_catchup.proofs.donor.write_block.Given as goal
 
 -- those that were gone through, and those that are left
 abbrev pub invariant-loop-judged : goal.invariant-loop-judged
-invariant-loop-judged g l = Writing IsRecord (bytes_above l.position) l.initial.block.records l.block.records (g.W.Write.contents l.initial.writer) (g.W.Write.contents l.writer)
+invariant-loop-judged g l = Writing IsRecord (bytes_above l.position) l.initial.block.records l.block.records (g.W.Sink.contents l.initial.writer) (g.W.Sink.contents l.writer)
 
 abbrev pub decreases-loop-judged : goal.decreases-loop-judged
 decreases-loop-judged g l = length l.block.records

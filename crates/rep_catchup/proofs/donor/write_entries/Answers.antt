@@ -11,7 +11,7 @@ pub loop-entry-preserved : goal.loop-entry-preserved
 loop-entry-preserved g c =
     let entry = c.in-Some.entry in
     writing_more EntryFits (flat_map entry_bytes) (flat_map-append entry_bytes) c.args.window.kept.entries c.loop-entry.window.kept.entries c.next_entry.new.self.kept.entries entry (entry_bytes entry)
-    (g.W.Write.contents c.args.writer.now) (g.W.Write.contents c.loop-entry.writer) (g.W.Write.contents c.write_entry.new.writer) (append-nil (entry_bytes entry)) c.loop-entry.invariant
+    (g.W.Sink.contents c.args.writer.now) (g.W.Sink.contents c.loop-entry.writer) (g.W.Sink.contents c.write_entry.new.writer) (append-nil (entry_bytes entry)) c.loop-entry.invariant
     (ap (λ (w : Window). w.kept.entries) c.in-Some.ensures) c.write_entry.ensures.fits c.in_ok-write_entry.ensures.written.done
 
 pub returns-in_err-write_entry-clause-written : goal.returns-in_err-write_entry-clause-written
@@ -19,5 +19,5 @@ returns-in_err-write_entry-clause-written g c =
     let entry = c.in-Some.entry in
     let p = err_from_is_err_and c.from_residual.result c.from_residual.ensures.1 in
     rw (p.1, p.2) (writing_cut EntryFits (flat_map entry_bytes) (flat_map-append entry_bytes) c.args.window.kept.entries c.loop-entry.window.kept.entries c.next_entry.new.self.kept.entries entry (entry_bytes entry)
-    (g.W.Write.contents c.args.writer.now) (g.W.Write.contents c.loop-entry.writer) (g.W.Write.contents c.write_entry.new.writer) c.in_err-write_entry.field-0.0 (append-nil (entry_bytes entry)) c.loop-entry.invariant
+    (g.W.Sink.contents c.args.writer.now) (g.W.Sink.contents c.loop-entry.writer) (g.W.Sink.contents c.write_entry.new.writer) c.in_err-write_entry.field-0.0 (append-nil (entry_bytes entry)) c.loop-entry.invariant
     (ap (λ (w : Window). w.kept.entries) c.in-Some.ensures) c.in_err-write_entry.ensures.written)

@@ -6,7 +6,7 @@ use Rattle.rep_catchup.proofs.donor.write_entries.Given as goal
 
 -- those that were written, and those that are left
 abbrev pub invariant-loop-entry : goal.invariant-loop-entry
-invariant-loop-entry g l = Writing EntryFits (flat_map entry_bytes) l.initial.window.kept.entries l.window.kept.entries (g.W.Write.contents l.initial.writer) (g.W.Write.contents l.writer)
+invariant-loop-entry g l = Writing EntryFits (flat_map entry_bytes) l.initial.window.kept.entries l.window.kept.entries (g.W.Sink.contents l.initial.writer) (g.W.Sink.contents l.writer)
 
 abbrev pub decreases-loop-entry : goal.decreases-loop-entry
 decreases-loop-entry g l = length l.window.kept.entries

@@ -11,7 +11,7 @@ use Rattle.rep_catchup.proofs.donor.write_pages.Goals as goal
 pub loop-number-init : goal.loop-number-init
 loop-number-init g c = record {
   leaves = leaves_all g.D.Disk.honest g.D.Disk.history g.D.Disk.failures c.args.replica.now tt c.requires;
-  written = λ n holds. wrote_no_pages c.args.replica.now.engine.checkpoint.base n.base.content (g.W.Write.contents c.args.writer.now);
+  written = λ n holds. wrote_no_pages c.args.replica.now.engine.checkpoint.base n.base.content (g.W.Sink.contents c.args.writer.now);
 }
 
 pub returns-in_err-write_base_page-clause-leaves : goal.returns-in_err-write_base_page-clause-leaves
@@ -30,13 +30,13 @@ loop-number-preserved g c =
       leaves = leaves_then g.D.Disk.honest g.D.Disk.history g.D.Disk.failures old now c.write_base_page.new.replica tt (Ok tt) left c.in_ok-write_base_page.ensures.leaves;
       written = λ n holds.
           let page = c.in_ok-write_base_page.ensures.written n (still_holds g.D.Disk.honest g.D.Disk.history g.D.Disk.failures old now tt n left holds) in
-          wrote_more_pages old.engine.checkpoint.base n.base.content c.loop-number.number (g.W.Write.contents c.args.writer.now) (g.W.Write.contents c.loop-number.writer) (g.W.Write.contents c.write_base_page.new.writer)
+          wrote_more_pages old.engine.checkpoint.base n.base.content c.loop-number.number (g.W.Sink.contents c.args.writer.now) (g.W.Sink.contents c.loop-number.writer) (g.W.Sink.contents c.write_base_page.new.writer)
           (c.loop-number.invariant.written n holds)
-          (subst (λ (b : SuperBody). WrotePage b n.base.content c.loop-number.number (g.W.Write.contents c.loop-number.writer) (g.W.Write.contents c.write_base_page.new.writer)) same page);
+          (subst (λ (b : SuperBody). WrotePage b n.base.content c.loop-number.number (g.W.Sink.contents c.loop-number.writer) (g.W.Sink.contents c.write_base_page.new.writer)) same page);
     }
 
 pub returns-clause-written : goal.returns-clause-written
 returns-clause-written g c = λ n holds.
     let b = c.args.replica.now.engine.checkpoint.base in
     let all : c.loop-number.number ≡ pages_of b.params.rows = omega (arith, c.page_count-number-end.ensures, c.loop-number-test.false, c.loop-number.auto.number-end) in
-    subst (λ (k : ℕ). WrotePages b n.base.content k (g.W.Write.contents c.args.writer.now) (g.W.Write.contents c.loop-number.writer)) all (c.loop-number.invariant.written n holds)
+    subst (λ (k : ℕ). WrotePages b n.base.content k (g.W.Sink.contents c.args.writer.now) (g.W.Sink.contents c.loop-number.writer)) all (c.loop-number.invariant.written n holds)

@@ -8,5 +8,5 @@ use Rattle.rep_catchup.proofs.donor.write_pages.Given as goal
 abbrev pub invariant-loop-number : goal.invariant-loop-number
 invariant-loop-number g l = record {
   leaves : Leaves {T = Unit {0}} g.D.Disk.honest g.D.Disk.history g.D.Disk.failures l.initial.replica l.replica (Ok tt);
-  written : (n : Node) → Holds g.D.Disk.honest g.D.Disk.history g.D.Disk.failures n l.initial.replica → WrotePages l.initial.replica.engine.checkpoint.base n.base.content l.number (g.W.Write.contents l.initial.writer) (g.W.Write.contents l.writer);
+  written : (n : Node) → Holds g.D.Disk.honest g.D.Disk.history g.D.Disk.failures n l.initial.replica → WrotePages l.initial.replica.engine.checkpoint.base n.base.content l.number (g.W.Sink.contents l.initial.writer) (g.W.Sink.contents l.writer);
 }

@@ -21,12 +21,12 @@ returns-clause-written g c = λ n holds.
     let left = c.in_ok-write_window.ensures.leaves in
     let same : now.engine.checkpoint.base ≡ b = same_of g.D.Disk.honest g.D.Disk.history g.D.Disk.failures (λ (r : Replica g.row.D.Denot). r.engine.checkpoint.base) old now left.reads refl in
     let pages = c.write_pages.ensures.written n (still_holds g.D.Disk.honest g.D.Disk.history g.D.Disk.failures old now c.in_ok-write_window.field-0 n left holds) in
-    let here = subst (λ (s : SuperBody). OnOk c.write_pages.result (WrotePages s n.base.content (pages_of s.params.rows) (g.W.Write.contents c.write_count.new.writer) (g.W.Write.contents c.write_pages.new.writer))) same pages in
+    let here = subst (λ (s : SuperBody). OnOk c.write_pages.result (WrotePages s n.base.content (pages_of s.params.rows) (g.W.Sink.contents c.write_count.new.writer) (g.W.Sink.contents c.write_pages.new.writer))) same pages in
     let count : c.count_pages-count.result ≡ length (held_below b (pages_of b.params.rows)) = subst (λ (s : SuperBody). c.count_pages-count.result ≡ length (held_below s (pages_of s.params.rows))) same c.count_pages-count.ensures in
     let few : c.count_pages-count.result < 2 ^ 16 = omega arith in
     on_ok_weaker c.write_pages.result
     (λ wrote. snapshot_written c.row_places_are_told.ensures n b (base_of g.D.Disk.honest g.D.Disk.history g.D.Disk.failures n old holds c.requires)
-    (g.W.Write.contents c.args.writer.now) (g.W.Write.contents c.write_window.new.writer) (g.W.Write.contents c.write_count.new.writer) (g.W.Write.contents c.write_pages.new.writer)
+    (g.W.Sink.contents c.args.writer.now) (g.W.Sink.contents c.write_window.new.writer) (g.W.Sink.contents c.write_count.new.writer) (g.W.Sink.contents c.write_pages.new.writer)
     (c.in_ok-write_window.ensures.written n holds) c.count_pages-count.result few count c.in_ok-write_count.ensures.done wrote) here
 
 pub returns-in_err-write_count-clause-leaves : goal.returns-in_err-write_count-clause-leaves

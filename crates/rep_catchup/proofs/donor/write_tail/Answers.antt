@@ -22,7 +22,7 @@ returns-clause-written g c = λ n holds.
     absurd (omega (
       arith,
       c.loop-index-test.false,
-      never_so_many g.D.Disk.history n c.args.replica.now.engine c.args.position c.loop-index.index (g.W.Write.contents c.args.writer.now) (g.W.Write.contents c.loop-index.writer) holds.node
+      never_so_many g.D.Disk.history n c.args.replica.now.engine c.args.position c.loop-index.index (g.W.Sink.contents c.args.writer.now) (g.W.Sink.contents c.loop-index.writer) holds.node
           (ap (λ (s : Standing). s.next) holds.facts) (ap (λ (s : Standing). s.start) holds.facts) (c.loop-index.invariant.written n holds),
     ))
 
@@ -49,7 +49,7 @@ returns-in-None-clause-written g c = λ n holds.
     let now = c.loop-index.replica in
     let same : now.engine.log.next - now.engine.log.start ≡ old.engine.log.next - old.engine.log.start = same_of g.D.Disk.honest g.D.Disk.history g.D.Disk.failures (λ (r : Replica g.row.D.Denot). r.engine.log.next - r.engine.log.start) old now c.loop-index.invariant.leaves.reads refl in
     let past = past_here c.loop-index.index (now.engine.log.next - now.engine.log.start) c.in_ok-block.field-0 c.in-None.is c.in_ok-block.ensures.none in
-    wrote_all_blocks g.D.Disk.history n old.engine c.args.position c.loop-index.index (g.W.Write.contents c.args.writer.now) (g.W.Write.contents c.loop-index.writer) (c.loop-index.invariant.written n holds)
+    wrote_all_blocks g.D.Disk.history n old.engine c.args.position c.loop-index.index (g.W.Sink.contents c.args.writer.now) (g.W.Sink.contents c.loop-index.writer) (c.loop-index.invariant.written n holds)
     (subst (λ (k : ℕ). k ≤ c.loop-index.index) same past) (no_block_no_item g.D.Disk.honest g.D.Disk.history g.D.Disk.failures n old holds c.requires)
 
 pub loop-index-preserved : goal.loop-index-preserved
@@ -69,7 +69,7 @@ loop-index-preserved g c =
       written = λ n holds.
           let read = subst (λ (o : Option Contents). IfSome o (λ b. IsTailBlock n now.engine.layout (g.D.Disk.history now.engine.disk) now.engine.checkpoint.base now.engine.log c.loop-index.index b.records)) c.in-Some.is
           (c.in_ok-block.ensures.block n (still_holds g.D.Disk.honest g.D.Disk.history g.D.Disk.failures old now tt n left holds)) in
-          wrote_more_blocks g.D.Disk.history n old.engine c.args.position c.the_tail_is_told.ensures c.loop-index.index block.records (g.W.Write.contents c.args.writer.now) (g.W.Write.contents c.loop-index.writer) (g.W.Write.contents c.write_block.new.writer)
+          wrote_more_blocks g.D.Disk.history n old.engine c.args.position c.the_tail_is_told.ensures c.loop-index.index block.records (g.W.Sink.contents c.args.writer.now) (g.W.Sink.contents c.loop-index.writer) (g.W.Sink.contents c.write_block.new.writer)
           (c.loop-index.invariant.written n holds) (block_at_first g.D.Disk.honest g.D.Disk.history g.D.Disk.failures n old now c.loop-index.index block.records left.reads holds.engine.is_honest read)
           (subst (λ (k : ℕ). c.loop-index.index < k) same due) form.1.are_records c.in_ok-write_block-in-Some.ensures.done;
     }

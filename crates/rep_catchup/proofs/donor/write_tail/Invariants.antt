@@ -9,5 +9,5 @@ use Rattle.rep_catchup.proofs.donor.write_tail.Given as goal
 abbrev pub invariant-loop-index : goal.invariant-loop-index
 invariant-loop-index g l = record {
   leaves : Leaves {T = Unit {0}} g.D.Disk.honest g.D.Disk.history g.D.Disk.failures l.initial.replica l.replica (Ok tt);
-  written : (n : Node) → Holds g.D.Disk.honest g.D.Disk.history g.D.Disk.failures n l.initial.replica → WroteTail g.D.Disk.history n l.initial.replica.engine l.position l.index (g.W.Write.contents l.initial.writer) (g.W.Write.contents l.writer);
+  written : (n : Node) → Holds g.D.Disk.honest g.D.Disk.history g.D.Disk.failures n l.initial.replica → WroteTail g.D.Disk.history n l.initial.replica.engine l.position l.index (g.W.Sink.contents l.initial.writer) (g.W.Sink.contents l.writer);
 }

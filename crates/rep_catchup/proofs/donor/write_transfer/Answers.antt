@@ -41,6 +41,6 @@ returns-clause-donated g c = λ n holds.
     let last : c.durable-last.result ≡ n.facts.durable = c.durable-last.ensures.durable ∙ sym (ap (λ (s : Standing). s.durable) after.facts) in
     let fits : c.durable-last.result < 2 ^ 64 = omega arith in
     transfer_written n c.args.have.now (record { format = Two; uuid = c.uuid.result; shape = c.of.result }) c.in_ok-position.position c.durable-last.result
-    (g.W.Write.contents c.args.writer.now) (g.W.Write.contents c.write_header.new.writer) (g.W.Write.contents c.write_base.new.writer) (g.W.Write.contents c.write_tail.new.writer) (g.W.Write.contents c.write_end.new.writer)
+    (g.W.Sink.contents c.args.writer.now) (g.W.Sink.contents c.write_header.new.writer) (g.W.Sink.contents c.write_base.new.writer) (g.W.Sink.contents c.write_tail.new.writer) (g.W.Sink.contents c.write_end.new.writer)
     c.in_ok-write_header.ensures.fits refl uuid shape (c.in_ok-position.ensures.written n holds) (all_above g.D.Disk.honest g.D.Disk.history g.D.Disk.failures n old holds) (c.in_ok-write_tail.ensures.written n behind) last fits
     (c.in_ok-write_header.ensures.written (λ nil. c.requires.defined (subst IsNil c.uuid.ensures nil))).done c.in_ok-write_end.ensures.done

@@ -28,8 +28,8 @@ pub returns-clause-written : goal.returns-clause-written
 returns-clause-written g c = λ n holds.
     let b = c.args.replica.now.engine.checkpoint.base in
     let w = c.in_ok-window.window in
-    window_wrote b w c.base-position.result c.len.result (record { size = c.size.result; floor = c.floor.result }) (g.W.Write.contents c.args.writer.now) (g.W.Write.contents c.write_front.new.writer)
-    (g.W.Write.contents c.write_count.new.writer) (g.W.Write.contents c.write_entries.new.writer) c.in_ok-window.ensures.form c.base-position.ensures
+    window_wrote b w c.base-position.result c.len.result (record { size = c.size.result; floor = c.floor.result }) (g.W.Sink.contents c.args.writer.now) (g.W.Sink.contents c.write_front.new.writer)
+    (g.W.Sink.contents c.write_count.new.writer) (g.W.Sink.contents c.write_entries.new.writer) c.in_ok-window.ensures.form c.base-position.ensures
     (λ i. record { size = c.size.ensures i; floor = c.floor.ensures i }) c.len.ensures (c.in_ok-write_front.ensures.written w.kept.entries).done c.in_ok-write_count.ensures.done n.base.kept c.write_entries.result
     (c.in_ok-window.ensures.window n holds) c.write_entries.ensures.fit c.write_entries.ensures.written.done
 

@@ -13,26 +13,26 @@ loop-part-init g c = record {
   running = c.requires.running;
   same = refl;
   defined = c.requires.defined;
-  followed = followed_none g.D.Disk.honest g.D.Disk.history g.D.Disk.failures c.history_by_items.ensures c.runs_are_joined.ensures c.args.replica.now c.args.transfer.now (g.R.Read.remaining c.args.reader.now);
+  followed = followed_none g.D.Disk.honest g.D.Disk.history g.D.Disk.failures c.history_by_items.ensures c.runs_are_joined.ensures c.args.replica.now c.args.transfer.now (g.R.Source.remaining c.args.reader.now);
 }
 
 pub returns-in-Some-2-clause-followed : goal.returns-in-Some-2-clause-followed
 returns-in-Some-2-clause-followed g c =
-    let start = g.R.Read.remaining c.args.reader.now in
-    let left = g.R.Read.remaining c.next_part.new.reader in
+    let start = g.R.Source.remaining c.args.reader.now in
+    let left = g.R.Source.remaining c.next_part.new.reader in
     subst (λ (ended : Option ℕ). Followed g.D.Disk.honest g.D.Disk.history g.D.Disk.failures c.args.replica.now c.take_part.new.replica c.args.transfer.now c.next_part.new.transfer start left ended) c.in-Some-2.is
     (part_followed g.D.Disk.honest g.D.Disk.history g.D.Disk.failures c.history_by_items.ensures c.runs_are_joined.ensures c.args.replica.now c.loop-part.replica c.take_part.new.replica c.args.transfer.now c.loop-part.transfer c.next_part.new.transfer start
-    (g.R.Read.remaining c.loop-part.reader) left c.in_ok-last.field-0 c.in-Some.part c.next_part.result (c.in_ok-part.was ∙ ap Ok c.in-Some.is) c.loop-part.invariant.followed c.next_part.ensures.known c.next_part.ensures.taken c.in_ok-last.ensures.took)
+    (g.R.Source.remaining c.loop-part.reader) left c.in_ok-last.field-0 c.in-Some.part c.next_part.result (c.in_ok-part.was ∙ ap Ok c.in-Some.is) c.loop-part.invariant.followed c.next_part.ensures.known c.next_part.ensures.taken c.in_ok-last.ensures.took)
 
 pub loop-part-preserved : goal.loop-part-preserved
 loop-part-preserved g c =
-    let start = g.R.Read.remaining c.args.reader.now in
-    let left = g.R.Read.remaining c.next_part.new.reader in
+    let start = g.R.Source.remaining c.args.reader.now in
+    let left = g.R.Source.remaining c.next_part.new.reader in
     let none : c.in_ok-last.field-0 ≡ None = search rules in
     let followed =
     subst (λ (ended : Option ℕ). Followed g.D.Disk.honest g.D.Disk.history g.D.Disk.failures c.args.replica.now c.take_part.new.replica c.args.transfer.now c.next_part.new.transfer start left ended) none
     (part_followed g.D.Disk.honest g.D.Disk.history g.D.Disk.failures c.history_by_items.ensures c.runs_are_joined.ensures c.args.replica.now c.loop-part.replica c.take_part.new.replica c.args.transfer.now c.loop-part.transfer c.next_part.new.transfer start
-    (g.R.Read.remaining c.loop-part.reader) left c.in_ok-last.field-0 c.in-Some.part c.next_part.result (c.in_ok-part.was ∙ ap Ok c.in-Some.is) c.loop-part.invariant.followed c.next_part.ensures.known c.next_part.ensures.taken c.in_ok-last.ensures.took) in
+    (g.R.Source.remaining c.loop-part.reader) left c.in_ok-last.field-0 c.in-Some.part c.next_part.result (c.in_ok-part.was ∙ ap Ok c.in-Some.is) c.loop-part.invariant.followed c.next_part.ensures.known c.next_part.ensures.taken c.in_ok-last.ensures.took) in
     record {
       running = c.in_ok-last.ensures.ends;
       same = c.in_ok-last.ensures.tells ∙ c.loop-part.invariant.same;
@@ -46,15 +46,15 @@ pub returns-in_err-last-clause-cut : goal.returns-in_err-last-clause-cut
 returns-in_err-last-clause-cut g c =
     let p = err_from_is_err_and c.from_residual-in_err-last.result c.from_residual-in_err-last.ensures.1 in
     let e = c.in_err-last.field-0.0 in
-    let start = g.R.Read.remaining c.args.reader.now in
-    let before = g.R.Read.remaining c.loop-part.reader in
+    let start = g.R.Source.remaining c.args.reader.now in
+    let before = g.R.Source.remaining c.loop-part.reader in
     let part = c.in-Some.part in
     let is = c.in_ok-part.was ∙ ap Ok c.in-Some.is in
     let small : c.taken-at.result < 2 ^ 64 = search rules in
     let followed = subst (λ k. Followed g.D.Disk.honest g.D.Disk.history g.D.Disk.failures c.args.replica.now c.loop-part.replica c.args.transfer.now k start before None) (sym c.taken-at.ensures) c.loop-part.invariant.followed in
     rw (p.1, p.2) (cut_at_part g.D.Disk.honest g.D.Disk.history g.D.Disk.failures c.history_by_items.ensures c.runs_are_joined.ensures c.args.replica.now c.loop-part.replica c.take_part.new.replica c.args.transfer.now c.taken-at.result start before
-    (g.R.Read.remaining c.next_part.new.reader) part e (counted_small c.taken-at.result small) followed c.in_err-last.ensures.kept (found_fits PartFits part c.next_part.result is c.next_part.ensures.fits)
-    (consumed PartFits part_bytes before (g.R.Read.remaining c.next_part.new.reader) part c.next_part.result is c.next_part.ensures.known) c.in_err-last.ensures.refused)
+    (g.R.Source.remaining c.next_part.new.reader) part e (counted_small c.taken-at.result small) followed c.in_err-last.ensures.kept (found_fits PartFits part c.next_part.result is c.next_part.ensures.fits)
+    (consumed PartFits part_bytes before (g.R.Source.remaining c.next_part.new.reader) part c.next_part.result is c.next_part.ensures.known) c.in_err-last.ensures.refused)
 
 -- ---- what is told of the device
 

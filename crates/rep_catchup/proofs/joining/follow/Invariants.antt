@@ -13,7 +13,7 @@ invariant-loop-part g l = record {
   running : IsRunning l.replica;
   same : g.D.Disk.failures l.replica.engine.disk ≡ g.D.Disk.failures l.initial.replica.engine.disk;
   defined : IsNil (facts_of g.D.Disk.failures l.replica).uuid → ⊥;
-  followed : Followed g.D.Disk.honest g.D.Disk.history g.D.Disk.failures l.initial.replica l.replica l.initial.transfer l.transfer (g.R.Read.remaining l.initial.reader) (g.R.Read.remaining l.reader) None;
+  followed : Followed g.D.Disk.honest g.D.Disk.history g.D.Disk.failures l.initial.replica l.replica l.initial.transfer l.transfer (g.R.Source.remaining l.initial.reader) (g.R.Source.remaining l.reader) None;
 }
 
 abbrev pub decreases-loop-part : goal.decreases-loop-part

@@ -16,18 +16,18 @@ use Rattle.rep_catchup.proofs.joining.take_parts.Goals as goal
 
 pub returns-in-Ok-None-clause-cut : goal.returns-in-Ok-None-clause-cut
 returns-in-Ok-None-clause-cut g c =
-    let before = g.R.Read.remaining c.args.reader.now in
+    let before = g.R.Source.remaining c.args.reader.now in
     let start = c.args.transfer.now in
     let small : c.taken-at.result < 2 ^ 64 = search rules in
     let same : c.taken-at.result ≡ start = c.taken-at.ensures in
-    let none = none_found PartFits part_bytes before (g.R.Read.remaining c.next_part.new.reader) c.in-Ok-None.field-0 c.next_part.result c.in-Ok-None.is c.in-Ok-None.field-0-is c.next_part.ensures.known in
+    let none = none_found PartFits part_bytes before (g.R.Source.remaining c.next_part.new.reader) c.in-Ok-None.field-0 c.next_part.result c.in-Ok-None.is c.in-Ok-None.field-0-is c.next_part.ensures.known in
     subst (λ k. CutShort g.D.Disk.honest g.D.Disk.history g.D.Disk.failures c.args.replica c.args.replica c.args.header.now.format c.args.header.now.uuid before start (Malformed k)) (sym same)
     (short_none g.D.Disk.honest g.D.Disk.history g.D.Disk.failures c.history_by_items.ensures c.runs_are_joined.ensures c.args.replica c.args.header.now.format c.args.header.now.uuid start before (Malformed start) (counted_small start (omega (arith, small, same)))
     (ends_at_none g.D.Disk.honest g.D.Disk.history g.D.Disk.failures c.args.replica start before none) (λ k is. no_snapshot_stands g.D.Disk.honest g.D.Disk.history g.D.Disk.failures c.args.header.now.format (facts_of g.D.Disk.failures c.args.replica) before none))
 
 pub returns-in-Err-clause-cut : goal.returns-in-Err-clause-cut
 returns-in-Err-clause-cut g c =
-    let before = g.R.Read.remaining c.args.reader.now in
+    let before = g.R.Source.remaining c.args.reader.now in
     let start = c.args.transfer.now in
     let small : c.taken-at.result < 2 ^ 64 = search rules in
     let same : c.taken-at.result ≡ start = c.taken-at.ensures in
@@ -39,17 +39,17 @@ returns-in-Err-clause-cut g c =
 pub returns-in-Snapshot-clause-taken : goal.returns-in-Snapshot-clause-taken
 returns-in-Snapshot-clause-taken g c =
     let position = c.in-Snapshot.position in
-    let before = g.R.Read.remaining c.args.reader.now in
-    let mid = g.R.Read.remaining c.next_part.new.reader in
+    let before = g.R.Source.remaining c.args.reader.now in
+    let mid = g.R.Source.remaining c.next_part.new.reader in
     let is : c.next_part.result ≡ Ok (Some (Snapshot position)) = c.in-Ok-Some.is ∙ ap Ok c.in-Ok-Some.field-0-is ∙ ap (λ (p : Part). Ok (Some p)) c.in-Snapshot.is in
-    all_behind g.D.Disk.honest g.D.Disk.history g.D.Disk.failures c.args.replica c.take_snapshot.result.0 c.args.header.now.format c.args.header.now.uuid (part_bytes (Snapshot position)) before mid (g.R.Read.remaining c.take_snapshot.new.reader) c.take_snapshot.result.1
+    all_behind g.D.Disk.honest g.D.Disk.history g.D.Disk.failures c.args.replica c.take_snapshot.result.0 c.args.header.now.format c.args.header.now.uuid (part_bytes (Snapshot position)) before mid (g.R.Source.remaining c.take_snapshot.new.reader) c.take_snapshot.result.1
     (consumed PartFits part_bytes before mid (Snapshot position) c.next_part.result is c.next_part.ensures.known) c.take_snapshot.ensures.taken
 
 pub returns-in-Snapshot-clause-cut : goal.returns-in-Snapshot-clause-cut
 returns-in-Snapshot-clause-cut g c =
     let position = c.in-Snapshot.position in
-    let before = g.R.Read.remaining c.args.reader.now in
-    let mid = g.R.Read.remaining c.next_part.new.reader in
+    let before = g.R.Source.remaining c.args.reader.now in
+    let mid = g.R.Source.remaining c.next_part.new.reader in
     let is : c.next_part.result ≡ Ok (Some (Snapshot position)) = c.in-Ok-Some.is ∙ ap Ok c.in-Ok-Some.field-0-is ∙ ap (λ (p : Part). Ok (Some p)) c.in-Snapshot.is in
     subst (λ k. IfErr c.take_snapshot.result.1 (CutShort g.D.Disk.honest g.D.Disk.history g.D.Disk.failures c.args.replica c.take_snapshot.result.0 c.args.header.now.format c.args.header.now.uuid before k)) c.taken-at.ensures
     (c.take_snapshot.ensures.cut before (consumed PartFits part_bytes before mid (Snapshot position) c.next_part.result is c.next_part.ensures.known))
@@ -58,14 +58,14 @@ returns-in-Snapshot-clause-cut g c =
 
 pub returns : goal.returns
 returns g c =
-    let before = g.R.Read.remaining c.args.reader.now in
-    let mid = g.R.Read.remaining c.next_part.new.reader in
+    let before = g.R.Source.remaining c.args.reader.now in
+    let mid = g.R.Source.remaining c.next_part.new.reader in
     let part = c.in-Ok-Some.part in
     let is : c.next_part.result ≡ Ok (Some part) = c.in-Ok-Some.is ∙ ap Ok c.in-Ok-Some.field-0-is in
     let taken = consumed PartFits part_bytes before mid part c.next_part.result is c.next_part.ensures.known in
     record {
       taken =
-          no_snapshot g.D.Disk.honest g.D.Disk.history g.D.Disk.failures c.args.replica c.follow_from-followed.new.replica c.args.header.now.format c.args.header.now.uuid (part_bytes part) before mid (g.R.Read.remaining c.follow_from-followed.new.reader)
+          no_snapshot g.D.Disk.honest g.D.Disk.history g.D.Disk.failures c.args.replica c.follow_from-followed.new.replica c.args.header.now.format c.args.header.now.uuid (part_bytes part) before mid (g.R.Source.remaining c.follow_from-followed.new.reader)
           c.follow_from-followed.result taken c.requires.cluster c.follow_from-followed.ensures.defined c.follow_from-followed.ensures.followed;
       ends = c.follow_from-followed.ensures.ends;
       tells = c.follow_from-followed.ensures.tells;

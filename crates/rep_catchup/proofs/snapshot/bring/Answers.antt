@@ -15,7 +15,7 @@ pub returns-in-Ok-take_pages : goal.returns-in-Ok-take_pages
 returns-in-Ok-take_pages g c =
     let took = c.in-Ok-take_pages.ensures.taken in
     let all = brought_on g.D.Disk.honest g.D.Disk.history g.D.Disk.failures c.args.replica c.end.result.0 c.in-Ok-install.installation c.take_pages.new.installation c.args.header.now.format c.args.header.now.uuid c.args.position c.in-Ok.taken.0 c.in-Ok.taken.1
-    c.args.transfer.now c.take_window.new.transfer c.take_pages.new.transfer (g.R.Read.remaining c.args.reader.now) (g.R.Read.remaining c.take_window.new.reader) (g.R.Read.remaining c.take_pages.new.reader) c.in-Ok.ensures.taken
+    c.args.transfer.now c.take_window.new.transfer c.take_pages.new.transfer (g.R.Source.remaining c.args.reader.now) (g.R.Source.remaining c.take_window.new.reader) (g.R.Source.remaining c.take_pages.new.reader) c.in-Ok.ensures.taken
     c.in-Ok-install.ensures.begun c.requires.quiet took.0 took.1 took.2 c.requires.cluster c.args.at c.end.result.1 (c.end.ensures.lands took.2.running) (λ n holds. c.in-Ok-install.ensures.holds n holds) (λ n y h. c.end.ensures.installs n y h) in
     let same = ap (λ (e : Engine g.row.D.Denot). g.D.Disk.failures e.disk) c.in-Ok-install.ensures.begun.0 in
     record {
@@ -41,7 +41,7 @@ returns-in-Err-take_pages-clause-ends g c = subst (λ (r : Replica g.row.D.Denot
 pub returns-in-Err-take_pages-clause-refused : goal.returns-in-Err-take_pages-clause-refused
 returns-in-Err-take_pages-clause-refused g c =
     early_pages g.D.Disk.honest g.D.Disk.history g.D.Disk.failures c.args.replica c.give_up.result c.in-Ok-install.installation c.take_pages.new.installation c.args.header.now.format c.args.header.now.uuid c.args.position c.in-Ok.taken.0 c.in-Ok.taken.1
-    c.args.transfer.now c.take_window.new.transfer c.take_pages.new.transfer (g.R.Read.remaining c.args.reader.now) (g.R.Read.remaining c.take_window.new.reader) (g.R.Read.remaining c.take_pages.new.reader) c.in-Ok.ensures.taken
+    c.args.transfer.now c.take_window.new.transfer c.take_pages.new.transfer (g.R.Source.remaining c.args.reader.now) (g.R.Source.remaining c.take_window.new.reader) (g.R.Source.remaining c.take_pages.new.reader) c.in-Ok.ensures.taken
     c.in-Ok-install.ensures.begun c.args.at c.in-Err-take_pages.refusal c.in-Err-take_pages.ensures.refused
 
 pub returns-in-Err-install-clause-left : goal.returns-in-Err-install-clause-left

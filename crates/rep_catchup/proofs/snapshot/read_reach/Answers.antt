@@ -14,8 +14,8 @@ made n result is within = is ∙ ap (λ (b : Bool). if b then Ok n else Err BadP
 
 pub returns-in_default-new-clause-refused : goal.returns-in_default-new-clause-refused
 returns-in_default-new-clause-refused g c = λ p position.
-    let start = g.R.Read.remaining c.args.reader.now in
-    let between = g.R.Read.remaining c.next.new.reader in
+    let start = g.R.Source.remaining c.args.reader.now in
+    let between = g.R.Source.remaining c.next.new.reader in
     let seqnos = c.in-Some.seqnos in
     let is = c.in_ok-seqnos.was ∙ ap Ok c.in-Some.is in
     let same : c.from.result ≡ seqnos = search rules in
@@ -27,12 +27,12 @@ returns-in_default-new-clause-refused g c = λ p position.
 
 pub returns-in-None-clause-refused : goal.returns-in-None-clause-refused
 returns-in-None-clause-refused g c = λ p position.
-    let start = g.R.Read.remaining c.args.reader.now in
-    let between = g.R.Read.remaining c.next.new.reader in
+    let start = g.R.Source.remaining c.args.reader.now in
+    let between = g.R.Source.remaining c.next.new.reader in
     let seqnos = c.in-Some.seqnos in
     let is = c.in_ok-seqnos.was ∙ ap Ok c.in-Some.is in
     inr (
       refl,
       no_floor p position seqnos start between (found_fits (λ n. n < 2 ^ 16) seqnos c.next.result is c.next.ensures.fits) (consumed (λ n. n < 2 ^ 16) (number_bytes 2) start between seqnos c.next.result is c.next.ensures.known)
-          (none_found (λ n. n < 2 ^ 64) (number_bytes 8) between (g.R.Read.remaining c.next-2.new.reader) c.in_ok-floor.field-0 c.next-2.result c.in_ok-floor.was c.in-None.is c.next-2.ensures.known),
+          (none_found (λ n. n < 2 ^ 64) (number_bytes 8) between (g.R.Source.remaining c.next-2.new.reader) c.in_ok-floor.field-0 c.next-2.result c.in_ok-floor.was c.in-None.is c.next-2.ensures.known),
     )

@@ -3,4 +3,4 @@ use Rattle.rep_catchup.proofs.snapshot.take_entries.Given as goal
 
 -- the entries so far were taken
 abbrev pub invariant-loop-index : goal.invariant-loop-index
-invariant-loop-index g l = TakesEntries l._index l.entries.items l.initial.transfer l.transfer (g.R.Read.remaining l.initial.reader) (g.R.Read.remaining l.reader)
+invariant-loop-index g l = TakesEntries l._index l.entries.items l.initial.transfer l.transfer (g.R.Source.remaining l.initial.reader) (g.R.Source.remaining l.reader)

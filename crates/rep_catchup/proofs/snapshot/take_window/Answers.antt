@@ -19,19 +19,19 @@ returns-in_err-window-clause-refused g c =
       | inr (inl memory) ↦ inr (inl memory)
       | inr (inr (malformed, none)) ↦ inr (inr (
         malformed,
-        no_kept c.args.format s c.args.position (g.R.Read.remaining c.args.reader.now)
-            (subst (λ (p : Setting). IfSome (g.R.Read.remaining c.args.reader.now) (NoneKeptComes c.args.format p c.args.position)) c.params-params.ensures none),
+        no_kept c.args.format s c.args.position (g.R.Source.remaining c.args.reader.now)
+            (subst (λ (p : Setting). IfSome (g.R.Source.remaining c.args.reader.now) (NoneKeptComes c.args.format p c.args.position)) c.params-params.ensures none),
       ))
     ]
     )
 
 pub returns-in-None-clause-refused : goal.returns-in-None-clause-refused
 returns-in-None-clause-refused g c =
-    let start = g.R.Read.remaining c.args.reader.now in
-    let before = g.R.Read.remaining c.take_kept.new.reader in
+    let start = g.R.Source.remaining c.args.reader.now in
+    let before = g.R.Source.remaining c.take_kept.new.reader in
     let taken = subst (λ (p : Setting). TakesKept c.args.format p c.args.position c.in_ok-window.window c.args.transfer.now c.take_kept.new.transfer start before) c.params-params.ensures c.in_ok-window.ensures.taken in
     inr (inr (
       refl,
       no_number c.args.format (facts_of g.D.Disk.failures c.args.replica.now) c.args.position c.in_ok-window.window c.args.transfer.now c.take_kept.new.transfer start before c.ranges.position.fits taken
-          (none_found (λ n. n < 2 ^ 16) (number_bytes 2) before (g.R.Read.remaining c.next.new.reader) c.in_ok-count.field-0 c.next.result c.in_ok-count.was c.in-None.is c.next.ensures.known),
+          (none_found (λ n. n < 2 ^ 16) (number_bytes 2) before (g.R.Source.remaining c.next.new.reader) c.in_ok-count.field-0 c.next.result c.in_ok-count.was c.in-None.is c.next.ensures.known),
     ))
