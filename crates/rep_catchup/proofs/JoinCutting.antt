@@ -1,18 +1,25 @@
 -- What stands where a transfer is not taken to its end.
 use Rattle.std.proofs.Common.{◌≡◌, ◌⊎◌, inl, inr, ℕ, ◌+◌, ◌<◌, ◌^◌, List, [], ◌∷◌, ◌++◌, length, Option, None, Some, Result, Ok, Err, refl, sym, ap, subst, ◌∙◌, append_assoc, append-nil, arith, length-append}
-use Rattle.std.specs.Prelude.{IfErr, IfSome}
+use Rattle.std.specs.Prelude.{◌≢◌, IfErr, IfSome}
 use Rattle.std.specs.List.{flat_map}
 use Rattle.std.specs.Io.KnownBytes.{Consumes}
 use Rattle.std.proofs.KnownBytes.{Consumes-nil, Consumes-trans}
 use Rattle.rep_types.specs.declared.refusal.Refusal.{Refusal}
 use Rattle.rep_types.specs.declared.refusal.Refusal.TheVariants.{Stopped, OutOfMemory, DiskFault, Malformed, StreamFault}
 use Rattle.rep_types.specs.ByItems.{HistoryByItems}
+use Rattle.rep_types.specs.declared.judged.Judged.{Judged}
+use Rattle.rep_types.specs.Order.{Order}
+use Rattle.rep_types.specs.Settings.{Setting}
 use Rattle.rep_forms.specs.Forms.{number_bytes}
 use Rattle.rep_record.specs.Records.{IsRecord}
 use Rattle.rep_disk.specs.History.{History}
 use Rattle.rep_layout.specs.declared.format.Format.{Format}
 use Rattle.rep_layout.specs.Supers.{IsNil}
 use Rattle.rep_steps.specs.Standings.{Standing}
+use Rattle.rep_steps.specs.Nodes.{Node}
+use Rattle.rep_steps.specs.Orders.{IsOf}
+use Rattle.rep_replica.specs.Holding.{Holds}
+use Rattle.rep_replica.specs.Episodes.{IsStill}
 use Rattle.rep_replica.specs.Replicas.{Replica, facts_of}
 use Rattle.rep_replica.specs.Running.{RunsAreJoined}
 use Rattle.rep_transfer.specs.declared.header.Header.{Header}
@@ -20,13 +27,13 @@ use Rattle.rep_transfer.specs.declared.part.Part.{Part}
 use Rattle.rep_transfer.specs.declared.part.Part.TheVariants.{Snapshot as OfSnapshot, Record as OfRecord, End as OfEnd}
 use Rattle.rep_transfer.specs.Taking.{counted, BeginWithNone}
 use Rattle.rep_transfer.specs.Transfers.{Snapshot, rest_of, snapshot_bytes, snapshot_part, record_part, PartFits, part_bytes}
-use Rattle.rep_catchup.specs.Snapshots.{Brought, NoneComes, BringsEarly, LeavesSnapshot}
+use Rattle.rep_catchup.specs.Snapshots.{state_of, Brought, GivenUp, NoneComes, BringsEarly, LeavesSnapshot}
 use Rattle.rep_catchup.specs.Growing.{Grown}
-use Rattle.rep_catchup.specs.Joining.{JoinsEarly, Went, Follows, Followed, MayFollow, NoneFollows, NoSnapshotComes, EndsHere, IsOut, Cut, CutShort, TakesHeader, RefusesHeader, Ended}
+use Rattle.rep_catchup.specs.Joining.{JoinsEarly, Went, GoesOn, StartsAt, Follows, Followed, MayFollow, NoneFollows, NoSnapshotComes, EndsHere, IsOut, Cut, CutShort, TakesHeader, RefusesHeader, Ended}
 use Rattle.rep_catchup.proofs.JoinGrowing.{early_work, grown_none, grown_then}
 use Rattle.rep_catchup.proofs.JoinTaking.{same_part}
 use Rattle.rep_catchup.proofs.JoinFollowing.{all_both, flat_both}
-use Rattle.rep_catchup.proofs.JoinWent.{went_records, went_snapshot, went_nowhere, went_broken}
+use Rattle.rep_catchup.proofs.JoinWent.{stands_is, went_records, went_snapshot, went_nowhere, went_broken}
 
 -- ---- what stands at the front of known bytes
 
@@ -89,12 +96,52 @@ module _ {D : Type 0} (honest : D → Type 0) (history : D → History) (failure
       never (OfRecord j) may = may.0 nil
       never (OfEnd last) may = may.0 nil
 
+  -- ---- the node that is left
+
+  -- it grew by some items
+  node_grown : (uuid : List ℕ) (old new : Replica D) (records : List Judged) → Grown honest history failures old new records → (n : Node) → Holds honest history failures n old → (m : Node) × GoesOn n uuid None records m × Holds honest history failures m new
+  node_grown uuid old new records grown n holds =
+      let there = grown.node n holds in
+      let m = there.0 in
+      (m, record {
+        uuid_is = ap (λ (s : Standing). s.uuid) there.2.facts ∙ grown.uuid ∙ ap (λ (s : Standing). s.uuid) (sym holds.facts);
+        setting_is = ap (λ (s : Standing). s.setting) there.2.facts ∙ grown.setting ∙ ap (λ (s : Standing). s.setting) (sym holds.facts);
+        order = there.1.order;
+      }, there.2)
+
+  -- a snapshot was given up
+  still_of : (n m : Node) (L : Order) → IsStill n m → IsOf L n → IsOf (L ++ []) m
+  still_of n m L still is = subst (λ (M : Order). IsOf M m) (sym (append-nil L)) (subst (IsOf L) (sym still) (record { within = is.within; base = is.base; items = is.items }))
+
+  node_given : (uuid : List ℕ) (old new : Replica D) → GivenUp honest history failures old new → (n : Node) → Holds honest history failures n old → (m : Node) × GoesOn n uuid None [] m × Holds honest history failures m new
+  node_given uuid old new given n holds =
+      let up = given n holds in
+      (up.node, record {
+        uuid_is = ap (λ (m : Node). m.facts.uuid) up.still;
+        setting_is = ap (λ (m : Node). m.facts.setting) up.still;
+        order = λ L is. still_of n up.node L up.still is;
+      }, up.holds)
+
+  -- one came, and items behind it
+  node_brought : HistoryByItems → (old mid new : Replica D) (format : Format) (uuid : List ℕ) (position start now : ℕ) (before left : Option (List ℕ)) (records : List Judged) (b : Brought honest history failures old mid format uuid position start now before left)
+      → Grown honest history failures mid new records → (n : Node) → Holds honest history failures n old → (m : Node) × GoesOn n uuid (Some b.snapshot) records m × Holds honest history failures m new
+  node_brought by_items old mid new format uuid position start now before left records b grown n holds =
+      let came = b.node n holds in
+      let there = grown.node came.node came.holds in
+      let own : (facts_of failures old).setting ≡ n.facts.setting = ap (λ (s : Standing). s.setting) (sym holds.facts) in
+      (there.0, record {
+        uuid_is = ap (λ (s : Standing). s.uuid) there.2.facts ∙ grown.uuid ∙ b.uuid_is;
+        setting_is = ap (λ (s : Standing). s.setting) there.2.facts ∙ grown.setting ∙ b.setting ∙ own;
+        order = λ L is. there.1.order L (stands_is n uuid (state_of (facts_of failures old).setting b.snapshot) came.node L by_items came.stands (ap (λ (p : Setting). state_of p b.snapshot) own ∙ is));
+      }, there.2)
+
   -- ---- records that were taken
 
   -- where nothing was taken
-  short_nothing : (old new : Replica D) (format : Format) (uuid : List ℕ) (at : ℕ) (before : Option (List ℕ)) (e : Refusal) → counted at 0 ≡ at → Went honest history failures old new uuid None [] → EndsHere failures new at before e
+  short_nothing : (old new : Replica D) (format : Format) (uuid : List ℕ) (at : ℕ) (before : Option (List ℕ)) (e : Refusal) → counted at 0 ≡ at → Went honest history failures old new uuid None []
+      → ((n : Node) → Holds honest history failures n old → (m : Node) × GoesOn n uuid None [] m × Holds honest history failures m new) → EndsHere failures new at before e
       → ((k : ℕ) → e ≡ Malformed k → IfSome before (NoSnapshotComes format (facts_of failures old))) → CutShort honest history failures old new format uuid before at e
-  short_nothing old new format uuid at before e small went ends none = record {
+  short_nothing old new format uuid at before e small went node ends none = record {
     snapshot = None;
     comes = tt;
     records = [];
@@ -102,6 +149,7 @@ module _ {D : Type 0} (honest : D → Type 0) (history : D → History) (failure
     left = before;
     taken = Consumes-nil before;
     went = went;
+    node = λ other. node;
     ends = subst (λ k. EndsHere failures new k before e) (sym small) ends;
     none = λ _ _ k is. none k is;
   }
@@ -170,14 +218,27 @@ module _ {D : Type 0} (honest : D → Type 0) (history : D → History) (failure
     -- nothing was taken
     pub short_none : (old : Replica D) (format : Format) (uuid : List ℕ) (at : ℕ) (before : Option (List ℕ)) (e : Refusal) → counted at 0 ≡ at → EndsHere failures old at before e → ((k : ℕ) → e ≡ Malformed k → IfSome before (NoSnapshotComes format (facts_of failures old)))
         → CutShort honest history failures old old format uuid before at e
-    short_none old format uuid at before e small ends none = short_nothing old old format uuid at before e small (went_records honest history failures old old uuid [] (grown_none by_items honest history failures joined old)) ends none
+    short_none old format uuid at before e small ends none =
+        let same = grown_none by_items honest history failures joined old in
+        short_nothing old old format uuid at before e small (went_records honest history failures old old uuid [] same) (node_grown uuid old old [] same) ends none
 
   -- records alone were taken
   pub short_records : (old new : Replica D) (format : Format) (uuid : List ℕ) (at : ℕ) (before : Option (List ℕ)) (e : Refusal) → Cut honest history failures old new before at e → IfSome before (NoSnapshotComes format (facts_of failures old)) → CutShort honest history failures old new format uuid before at e
   short_records old new format uuid at before e cut other =
       let nothing : Option Snapshot = None in
       let none : nothing ≡ None → cut.records ≡ [] → (from : ℕ) → e ≡ Malformed from → IfSome before (NoSnapshotComes format (facts_of failures old)) = λ _ _ _ _. other in
-      search (cut, went_records honest history failures old new uuid cut.records cut.grown)
+      record {
+        snapshot = None;
+        comes = tt;
+        records = cut.records;
+        are_records = cut.are_records;
+        left = cut.left;
+        taken = cut.taken;
+        went = went_records honest history failures old new uuid cut.records cut.grown;
+        node = λ other. node_grown uuid old new cut.records cut.grown;
+        ends = cut.ends;
+        none = none;
+      }
 
   pub short_records_on : (old new : Replica D) (format : Format) (uuid : List ℕ) (at : ℕ) (before : Option (List ℕ)) (result : Result ℕ Refusal) → IfErr result (Cut honest history failures old new before at) → IfSome before (NoSnapshotComes format (facts_of failures old))
       → IfErr result (CutShort honest history failures old new format uuid before at)
@@ -219,7 +280,7 @@ module _ {D : Type 0} (honest : D → Type 0) (history : D → History) (failure
             none y rest fit told (sym part) (behind_same position y.position behind (rest_of format y ++ rest) part same) snapshot later
 
     pub short_left : BringsEarly format (facts_of failures old) position at left e → LeavesSnapshot honest history failures old new format uuid position start left e → CutShort honest history failures old new format uuid before at e
-    short_left early (inl given) = short_nothing old new format uuid at before e small (went_nowhere honest history failures by_items old new uuid given) (ends_early early) (λ k is. none_here k is early)
+    short_left early (inl given) = short_nothing old new format uuid at before e small (went_nowhere honest history failures by_items old new uuid given) (node_given uuid old new given) (ends_early early) (λ k is. none_here k is early)
     short_left early (inr (fault, b)) = record {
       snapshot = Some b.snapshot;
       comes = (b.takes.fits, b.takes.told, b.takes.is_snapshot, b.takes.later);
@@ -228,6 +289,7 @@ module _ {D : Type 0} (honest : D → Type 0) (history : D → History) (failure
       left = b.left;
       taken = subst (Consumes before b.left) (all_bytes format position b.snapshot b.takes.position_is ∙ sym (append-nil (snapshot_bytes format b.snapshot))) (Consumes-trans before left b.left (part_bytes (OfSnapshot position)) (rest_of format b.snapshot) taken b.takes.took.taken);
       went = went_broken honest history failures by_items old new format uuid position start left b;
+      node = λ other. absurd (other fault);
       ends = inr (inl (inr (inl fault)));
       none = λ is _ _ _. absurd (let never : Some b.snapshot ≡ None = is in cc);
     }
@@ -250,6 +312,7 @@ module _ {D : Type 0} (honest : D → Type 0) (history : D → History) (failure
               subst (Consumes before cut.left) (ap (λ (bs : List ℕ). bs ++ ys) whole)
               (Consumes-trans before second cut.left hand ys (Consumes-trans before left second (part_bytes (OfSnapshot position)) (rest_of format s) taken b.takes.took.taken) cut.taken);
           went = went_snapshot honest history failures by_items old mid new format uuid position start now left second cut.records b cut.grown;
+          node = λ other. node_brought by_items old mid new format uuid position start now left second cut.records b cut.grown;
           ends = subst (λ k. EndsHere failures new k cut.left e) (counted_still at now (length hand) (length ys) count ∙ ap (counted at) (sym (length-append hand ys)) ∙ ap (λ (bs : List ℕ). counted at (length (bs ++ ys))) whole) cut.ends;
           none = λ is _ _ _. absurd (let never : Some s ≡ None = is in cc);
         }

@@ -14,4 +14,5 @@ mod JoinTelling
 mod JoinWent
 mod JoinFollowing
 mod JoinCutting
+mod JoinNoting
 mod JoinBringing

@@ -1,5 +1,5 @@
 -- What a transfer makes of the node that joins.
-use Rattle.std.specs.Prelude.{◌≡◌, ◌≤◌, ◌⊎◌, ℕ, ◌+◌, ◌^◌, ◌<◌, true, List, [], ◌++◌, length, take, drop, Option, None, Some, MatchOption, IfSome}
+use Rattle.std.specs.Prelude.{◌≡◌, ◌≢◌, ◌≤◌, ◌⊎◌, ℕ, ◌+◌, ◌^◌, ◌<◌, true, List, [], ◌++◌, length, take, drop, Option, None, Some, MatchOption, IfSome}
 use Rattle.std.specs.List.{flat_map, AllByRecursion}
 use Rattle.std.specs.Io.KnownBytes.{Consumes}
 use Rattle.rep_types.specs.declared.judged.Judged.{Judged}
@@ -135,8 +135,16 @@ EndsHere failures r at left e = (e ≡ StreamFault) ⊎ (WorksEarly e ⊎ ((e �
 abbrev pub Came : Format → Standing → Option Snapshot → Type 0
 Came format s snapshot = IfSome snapshot (λ y. SnapshotFits y × CanTell format s.setting y × IsSnapshot s.setting y × ((delivered s < y.position) ⊎ IsNil s.uuid))
 
+-- How a node went on by what was taken: it is of the snapshot's cluster, where one was, and of each order where that starts, with the
+-- items behind it.
+pub record GoesOn (n : Node) (uuid : List ℕ) (snapshot : Option Snapshot) (records : List Judged) (m : Node) : Type 0 where
+  pub uuid_is : MatchOption snapshot (m.facts.uuid ≡ n.facts.uuid) (λ s. m.facts.uuid ≡ uuid)
+  pub setting_is : m.facts.setting ≡ n.facts.setting
+  pub order : (L : Order) → StartsAt n snapshot L → IsOf (L ++ items_of records) m
+
 -- Behind the header, which has so many bytes, a snapshot was taken where one comes, and records, and then no more. What was taken was
--- done; where not even a snapshot was, none that may come goes on there.
+-- done, and unless the device failed the replica stands for the node that it makes; where not even a snapshot was, none that may come goes
+-- on there.
 pub record CutShort {D : Type 0} (honest : D → Type 0) (history : D → History) (failures : D → ℕ) (old new : Replica D) (format : Format) (uuid : List ℕ) (before : Option (List ℕ)) (start : ℕ) (e : Refusal) : Type 0 where
   pub snapshot : Option Snapshot
   pub comes : Came format (facts_of failures old) snapshot
@@ -145,6 +153,7 @@ pub record CutShort {D : Type 0} (honest : D → Type 0) (history : D → Histor
   pub left : Option (List ℕ)
   pub taken : Consumes before left (snapshot_part format snapshot ++ flat_map record_part records)
   pub went : Went honest history failures old new uuid snapshot records
+  pub node : e ≢ DiskFault → (n : Node) → Holds honest history failures n old → (m : Node) × GoesOn n uuid snapshot records m × Holds honest history failures m new
   pub ends : EndsHere failures new (counted start (length (snapshot_part format snapshot ++ flat_map record_part records))) left e
   pub none : snapshot ≡ None → records ≡ [] → (at : ℕ) → e ≡ Malformed at → IfSome before (NoSnapshotComes format (facts_of failures old))
 

@@ -15,6 +15,7 @@ ghost use Rattle.rep_layout.specs.Supers.{IsNil};
 ghost use Rattle.rep_steps.specs.Nodes.{Node};
 ghost use Rattle.rep_replica.specs.Replicas.{facts_of};
 ghost use Rattle.rep_replica.specs.Holding.{Holds};
+ghost use Rattle.rep_streams.specs.Streams.{Notes};
 ghost use Rattle.rep_transfer.specs.Writing.{Wrote};
 ghost use Rattle.rep_catchup.specs.Donating.{IsOfCluster, IsFirstRefusal, ComesFirst, EndsEarly, ReadsAlone, IsRunning, Leaves, IsSnapshotOf, IsDonated, NeedsSnapshot, WroteWindow, WrotePage, WrotePages, WroteBase, held_below, above, durable_items};
 ghost use Rattle.rep_transfer.specs.Transfers.{Transfer, Snapshot, SnapshotFits, snapshot_bytes, record_part, transfer_bytes};
@@ -24,12 +25,12 @@ use rep_engine::the_tail_is_told;
 use rep_layout::{Format, LOG_BODY, WINDOW_BODY, WindowReader, row_places_are_told};
 use rep_record::BlockReader;
 use rep_replica::Replica;
+use rep_streams::Sink;
 use rep_transfer::{
     Have, Header, NumberedPage, Shape, write_count, write_end, write_entry, write_front,
     write_header, write_page, write_record,
 };
 use rep_types::{Judged, Refusal};
-use std::io::Write;
 
 /// Whether the joiner is of the donor's cluster, or of none yet, and has its shape.
 fn is_of_cluster<D: Disk>(replica: &Replica<D>, have: &Have) -> bool
@@ -96,6 +97,7 @@ fn count_pages<D: Disk>(replica: &Replica<D>) -> u16
 fn write_entries<W: Sink>(window: WindowReader<'_>, writer: &mut W) -> Result<(), Refusal>
     ensures written { Wrote (W.contents writer.old) (W.contents writer.new) (flat_map entry_bytes window.entry.kept.entries) result }
     ensures fit { OnOk result (AllByRecursion EntryFits window.entry.kept.entries) }
+    ensures notes { Notes (W.failed writer.old) (W.failed writer.new) result }
 {
     let mut window = window;
     while let Some(entry) = window.next_entry() {
@@ -109,6 +111,7 @@ fn write_window<D: Disk, W: Sink>(replica: &mut Replica<D>, writer: &mut W) -> R
     requires { IsRunning replica.old }
     ensures leaves { Leaves D.honest D.history D.failures replica.old replica.new result }
     ensures written { (n : Node) → Holds D.honest D.history D.failures n replica.old → OnOk result (WroteWindow replica.old.engine.checkpoint.base n.base.kept (W.contents writer.old) (W.contents writer.new)) }
+    ensures notes { Notes (W.failed writer.old) (W.failed writer.new) result }
 {
     let mut room = [0; WINDOW_BODY];
     let position = replica.base();
@@ -127,6 +130,7 @@ fn write_base_page<D: Disk, W: Sink>(
     requires { IsRunning replica.old }
     ensures leaves { Leaves D.honest D.history D.failures replica.old replica.new result }
     ensures written { (n : Node) → Holds D.honest D.history D.failures n replica.old → OnOk result (WrotePage replica.old.engine.checkpoint.base n.base.content number (W.contents writer.old) (W.contents writer.new)) }
+    ensures notes { Notes (W.failed writer.old) (W.failed writer.new) result }
 {
     match replica.base_page(u32::from(number))? {
         Some(found) => {
@@ -145,6 +149,7 @@ fn write_pages<D: Disk, W: Sink>(replica: &mut Replica<D>, writer: &mut W) -> Re
     requires { IsRunning replica.old }
     ensures leaves { Leaves D.honest D.history D.failures replica.old replica.new result }
     ensures written { (n : Node) → Holds D.honest D.history D.failures n replica.old → OnOk result (WrotePages replica.old.engine.checkpoint.base n.base.content (pages_of replica.old.engine.checkpoint.base.params.rows) (W.contents writer.old) (W.contents writer.new)) }
+    ensures notes { Notes (W.failed writer.old) (W.failed writer.new) result }
 {
     for number in 0..page_count(replica) {
         write_base_page(replica, number, writer)?;
@@ -160,6 +165,7 @@ fn write_snapshot<D: Disk, W: Sink>(
     requires { IsRunning replica.old }
     ensures leaves { Leaves D.honest D.history D.failures replica.old replica.new result }
     ensures written { (n : Node) → Holds D.honest D.history D.failures n replica.old → OnOk result ((s : Snapshot) × SnapshotFits s × IsSnapshotOf n s × Appends (W.contents writer.old) (W.contents writer.new) (snapshot_bytes Two s)) }
+    ensures notes { Notes (W.failed writer.old) (W.failed writer.new) result }
 {
     row_places_are_told();
     write_window(replica, writer)?;
@@ -177,6 +183,7 @@ fn write_base<D: Disk, W: Sink>(
     requires { IsRunning replica.old }
     ensures leaves { Leaves D.honest D.history D.failures replica.old replica.new result }
     ensures written { (n : Node) → Holds D.honest D.history D.failures n replica.old → IfOk result (λ position. WroteBase n have.now position (W.contents writer.old) (W.contents writer.new)) }
+    ensures notes { Notes (W.failed writer.old) (W.failed writer.new) result }
 {
     if !needs_snapshot(replica, have) {
         return Ok(have.position);
@@ -188,7 +195,8 @@ fn write_base<D: Disk, W: Sink>(
 /// Writes the record if it is above the position.
 fn write_above<W: Sink>(judged: &Judged, position: u64, writer: &mut W) -> Result<(), Refusal>
     requires { IsRecord judged.now }
-    ensures { Wrote (W.contents writer.old) (W.contents writer.new) (flat_map record_part (above position (judged.now ∷ []))) result }
+    ensures written { Wrote (W.contents writer.old) (W.contents writer.new) (flat_map record_part (above position (judged.now ∷ []))) result }
+    ensures notes { Notes (W.failed writer.old) (W.failed writer.new) result }
 {
     if judged.seqno > position {
         write_record(writer, judged)
@@ -204,7 +212,8 @@ fn write_block<W: Sink>(
     writer: &mut W,
 ) -> Result<(), Refusal>
     requires { IsBlock block.cell block.records }
-    ensures { Wrote (W.contents writer.old) (W.contents writer.new) (flat_map record_part (above position block.entry.records)) result }
+    ensures written { Wrote (W.contents writer.old) (W.contents writer.new) (flat_map record_part (above position block.entry.records)) result }
+    ensures notes { Notes (W.failed writer.old) (W.failed writer.new) result }
 {
     let mut block = block;
     while let Some(judged) = block.next_record() {
@@ -222,6 +231,7 @@ fn write_tail<D: Disk, W: Sink>(
     requires { IsRunning replica.old }
     ensures leaves { Leaves D.honest D.history D.failures replica.old replica.new result }
     ensures written { (n : Node) → Holds D.honest D.history D.failures n replica.old → OnOk result (AllByRecursion IsRecord (above position (durable_items n)) × Appends (W.contents writer.old) (W.contents writer.new) (flat_map record_part (above position (durable_items n)))) }
+    ensures notes { Notes (W.failed writer.old) (W.failed writer.new) result }
 {
     the_tail_is_told();
     let mut room = [0; LOG_BODY];
@@ -244,6 +254,7 @@ fn write_transfer<D: Disk, W: Sink>(
     requires defined { IsNil replica.old.engine.checkpoint.base.uuid → ⊥ }
     ensures leaves { Leaves D.honest D.history D.failures replica.old replica.new result }
     ensures donated { (n : Node) → Holds D.honest D.history D.failures n replica.old → IfOk result (λ last. (t : Transfer) × IsDonated n have.now t × (t.last ≡ last) × Appends (W.contents writer.old) (W.contents writer.new) (transfer_bytes t)) }
+    ensures notes { Notes (W.failed writer.old) (W.failed writer.new) result }
 {
     let header = Header {
         format: Format::Two,
@@ -282,6 +293,7 @@ pub fn donate<D: Disk, W: Sink>(
     ensures no_fault { result ≢ Err Refusal.DiskFault → D.failures replica.new.engine.disk ≡ D.failures replica.old.engine.disk }
     // On an honest device of a node what is written is what the joiner needs, whole.
     ensures donated { (n : Node) → Holds D.honest D.history D.failures n replica.old → IfOk result (λ last. (t : Transfer) × IsDonated n have.now t × (t.last ≡ last) × Appends (W.contents writer.old) (W.contents writer.new) (transfer_bytes t)) }
+    ensures notes { Notes (W.failed writer.old) (W.failed writer.new) result }
 {
     if let Some(refusal) = donation_refusal(replica, have) {
         return Err(refusal);

@@ -12,6 +12,7 @@ ghost use Rattle.rep_steps.specs.Nodes.{Node};
 ghost use Rattle.rep_replica.specs.Replicas.{facts_of};
 ghost use Rattle.rep_replica.specs.Holding.{Holds};
 ghost use Rattle.rep_replica.specs.Settling.{is_quiet, IsRunning, EndsEarly};
+ghost use Rattle.rep_streams.specs.Streams.{Notes};
 ghost use Rattle.rep_transfer.specs.declared.part.Part.TheVariants.{Snapshot, Record};
 ghost use Rattle.rep_transfer.specs.Taking.{counted};
 ghost use Rattle.rep_transfer.specs.Haves.{IsHeader};
@@ -25,10 +26,10 @@ use rep_replica::{Replica, runs_are_joined};
 use rep_steps::{
     Answer, Event, nodes_hold_the_order, nodes_stay_nodes, runs_come_to, steps_follow_the_order,
 };
+use rep_streams::Source;
 use rep_transfer::{Header, Part, TransferReader, next_part};
 use rep_types::{Item, Judged, MAX_AHEAD, Refusal, Verdict, history_by_items};
 use std::alloc::Global;
-use std::io::Read;
 
 /// Takes the header: what cluster the transfer is of, and in which format a snapshot is spelled in it.
 ///
@@ -42,6 +43,7 @@ fn take_header<D: Disk, R: Source>(
     ensures taken { IfOk result (λ header. TakesHeader (facts_of D.failures replica.now) header (R.remaining reader.old) (R.remaining reader.new)) }
     ensures refused { IfErr result (RefusesHeader (facts_of D.failures replica.now) (R.remaining reader.old)) }
     ensures counted { OnOk result (transfer.new ≡ counted transfer.old 59) }
+    ensures notes { Notes (R.failed reader.old) (R.failed reader.new) result }
 {
     let Some(header) = transfer.next::<Header, R>(reader)? else {
         return Err(Refusal::Malformed { at: 0 });
@@ -182,6 +184,7 @@ fn follow<D: Disk, R: Source>(
     ensures ends { EndsRunning result replica.new }
     ensures tells { Tells D.honest D.history D.failures replica.old replica.new result }
     ensures cut { IfErr result (Cut D.honest D.history D.failures replica.old replica.new (R.remaining reader.old) transfer.old) }
+    ensures notes { Notes (R.failed reader.old) (R.failed reader.new) result }
 {
     history_by_items();
     runs_are_joined::<D>();
@@ -213,6 +216,7 @@ fn follow_from<D: Disk, R: Source>(
     ensures ends { EndsRunning result replica.new }
     ensures tells { Tells D.honest D.history D.failures replica.old replica.new result }
     ensures cut { (before : Option (List ℕ)) → Consumes before (R.remaining reader.old) (part_bytes part) → IfErr result (Cut D.honest D.history D.failures replica.old replica.new before at) }
+    ensures notes { Notes (R.failed reader.old) (R.failed reader.new) result }
 {
     history_by_items();
     runs_are_joined::<D>();
@@ -245,6 +249,7 @@ fn take_snapshot<D: Disk, R: Source>(
     ensures ends { EndsRunning result.1 result.0 }
     ensures tells { Tells D.honest D.history D.failures replica result.0 result.1 }
     ensures cut { (before : Option (List ℕ)) → Consumes before (R.remaining reader.old) (part_bytes (Snapshot position)) → IfErr result.1 (CutShort D.honest D.history D.failures replica result.0 header.now.format header.now.uuid before at) }
+    ensures notes { Notes (R.failed reader.old) (R.failed reader.new) result.1 }
 {
     history_by_items();
     let (mut replica, brought) = bring(alloc, replica, header, position, at, transfer, reader);
@@ -273,6 +278,7 @@ fn take_parts<D: Disk, R: Source>(
     ensures ends { EndsRunning result.1 result.0 }
     ensures tells { Tells D.honest D.history D.failures replica result.0 result.1 }
     ensures cut { IfErr result.1 (CutShort D.honest D.history D.failures replica result.0 header.now.format header.now.uuid (R.remaining reader.old) transfer.old) }
+    ensures notes { Notes (R.failed reader.old) (R.failed reader.new) result.1 }
 {
     history_by_items();
     runs_are_joined::<D>();
@@ -320,6 +326,7 @@ pub fn join<D: Disk, R: Source>(
     ensures took { IfSome (R.remaining reader.old) (λ bytes. IfOk result.1 (TookTransfer D.failures bytes (R.remaining reader.new) replica result.0)) }
     ensures joined { (n : Node) → Holds D.honest D.history D.failures n replica → IfSome (R.remaining reader.old) (λ bytes. IfOk result.1 (Joined D.honest D.history D.failures n bytes (R.remaining reader.new) replica result.0)) }
     ensures ended { (replica.stopped || is_some replica.engine.halted) ≡ false → IfErr result.1 (Ended D.honest D.history D.failures replica result.0 (R.remaining reader.old)) }
+    ensures notes { Notes (R.failed reader.old) (R.failed reader.new) result.1 }
 {
     history_by_items();
     if replica.is_stopped() {

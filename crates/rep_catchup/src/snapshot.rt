@@ -16,6 +16,7 @@ ghost use Rattle.rep_replica.specs.Refusing.{TellsFaults};
 ghost use Rattle.rep_replica.specs.Holding.{Holds};
 ghost use Rattle.rep_replica.specs.Settling.{is_quiet, IsRunning};
 ghost use Rattle.rep_replica.specs.Installing.{HoldsBoth, given_up};
+ghost use Rattle.rep_streams.specs.Streams.{Notes};
 ghost use Rattle.rep_transfer.specs.declared.pieces.NumberedPage.{NumberedPage as Page};
 ghost use Rattle.rep_transfer.specs.Haves.{IsHeader};
 ghost use Rattle.rep_catchup.specs.Snapshots.{TakesReach, NoReachComes, TakesEntries, NoEntriesCome, TakesKept, NoneKeptComes, TakesWindow, TakesPages, LeavesPages, NoPagesCome, NoneComes, BringsEarly, Brought, LeavesSnapshot};
@@ -24,10 +25,10 @@ ghost use Rattle.rep_catchup.specs.Growing.{EndsRunning};
 use rep_disk::Disk;
 use rep_layout::{Format, WindowBody};
 use rep_replica::{Installation, Replica};
+use rep_streams::Source;
 use rep_transfer::{Header, NumberedPage, TransferReader};
 use rep_types::{Entry, MAX_SEQNO, Params, Reach, Refusal, Window, WindowSize, history_by_items};
 use std::alloc::Global;
-use std::io::Read;
 
 /// How far back the window of a snapshot of format 1 reaches, which that does not tell: its size is that of the parameters, and was so from
 /// the first item on.
@@ -49,6 +50,7 @@ fn read_reach<R: Source>(
 ) -> Result<Reach, Refusal>
     ensures taken { (p : Setting) → (position : ℕ) → IfOk result (λ r. TakesReach Two p position r transfer.old transfer.new (R.remaining reader.old) (R.remaining reader.new)) }
     ensures refused { (p : Setting) → (position : ℕ) → IfErr result (λ e. (e ≡ StreamFault) ⊎ ((e ≡ Malformed at) × IfSome (R.remaining reader.old) (NoReachComes Two p position))) }
+    ensures notes { Notes (R.failed reader.old) (R.failed reader.new) result }
 {
     let malformed = Refusal::Malformed { at };
     let Some(seqnos) = transfer.next::<u16, R>(reader)? else {
@@ -74,6 +76,7 @@ fn take_reach<R: Source>(
 ) -> Result<Reach, Refusal>
     ensures taken { IfOk result (λ r. TakesReach format params.now position r transfer.old transfer.new (R.remaining reader.old) (R.remaining reader.new)) }
     ensures refused { IfErr result (λ e. (e ≡ StreamFault) ⊎ ((e ≡ Malformed at) × IfSome (R.remaining reader.old) (NoReachComes format params.now position))) }
+    ensures notes { Notes (R.failed reader.old) (R.failed reader.new) result }
 {
     match format {
         Format::One => Ok(fixed_reach(params, position)),
@@ -91,6 +94,7 @@ fn take_entries<R: Source>(
 ) -> Result<Vec<Entry>, Refusal>
     ensures taken { IfOk result (λ entries. TakesEntries count entries.items transfer.old transfer.new (R.remaining reader.old) (R.remaining reader.new)) }
     ensures refused { IfErr result (λ e. (e ≡ StreamFault) ⊎ ((e ≡ OutOfMemory) ⊎ ((e ≡ Malformed at) × IfSome (R.remaining reader.old) (NoEntriesCome count)))) }
+    ensures notes { Notes (R.failed reader.old) (R.failed reader.new) result }
 {
     let mut entries = Vec::new(alloc);
     for _index in 0..count {
@@ -121,6 +125,7 @@ fn take_kept<R: Source>(
 ) -> Result<Window, Refusal>
     ensures taken { IfOk result (λ v. TakesKept format params.now position v transfer.old transfer.new (R.remaining reader.old) (R.remaining reader.new)) }
     ensures refused { IfErr result (λ e. (e ≡ StreamFault) ⊎ ((e ≡ OutOfMemory) ⊎ ((e ≡ Malformed at) × IfSome (R.remaining reader.old) (NoneKeptComes format params.now position)))) }
+    ensures notes { Notes (R.failed reader.old) (R.failed reader.new) result }
 {
     let malformed = Refusal::Malformed { at };
     let reach = take_reach(format, params, position, at, transfer, reader)?;
@@ -154,6 +159,7 @@ fn take_pages<D: Disk, R: Source>(
     ensures ends { EndsRunning result (given_up installation.new) }
     ensures told { TellsFaults (D.failures installation.old.engine.disk) (D.failures installation.new.engine.disk) result }
     ensures refused { IfErr result (λ e. (e ≡ StreamFault) ⊎ ((e ≡ DiskFault) ⊎ ((e ≡ Malformed at) × IfSome (R.remaining reader.old) (NoPagesCome installation.old.engine.checkpoint.base.params.rows count)))) }
+    ensures notes { Notes (R.failed reader.old) (R.failed reader.new) result }
 {
     let mut least = 0;
     for _index in 0..count {
@@ -190,6 +196,7 @@ fn take_window<D: Disk, R: Source>(
 ) -> Result<(Window, u16), Refusal>
     ensures taken { IfOk result (λ x. TakesWindow format (facts_of D.failures replica.now) position x.0 x.1 transfer.old transfer.new (R.remaining reader.old) (R.remaining reader.new)) }
     ensures refused { IfErr result (λ e. (e ≡ StreamFault) ⊎ ((e ≡ OutOfMemory) ⊎ ((e ≡ Malformed at) × IfSome (R.remaining reader.old) (NoneComes format (facts_of D.failures replica.now) position)))) }
+    ensures notes { Notes (R.failed reader.old) (R.failed reader.new) result }
 {
     let malformed = Refusal::Malformed { at };
     if !may_come(replica, position) || position > MAX_SEQNO {
@@ -226,6 +233,7 @@ pub(crate) fn bring<D: Disk, R: Source>(
     ensures ends { EndsRunning result.1 result.0 }
     ensures told { TellsFaults (D.failures replica.engine.disk) (D.failures result.0.engine.disk) result.1 }
     ensures refused { IfErr result.1 (BringsEarly header.now.format (facts_of D.failures replica) position at (R.remaining reader.old)) }
+    ensures notes { Notes (R.failed reader.old) (R.failed reader.new) result.1 }
 {
     history_by_items();
     let format = header.format;

@@ -1,5 +1,5 @@
 -- Bytes that begin with a transfer begin with no other.
-use Rattle.std.proofs.Common.{◌≡◌, ℕ, ◌^◌, ◌<◌, List, [], ◌∷◌, ◌++◌, length, drop, Option, None, Some, IfSome, refl, sym, ap, subst, ◌∙◌, append_assoc, arith}
+use Rattle.std.proofs.Common.{◌≡◌, ◌⊎◌, ℕ, ◌^◌, ◌<◌, List, [], ◌∷◌, ◌++◌, length, drop, Option, None, Some, IfSome, inl, inr, refl, sym, ap, subst, ◌∙◌, append_assoc, arith}
 use Rattle.std.specs.List.{flat_map, AllByRecursion}
 use Rattle.rep_types.specs.declared.judged.Judged.{Judged}
 use Rattle.rep_types.specs.Settings.{Setting}
@@ -14,12 +14,12 @@ use Rattle.rep_layout.specs.Windows.{IsOfFormat}
 use Rattle.rep_record.specs.Records.{IsRecord, record_bytes, record_form}
 use Rattle.rep_record.specs.RecordLaws.{record_is_form}
 use Rattle.rep_transfer.specs.declared.header.Header.{Header}
-use Rattle.rep_transfer.specs.Haves.{header_form}
+use Rattle.rep_transfer.specs.Haves.{IsHeader, header_bytes, header_form}
 use Rattle.rep_transfer.specs.Pieces.{page_bytes, page_form}
 use Rattle.rep_transfer.specs.Shapes.{least_of}
 use Rattle.rep_transfer.specs.TransferLaws.{header_is_form, page_is_form}
-use Rattle.rep_transfer.specs.Transfers.{Snapshot, Transfer, SnapshotFits, IsTold, kept_bytes, rest_of, snapshot_bytes, record_part, end_bytes, snapshot_part}
-use Rattle.rep_transfer.specs.Telling.{TransfersAreTold}
+use Rattle.rep_transfer.specs.Transfers.{Snapshot, Transfer, SnapshotFits, IsTold, IsTransfer, kept_bytes, rest_of, snapshot_bytes, record_part, end_bytes, snapshot_part}
+use Rattle.rep_transfer.specs.Telling.{PartsAreTold, TransfersAreTold, IsTakenOf, IsBeforeSnapshot}
 
 -- ---- a value of a form, and what stands behind it
 
@@ -155,3 +155,49 @@ transfers_told t u rest more is are same =
     behind_told u.header t.records u.records t.last u.last rest more is.records are.records is.last are.last t.snapshot u.snapshot is.snapshot are.snapshot told are.told
     (ap (λ (h : Header). snapshot_part h.format t.snapshot ++ ((flat_map record_part t.records ++ end_bytes t.last) ++ rest)) (sym first.0) ∙ sym (spread t rest) ∙ first.1 ∙ spread u more) in
     (transfer_of_parts t u first.0 parts.snapshot parts.ended.records parts.ended.last_is, parts.ended.rest)
+
+-- ---- a front of it
+
+-- some of the records, and what is left
+record Fewer (xs ys : List Judged) (last : ℕ) (r left : List ℕ) : Type 0 where
+  more : List Judged
+  records : xs ≡ ys ++ more
+  left_is : left ≡ (flat_map record_part more ++ end_bytes last) ++ r
+
+fewer_told : (xs ys : List Judged) (last : ℕ) (r left : List ℕ) → AllByRecursion IsRecord xs → AllByRecursion IsRecord ys → (flat_map record_part xs ++ end_bytes last) ++ r ≡ flat_map record_part ys ++ left → Fewer xs ys last r left
+fewer_told xs [] last r left fits fit same = record { more = xs; records = refl; left_is = sym same }
+fewer_told [] (y ∷ ys) last r left fits fit same =
+    absurd (let never : 69 ≡ 73 = (letter_told 69 73 (number_bytes 8 last ++ r) ((record_bytes y ++ flat_map record_part ys) ++ left) same).0 in omega (arith, never))
+fewer_told (x ∷ xs) (y ∷ ys) last r left fits fit same =
+    let behind = (letter_told 73 73 (((record_bytes x ++ flat_map record_part xs) ++ end_bytes last) ++ r) ((record_bytes y ++ flat_map record_part ys) ++ left) same).1 in
+    let first = told record_form record_is_form x y ((flat_map record_part xs ++ end_bytes last) ++ r) (flat_map record_part ys ++ left) fits.0 fit.0
+    (sym (ap (λ (l : List ℕ). l ++ r) (append_assoc (record_bytes x) (flat_map record_part xs) (end_bytes last)) ∙ append_assoc (record_bytes x) (flat_map record_part xs ++ end_bytes last) r) ∙ behind ∙ append_assoc (record_bytes y) (flat_map record_part ys) left) in
+    let rest = fewer_told xs ys last r left fits.1 fit.1 first.1 in
+    record { more = rest.more; records = ap (λ z. z ∷ xs) first.0 ∙ ap (λ zs. y ∷ zs) rest.records; left_is = rest.left_is }
+
+module _ (t : Transfer) (rest : List ℕ) (is : IsTransfer t) (left : List ℕ) where
+  taken_of : (snapshot : Option Snapshot) (records : List Judged) → snapshot ≡ t.snapshot → Fewer t.records records t.last rest left → IsTakenOf t snapshot records left rest
+  taken_of snapshot records same f = record { snapshot_is = same; more = f.more; records_are = f.records; left_is = f.left_is }
+
+  parts_behind : (u snapshot : Option Snapshot) (records : List Judged) → u ≡ t.snapshot → IfSome u SnapshotFits → IfSome u (IsTold t.header) → IfSome snapshot SnapshotFits → IfSome snapshot (IsTold t.header) → AllByRecursion IsRecord records
+      → snapshot_part t.header.format u ++ ((flat_map record_part t.records ++ end_bytes t.last) ++ rest) ≡ snapshot_part t.header.format snapshot ++ (flat_map record_part records ++ left)
+      → IsTakenOf t snapshot records left rest ⊎ IsBeforeSnapshot t snapshot records left rest
+  parts_behind None None records own fits tells fit tell are same = inl (taken_of None records own (fewer_told t.records records t.last rest left is.records are same))
+  parts_behind None (Some s) records own fits tells fit tell are same =
+      absurd (no_snapshot t.records t.last rest ((number_bytes 8 s.position ++ rest_of t.header.format s) ++ (flat_map record_part records ++ left)) same)
+  parts_behind (Some u) None [] own fits tells fit tell are same = inr (record { first = u; first_is = sym own; no_snapshot = refl; no_record = refl; left_is = sym same })
+  parts_behind (Some u) None (x ∷ xs) own fits tells fit tell are same =
+      absurd (let never : 83 ≡ 73 = (letter_told 83 73 ((number_bytes 8 u.position ++ rest_of t.header.format u) ++ ((flat_map record_part t.records ++ end_bytes t.last) ++ rest)) ((record_bytes x ++ flat_map record_part xs) ++ left) same).0 in omega (arith, never))
+  parts_behind (Some u) (Some s) records own fits tells fit tell are same =
+      let first = snapshot_told t.header.format (least_of t.header.shape) u s ((flat_map record_part t.records ++ end_bytes t.last) ++ rest) (flat_map record_part records ++ left) fits fit tells tell same in
+      inl (taken_of (Some s) records (ap Some (sym first.0) ∙ own) (fewer_told t.records records t.last rest left is.records are first.1))
+
+pub parts_told : PartsAreTold
+parts_told t rest header snapshot records left is fits fit tell are same =
+    let body : List ℕ = snapshot_part t.header.format t.snapshot ++ (flat_map record_part t.records ++ end_bytes t.last) in
+    let first = told header_form header_is_form t.header header (body ++ rest) (snapshot_part header.format snapshot ++ (flat_map record_part records ++ left)) is.header fits
+    (sym (append_assoc (header_bytes t.header) body rest) ∙ same) in
+    let told : IfSome snapshot (IsTold t.header) = subst (λ (h : Header). IfSome snapshot (IsTold h)) (sym first.0) tell in
+    let parts = parts_behind t rest is left t.snapshot snapshot records refl is.snapshot is.told fit told are
+    (sym (append_assoc (snapshot_part t.header.format t.snapshot) (flat_map record_part t.records ++ end_bytes t.last) rest) ∙ first.1 ∙ ap (λ (h : Header). snapshot_part h.format snapshot ++ (flat_map record_part records ++ left)) (sym first.0)) in
+    (sym first.0, parts)

@@ -14,7 +14,7 @@ mod writer;
 
 pub use have::{Have, read_have};
 pub use header::Header;
-pub use laws::transfers_are_told;
+pub use laws::{parts_are_told, transfers_are_told};
 pub use part::{Part, next_part};
 pub use pieces::{NumberedPage, PIECE, Piece};
 pub use reader::TransferReader;

@@ -6,12 +6,14 @@ use Rattle.rep_catchup.proofs.JoinTaking.{consumed, found_fits, counted_small}
 use Rattle.rep_catchup.proofs.JoinCutting.{cut_at_part}
 use Rattle.rep_catchup.proofs.JoinFollowing.{followed_none, part_followed}
 use Rattle.rep_catchup.proofs.JoinTelling.{told_then, tells_stream, tells_malformed, grown_goes}
+use Rattle.rep_catchup.proofs.JoinNoting.{notes_none, out_is_other}
 use Rattle.rep_catchup.proofs.joining.follow.Goals as goal
 
 pub loop-part-init : goal.loop-part-init
 loop-part-init g c = record {
   running = c.requires.running;
   same = refl;
+  noted = refl;
   defined = c.requires.defined;
   followed = followed_none g.D.Disk.honest g.D.Disk.history g.D.Disk.failures c.history_by_items.ensures c.runs_are_joined.ensures c.args.replica.now c.args.transfer.now (g.R.Source.remaining c.args.reader.now);
 }
@@ -36,6 +38,7 @@ loop-part-preserved g c =
     record {
       running = c.in_ok-last.ensures.ends;
       same = c.in_ok-last.ensures.tells ∙ c.loop-part.invariant.same;
+      noted = c.next_part.ensures.notes.fine (search rules) ∙ c.loop-part.invariant.noted;
       defined = λ nil. c.requires.defined (sym followed.2.grown.uuid ∙ nil);
       followed = followed;
     }
@@ -76,3 +79,11 @@ returns-in_err-last-clause-tells g c =
     let e = c.in_err-last.field-0.0 in
     rw (p.1, p.2) (told_then g.D.Disk.honest g.D.Disk.history g.D.Disk.failures c.args.replica.now c.loop-part.replica c.take_part.new.replica e c.loop-part.invariant.same
     (grown_goes g.D.Disk.honest g.D.Disk.history g.D.Disk.failures c.args.replica.now c.loop-part.replica c.loop-part.invariant.followed.2.records c.loop-part.invariant.followed.2.grown) c.in_err-last.ensures.tells)
+
+-- ---- what is noted of the source
+
+pub returns-in_err-last-clause-notes : goal.returns-in_err-last-clause-notes
+returns-in_err-last-clause-notes g c =
+    let p = err_from_is_err_and c.from_residual-in_err-last.result c.from_residual-in_err-last.ensures.1 in
+    let e = c.in_err-last.field-0.0 in
+    rw (p.1, p.2) (notes_none (c.next_part.ensures.notes.fine (search rules) ∙ c.loop-part.invariant.noted) (out_is_other g.D.Disk.failures c.take_part.new.replica c.in-Some.part c.taken-at.result e c.in_err-last.ensures.refused))

@@ -12,6 +12,7 @@ abbrev pub invariant-loop-part : goal.invariant-loop-part
 invariant-loop-part g l = record {
   running : IsRunning l.replica;
   same : g.D.Disk.failures l.replica.engine.disk ≡ g.D.Disk.failures l.initial.replica.engine.disk;
+  noted : g.R.Source.failed l.reader ≡ g.R.Source.failed l.initial.reader;
   defined : IsNil (facts_of g.D.Disk.failures l.replica).uuid → ⊥;
   followed : Followed g.D.Disk.honest g.D.Disk.history g.D.Disk.failures l.initial.replica l.replica l.initial.transfer l.transfer (g.R.Source.remaining l.initial.reader) (g.R.Source.remaining l.reader) None;
 }

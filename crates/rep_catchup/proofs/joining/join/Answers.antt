@@ -8,6 +8,7 @@ use Rattle.rep_catchup.proofs.JoinWent.{lived_none, lived_settling, lived_parts}
 use Rattle.rep_catchup.proofs.JoinFollowing.{not_joined, joined_on, took_on}
 use Rattle.rep_catchup.proofs.JoinCutting.{early_header, early_parts, ended_parts, or_stopped}
 use Rattle.rep_catchup.proofs.JoinTelling.{tells_then, tells_stopped, tells_header, grown_goes, told_then}
+use Rattle.rep_catchup.proofs.JoinNoting.{works_other, notes_none, notes_passed}
 use Rattle.rep_catchup.proofs.joining.join.Goals as goal
 
 pub settle-requires : goal.settle-requires
@@ -125,3 +126,11 @@ pub returns-in-Ok-clause-took : goal.returns-in-Ok-clause-took
 returns-in-Ok-clause-took g c =
     took_on g.D.Disk.honest g.D.Disk.history g.D.Disk.failures c.args.replica c.settle.new.replica c.take_parts.result.0 c.in-Ok.header c.settle.ensures.grown (g.R.Source.remaining c.args.reader.now) (g.R.Source.remaining c.take_header.new.reader) (g.R.Source.remaining c.take_parts.new.reader)
     c.take_parts.result.1 c.in-Ok.ensures.taken c.take_parts.ensures.taken
+
+-- ---- what is noted of the source
+
+pub returns-in-Err-clause-notes : goal.returns-in-Err-clause-notes
+returns-in-Err-clause-notes g c = notes_none refl (works_other c.in-Err.refusal c.in-Err.ensures.refused)
+
+pub returns-in-Err-take_header-clause-notes : goal.returns-in-Err-take_header-clause-notes
+returns-in-Err-take_header-clause-notes g c = notes_passed c.in-Err-take_header.ensures.notes

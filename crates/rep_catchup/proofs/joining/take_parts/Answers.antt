@@ -1,4 +1,4 @@
-use Rattle.std.proofs.Common.{◌≡◌, ◌<◌, ◌^◌, Some, Ok, ap, sym, subst, inl, ◌∙◌, rules, arith}
+use Rattle.std.proofs.Common.{◌≡◌, ◌<◌, ◌^◌, Some, Ok, Err, ap, sym, subst, inl, ◌∙◌, rules, arith}
 use Rattle.std.specs.Prelude.{IfErr}
 use Rattle.rep_types.specs.declared.refusal.Refusal.TheVariants.{Malformed, StreamFault}
 use Rattle.rep_transfer.specs.declared.part.Part.{Part}
@@ -10,6 +10,7 @@ use Rattle.rep_catchup.proofs.JoinTaking.{consumed, found_fits, none_found, coun
 use Rattle.rep_catchup.proofs.JoinFollowing.{all_behind, no_snapshot}
 use Rattle.rep_catchup.proofs.JoinCutting.{ends_at_none, no_snapshot_stands, short_none, short_records_on, no_front}
 use Rattle.rep_catchup.proofs.JoinTelling.{tells_malformed, tells_stream}
+use Rattle.rep_catchup.proofs.JoinNoting.{notes_then}
 use Rattle.rep_catchup.proofs.joining.take_parts.Goals as goal
 
 -- ---- where no part is taken
@@ -68,6 +69,7 @@ returns g c =
           no_snapshot g.D.Disk.honest g.D.Disk.history g.D.Disk.failures c.args.replica c.follow_from-followed.new.replica c.args.header.now.format c.args.header.now.uuid (part_bytes part) before mid (g.R.Source.remaining c.follow_from-followed.new.reader)
           c.follow_from-followed.result taken c.requires.cluster c.follow_from-followed.ensures.defined c.follow_from-followed.ensures.followed;
       ends = c.follow_from-followed.ensures.ends;
+      notes = notes_then (c.next_part.ensures.notes.fine (λ fault. let never : Ok (Some part) ≡ Err StreamFault = sym is ∙ fault in cc)) c.follow_from-followed.ensures.notes;
       tells = c.follow_from-followed.ensures.tells;
       cut =
           subst (λ k. IfErr c.follow_from-followed.result (CutShort g.D.Disk.honest g.D.Disk.history g.D.Disk.failures c.args.replica c.follow_from-followed.new.replica c.args.header.now.format c.args.header.now.uuid before k)) c.taken-at.ensures

@@ -1,4 +1,5 @@
-use Rattle.std.proofs.Common.{Err, ap, inl, sym, subst, ◌∙◌}
+use Rattle.std.proofs.Common.{rules, ◌≡◌, Ok, Err, ap, inl, sym, subst, ◌∙◌}
+use Rattle.rep_types.specs.declared.refusal.Refusal.TheVariants.{StreamFault}
 use Rattle.rep_checkpoint.specs.Coming.{blank}
 use Rattle.rep_engine.specs.Engines.{Engine}
 use Rattle.rep_replica.specs.Replicas.{Replica}
@@ -6,6 +7,7 @@ use Rattle.rep_catchup.specs.Growing.{EndsRunning}
 use Rattle.rep_catchup.specs.Snapshots.{GivenUp}
 use Rattle.rep_catchup.proofs.JoinBringing.{brought_on, none_came, given_at_once, given_behind, early_pages}
 use Rattle.rep_catchup.proofs.JoinTelling.{told_behind, told_between, install_told, window_told}
+use Rattle.rep_catchup.proofs.JoinNoting.{notes_device, notes_passed, device_alone}
 use Rattle.rep_catchup.proofs.snapshot.bring.Goals as goal
 
 pub take_pages-requires-clause-none : goal.take_pages-requires-clause-none
@@ -22,6 +24,7 @@ returns-in-Ok-take_pages g c =
       brought = all.0;
       left = all.1;
       ends = all.2;
+      notes = notes_device c.end.result.1 (c.in-Ok-take_pages.ensures.notes.fine (search rules) ∙ c.in-Ok.ensures.notes.fine (search rules)) (device_alone _ c.end.result.1 (c.end.ensures.lands took.2.running).fault);
       told =
           told_behind (g.D.Disk.failures c.args.replica.engine.disk) (g.D.Disk.failures c.take_pages.new.installation.engine.disk) (g.D.Disk.failures c.end.result.0.engine.disk) c.end.result.1 (c.in-Ok-take_pages.ensures.told ∙ same)
           c.end.ensures.told;
@@ -64,3 +67,8 @@ returns-in-Err-install-clause-told g c =
 
 pub returns-in-Err-clause-told : goal.returns-in-Err-clause-told
 returns-in-Err-clause-told g c = window_told (g.D.Disk.failures c.args.replica.engine.disk) c.args.at c.in-Err.refusal c.in-Err.ensures.refused
+
+-- ---- what is noted of the source
+
+pub returns-in-Err-clause-notes : goal.returns-in-Err-clause-notes
+returns-in-Err-clause-notes g c = notes_passed c.in-Err.ensures.notes

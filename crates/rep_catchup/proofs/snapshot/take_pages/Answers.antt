@@ -11,6 +11,7 @@ use Rattle.rep_catchup.proofs.snapshot.take_pages.Goals.{then-number-least-via-t
 pub loop-index-init : goal.loop-index-init
 loop-index-init g c = record {
   came = came_none g.D.Disk.honest g.D.Disk.history g.D.Disk.failures c.args.installation.now c.args.transfer.now (g.R.Source.remaining c.args.reader.now) c.requires.running c.requires.none;
+  noted = refl;
   same = refl;
 }
 
@@ -28,7 +29,7 @@ loop-index-preserved g c =
     c.if-number-least.false is_new
     (still_runs c.put_page.new.self.engine.halted now.engine.log.phase c.put_page.result c.in_ok-put_page.field-0 c.in_ok-put_page.was (c.put_page.ensures.running c.loop-index.invariant.came.takes.running).0)
     c.put_page.ensures.rest c.in_ok-put_page.ensures.done (λ n y h. c.in_ok-put_page.ensures.holds n y h) (λ n y h. c.put_page.ensures.leaves n y h) in
-    record { came = came; same = put_same c.put_page.result c.in_ok-put_page.field-0 c.in_ok-put_page.was c.put_page.ensures.call.no_cause ∙ c.loop-index.invariant.same }
+    record { came = came; noted = c.next.ensures.notes.fine (search rules) ∙ c.loop-index.invariant.noted; same = put_same c.put_page.result c.in_ok-put_page.field-0 c.in_ok-put_page.was c.put_page.ensures.call.no_cause ∙ c.loop-index.invariant.same }
 
 -- ---- where no more comes
 
