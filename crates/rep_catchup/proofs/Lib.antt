@@ -1,5 +1,6 @@
 mod Alike
 mod Orders
+mod Nexts
 mod WindowLimits
 mod DonateReads
 mod DonateWrites

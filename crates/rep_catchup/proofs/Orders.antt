@@ -31,13 +31,13 @@ above_step a position j js s low behind (inr below) =
     let more : position + 1 - a ≡ suc (position + 1 - (a + 1)) = omega (arith, below) in
     rw (le-ltb position j.seqno (omega (arith, below, s.0))) (behind below) ∙ ap (λ n. drop n (j ∷ js)) (sym more)
 
-above_drop : (a position : ℕ) (js : List Judged) → SeqnosFrom a js → a ≤ position + 1 → above position js ≡ drop (position + 1 - a) js
+pub above_drop : (a position : ℕ) (js : List Judged) → SeqnosFrom a js → a ≤ position + 1 → above position js ≡ drop (position + 1 - a) js
 above_drop a position [] s low = sym (drop_all (position + 1 - a) [] (omega arith))
 above_drop a position (j ∷ js) s low = above_step a position j js s low (λ below. above_drop (a + 1) position js s.1 (omega (arith, below))) (cases_lt position a)
 
 -- ---- the items of a history
 
-items_so_far : (p : Setting) (h : List Judged) (L : Order) → items_of (fold (joined p) h L) ≡ items_of h ++ L
+pub items_so_far : (p : Setting) (h : List Judged) (L : Order) → items_of (fold (joined p) h L) ≡ items_of h ++ L
 items_so_far p h [] = sym (append-nil (items_of h))
 items_so_far p h (i ∷ L) = items_so_far p (joined p h i) L ∙ (ap (λ (K : Order). K ++ L) (map-append (λ (j : Judged). j.item) h _) ∙ append_assoc (items_of h) (i ∷ []) L)
 
@@ -60,7 +60,7 @@ module _ (goes : JudgingGoesOn) (extends : JudgedItemsExtendTheOrder) (O : Order
   judged : AreJudgedFrom n.facts.setting n.base n.items
   judged = extends.judged n.facts.uuid n.facts.setting O (record { uuid = n.facts.uuid; setting = n.facts.setting; base = n.base; tail = n.items }) (record { uuid_is = refl; setting_is = refl; within = is.within; base_is = is.base; tail_is = is.items })
 
-  seqnos : SeqnosFrom (b + 1) (durable_items n)
+  pub seqnos : SeqnosFrom (b + 1) (durable_items n)
   seqnos = goes.judged_seqnos n.facts.setting n.base (durable_items n) (goes.judged_front n.facts.setting n.base (end - n.facts.base) n.items judged)
 
   items : items_of (durable_items n) ≡ drop b whole

@@ -12,4 +12,4 @@ mod snapshot;
 pub use donor::{donate, donation_refusal};
 pub use joiner::have;
 pub use joining::join;
-pub use laws::joiners_hold_the_order;
+pub use laws::{donated_parts_come_next, joiners_hold_the_order};
