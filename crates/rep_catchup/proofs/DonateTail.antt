@@ -1,14 +1,17 @@
 -- The durable blocks behind a base, as a donor writes them one after another.
-use Rattle.std.proofs.Common.{◌≡◌, ℕ, zero, suc, ◌+◌, ◌-◌, ◌≤◌, ◌<◌, true, List, [], ◌∷◌, ◌++◌, length, take, get_or, Option, None, Some, refl, sym, ap, subst, ◌∙◌, append-nil, append_assoc, arith}
+use Rattle.std.proofs.Common.{◌≡◌, ℕ, zero, suc, ◌+◌, ◌-◌, ◌≤◌, ◌<◌, true, false, Result, Ok, Err, inl, inr, List, [], ◌∷◌, ◌++◌, length, take, get_or, Option, None, Some, refl, sym, ap, subst, ◌∙◌, append-nil, append_assoc, arith}
 use Rattle.std.specs.Prelude.{is_some, nat_lt, nat_le}
 use Rattle.std.specs.List.{flat_map, AllByRecursion}
 use Rattle.std.specs.Io.KnownBytes.{Appends}
 use Rattle.std.proofs.KnownBytes.{Appends-trans}
 use Rattle.std.proofs.lemmas.Bool.Decides.{nat_tests}
-use Rattle.std.proofs.lemmas.Bool.{lt-ltb, le-leb, ltb-true, ltb-false, and_from}
+use Rattle.std.proofs.lemmas.Bool.{cases_lt, le-ltb, lt-ltb, le-leb, ltb-true, ltb-false, and_from}
 use Rattle.std.proofs.lemmas.List.{take_all, take_more, take-take, length-take-le}
 use Rattle.std.proofs.lemmas.List.Concat.{flat_map-append}
 use Rattle.std.proofs.lemmas.List.Elements.{filter-append}
+use Rattle.rep_types.specs.declared.refusal.Refusal.{Refusal}
+use Rattle.rep_types.specs.declared.refusal.Refusal.TheVariants.{Corrupt}
+use Rattle.rep_types.specs.declared.refusal.Part.TheVariants.{Log as InLog}
 use Rattle.rep_types.specs.declared.judged.Judged.{Judged}
 use Rattle.rep_types.specs.declared.verdict.Verdict.{Verdict}
 use Rattle.rep_types.specs.declared.verdict.Verdict.TheVariants.{Commit, Conflict, Stale, Future, BadKey}
@@ -17,15 +20,20 @@ use Rattle.rep_types.specs.declared.item.Item.TheVariants.{WriteSet, SetWindow}
 use Rattle.rep_types.specs.declared.limits.TheConstants.{MAX_SEQNO, MAX_CELLS}
 use Rattle.rep_types.specs.Settings.{Setting, is_setting}
 use Rattle.rep_record.specs.Records.{IsRecord, IsVerdictAt, is_verdict_at, Suits, suits, is_placed}
+use Rattle.rep_record.specs.Blocks.{Contents}
 use Rattle.rep_disk.specs.History.{History}
+use Rattle.rep_layout.specs.declared.place.Layout.{Layout}
+use Rattle.rep_layout.specs.declared.super_body.SuperBody.{SuperBody}
+use Rattle.rep_cells.specs.Readings.{Reading}
+use Rattle.rep_log.specs.Standing.{Standing as Log}
 use Rattle.rep_log.specs.Tail.{records_of}
 use Rattle.rep_steps.specs.Nodes.{Node, IsNode}
 use Rattle.rep_engine.specs.Engines.{Engine}
-use Rattle.rep_engine.specs.Donating.{IsTail, TheTailIsTold, IsTailBlock}
+use Rattle.rep_engine.specs.Donating.{IsTail, TheTailIsTold, IsTailBlock, IsBlockAsSpelled}
 use Rattle.rep_replica.specs.Replicas.{Replica}
 use Rattle.rep_replica.specs.Holding.{Holds}
 use Rattle.rep_transfer.specs.Transfers.{record_part}
-use Rattle.rep_catchup.specs.Donating.{ReadsAlone, IsRunning, above, durable_items}
+use Rattle.rep_catchup.specs.Donating.{ReadsAlone, IsRunning, IsBadPart, above, durable_items}
 use Rattle.rep_catchup.proofs.DonateReads.{not_halted}
 use Rattle.rep_catchup.proofs.DonateWrites.{all_both, all_filter}
 
@@ -132,6 +140,12 @@ due_here index left o x is told = ltb-true index left (sym told ∙ ap is_some i
 
 pub past_here : {T : Type 0} (index left : ℕ) (o : Option T) → o ≡ None → is_some o ≡ nat_lt index left → left ≤ index
 past_here index left o is told = ltb-false index left (sym told ∙ ap is_some is)
+
+pub bad_block : (r : Reading) (l : Layout) (b : SuperBody) (log : Log) (index : ℕ) (result : Result (Option Contents) Refusal) → (nat_lt index (log.next - log.start) ≡ false → result ≡ Ok None) → IsBlockAsSpelled r l (log.start + index) result InLog → result ≡ Err (Corrupt InLog) → IsBadPart r l b log InLog
+bad_block r l b log index result behind spelled is = elim (cases_lt index (log.next - log.start)) [
+  | inl due ↦ (log.start + index, omega arith, omega (arith, due), spelled.corrupt is)
+  | inr past ↦ absurd (let never : result ≡ Ok None = behind (le-ltb index (log.next - log.start) past) in cc)
+]
 
 -- ---- of a replica
 

@@ -1,5 +1,5 @@
 -- What is written of a donation, one part after another.
-use Rattle.std.proofs.Common.{◌≡◌, ℕ, ◌+◌, List, [], ◌∷◌, ◌++◌, length, take, Option, Result, Ok, Err, inl, inr, refl, sym, ap, subst, ◌∙◌, append_assoc, arith}
+use Rattle.std.proofs.Common.{◌≡◌, ℕ, ◌+◌, ◌<◌, List, [], ◌∷◌, ◌++◌, length, take, Option, Result, Ok, Err, inl, inr, refl, sym, ap, subst, ◌∙◌, append_assoc, arith, length-append}
 use Rattle.std.specs.Prelude.{OnOk, OnErr, Bool, true, false, filter}
 use Rattle.std.specs.List.{AllByRecursion}
 use Rattle.std.specs.Io.KnownBytes.{Appends}
@@ -12,9 +12,13 @@ use Rattle.rep_transfer.specs.Writing.{Wrote}
 
 -- ---- a part behind another
 
-cut_behind : (a b c : Option (List ℕ)) (xs ys : List ℕ) (result : Result (Unit {0}) Refusal) → Appends a b xs → OnErr result ((k : ℕ) × Appends b c (take k ys)) → OnErr result ((k : ℕ) × Appends a c (take k (xs ++ ys)))
+cut_behind : (a b c : Option (List ℕ)) (xs ys : List ℕ) (result : Result (Unit {0}) Refusal) → Appends a b xs → OnErr result ((k : ℕ) × (k < length ys) × Appends b c (take k ys)) → OnErr result ((k : ℕ) × (k < length (xs ++ ys)) × Appends a c (take k (xs ++ ys)))
 cut_behind a b c xs ys (Ok x) first cut = tt
-cut_behind a b c xs ys (Err e) first cut = (length xs + cut.0, subst (Appends a c) (sym (take-append-add xs ys cut.0)) (Appends-trans a b c xs (take cut.0 ys) first cut.1))
+cut_behind a b c xs ys (Err e) first (k, less, cut) = (
+  length xs + k,
+  omega (arith, less, length-append xs ys),
+  subst (Appends a c) (sym (take-append-add xs ys k)) (Appends-trans a b c xs (take k ys) first cut),
+)
 
 done_behind : (a b c : Option (List ℕ)) (xs ys : List ℕ) (result : Result (Unit {0}) Refusal) → Appends a b xs → OnOk result (Appends b c ys) → OnOk result (Appends a c (xs ++ ys))
 done_behind a b c xs ys (Ok x) first done = Appends-trans a b c xs ys first done
@@ -27,18 +31,16 @@ wrote_behind a b c xs ys result first second = record {
   refused = second.refused;
 }
 
--- a front of a front
-front_of_front : (xs ys : List ℕ) (k : ℕ) → (m : ℕ) × (take k xs ≡ take m (xs ++ ys))
-front_of_front xs ys k = elim (cases_lt k (length xs)) [
-  | inl below ↦ (k, sym (take-append-le k xs ys (omega arith)))
-  | inr past ↦ (length xs, take_all k xs (omega arith) ∙ sym (take-append-le (length xs) xs ys (omega arith) ∙ take_all (length xs) xs (omega arith)))
-]
-
 -- a writer that failed in a part failed in what begins with it
 pub cut_before : (a b : Option (List ℕ)) (xs ys : List ℕ) (e : Refusal) → Wrote a b xs (Err e) → Wrote a b (xs ++ ys) (Err e)
 cut_before a b xs ys e first =
-    let front = front_of_front xs ys first.cut.0 in
-    record { done = tt; cut = (front.0, subst (Appends a b) front.1 first.cut.1); refused = first.refused }
+    let k = first.cut.0 in
+    let less : k < length xs = first.cut.1 in
+    record {
+      done = tt;
+      cut = (k, omega (arith, less, length-append xs ys), subst (Appends a b) (sym (take-append-le k xs ys (omega (arith, less)))) first.cut.2);
+      refused = first.refused;
+    }
 
 -- ---- many values, one after another
 

@@ -7,27 +7,37 @@ use Rattle.rep_types.specs.declared.judged.Judged.{Judged}
 use Rattle.rep_types.specs.declared.refusal.Refusal.{Refusal}
 use Rattle.rep_types.specs.declared.refusal.Refusal.TheVariants.{Stopped, Undefined, WrongCluster, Ahead, StreamFault, DiskFault, Corrupt}
 use Rattle.rep_types.specs.declared.refusal.Part.{Part}
+use Rattle.rep_types.specs.declared.refusal.Part.TheVariants.{Superblock, Window as InWindow, Log as InLog, Pages as InPages}
 use Rattle.rep_types.specs.Settings.{IsRow, has_row}
 use Rattle.rep_types.specs.Windows.{Window as Kept}
 use Rattle.rep_forms.specs.Forms.{number_bytes}
 use Rattle.rep_forms.specs.Entries.{EntryFits}
-use Rattle.rep_disk.specs.History.{History}
+use Rattle.rep_record.specs.Blocks.{IsBlock, block_bytes}
+use Rattle.rep_disk.specs.History.{History, seen}
 use Rattle.rep_disk.specs.Calls.{Rises}
 use Rattle.rep_layout.specs.declared.format.Format.TheVariants.{Two}
 use Rattle.rep_layout.specs.declared.page_state.PageState.{PageState}
 use Rattle.rep_layout.specs.declared.page_state.PageState.TheVariants.{Nowhere, In}
+use Rattle.rep_layout.specs.declared.place.Layout.{Layout}
+use Rattle.rep_layout.specs.declared.place.Place.TheVariants.{Window as WindowArea}
 use Rattle.rep_layout.specs.declared.super_body.SuperBody.{SuperBody}
+use Rattle.rep_layout.specs.Places.{log_of, side_of}
 use Rattle.rep_layout.specs.Rows.{row_place}
 use Rattle.rep_layout.specs.Supers.{IsNil}
-use Rattle.rep_layout.specs.Windows.{IsWindowBody, beside}
+use Rattle.rep_layout.specs.Windows.{IsWindowBody, beside, window_bytes}
+use Rattle.rep_cells.specs.Readings.{Reading, reading_of}
 use Rattle.rep_pages.specs.Images.{row_of}
 use Rattle.rep_pages.specs.Slots.{state_of_page}
+use Rattle.rep_pool.specs.BasePages.{IsBadPage}
+use Rattle.rep_log.specs.Standing.{Standing as Log}
 use Rattle.rep_steps.specs.Standings.{Standing}
 use Rattle.rep_steps.specs.Nodes.{Node}
+use Rattle.rep_engine.specs.Engines.{Engine}
 use Rattle.rep_engine.specs.Donating.{HasNoRow}
 use Rattle.rep_replica.specs.Replicas.{Replica}
 use Rattle.rep_replica.specs.Holding.{Holds}
 use Rattle.rep_checkpoint.specs.Coming.{blank}
+use Rattle.rep_streams.specs.Streams.{Notes}
 use Rattle.rep_transfer.specs.declared.have.Have.{Have}
 use Rattle.rep_transfer.specs.declared.pieces.NumberedPage.{NumberedPage}
 use Rattle.rep_transfer.specs.Shapes.{shape_of}
@@ -71,10 +81,23 @@ pub record ReadsAlone {D : Type 0} (honest : D → Type 0) (history : D → Hist
 abbrev pub IsRunning : {D : Type 0} → Replica D → Type 0
 IsRunning r = (r.stopped || is_some r.engine.halted) ≡ false
 
+-- A device as it reads, by its places.
+abbrev pub as_seen : {D : Type 0} → (D → History) → Engine D → Reading
+as_seen history e = reading_of e.layout (seen (history e.disk))
+
+-- What the bytes of a reading do not spell: the window beside the superblock; a page that the superblock has in a slot; or the block of a
+-- number in the log.
+abbrev pub IsBadPart : Reading → Layout → SuperBody → Log → Part → Type 0
+IsBadPart r l b log Superblock = ⊥
+IsBadPart r l b log InWindow = (v : Kept) → IsWindowBody b.params (beside b v) → r (WindowArea (side_of b.number)) ≡ Some (window_bytes (beside b v)) → ⊥
+IsBadPart r l b log InLog = (number : ℕ) × (log.start ≤ number) × (number < log.next) × ((records : List Judged) → IsBlock number records → r (log_of l number) ≡ Some (block_bytes number records) → ⊥)
+IsBadPart r l b log InPages = (number : ℕ) × IsBadPage r b number
+
 -- What a part of a donation leaves: the device was read alone; where it succeeds the replica runs on; one that stands for a node goes on
--- to, unless the device failed, and shows nothing that is not of its form; and a device's failure is told exactly where there was one,
--- and stops the replica.
-pub record Leaves {D T : Type 0} (honest : D → Type 0) (history : D → History) (failures : D → ℕ) (old new : Replica D) (result : Result T Refusal) : Type 0 where
+-- to, unless the device failed, and shows nothing that is not of its form; a device's failure is told exactly where there was one,
+-- and stops the replica, which is stopped by nothing else; on an honest device a part is told corrupt only where its bytes are bad; and
+-- the writer's failure is told exactly where it failed.
+pub record Leaves {D T : Type 0} (honest : D → Type 0) (history : D → History) (failures : D → ℕ) (old new : Replica D) (before after : Bool) (result : Result T Refusal) : Type 0 where
   pub reads : ReadsAlone honest history old new
   pub runs : OnOk result (IsRunning new)
   pub holds : (n : Node) → Holds honest history failures n old → result ≢ Err DiskFault → Holds honest history failures n new
@@ -82,6 +105,9 @@ pub record Leaves {D T : Type 0} (honest : D → Type 0) (history : D → Histor
   pub whole : (n : Node) → Holds honest history failures n old → (part : Part) → result ≢ Err (Corrupt part)
   pub fault : result ≡ Err DiskFault → Rises (failures old.engine.disk) (failures new.engine.disk) × (is_some new.engine.halted ≡ true)
   pub no_fault : result ≢ Err DiskFault → failures new.engine.disk ≡ failures old.engine.disk
+  pub halts : result ≢ Err DiskFault → new.engine.halted ≡ old.engine.halted
+  pub bad : honest old.engine.disk → (part : Part) → result ≡ Err (Corrupt part) → IsBadPart (as_seen history old.engine) old.engine.layout old.engine.checkpoint.base old.engine.log part
+  pub notes : Notes before after result
 
 -- ---- what it gives
 

@@ -109,9 +109,8 @@ fn write_entries<W: Sink>(window: WindowReader<'_>, writer: &mut W) -> Result<()
 /// Writes the position of the base, and its window: size and floor, how many entries it has, and these.
 fn write_window<D: Disk, W: Sink>(replica: &mut Replica<D>, writer: &mut W) -> Result<(), Refusal>
     requires { IsRunning replica.old }
-    ensures leaves { Leaves D.honest D.history D.failures replica.old replica.new result }
+    ensures leaves { Leaves D.honest D.history D.failures replica.old replica.new (W.failed writer.old) (W.failed writer.new) result }
     ensures written { (n : Node) → Holds D.honest D.history D.failures n replica.old → OnOk result (WroteWindow replica.old.engine.checkpoint.base n.base.kept (W.contents writer.old) (W.contents writer.new)) }
-    ensures notes { Notes (W.failed writer.old) (W.failed writer.new) result }
 {
     let mut room = [0; WINDOW_BODY];
     let position = replica.base();
@@ -128,9 +127,8 @@ fn write_base_page<D: Disk, W: Sink>(
     writer: &mut W,
 ) -> Result<(), Refusal>
     requires { IsRunning replica.old }
-    ensures leaves { Leaves D.honest D.history D.failures replica.old replica.new result }
+    ensures leaves { Leaves D.honest D.history D.failures replica.old replica.new (W.failed writer.old) (W.failed writer.new) result }
     ensures written { (n : Node) → Holds D.honest D.history D.failures n replica.old → OnOk result (WrotePage replica.old.engine.checkpoint.base n.base.content number (W.contents writer.old) (W.contents writer.new)) }
-    ensures notes { Notes (W.failed writer.old) (W.failed writer.new) result }
 {
     match replica.base_page(u32::from(number))? {
         Some(found) => {
@@ -147,9 +145,8 @@ fn write_base_page<D: Disk, W: Sink>(
 /// Writes the pages that the base has in a slot.
 fn write_pages<D: Disk, W: Sink>(replica: &mut Replica<D>, writer: &mut W) -> Result<(), Refusal>
     requires { IsRunning replica.old }
-    ensures leaves { Leaves D.honest D.history D.failures replica.old replica.new result }
+    ensures leaves { Leaves D.honest D.history D.failures replica.old replica.new (W.failed writer.old) (W.failed writer.new) result }
     ensures written { (n : Node) → Holds D.honest D.history D.failures n replica.old → OnOk result (WrotePages replica.old.engine.checkpoint.base n.base.content (pages_of replica.old.engine.checkpoint.base.params.rows) (W.contents writer.old) (W.contents writer.new)) }
-    ensures notes { Notes (W.failed writer.old) (W.failed writer.new) result }
 {
     for number in 0..page_count(replica) {
         write_base_page(replica, number, writer)?;
@@ -163,9 +160,8 @@ fn write_snapshot<D: Disk, W: Sink>(
     writer: &mut W,
 ) -> Result<(), Refusal>
     requires { IsRunning replica.old }
-    ensures leaves { Leaves D.honest D.history D.failures replica.old replica.new result }
+    ensures leaves { Leaves D.honest D.history D.failures replica.old replica.new (W.failed writer.old) (W.failed writer.new) result }
     ensures written { (n : Node) → Holds D.honest D.history D.failures n replica.old → OnOk result ((s : Snapshot) × SnapshotFits s × IsSnapshotOf n s × Appends (W.contents writer.old) (W.contents writer.new) (snapshot_bytes Two s)) }
-    ensures notes { Notes (W.failed writer.old) (W.failed writer.new) result }
 {
     row_places_are_told();
     write_window(replica, writer)?;
@@ -181,9 +177,8 @@ fn write_base<D: Disk, W: Sink>(
     writer: &mut W,
 ) -> Result<u64, Refusal>
     requires { IsRunning replica.old }
-    ensures leaves { Leaves D.honest D.history D.failures replica.old replica.new result }
+    ensures leaves { Leaves D.honest D.history D.failures replica.old replica.new (W.failed writer.old) (W.failed writer.new) result }
     ensures written { (n : Node) → Holds D.honest D.history D.failures n replica.old → IfOk result (λ position. WroteBase n have.now position (W.contents writer.old) (W.contents writer.new)) }
-    ensures notes { Notes (W.failed writer.old) (W.failed writer.new) result }
 {
     if !needs_snapshot(replica, have) {
         return Ok(have.position);
@@ -229,9 +224,8 @@ fn write_tail<D: Disk, W: Sink>(
     writer: &mut W,
 ) -> Result<(), Refusal>
     requires { IsRunning replica.old }
-    ensures leaves { Leaves D.honest D.history D.failures replica.old replica.new result }
+    ensures leaves { Leaves D.honest D.history D.failures replica.old replica.new (W.failed writer.old) (W.failed writer.new) result }
     ensures written { (n : Node) → Holds D.honest D.history D.failures n replica.old → OnOk result (AllByRecursion IsRecord (above position (durable_items n)) × Appends (W.contents writer.old) (W.contents writer.new) (flat_map record_part (above position (durable_items n)))) }
-    ensures notes { Notes (W.failed writer.old) (W.failed writer.new) result }
 {
     the_tail_is_told();
     let mut room = [0; LOG_BODY];
@@ -252,9 +246,8 @@ fn write_transfer<D: Disk, W: Sink>(
 ) -> Result<u64, Refusal>
     requires running { IsRunning replica.old }
     requires defined { IsNil replica.old.engine.checkpoint.base.uuid → ⊥ }
-    ensures leaves { Leaves D.honest D.history D.failures replica.old replica.new result }
+    ensures leaves { Leaves D.honest D.history D.failures replica.old replica.new (W.failed writer.old) (W.failed writer.new) result }
     ensures donated { (n : Node) → Holds D.honest D.history D.failures n replica.old → IfOk result (λ last. (t : Transfer) × IsDonated n have.now t × (t.last ≡ last) × Appends (W.contents writer.old) (W.contents writer.new) (transfer_bytes t)) }
-    ensures notes { Notes (W.failed writer.old) (W.failed writer.new) result }
 {
     let header = Header {
         format: Format::Two,
@@ -290,6 +283,7 @@ pub fn donate<D: Disk, W: Sink>(
     // An honest device of a node shows nothing that is not of its form.
     ensures whole { (n : Node) → Holds D.honest D.history D.failures n replica.old → (part : Part) → result ≢ Err (Refusal.Corrupt part) }
     ensures fault { result ≡ Err Refusal.DiskFault → Rises (D.failures replica.old.engine.disk) (D.failures replica.new.engine.disk) × (is_some replica.new.engine.halted ≡ true) }
+    ensures runs { result ≢ Err Refusal.DiskFault → replica.new.engine.halted ≡ replica.old.engine.halted }
     ensures no_fault { result ≢ Err Refusal.DiskFault → D.failures replica.new.engine.disk ≡ D.failures replica.old.engine.disk }
     // On an honest device of a node what is written is what the joiner needs, whole.
     ensures donated { (n : Node) → Holds D.honest D.history D.failures n replica.old → IfOk result (λ last. (t : Transfer) × IsDonated n have.now t × (t.last ≡ last) × Appends (W.contents writer.old) (W.contents writer.new) (transfer_bytes t)) }

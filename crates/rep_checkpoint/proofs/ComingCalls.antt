@@ -16,6 +16,7 @@ use Rattle.rep_cells.specs.States.{writing}
 use Rattle.rep_cells.specs.Calls.{WritesOnly, WritesIn, StepsAt}
 use Rattle.rep_pages.specs.declared.page.Page.{Page as PageBody}
 use Rattle.rep_pages.specs.Rows.{Rows}
+use Rattle.rep_pages.specs.Pages.{IsPageBody}
 use Rattle.rep_pages.specs.Slots.{state_of_page, spare_slot}
 use Rattle.rep_log.specs.Moves.{fault_of}
 use Rattle.rep_pool.specs.declared.pool.Kept.{Kept}
@@ -24,7 +25,7 @@ use Rattle.rep_pool.specs.BasePages.{GoesOn, GoesOnIf}
 use Rattle.rep_checkpoint.specs.declared.stage.Part.TheVariants.{Flushing}
 use Rattle.rep_checkpoint.specs.Pages.{PutsPage}
 use Rattle.rep_checkpoint.specs.Coming.{Coming, IsComing, IsNewPage, placed}
-use Rattle.rep_checkpoint.specs.Installing.{InstallsPage}
+use Rattle.rep_checkpoint.specs.Installing.{InstallsPage, coming_page}
 use Rattle.rep_checkpoint.proofs.GoingOn.{if_ok, writes_as, reaches_as}
 use Rattle.rep_checkpoint.proofs.Reading.{written_agrees}
 use Rattle.rep_checkpoint.proofs.ComingPages.{is_within, page_stays, page_came}
@@ -34,7 +35,7 @@ use Rattle.rep_checkpoint.proofs.ComingPages.{is_within, page_stays, page_came}
 -- it is written, and the snapshot stands as it did, and behind it with the page
 pub comes :
     {D : Type 0} → RowPlacesAreTold → (honest : D → Type 0) (history : D → History) (l : Layout) (base : SuperBody) (page : ℕ) (rows : Rows) (before after : Coming) (body : PageBody) (old new : D) (result : Result (Unit {0}) Refusal)
-    → IsComing base before.next → before.part ≡ Flushing → IsNewPage base before.next page rows → body ≡ record { number = page; position = before.next.super.position; rows = rows } → OnOk result (after ≡ placed base page before) → OnErr result (after ≡ before)
+    → IsComing base before.next → before.part ≡ Flushing → IsNewPage base before.next page rows → body ≡ coming_page before page rows → OnOk result (after ≡ placed base page before) → OnErr result (after ≡ before)
     → PutsPage honest history l base body (spare_slot (state_of_page base body.number)) old new (fault_of result) → IfErr result (λ e. e ≡ DiskFault) → InstallsPage honest history l base page rows before after old new result
 comes {D} told honest history l base page rows before after body old new result coming due new_page body_is done failed puts only =
     let number_is : body.number ≡ page = ap (λ (p : PageBody). p.number) body_is in
@@ -44,7 +45,7 @@ comes {D} told honest history l base page rows before after body old new result 
     record {
       done = done;
       fault = failed;
-      written = λ h. record { bytes = put.bytes; size = put.size; writes = writes_as (offset_of l (Page page (spare_slot (state_of_page base page)))) put.bytes (history old) (history new) result only (written h) };
+      written = λ h. record { bytes = put.bytes; spelled = subst (λ (p : PageBody). IsPageBody base.params.rows p put.bytes) body_is put.is_page; size = put.size; writes = writes_as (offset_of l (Page page (spare_slot (state_of_page base page)))) put.bytes (history old) (history new) result only (written h) };
       steps = λ h size s x y assigns is.
           let step = steps h s assigns in
           record {

@@ -1,23 +1,26 @@
 -- What the calls that install a snapshot do on an honest device, and what follows from how it stands.
-use Rattle.std.specs.Prelude.{◌≡◌, ◌⊎◌, ℕ, true, Result, OnOk, OnErr}
+use Rattle.std.specs.Prelude.{◌≡◌, ◌⊎◌, ℕ, true, List, length, Result, OnOk, OnErr}
 use Rattle.rep_types.specs.Order.{State}
 use Rattle.rep_disk.specs.History.{History}
 use Rattle.rep_layout.specs.declared.super_body.SuperBody.{SuperBody}
 use Rattle.rep_layout.specs.declared.place.Layout.{Layout}
 use Rattle.rep_layout.specs.declared.place.Place.TheVariants.{Page}
+use Rattle.rep_layout.specs.declared.place.TheConstants.{PAGE_BODY}
 use Rattle.rep_layout.specs.Places.{layout_of, offset_of}
 use Rattle.rep_cells.specs.Readings.{Reading}
 use Rattle.rep_cells.specs.States.{States, Allowed, Syncs}
 use Rattle.rep_cells.specs.Known.{Assigns}
-use Rattle.rep_cells.specs.Calls.{WritesOnly, WritesIn}
+use Rattle.rep_cells.specs.Calls.{Writes, WritesOnly, WritesIn}
+use Rattle.rep_pages.specs.declared.page.Page.{Page as PageBody}
 use Rattle.rep_pages.specs.Rows.{Rows}
+use Rattle.rep_pages.specs.Pages.{IsPageBody}
 use Rattle.rep_pages.specs.Slots.{state_of_page, spare_slot}
 use Rattle.rep_checkpoint.specs.declared.stage.Part.TheVariants.{SuperOpening}
 use Rattle.rep_checkpoint.specs.declared.stage.Stage.TheVariants.{Toward}
 use Rattle.rep_checkpoint.specs.Standing.{Standing}
 use Rattle.rep_checkpoint.specs.Moves.{found_at}
 use Rattle.rep_checkpoint.specs.States.{CheckpointIs}
-use Rattle.rep_checkpoint.specs.Calls.{next_place, next_offset, next_bytes, StepsTo, WritesPage}
+use Rattle.rep_checkpoint.specs.Calls.{next_place, next_offset, next_bytes, StepsTo}
 use Rattle.rep_checkpoint.specs.Laws.{HasBase}
 use Rattle.rep_checkpoint.specs.Coming.{Coming, InstallationIs, blank, placed, with_page, gone, settled}
 
@@ -42,11 +45,27 @@ pub record InstallsNext {D T E : Type 0} (honest : D → Type 0) (history : D �
   pub steps : honest old → (size : ℕ) (s : States) (x y : State) → Assigns l (history old) s → InstallationIs size base before x y s
       → Installs size l (history old) (history new) s base (gone before) (gone before) x y y result
 
--- A page came: it was written into the slot that the base doesn't use, and the snapshot brings its rows too.
+-- a page as the snapshot has it: of this number, written for the snapshot's position, with these rows
+abbrev pub coming_page : Coming → ℕ → Rows → PageBody
+coming_page i page rows = record { number = page; position = i.next.super.position; rows = rows }
+
+-- One write at most, at this offset, of the bytes that spell this page.
+pub record WritesSpelled {T E : Type 0} (schema : List ℕ) (page : PageBody) (at : ℕ) (old new : History) (result : Result T E) : Type 0 where
+  pub bytes : List ℕ
+  pub spelled : IsPageBody schema page bytes
+  pub size : length bytes ≡ PAGE_BODY
+  pub writes : Writes at bytes old new result
+
+-- On an honest device: one write at most, of the page as the snapshot has it, into the slot that the base doesn't use.
+abbrev pub WritesComing : {D T E : Type 0} → (D → Type 0) → (D → History) → Layout → SuperBody → Coming → ℕ → Rows → D → D → Result T E → Type 0
+WritesComing honest history l base i page rows old new result =
+    honest old → WritesSpelled base.params.rows (coming_page i page rows) (offset_of l (Page page (spare_slot (state_of_page base page)))) (history old) (history new) result
+
+-- A page came: it was written, as the snapshot has it, into the slot that the base doesn't use, and the snapshot brings its rows too.
 pub record InstallsPage {D T E : Type 0} (honest : D → Type 0) (history : D → History) (l : Layout) (base : SuperBody) (page : ℕ) (rows : Rows) (before after : Coming) (old new : D) (result : Result T E) : Type 0 where
   pub done : OnOk result (after ≡ placed base page before)
   pub fault : OnErr result (after ≡ before)
-  pub written : honest old → WritesPage (offset_of l (Page page (spare_slot (state_of_page base page)))) (history old) (history new) result
+  pub written : WritesComing honest history l base before page rows old new result
   pub steps : honest old → (size : ℕ) (s : States) (x y : State) → Assigns l (history old) s → InstallationIs size base before x y s
       → Installs size l (history old) (history new) s base before (placed base page before) x y (with_page base.params.rows page rows y) result
 

@@ -134,8 +134,8 @@ impl Installation {
         self.next.superblock.pages[page as usize] = PageState::In(slot);
     }
 
-    /// Writes a page of the snapshot into the slot that the base does not use: one write. The pool keeps nothing of the page from
-    /// then on. Pages come once each, in any order; one that does not come has no row.
+    /// Writes a page of the snapshot into the slot that the base does not use: one write, of a page that was written for the snapshot's
+    /// position. The pool keeps nothing of the page from then on. Pages come once each, in any order; one that does not come has no row.
     ///
     /// Refuses with `DiskFault` where the device failed: the snapshot is then as far as it was, and whoever calls stops.
     pub fn put_page<D: Disk>(

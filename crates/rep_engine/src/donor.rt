@@ -1,6 +1,6 @@
 //! What a donor reads for a joiner: the base with its window, and the blocks behind it.
 
-ghost use Rattle.std.specs.Prelude.{◌≡◌, ◌≢◌, ◌+◌, ◌-◌, ◌↔◌, List, false, nat_lt, is_some, None, Some, Ok, Err, IfOk, IfErr, IfSome, option_map};
+ghost use Rattle.std.specs.Prelude.{◌≡◌, ◌≢◌, ◌+◌, ◌-◌, ◌<◌, ◌^◌, ◌↔◌, List, false, nat_lt, is_some, None, Some, Ok, Err, IfOk, IfErr, IfSome, option_map};
 ghost use Rattle.rep_types.specs.declared.judged.Judged.{Judged};
 ghost use Rattle.rep_types.specs.declared.refusal.Refusal.TheVariants.{Corrupt};
 ghost use Rattle.rep_types.specs.declared.refusal.Part.TheVariants.{Log as in_log, Window as in_window, Pages as in_pages};
@@ -55,6 +55,8 @@ impl<D: Disk> Engine<D> {
         ensures none { IfOk result (λ found. is_some found ≡ nat_lt index (self.old.log.next - self.old.log.start)) }
         // And None is given there, whatever stands on the device.
         ensures behind { nat_lt index (self.old.log.next - self.old.log.start) ≡ false → self.old.halted ≡ None → result ≡ Ok None }
+        // The numbers of the log's blocks are numbers of 64 bits.
+        ensures fits { result ≢ Err Refusal.Stopped → self.old.log.next < 2 ^ 64 }
         // On any device what is given is a block of that number.
         ensures form { IfOk result (λ found. IfSome found (λ b. (b.cell ≡ self.old.log.start + index) × IsBlock b.cell b.records)) }
         ensures holds { (n : Node) → Holds D.honest D.history D.failures n self.old → result ≢ Err Refusal.DiskFault → Holds D.honest D.history D.failures n self.new }

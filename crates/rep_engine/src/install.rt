@@ -14,7 +14,7 @@ ghost use Rattle.rep_image.specs.Meanings.{Means};
 ghost use Rattle.rep_checkpoint.specs.declared.stage.Part.TheVariants.{Flushing, SuperFilled};
 ghost use Rattle.rep_checkpoint.specs.declared.stage.Stage.TheVariants.{Off};
 ghost use Rattle.rep_checkpoint.specs.Coming.{IsDue, IsNewPage, blank, coming, gone, placed, settled, with_page};
-ghost use Rattle.rep_checkpoint.specs.Installing.{InstallsNext, InstallsPage};
+ghost use Rattle.rep_checkpoint.specs.Installing.{InstallsNext, InstallsPage, WritesComing};
 ghost use Rattle.rep_engine.specs.Engines.{durable_of};
 ghost use Rattle.rep_engine.specs.Holding.{Holds};
 ghost use Rattle.rep_engine.specs.Reading.{halted_by};
@@ -289,6 +289,8 @@ impl<D: Disk> Installation<D> {
         ensures running { self.old.engine.halted ≡ None → (self.new.engine.halted ≡ halted_by self.old.engine.log.phase result) × IfErr result (λ e. e ≡ DiskFault) }
         ensures done { OnOk result (self.new.coming ≡ placed self.old.engine.checkpoint.base page self.old.coming) }
         ensures fault { OnErr result (self.new.coming ≡ self.old.coming) }
+        // Its position in the bytes is the snapshot's.
+        ensures written { self.old.engine.halted ≡ None → WritesComing D.honest D.history self.old.engine.layout self.old.engine.checkpoint.base self.old.coming page rows self.old.engine.disk self.new.engine.disk result }
         // Where it succeeds, the snapshot brings the page's rows too.
         ensures holds { (n : Node) → (y : State) → HoldsBoth D.honest D.history D.failures n y self.old.engine self.old.coming → OnOk result (HoldsBoth D.honest D.history D.failures n (with_page self.old.engine.checkpoint.base.params.rows page rows y) self.new.engine self.new.coming) }
         ensures halts { (n : Node) → (y : State) → HoldsBoth D.honest D.history D.failures n y self.old.engine self.old.coming → IfErr result (λ e. e ≡ DiskFault → HoldsBoth D.honest D.history D.failures (halted_node (D.failures self.new.engine.disk) n) y self.new.engine self.new.coming) }

@@ -1,5 +1,5 @@
 -- What stays of a replica's facts while it settles.
-use Rattle.std.proofs.Common.{◌≡◌, List, ◌∷◌, Ok, Err, sym, ap, ◌∙◌}
+use Rattle.std.proofs.Common.{◌≡◌, List, Ok, Err, sym, ap, ◌∙◌}
 use Rattle.std.specs.Prelude.{◌≢◌}
 use Rattle.rep_types.specs.declared.refusal.Refusal.TheVariants.{DiskFault}
 use Rattle.rep_steps.specs.declared.event.Event.{Event}

@@ -9,10 +9,10 @@ use Rattle.rep_catchup.proofs.donor.write_base.Goals as goal
 pub returns-in_err-write_snapshot-clause-leaves : goal.returns-in_err-write_snapshot-clause-leaves
 returns-in_err-write_snapshot-clause-leaves g c =
     let p = err_from_is_err_and c.from_residual.result c.from_residual.ensures.1 in
-    rw (p.1, p.2) (leaves_passed g.D.Disk.honest g.D.Disk.history g.D.Disk.failures c.args.replica.now c.write_snapshot.new.replica c.in_err-write_snapshot.field-0.0 c.in_err-write_snapshot.ensures.leaves)
+    rw (p.1, p.2) (leaves_passed g.D.Disk.honest g.D.Disk.history g.D.Disk.failures c.args.replica.now c.write_snapshot.new.replica _ _ c.in_err-write_snapshot.field-0.0 c.in_err-write_snapshot.ensures.leaves)
 
 pub returns-clause-leaves : goal.returns-clause-leaves
-returns-clause-leaves g c = leaves_given g.D.Disk.honest g.D.Disk.history g.D.Disk.failures c.args.replica.now c.write_snapshot.new.replica c.in_ok-write_snapshot.field-0 c.base.result c.in_ok-write_snapshot.ensures.leaves
+returns-clause-leaves g c = leaves_given g.D.Disk.honest g.D.Disk.history g.D.Disk.failures c.args.replica.now c.write_snapshot.new.replica _ _ c.in_ok-write_snapshot.field-0 c.base.result c.in_ok-write_snapshot.ensures.leaves
 
 pub returns-clause-written : goal.returns-clause-written
 returns-clause-written g c = λ n holds.

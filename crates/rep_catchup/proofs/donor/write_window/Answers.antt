@@ -1,28 +1,35 @@
 use Rattle.std.proofs.Common.{Ok, Err, []}
 use Rattle.std.proofs.lemmas.Result.{err_from_is_err_and}
-use Rattle.rep_catchup.proofs.DonateReads.{leaves_asked, leaves_cut, leaves_passed, leaves_then, leaves_wrote}
+use Rattle.rep_catchup.proofs.DonateReads.{leaves_asked, leaves_cut, leaves_passed, leaves_then, leaves_noted, leaves_wrote}
 use Rattle.rep_catchup.proofs.DonateWindow.{window_wrote}
 use Rattle.rep_catchup.proofs.donor.write_window.Goals as goal
 
 pub returns-in_err-write_front-clause-leaves : goal.returns-in_err-write_front-clause-leaves
 returns-in_err-write_front-clause-leaves g c =
     let p = err_from_is_err_and c.from_residual-in_err-write_front.result c.from_residual-in_err-write_front.ensures.1 in
-    rw (p.1, p.2) (leaves_then g.D.Disk.honest g.D.Disk.history g.D.Disk.failures c.args.replica.now c.base_window.new.self c.base_window.new.self c.in_ok-window.window (Err c.in_err-write_front.field-0.0)
-    (leaves_asked g.D.Disk.honest g.D.Disk.history g.D.Disk.failures _ _ c.args.replica.now c.base_window.new.self (Ok c.in_ok-window.window) c.in_ok-window.ensures.asks c.requires c.in_ok-window.ensures.holds c.in_ok-window.ensures.whole)
-    (leaves_cut g.D.Disk.honest g.D.Disk.history g.D.Disk.failures c.base_window.new.self c.in_err-write_front.field-0.0 (c.in_err-write_front.ensures.written []).refused))
+    rw (p.1, p.2) (leaves_then g.D.Disk.honest g.D.Disk.history g.D.Disk.failures c.args.replica.now c.base_window.new.self c.base_window.new.self _ _ _ c.in_ok-window.window (Err c.in_err-write_front.field-0.0)
+    (leaves_asked g.D.Disk.honest g.D.Disk.history g.D.Disk.failures _ _ c.args.replica.now c.base_window.new.self (g.W.Sink.failed c.args.writer.now) (Ok c.in_ok-window.window) c.in_ok-window.ensures.asks c.requires c.in_ok-window.ensures.holds c.in_ok-window.ensures.whole (λ h is. (c.in_ok-window.ensures.spelled h).corrupt is))
+    (leaves_cut g.D.Disk.honest g.D.Disk.history g.D.Disk.failures c.base_window.new.self _ _ c.in_err-write_front.field-0.0 (c.in_err-write_front.ensures.written []).refused c.in_err-write_front.ensures.notes))
 
 pub returns-in_err-write_count-clause-leaves : goal.returns-in_err-write_count-clause-leaves
 returns-in_err-write_count-clause-leaves g c =
     let p = err_from_is_err_and c.from_residual-in_err-write_count.result c.from_residual-in_err-write_count.ensures.1 in
-    rw (p.1, p.2) (leaves_then g.D.Disk.honest g.D.Disk.history g.D.Disk.failures c.args.replica.now c.base_window.new.self c.base_window.new.self c.in_ok-window.window (Err c.in_err-write_count.field-0.0)
-    (leaves_asked g.D.Disk.honest g.D.Disk.history g.D.Disk.failures _ _ c.args.replica.now c.base_window.new.self (Ok c.in_ok-window.window) c.in_ok-window.ensures.asks c.requires c.in_ok-window.ensures.holds c.in_ok-window.ensures.whole)
-    (leaves_cut g.D.Disk.honest g.D.Disk.history g.D.Disk.failures c.base_window.new.self c.in_err-write_count.field-0.0 c.in_err-write_count.ensures.refused))
+    let old = c.args.replica.now in
+    let new = c.base_window.new.self in
+    let asked = leaves_asked g.D.Disk.honest g.D.Disk.history g.D.Disk.failures _ _ old new (g.W.Sink.failed c.args.writer.now) (Ok c.in_ok-window.window) c.in_ok-window.ensures.asks c.requires c.in_ok-window.ensures.holds c.in_ok-window.ensures.whole (λ h is. (c.in_ok-window.ensures.spelled h).corrupt is) in
+    let fronted = leaves_then g.D.Disk.honest g.D.Disk.history g.D.Disk.failures old new new (g.W.Sink.failed c.args.writer.now) (g.W.Sink.failed c.args.writer.now) (g.W.Sink.failed c.write_front.new.writer) c.in_ok-window.window (Ok tt) asked (leaves_noted g.D.Disk.honest g.D.Disk.history g.D.Disk.failures new _ _ tt c.in_ok-write_front.ensures.notes asked.runs) in
+    rw (p.1, p.2) (leaves_then g.D.Disk.honest g.D.Disk.history g.D.Disk.failures old new new _ _ _ tt (Err c.in_err-write_count.field-0.0) fronted
+    (leaves_cut g.D.Disk.honest g.D.Disk.history g.D.Disk.failures new _ _ c.in_err-write_count.field-0.0 c.in_err-write_count.ensures.written.refused c.in_err-write_count.ensures.notes))
 
 pub returns-clause-leaves : goal.returns-clause-leaves
 returns-clause-leaves g c =
-    let asked = leaves_asked g.D.Disk.honest g.D.Disk.history g.D.Disk.failures _ _ c.args.replica.now c.base_window.new.self (Ok c.in_ok-window.window) c.in_ok-window.ensures.asks c.requires c.in_ok-window.ensures.holds c.in_ok-window.ensures.whole in
-    leaves_then g.D.Disk.honest g.D.Disk.history g.D.Disk.failures c.args.replica.now c.base_window.new.self c.base_window.new.self c.in_ok-window.window c.write_entries.result asked
-    (leaves_wrote g.D.Disk.honest g.D.Disk.history g.D.Disk.failures c.base_window.new.self _ _ _ c.write_entries.result c.write_entries.ensures.written asked.runs)
+    let old = c.args.replica.now in
+    let new = c.base_window.new.self in
+    let asked = leaves_asked g.D.Disk.honest g.D.Disk.history g.D.Disk.failures _ _ old new (g.W.Sink.failed c.args.writer.now) (Ok c.in_ok-window.window) c.in_ok-window.ensures.asks c.requires c.in_ok-window.ensures.holds c.in_ok-window.ensures.whole (λ h is. (c.in_ok-window.ensures.spelled h).corrupt is) in
+    let fronted = leaves_then g.D.Disk.honest g.D.Disk.history g.D.Disk.failures old new new (g.W.Sink.failed c.args.writer.now) (g.W.Sink.failed c.args.writer.now) (g.W.Sink.failed c.write_front.new.writer) c.in_ok-window.window (Ok tt) asked (leaves_noted g.D.Disk.honest g.D.Disk.history g.D.Disk.failures new _ _ tt c.in_ok-write_front.ensures.notes asked.runs) in
+    let counted = leaves_then g.D.Disk.honest g.D.Disk.history g.D.Disk.failures old new new (g.W.Sink.failed c.args.writer.now) (g.W.Sink.failed c.write_front.new.writer) (g.W.Sink.failed c.write_count.new.writer) tt (Ok tt) fronted (leaves_noted g.D.Disk.honest g.D.Disk.history g.D.Disk.failures new _ _ tt c.in_ok-write_count.ensures.notes asked.runs) in
+    leaves_then g.D.Disk.honest g.D.Disk.history g.D.Disk.failures old new new _ _ _ tt c.write_entries.result counted
+    (leaves_wrote g.D.Disk.honest g.D.Disk.history g.D.Disk.failures new _ _ _ _ _ c.write_entries.result c.write_entries.ensures.written c.write_entries.ensures.notes asked.runs)
 
 pub returns-clause-written : goal.returns-clause-written
 returns-clause-written g c = λ n holds.
@@ -30,12 +37,12 @@ returns-clause-written g c = λ n holds.
     let w = c.in_ok-window.window in
     window_wrote b w c.base-position.result c.len.result (record { size = c.size.result; floor = c.floor.result }) (g.W.Sink.contents c.args.writer.now) (g.W.Sink.contents c.write_front.new.writer)
     (g.W.Sink.contents c.write_count.new.writer) (g.W.Sink.contents c.write_entries.new.writer) c.in_ok-window.ensures.form c.base-position.ensures
-    (λ i. record { size = c.size.ensures i; floor = c.floor.ensures i }) c.len.ensures (c.in_ok-write_front.ensures.written w.kept.entries).done c.in_ok-write_count.ensures.done n.base.kept c.write_entries.result
+    (λ i. record { size = c.size.ensures i; floor = c.floor.ensures i }) c.len.ensures (c.in_ok-write_front.ensures.written w.kept.entries).done c.in_ok-write_count.ensures.written.done n.base.kept c.write_entries.result
     (c.in_ok-window.ensures.window n holds) c.write_entries.ensures.fit c.write_entries.ensures.written.done
 
 pub returns-in_err-window-clause-leaves : goal.returns-in_err-window-clause-leaves
 returns-in_err-window-clause-leaves g c =
     let p = err_from_is_err_and c.from_residual.result c.from_residual.ensures.1 in
     let e = c.in_err-window.field-0.0 in
-    rw (p.1, p.2) (leaves_passed g.D.Disk.honest g.D.Disk.history g.D.Disk.failures c.args.replica.now c.base_window.new.self e
-    (leaves_asked g.D.Disk.honest g.D.Disk.history g.D.Disk.failures _ _ c.args.replica.now c.base_window.new.self (Err e) c.in_err-window.ensures.asks c.requires c.in_err-window.ensures.holds c.in_err-window.ensures.whole))
+    rw (p.1, p.2) (leaves_passed g.D.Disk.honest g.D.Disk.history g.D.Disk.failures c.args.replica.now c.base_window.new.self _ _ e
+    (leaves_asked g.D.Disk.honest g.D.Disk.history g.D.Disk.failures _ _ c.args.replica.now c.base_window.new.self (g.W.Sink.failed c.args.writer.now) (Err e) c.in_err-window.ensures.asks c.requires c.in_err-window.ensures.holds c.in_err-window.ensures.whole (λ h is. (c.in_err-window.ensures.spelled h).corrupt is)))

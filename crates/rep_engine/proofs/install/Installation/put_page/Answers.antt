@@ -1,13 +1,19 @@
-use Rattle.std.proofs.Common.{◌≡◌, IfErr, OnOk, Err, ap, subst, ◌∙◌}
+use Rattle.std.proofs.Common.{◌≡◌, None, IfErr, OnOk, Err, ap, subst, ◌∙◌}
 use Rattle.rep_types.specs.declared.refusal.Refusal.TheVariants.{DiskFault}
 use Rattle.rep_disk.specs.Moments.{LeavesOnly}
 use Rattle.rep_steps.specs.Images.{IsFrontAt}
 use Rattle.rep_image.specs.Meanings.{Means}
 use Rattle.rep_checkpoint.specs.Coming.{with_page}
+use Rattle.rep_checkpoint.specs.Installing.{WritesComing}
 use Rattle.rep_engine.specs.Reading.{halted_by}
 use Rattle.rep_engine.specs.Installing.{Beside, HoldsBoth, halted_node}
 use Rattle.rep_engine.proofs.Installing.{ok_by, err_by, err_of, page_to, page_stops, page_leaves}
 use Rattle.rep_engine.proofs.install.Installation.put_page.Goals as goal
+
+pub returns-clause-written : goal.returns-clause-written
+returns-clause-written g c =
+    subst (λ (b : Beside g.row.D.Denot). b.engine.halted ≡ None → WritesComing g.D.Disk.honest g.D.Disk.history b.engine.layout b.engine.checkpoint.base b.coming c.args.page c.args.rows b.engine.disk c.install_page.new.self.disk c.install_page.result) c.self.view_is
+    (λ runs. c.install_page.ensures.puts.written)
 
 pub returns-clause-holds : goal.returns-clause-holds
 returns-clause-holds g c = λ n y.

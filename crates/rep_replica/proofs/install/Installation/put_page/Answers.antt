@@ -6,6 +6,7 @@ use Rattle.rep_log.specs.Moves.{fault_of}
 use Rattle.rep_steps.specs.Images.{IsFrontAt}
 use Rattle.rep_image.specs.Meanings.{Means}
 use Rattle.rep_checkpoint.specs.Coming.{placed, with_page}
+use Rattle.rep_checkpoint.specs.Installing.{WritesComing}
 use Rattle.rep_engine.specs.Engines.{Engine}
 use Rattle.rep_engine.specs.Reading.{halted_by}
 use Rattle.rep_engine.specs.Installing.{Beside, halted_node}
@@ -32,6 +33,7 @@ returns g c =
       running = subst (λ (b : Bringing g.row.D.Denot). b.engine.halted ≡ None → ((new g c).engine.halted ≡ halted_by b.engine.log.phase r) × IfErr r (λ e. e ≡ DiskFault)) c.self.view_is e.running;
       done = subst (λ (b : Bringing g.row.D.Denot). OnOk r ((new g c).coming ≡ placed b.engine.checkpoint.base c.args.page b.coming)) c.self.view_is e.done;
       fault = subst (λ (b : Bringing g.row.D.Denot). OnErr r ((new g c).coming ≡ b.coming)) c.self.view_is e.fault;
+      written = subst (λ (b : Bringing g.row.D.Denot). b.engine.halted ≡ None → WritesComing g.D.Disk.honest g.D.Disk.history b.engine.layout b.engine.checkpoint.base b.coming c.args.page c.args.rows b.engine.disk (new g c).engine.disk r) c.self.view_is e.written;
       holds = λ n y. subst (λ (b : Bringing g.row.D.Denot). HoldsBoth g.D.Disk.honest g.D.Disk.history g.D.Disk.failures n y b → OnOk r (HoldsBoth g.D.Disk.honest g.D.Disk.history g.D.Disk.failures n (with_page b.engine.checkpoint.base.params.rows c.args.page c.args.rows y) (new g c))) c.self.view_is
           (λ holds. done_on r (e.holds n y holds.engine) (λ h. record { engine = h; judged = holds.judged; windows = holds.windows }));
       halts = λ n y. subst (λ (b : Bringing g.row.D.Denot). HoldsBoth g.D.Disk.honest g.D.Disk.history g.D.Disk.failures n y b → IfErr r (λ e. e ≡ DiskFault → HoldsBoth g.D.Disk.honest g.D.Disk.history g.D.Disk.failures (halted_node (g.D.Disk.failures (new g c).engine.disk) n) y (new g c))) c.self.view_is
