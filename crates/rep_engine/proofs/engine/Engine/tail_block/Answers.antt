@@ -1,4 +1,4 @@
-use Rattle.std.proofs.Common.{◌≡◌, ◌+◌, ◌-◌, ◌<◌, true, false, None, Some, Ok, Err, IsOk, IsErr, refl, sym, ap, subst, ◌∙◌, arith, rules}
+use Rattle.std.proofs.Common.{◌≡◌, ◌+◌, ◌-◌, ◌<◌, ◌^◌, true, false, None, Some, Ok, Err, IsOk, IsErr, refl, sym, ap, subst, ◌∙◌, arith, rules}
 use Rattle.rep_layout.specs.declared.place.Layout.{Layout}
 use Rattle.rep_layout.specs.Places.{log_of}
 use Rattle.std.specs.Prelude.{nat_lt}
@@ -35,6 +35,7 @@ returns-then-index-next g c =
       none = subst (λ (e : Engine g.row.D.Denot). false ≡ nat_lt c.args.index (e.log.next - e.log.start)) c.self.view_is
           (is_past c.args.index (c.self.inside.log.next - c.self.inside.log.start) (omega (arith, c.start-first.ensures, c.next.ensures.next, c.if-index-next.true)));
       behind = λ past runs. refl;
+      fits = λ other. subst (λ (e : Engine g.row.D.Denot). e.log.next < 2 ^ 64) c.self.view_is (omega (arith, c.next.ensures.next));
       form = tt;
       holds = λ n holds other. holds;
       block = λ n holds. tt;
@@ -53,6 +54,7 @@ returns-in-Ok-block_in g c =
       asks = asks_found g.D.Disk.size g.D.Disk.failures g.D.Disk.honest g.D.Disk.history in_log (inside c.self.inside.cells c.self.inside.checkpoint c.self.inside.log c.self.inside.versions c.self.inside.block c.self.inside.halted) c.args.self.now (disk_of c.read_cell.new.self) (layout_of c.read_cell.new.self) c.read_cell.result c.self.view_is (runs_within c.self.view_is c.in_ok-running.ensures.runs) c.read_cell.ensures.layout c.read_cell.ensures.call c.read_cell.ensures.same (subst IsOk (sym c.in-Ok.is) refl) (Ok (Some c.in-Ok-block_in.block)) tt;
       none = some;
       behind = λ past runs. (let never : true ≡ false = some ∙ past in absurd cc);
+      fits = λ other. subst (λ (e : Engine g.row.D.Denot). e.log.next < 2 ^ 64) c.self.view_is (omega (arith, c.next.ensures.next));
       form = (
         form.0 ∙ ap (λ first. first + c.args.index) (c.start-first.ensures ∙ ap (λ (e : Engine g.row.D.Denot). e.log.start) c.self.view_is),
         subst (λ k. IsBlock k c.in-Ok-block_in.block.records) (sym form.0) form.1,
@@ -71,6 +73,7 @@ returns-in-Err g c =
       asks = asks_found g.D.Disk.size g.D.Disk.failures g.D.Disk.honest g.D.Disk.history in_log (inside c.self.inside.cells c.self.inside.checkpoint c.self.inside.log c.self.inside.versions c.self.inside.block c.self.inside.halted) c.args.self.now (disk_of c.read_cell.new.self) (layout_of c.read_cell.new.self) c.read_cell.result c.self.view_is (runs_within c.self.view_is c.in_ok-running.ensures.runs) c.read_cell.ensures.layout c.read_cell.ensures.call c.read_cell.ensures.same (subst IsOk (sym c.in-Ok.is) refl) (Err c.in-Err.refusal) c.in-Err.ensures.refused;
       none = tt;
       behind = λ past runs. (let never : true ≡ false = some ∙ past in absurd cc);
+      fits = λ other. subst (λ (e : Engine g.row.D.Denot). e.log.next < 2 ^ 64) c.self.view_is (omega (arith, c.next.ensures.next));
       form = tt;
       holds = λ n holds other. holds_read g.D.Disk.size g.D.Disk.failures g.D.Disk.honest g.D.Disk.history _ c.args.self.now _ _ (Ok c.in-Ok.body) c.self.view_is (runs_within c.self.view_is c.in_ok-running.ensures.runs) c.read_cell.ensures.layout c.in-Ok.ensures.call refl c.read_cell.ensures.same n holds;
       block = λ n holds. tt;
@@ -88,6 +91,7 @@ returns-in_default g c =
       asks = asks_failed g.D.Disk.size g.D.Disk.failures g.D.Disk.honest g.D.Disk.history in_log (inside c.self.inside.cells c.self.inside.checkpoint c.self.inside.log c.self.inside.versions c.self.inside.block c.self.inside.halted) c.args.self.now (disk_of c.read_cell.new.self) (layout_of c.read_cell.new.self) c.read_cell.result c.self.view_is (runs_within c.self.view_is c.in_ok-running.ensures.runs) c.read_cell.ensures.layout c.read_cell.ensures.call c.read_cell.ensures.same err c.phase.result c.phase.ensures;
       none = tt;
       behind = λ past runs. (let never : true ≡ false = some ∙ past in absurd cc);
+      fits = λ other. subst (λ (e : Engine g.row.D.Denot). e.log.next < 2 ^ 64) c.self.view_is (omega (arith, c.next.ensures.next));
       form = tt;
       holds = λ n holds other. absurd (other refl);
       block = λ n holds. tt;
@@ -103,6 +107,7 @@ returns-in_err-running g c =
       asks = asks_stopped g.D.Disk.size g.D.Disk.failures g.D.Disk.honest g.D.Disk.history in_log c.args.self.now c.in_err-running.ensures.stopped.1;
       none = tt;
       behind = λ past runs. absurd (not_both c.args.self.now.halted c.in_err-running.ensures.stopped.1 runs);
+      fits = λ other. absurd (other refl);
       form = tt;
       holds = λ n holds other. holds;
       block = λ n holds. tt;

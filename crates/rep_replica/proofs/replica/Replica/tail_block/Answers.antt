@@ -1,4 +1,4 @@
-use Rattle.std.proofs.Common.{◌≢◌, Err, sym, ◌∙◌}
+use Rattle.std.proofs.Common.{◌≢◌, ◌<◌, ◌^◌, Err, sym, subst, ◌∙◌}
 use Rattle.rep_types.specs.declared.refusal.Refusal.TheVariants.{Corrupt}
 use Rattle.rep_types.specs.declared.refusal.Part.TheVariants.{Log as in_log}
 use Rattle.rep_replica.specs.Replicas.{Replica}
@@ -27,3 +27,6 @@ returns-clause-whole g c n holds =
 
 pub returns-then-is_stopped-clause-spelled : goal.returns-then-is_stopped-clause-spelled
 returns-then-is_stopped-clause-spelled g c honest = no_block _ _ _ _
+
+pub returns-clause-fits : goal.returns-clause-fits
+returns-clause-fits g c other = subst (λ (r : Replica g.row.D.Denot). r.engine.log.next < 2 ^ 64) c.self.view_is (c.tail_block.ensures.fits other)
