@@ -1,27 +1,29 @@
 -- A joiner that is given what a donor has for it takes that, or is refused for want of memory or a failed device.
-use Rattle.std.proofs.Common.{◌≡◌, ◌⊎◌, inl, inr, ℕ, ◌+◌, ◌<◌, ◌≤◌, Bool, true, false, List, [], ◌∷◌, ◌++◌, length, take, Option, None, Some, Result, Ok, Err, append-nil, append_assoc, arith, refl, sym, ap, subst, ◌∙◌}
-use Rattle.std.specs.Prelude.{◌≢◌, ◌||◌, is_some, if◌then◌else◌, IfErr, IfOk, IfSome, MatchOption, IsTrue}
+use Rattle.std.proofs.Common.{◌≡◌, ◌⊎◌, inl, inr, ℕ, ◌+◌, ◌<◌, Bool, true, false, List, [], ◌∷◌, ◌++◌, length, take, Option, None, Some, Result, Ok, Err, append-nil, append_assoc, arith, refl, sym, ap, subst, ◌∙◌}
+use Rattle.std.specs.Prelude.{◌≢◌, if◌then◌else◌, IfErr, IfOk, IfSome, MatchOption, IsTrue}
 use Rattle.std.specs.List.{flat_map, list_all, AllByRecursion}
-use Rattle.std.specs.Io.KnownBytes.{Consumes}
+use Rattle.std.specs.Io.KnownBytes.{Appends, Consumes}
 use Rattle.std.proofs.lemmas.List.{take-take}
-use Rattle.std.proofs.lemmas.Slice.Eq.{bytes_eq-Decides}
-use Rattle.uuid.specs.Parts.{is_nil_bytes, zero_bytes}
+use Rattle.uuid.specs.Parts.{is_nil_bytes}
 use Rattle.rep_types.specs.declared.refusal.Refusal.{Refusal}
-use Rattle.rep_types.specs.declared.refusal.Refusal.TheVariants.{OutOfMemory, DiskFault, Corrupt, Malformed, StreamFault, WrongCluster}
+use Rattle.rep_types.specs.declared.refusal.Refusal.TheVariants.{OutOfMemory, DiskFault, Corrupt, Malformed, StreamFault}
+use Rattle.rep_types.specs.declared.refusal.Part.{Part}
 use Rattle.rep_types.specs.declared.refusal.Part.TheVariants.{Pages}
+use Rattle.rep_streams.specs.Streams.{Held}
 use Rattle.rep_types.specs.declared.judged.Judged.{Judged}
 use Rattle.rep_types.specs.Settings.{Setting, has_row}
 use Rattle.rep_types.specs.Entries.{Entry}
 use Rattle.rep_types.specs.Windows.{Window}
-use Rattle.rep_types.specs.Order.{Order, State, items_of}
-use Rattle.rep_record.specs.Records.{IsRecord, record_bytes}
+use Rattle.rep_types.specs.Order.{Order, State}
+use Rattle.rep_record.specs.Records.{IsRecord}
 use Rattle.rep_disk.specs.History.{History}
+use Rattle.rep_disk.specs.Calls.{Rises}
 use Rattle.rep_layout.specs.declared.format.Format.{Format}
 use Rattle.rep_layout.specs.declared.format.Format.TheVariants.{Two}
 use Rattle.rep_layout.specs.Supers.{IsNil}
 use Rattle.rep_layout.specs.Windows.{IsEntry, IsWindowAt, IsOfFormat}
 use Rattle.rep_steps.specs.Standings.{Standing, delivered}
-use Rattle.rep_steps.specs.Nodes.{Node, IsNode}
+use Rattle.rep_steps.specs.Nodes.{Node}
 use Rattle.rep_steps.specs.Orders.{IsOf}
 use Rattle.rep_replica.specs.Replicas.{Replica, facts_of}
 use Rattle.rep_replica.specs.Holding.{Holds, JudgesAsItsNode}
@@ -30,16 +32,16 @@ use Rattle.rep_transfer.specs.declared.have.Have.{Have}
 use Rattle.rep_transfer.specs.declared.header.Header.{Header}
 use Rattle.rep_transfer.specs.declared.pieces.NumberedPage.{NumberedPage}
 use Rattle.rep_transfer.specs.declared.part.Part.TheVariants.{Record as OfRecord, End as OfEnd}
-use Rattle.rep_transfer.specs.Haves.{IsHave, IsHeader, header_bytes}
+use Rattle.rep_transfer.specs.Haves.{IsHeader, header_bytes}
 use Rattle.rep_transfer.specs.Shapes.{Shape, shape_of, least_of}
 use Rattle.rep_transfer.specs.Telling.{TransfersAreTold, PartsAreTold, IsTakenOf, IsBeforeSnapshot}
 use Rattle.rep_transfer.specs.Taking.{counted}
-use Rattle.rep_transfer.specs.Transfers.{Snapshot, Transfer, IsTransfer, IsTold, SnapshotFits, snapshot_bytes, snapshot_part, record_part, end_bytes, transfer_bytes}
+use Rattle.rep_transfer.specs.Transfers.{Snapshot, Transfer, IsTold, SnapshotFits, snapshot_bytes, snapshot_part, record_part, end_bytes, transfer_bytes}
 use Rattle.rep_catchup.specs.Haves.{have_of}
-use Rattle.rep_catchup.specs.Donating.{IsFirstRefusal, IsOfCluster, IsDonated, Brings}
-use Rattle.rep_catchup.specs.Snapshots.{IsSnapshot, IsPageOf, CanTell, state_of, with_pages}
-use Rattle.rep_catchup.specs.Growing.{Grown, IsToldBy, Tells}
-use Rattle.rep_catchup.specs.Joining.{Joined, IsFor, Becomes, GoesOn, CutShort, Ended, EndsHere, RefusesHeader, TakesHeader, NoneFollows, MayFollow}
+use Rattle.rep_catchup.specs.Donating.{IsFirstRefusal, IsOfCluster, Brings, EndsEarly as GivesUpEarly}
+use Rattle.rep_catchup.specs.Snapshots.{IsSnapshot, IsPageOf, with_pages}
+use Rattle.rep_catchup.specs.Growing.{Grown, Tells}
+use Rattle.rep_catchup.specs.Joining.{Joined, IsFor, Becomes, GoesOn, Came, CutShort, Ended, EndsHere, RefusesHeader, TakesHeader, NoneFollows}
 use Rattle.rep_catchup.specs.Orders.{IsJoiner, AreNext, DonatedPartsComeNext, JoinersHoldTheOrder}
 use Rattle.rep_catchup_uses.specs.CatchingUp.{MayCatchUp, IsGiven, CaughtUp}
 
@@ -64,7 +66,7 @@ module _ {D : Type 0} (honest : D → Type 0) (history : D → History) (failure
   all_durable = omega (arith, ap length may.none)
 
   pub is_joiner : (have : Have) → have ≡ have_of joiner → IsJoiner (take n.facts.durable O) k have
-  pub is_joiner have is = record {
+  is_joiner have is = record {
     uuid = ap (λ (h : Have). h.uuid) is ∙ sym (ap (λ (s : Standing). s.uuid) own);
     position = ap (λ (h : Have). h.position) is ∙ said ∙ sym all_durable;
     front = λ defined. subst (λ (L : Order). IsOf L k) (sym (take-take k.facts.durable n.facts.durable O may.behind) ∙ ap (λ d. take d (take n.facts.durable O)) (sym all_durable)) (may.front defined);
@@ -72,7 +74,7 @@ module _ {D : Type 0} (honest : D → Type 0) (history : D → History) (failure
 
   -- so it is refused for nothing that it says
   pub is_served : {E : Type 0} (just : E → Type 0) (past : E → History) (faults : E → ℕ) (donor : Replica E) (have : Have) → have ≡ have_of joiner → Holds just past faults n donor → IsFirstRefusal (facts_of faults donor) have None
-  pub is_served just past faults donor have is standing =
+  is_served just past faults donor have is standing =
       let there : n.facts ≡ facts_of faults donor = standing.facts in
       let runs : (facts_of faults donor).stopped ≡ false = ap (λ (s : Standing). s.stopped) (sym there) ∙ may.donor_runs in
       let uuid : have.uuid ≡ k.facts.uuid = (is_joiner have is).uuid in
@@ -163,7 +165,7 @@ module _ {D : Type 0} (honest : D → Type 0) (history : D → History) (failure
 
   -- ---- where it is refused
 
-  Allowed : Refusal → Type 0
+  abbrev pub Allowed : Refusal → Type 0
   Allowed e = (e ≡ OutOfMemory) ⊎ (e ≡ DiskFault)
 
   module _ (parts : PartsAreTold) (next : DonatedPartsComeNext) (judges : JudgesAsItsNode honest history failures new) (e : Refusal) (other : e ≢ StreamFault) (whole : e ≢ Corrupt Pages) where
@@ -194,9 +196,9 @@ module _ {D : Type 0} (honest : D → Type 0) (history : D → History) (failure
       headed : RefusesHeader (facts_of failures settled) (Some (transfer_bytes t)) e → ⊥
       headed (inl stream) = other stream
       headed (inr (inl (is, none))) = none t.header _ given.donated.is_transfer.header refl
-      headed (inr (inr (is, (header, rest, is_header, same, no)))) =
+      headed (inr (inr (is, (header, rest, is_header, same, never)))) =
           let own = header_is header rest is_header same in
-          no (subst (λ (h : Header). (h.uuid ≡ (facts_of failures settled).uuid) ⊎ IsNil (facts_of failures settled).uuid) (sym own) (of_cluster given.may.cluster)) (ap (λ (h : Header). h.shape) own ∙ of_shape)
+          never (subst (λ (h : Header). (h.uuid ≡ (facts_of failures settled).uuid) ⊎ IsNil (facts_of failures settled).uuid) (sym own) (of_cluster given.may.cluster)) (ap (λ (h : Header). h.shape) own ∙ of_shape)
 
       -- the node at which it settled is as much the joiner's as the one before
       node_settled : (m : Node) → (delivered m.facts ≡ delivered k.facts + 0) → ((L : Order) → IsOf L k → IsOf (L ++ []) m) → Holds honest history failures m settled → IsJoiner (take n.facts.durable O) m have
@@ -221,9 +223,9 @@ module _ {D : Type 0} (honest : D → Type 0) (history : D → History) (failure
         told_any None = tt
         told_any (Some s) = tells_any header.format (least_of header.shape) s.position s.kept two
 
-        fits_any : (o : Option Snapshot) (P : Snapshot → Type 0) → IfSome o (λ s. SnapshotFits s × P s) → IfSome o SnapshotFits
-        fits_any None P comes = tt
-        fits_any (Some s) P comes = comes.0
+        fits_any : (o : Option Snapshot) → Came header.format (facts_of failures settled) o → IfSome o SnapshotFits
+        fits_any None comes = tt
+        fits_any (Some s) comes = comes.0
 
         -- a node of the transfer's cluster, wherever it begins
         defined : (o : Option Snapshot) (m : Node) (a : Node) → o ≡ t.snapshot → Brings n have t.snapshot t.records → a.facts.uuid ≡ k.facts.uuid → MatchOption o (m.facts.uuid ≡ a.facts.uuid) (λ s. m.facts.uuid ≡ header.uuid) → IsNil m.facts.uuid → ⊥
@@ -242,7 +244,7 @@ module _ {D : Type 0} (honest : D → Type 0) (history : D → History) (failure
             let went : GoesOn a header.uuid t.snapshot cut.records m = subst (λ (o : Option Snapshot). GoesOn a header.uuid o cut.records m) taken.snapshot_is there.1 in
             let comes = next O n a m have t header.uuid cut.records taken.more given.node given.may.of joiner (ap (λ (p : Setting). p.window) alike ∙ spans) (ap (λ (p : Setting). p.rows) alike ∙ tables) given.donated there.2.node went taken.records_are in
             let of : IsNil (facts_of failures new).uuid → ⊥ = λ nil.
-                defined cut.snapshot m a taken.snapshot_is given.donated.brings (ap (λ (s : Standing). s.uuid) start.2.facts ∙ uuid_stays) there.1.uuid_is (subst IsNil (ap (λ (s : Standing). s.uuid) (sym there.2.facts)) nil) in
+            defined cut.snapshot m a taken.snapshot_is given.donated.brings (ap (λ (s : Standing). s.uuid) start.2.facts ∙ uuid_stays) there.1.uuid_is (subst IsNil (ap (λ (s : Standing). s.uuid) (sym there.2.facts)) nil) in
             by taken.more m there.2 of comes (subst (AllByRecursion IsRecord) taken.records_are given.donated.is_transfer.records) taken.left_is
           where
             by : (more : List Judged) (m : Node) → Holds honest history failures m new → (IsNil (facts_of failures new).uuid → ⊥) → AreNext m more t.last → AllByRecursion IsRecord (cut.records ++ more) → rest ≡ (flat_map record_part more ++ end_bytes t.last) ++ [] → ⊥
@@ -264,8 +266,8 @@ module _ {D : Type 0} (honest : D → Type 0) (history : D → History) (failure
             let count : delivered (facts_of failures settled) ≡ delivered k.facts = ap delivered (sym start.2.facts) ∙ (let same_count : delivered start.0.facts ≡ delivered k.facts = omega (arith, start.1.count) in same_count) in
             let later : (delivered (facts_of failures settled) < s.position) ⊎ IsNil (facts_of failures settled).uuid = above brings.0 at_base count in
             let bytes : left ≡ snapshot_bytes header.format s ++ ((flat_map record_part t.records ++ end_bytes t.last) ++ []) =
-                same ∙ ap (λ (o : Option Snapshot). snapshot_part header.format o ++ (flat_map record_part cut.records ++ rest)) before.no_snapshot ∙ ap (λ (js : List Judged). flat_map record_part js ++ rest) before.no_record ∙ before.left_is
-                ∙ ap (λ (h : Header). snapshot_bytes h.format s ++ ((flat_map record_part t.records ++ end_bytes t.last) ++ [])) (sym own) in
+            same ∙ ap (λ (o : Option Snapshot). snapshot_part header.format o ++ (flat_map record_part cut.records ++ rest)) before.no_snapshot ∙ ap (λ (js : List Judged). flat_map record_part js ++ rest) before.no_record ∙ before.left_is
+            ∙ ap (λ (h : Header). snapshot_bytes h.format s ++ ((flat_map record_part t.records ++ end_bytes t.last) ++ [])) (sym own) in
             cut.none before.no_snapshot before.no_record at is s _ fits (tells_any header.format p s.position s.kept two) bytes
             (snapshot_alike n.facts.setting p (sym tables ∙ ap (λ (q : Setting). q.rows) (sym setting_stays)) s brings.1.is_snapshot) later
           where
@@ -277,8 +279,8 @@ module _ {D : Type 0} (honest : D → Type 0) (history : D → History) (failure
         cut_for at is none =
             let rest = has_rest left (snapshot_part header.format cut.snapshot ++ flat_map record_part cut.records) cut.left cut.taken in
             let behind : left ≡ snapshot_part header.format cut.snapshot ++ (flat_map record_part cut.records ++ rest.rest) = rest.front ∙ append_assoc (snapshot_part header.format cut.snapshot) (flat_map record_part cut.records) rest.rest in
-            let told = (parts t [] header cut.snapshot cut.records rest.rest given.donated.is_transfer (subst IsHeader (sym own) given.donated.is_transfer.header) (fits_any cut.snapshot _ cut.comes) (told_any cut.snapshot) cut.are_records
-                (append-nil (transfer_bytes t) ∙ head ∙ ap (λ (bs : List ℕ). header_bytes header ++ bs) behind)).1 in
+            let told = (parts t [] header cut.snapshot cut.records rest.rest given.donated.is_transfer (subst IsHeader (sym own) given.donated.is_transfer.header) (fits_any cut.snapshot cut.comes) (told_any cut.snapshot) cut.are_records
+            (append-nil (transfer_bytes t) ∙ head ∙ ap (λ (bs : List ℕ). header_bytes header ++ bs) behind)).1 in
             by rest.rest told behind (subst (λ (o : Option (List ℕ)). IfSome o (NoneFollows failures new)) rest.left_is none)
           where
             by : (l : List ℕ) → IsTakenOf t cut.snapshot cut.records l [] ⊎ IsBeforeSnapshot t cut.snapshot cut.records l [] → left ≡ snapshot_part header.format cut.snapshot ++ (flat_map record_part cut.records ++ l) → NoneFollows failures new l → ⊥
@@ -307,3 +309,55 @@ module _ {D : Type 0} (honest : D → Type 0) (history : D → History) (failure
   refused parts next judges bytes (Ok last) are stream tells how = tt
   refused parts next judges bytes (Err e) are stream tells how =
       ended parts next judges e (λ is. stream (ap (λ (f : Refusal). Err f) is)) (λ is. tells.whole k holds Pages is) (subst (λ (bs : List ℕ). Ended honest history failures old new (Some bs) e) are how)
+
+-- ---- what the donor refuses
+
+module _ (e told : Refusal) (is : ((e ≡ StreamFault) × (told ≡ OutOfMemory)) ⊎ ((e ≢ StreamFault) × (told ≡ e))) where
+  pub refused_for : GivesUpEarly e → ((part : Part) → e ≢ Corrupt part) → (told ≡ OutOfMemory) ⊎ (told ≡ DiskFault)
+  refused_for early whole = by is early
+    where
+      by : ((e ≡ StreamFault) × (told ≡ OutOfMemory)) ⊎ ((e ≢ StreamFault) × (told ≡ e)) → GivesUpEarly e → (told ≡ OutOfMemory) ⊎ (told ≡ DiskFault)
+      by (inl stream) early = inl stream.1
+      by (inr other) (inl stream) = absurd (other.0 stream)
+      by (inr other) (inr (inl fault)) = inr (other.1 ∙ fault)
+      by (inr other) (inr (inr (part, bad))) = absurd (whole part bad)
+
+  pub fault_is : told ≡ DiskFault → e ≡ DiskFault
+  fault_is fault = by is
+    where
+      by : ((e ≡ StreamFault) × (told ≡ OutOfMemory)) ⊎ ((e ≢ StreamFault) × (told ≡ e)) → e ≡ DiskFault
+      by (inl stream) = absurd (let never : OutOfMemory ≡ DiskFault = sym stream.1 ∙ fault in cc)
+      by (inr other) = sym other.1 ∙ fault
+
+  pub fault_told : e ≡ DiskFault → told ≡ DiskFault
+  fault_told fault = by is
+    where
+      by : ((e ≡ StreamFault) × (told ≡ OutOfMemory)) ⊎ ((e ≢ StreamFault) × (told ≡ e)) → told ≡ DiskFault
+      by (inl stream) = absurd (let never : DiskFault ≡ StreamFault = sym fault ∙ stream.0 in cc)
+      by (inr other) = other.1 ∙ fault
+
+  pub short_is : GivesUpEarly e → told ≡ OutOfMemory → e ≡ StreamFault
+  short_is early short = by is early
+    where
+      by : ((e ≡ StreamFault) × (told ≡ OutOfMemory)) ⊎ ((e ≢ StreamFault) × (told ≡ e)) → GivesUpEarly e → e ≡ StreamFault
+      by (inl stream) early = stream.0
+      by (inr other) (inl stream) = stream
+      by (inr other) (inr (inl fault)) = absurd (let never : DiskFault ≡ OutOfMemory = sym fault ∙ sym other.1 ∙ short in cc)
+      by (inr other) (inr (inr (part, bad))) = absurd (let never : Corrupt part ≡ OutOfMemory = sym bad ∙ sym other.1 ∙ short in cc)
+
+-- what was written into a room that held nothing
+pub written_is : (old new : Held) (bytes : List ℕ) → old ≡ record { bytes = []; failed = false } → Appends (Some old.bytes) (Some new.bytes) bytes → new.bytes ≡ bytes
+written_is old new bytes empty appended = appended ∙ ap (λ (h : Held). h.bytes ++ bytes) empty
+
+-- ---- which answer is which
+
+pub err_is : {T : Type 0} (e f : Refusal) (r : Result T Refusal) → r ≡ Err e → r ≡ Err f → e ≡ f
+err_is e f r is was = cc
+
+pub ok_other : {T : Type 0} (x : T) (f : Refusal) (r : Result T Refusal) → r ≡ Ok x → r ≢ Err f
+ok_other x f r is was = cc
+
+-- a failed device is told by its count
+pub fault_rises : {D T : Type 0} (honest : D → Type 0) (history : D → History) (failures : D → ℕ) (old new : Replica D) (result : Result T Refusal) → Tells honest history failures old new result → result ≡ Err DiskFault → Rises (failures old.engine.disk) (failures new.engine.disk)
+fault_rises honest history failures old new (Ok x) tells fault = absurd (ok_other x DiskFault (Ok x) refl fault)
+fault_rises honest history failures old new (Err e) tells fault = tells.faults.fault (err_is e DiskFault (Err e) refl fault)

@@ -4,7 +4,7 @@
 
 ghost use Rattle.std.specs.Prelude.{◌≡◌, ◌≢◌, ◌⊎◌, [], true, false, None, Err, IfOk, IfErr, OnOk};
 ghost use Rattle.rep_types.specs.Order.{Order};
-ghost use Rattle.rep_types.specs.declared.refusal.Refusal.TheVariants.{OutOfMemory, DiskFault};
+ghost use Rattle.rep_types.specs.declared.refusal.Refusal.TheVariants.{OutOfMemory, DiskFault, StreamFault};
 ghost use Rattle.rep_disk.specs.Calls.{Rises};
 ghost use Rattle.rep_steps.specs.Nodes.{Node};
 ghost use Rattle.rep_replica.specs.Replicas.{facts_of};
@@ -22,24 +22,31 @@ use rep_transfer::{Have, parts_are_told, transfers_are_told};
 use rep_types::Refusal;
 use std::alloc::Global;
 
+/// What a donor's refusal tells where the sink is memory, which fails only for want of room.
+fn in_memory(refusal: Refusal) -> Refusal
+    ensures { ((refusal ≡ StreamFault) × (result ≡ OutOfMemory)) ⊎ ((refusal ≢ StreamFault) × (result ≡ refusal)) }
+{
+    match refusal {
+        Refusal::StreamFault => Refusal::OutOfMemory,
+        other => other,
+    }
+}
+
 /// Writes what the joiner lacks into memory that holds nothing yet.
 ///
 /// Refuses with `OutOfMemory` where that has no room, and else as `donate` does.
-fn give<D: Disk>(
-    donor: &mut Replica<D>,
-    have: &Have,
-    room: &mut MemorySink,
-) -> Result<u64, Refusal>
+fn give<D: Disk>(donor: &mut Replica<D>, have: &Have, room: &mut MemorySink) -> Result<(), Refusal>
     requires { room.old ≡ record { bytes = []; failed = false } }
     ensures given { (n : Node) → Holds D.honest D.history D.failures n donor.old → OnOk result ((t : Transfer) × IsDonated n have.now t × (room.new.bytes ≡ transfer_bytes t)) }
     ensures refused { (n : Node) → Holds D.honest D.history D.failures n donor.old → IsFirstRefusal (facts_of D.failures donor.old) have.now None → IfErr result (λ e. (e ≡ OutOfMemory) ⊎ (e ≡ DiskFault)) }
     ensures donor { (n : Node) → Holds D.honest D.history D.failures n donor.old → result ≢ Err DiskFault → Holds D.honest D.history D.failures n donor.new }
     ensures fault { result ≡ Err DiskFault → Rises (D.failures donor.old.engine.disk) (D.failures donor.new.engine.disk) }
-    ensures short { result ≡ Err OutOfMemory → room.new.failed ≡ true }
+    // It is refused for want of room only where the sink noted that it found none.
+    ensures short { IsFirstRefusal (facts_of D.failures donor.old) have.now None → result ≡ Err OutOfMemory → room.new.failed ≡ true }
 {
     match donate(donor, have, room) {
-        Err(Refusal::StreamFault) => Err(Refusal::OutOfMemory),
-        given => given,
+        Ok(_) => Ok(()),
+        Err(refusal) => Err(in_memory(refusal)),
     }
 }
 
@@ -76,13 +83,14 @@ pub fn caught_up<D: Disk, E: Disk>(
 ) -> (Replica<E>, Result<u64, Refusal>)
     ensures caught { (O : Order) (n k : Node) → MayCatchUp O n k → Holds D.honest D.history D.failures n donor.old → Holds E.honest E.history E.failures k joiner → IfOk result.1 (CaughtUp E.honest E.history E.failures O n result.0) }
     ensures refused { (O : Order) (n k : Node) → MayCatchUp O n k → Holds D.honest D.history D.failures n donor.old → Holds E.honest E.history E.failures k joiner → IfErr result.1 (λ e. (e ≡ OutOfMemory) ⊎ (e ≡ DiskFault)) }
-    // A donor whose device has not failed stands for the node that it stood for.
-    ensures donor { (n : Node) → Holds D.honest D.history D.failures n donor.old → D.failures donor.new.engine.disk ≡ D.failures donor.old.engine.disk → Holds D.honest D.history D.failures n donor.new }
+    // Unless a device failed, the donor stands for the node that it stood for.
+    ensures donor { (n : Node) → Holds D.honest D.history D.failures n donor.old → result.1 ≢ Err DiskFault → Holds D.honest D.history D.failures n donor.new }
+    ensures fault { result.1 ≡ Err DiskFault → Rises (D.failures donor.old.engine.disk) (D.failures donor.new.engine.disk) ⊎ Rises (E.failures joiner.engine.disk) (E.failures result.0.engine.disk) }
 {
     let have = have(&joiner);
     let mut room = MemorySink::new(alloc);
     match give(donor, &have, &mut room) {
-        Ok(_) => take(alloc, joiner, room.bytes()),
+        Ok(()) => take(alloc, joiner, room.bytes()),
         Err(refusal) => (joiner, Err(refusal)),
     }
 }
