@@ -6,9 +6,12 @@ use Rattle.rep_types.specs.declared.refusal.Refusal.TheVariants.{StreamFault, Di
 use Rattle.rep_types.specs.declared.refusal.Part.{Part}
 use Rattle.rep_disk.specs.History.{History, seen}
 use Rattle.rep_disk.specs.Calls.{Rises}
-use Rattle.rep_cells.specs.Readings.{reading_of}
+use Rattle.rep_layout.specs.declared.place.Layout.{Layout}
+use Rattle.rep_layout.specs.declared.super_body.SuperBody.{SuperBody}
+use Rattle.rep_cells.specs.Readings.{Reading, reading_of}
 use Rattle.rep_log.specs.declared.phase.Phase.{Phase}
 use Rattle.rep_log.specs.Moves.{fault_of}
+use Rattle.rep_log.specs.Standing.{Standing as Log}
 use Rattle.rep_steps.specs.Nodes.{Node}
 use Rattle.rep_engine.specs.Reading.{halted_by}
 use Rattle.rep_replica.specs.Replicas.{Replica}
@@ -52,6 +55,12 @@ notes_behind before mid after result same notes = subst (λ (noted : Bool). Note
 pub notes_more : {T : Type 0} (before mid after : Bool) (x : T) → mid ≡ before → Notes mid after (Ok x) → after ≡ before
 notes_more before mid after x same notes = notes.fine (λ is. absurd cc) ∙ same
 
+-- the part that was asked for
+pub asked_part : {T : Type 0} (part other : Part) (result : Result T Refusal) → IfErr result (λ e. (e ≡ DiskFault) ⊎ (e ≡ Corrupt part)) → result ≡ Err (Corrupt other) → other ≡ part
+asked_part part other (Ok x) is same = absurd cc
+asked_part part other (Err e) (inl fault) same = absurd cc
+asked_part part other (Err e) (inr corrupt) same = let one : part ≡ other = cc in sym one
+
 module _ {D : Type 0} (honest : D → Type 0) (history : D → History) (failures : D → ℕ) where
   -- ---- the device was read alone
 
@@ -67,11 +76,11 @@ module _ {D : Type 0} (honest : D → Type 0) (history : D → History) (failure
 
   -- ---- what a part leaves
 
-  -- the bytes that the device showed before
-  bad_before : (a b : Replica D) (part : Part) → ReadsAlone honest history a b → honest a.engine.disk → IsBadPart (as_seen history b.engine) b.engine.layout b.engine.checkpoint.base b.engine.log part → IsBadPart (as_seen history a.engine) a.engine.layout a.engine.checkpoint.base a.engine.log part
-  bad_before a b part reads is_honest bad =
-      let here = subst (λ (r : Replica D). IsBadPart (reading_of r.engine.layout (seen (history b.engine.disk))) r.engine.layout r.engine.checkpoint.base r.engine.log part) reads.rest bad in
-      subst (λ (h : History). IsBadPart (reading_of a.engine.layout (seen h)) a.engine.layout a.engine.checkpoint.base a.engine.log part) (reads.same is_honest) here
+  -- what the device showed before
+  pub seen_before : (a b : Replica D) (P : Reading → Layout → SuperBody → Log → Type 0) → ReadsAlone honest history a b → honest a.engine.disk → P (as_seen history b.engine) b.engine.layout b.engine.checkpoint.base b.engine.log → P (as_seen history a.engine) a.engine.layout a.engine.checkpoint.base a.engine.log
+  seen_before a b P reads is_honest there =
+      let here = subst (λ (r : Replica D). P (reading_of r.engine.layout (seen (history b.engine.disk))) r.engine.layout r.engine.checkpoint.base r.engine.log) reads.rest there in
+      subst (λ (h : History). P (reading_of a.engine.layout (seen h)) a.engine.layout a.engine.checkpoint.base a.engine.log) (reads.same is_honest) here
 
   -- nothing was asked
   pub leaves_all : {T : Type 0} (r : Replica D) (noted : Bool) (x : T) → IsRunning r → Leaves honest history failures r r noted noted (Ok x)
@@ -182,7 +191,7 @@ module _ {D : Type 0} (honest : D → Type 0) (history : D → History) (failure
         (subst (λ (k : ℕ). Rises k (failures c.engine.disk)) (first.no_fault (λ never. absurd cc)) risen.0, risen.1);
     no_fault = λ other. second.no_fault other ∙ first.no_fault (λ never. absurd cc);
     halts = λ other. second.halts other ∙ first.halts (λ never. absurd cc);
-    bad = λ h part is. bad_before a b part first.reads h (second.bad (first.reads.is_honest h) part is);
+    bad = λ h part is. seen_before a b (λ r l base log. IsBadPart r l base log part) first.reads h (second.bad (first.reads.is_honest h) part is);
     notes = subst (λ (noted : Bool). Notes noted after result) (first.notes.fine (λ never. absurd cc)) second.notes;
   }
 

@@ -1,12 +1,11 @@
 -- The durable blocks behind a base, as a donor writes them one after another.
-use Rattle.std.proofs.Common.{◌≡◌, ℕ, zero, suc, ◌+◌, ◌-◌, ◌≤◌, ◌<◌, true, false, Result, Ok, Err, inl, inr, List, [], ◌∷◌, ◌++◌, length, take, get_or, Option, None, Some, refl, sym, ap, subst, ◌∙◌, append-nil, append_assoc, arith}
-use Rattle.std.specs.Prelude.{is_some, nat_lt, nat_le}
+use Rattle.std.proofs.Common.{◌≡◌, ℕ, zero, suc, ◌+◌, ◌-◌, ◌≤◌, ◌<◌, true, false, Result, Ok, Err, inl, inr, List, [], ◌∷◌, ◌++◌, length, take, Option, None, Some, refl, sym, ap, subst, ◌∙◌, append-nil, append_assoc, arith, length-append}
+use Rattle.std.specs.Prelude.{is_some, nat_lt, nat_le, replicate, IfSome}
 use Rattle.std.specs.List.{flat_map, AllByRecursion}
 use Rattle.std.specs.Io.KnownBytes.{Appends}
-use Rattle.std.proofs.KnownBytes.{Appends-trans}
-use Rattle.std.proofs.lemmas.Bool.Decides.{nat_tests}
+use Rattle.std.proofs.KnownBytes.{Appends-nil, Appends-trans}
 use Rattle.std.proofs.lemmas.Bool.{cases_lt, le-ltb, lt-ltb, le-leb, ltb-true, ltb-false, and_from}
-use Rattle.std.proofs.lemmas.List.{take_all, take_more, take-take, length-take-le}
+use Rattle.std.proofs.lemmas.List.{take_all, take_more, take-take, length-take-le, length-replicate}
 use Rattle.std.proofs.lemmas.List.Concat.{flat_map-append}
 use Rattle.std.proofs.lemmas.List.Elements.{filter-append}
 use Rattle.rep_types.specs.declared.refusal.Refusal.{Refusal}
@@ -17,34 +16,34 @@ use Rattle.rep_types.specs.declared.verdict.Verdict.{Verdict}
 use Rattle.rep_types.specs.declared.verdict.Verdict.TheVariants.{Commit, Conflict, Stale, Future, BadKey}
 use Rattle.rep_types.specs.declared.item.Item.{Item}
 use Rattle.rep_types.specs.declared.item.Item.TheVariants.{WriteSet, SetWindow}
-use Rattle.rep_types.specs.declared.limits.TheConstants.{MAX_SEQNO, MAX_CELLS}
-use Rattle.rep_types.specs.Settings.{Setting, is_setting}
+use Rattle.rep_types.specs.declared.limits.TheConstants.{MAX_SEQNO}
 use Rattle.rep_record.specs.Records.{IsRecord, IsVerdictAt, is_verdict_at, Suits, suits, is_placed}
-use Rattle.rep_record.specs.Blocks.{Contents}
+use Rattle.rep_forms.specs.FormLaws.{length_number}
+use Rattle.rep_record.specs.declared.limits.TheConstants.{MAX_BLOCK}
+use Rattle.rep_record.specs.Blocks.{Contents, IsBlock, block_bytes, run_bytes}
+use Rattle.rep_layout.specs.Places.{log_of}
 use Rattle.rep_disk.specs.History.{History}
 use Rattle.rep_layout.specs.declared.place.Layout.{Layout}
 use Rattle.rep_layout.specs.declared.super_body.SuperBody.{SuperBody}
 use Rattle.rep_cells.specs.Readings.{Reading}
 use Rattle.rep_log.specs.Standing.{Standing as Log}
 use Rattle.rep_log.specs.Tail.{records_of}
-use Rattle.rep_steps.specs.Nodes.{Node, IsNode}
+use Rattle.rep_steps.specs.Nodes.{Node}
 use Rattle.rep_engine.specs.Engines.{Engine}
 use Rattle.rep_engine.specs.Donating.{IsTail, TheTailIsTold, IsTailBlock, IsBlockAsSpelled}
 use Rattle.rep_replica.specs.Replicas.{Replica}
 use Rattle.rep_replica.specs.Holding.{Holds}
+use Rattle.rep_transfer.specs.Writing.{Wrote}
 use Rattle.rep_transfer.specs.Transfers.{record_part}
-use Rattle.rep_catchup.specs.Donating.{ReadsAlone, IsRunning, IsBadPart, above, durable_items}
-use Rattle.rep_catchup.proofs.DonateReads.{not_halted}
-use Rattle.rep_catchup.proofs.DonateWrites.{all_both, all_filter}
+use Rattle.rep_catchup.specs.Donating.{ReadsAlone, IsRunning, IsBadPart, AreAllBlocks, AreBlocksThere, IsBlockThere, IsSomeBlock, KnowsBlocks, WroteFront, Writes, above, as_seen, durable_items, tail_part}
+use Rattle.rep_catchup.proofs.DonateReads.{not_halted, same_of, seen_before}
+use Rattle.rep_catchup.proofs.DonateWrites.{all_both, all_filter, all_push, all_same, front_all, front_before, front_behind, front_none, front_of_wrote}
 
 -- ---- blocks, one after another
 
 records_push : (blocks : List (List Judged)) (records : List Judged) → records_of (blocks ++ records ∷ []) ≡ records_of blocks ++ records
 records_push [] records = append-nil records
 records_push (front ∷ blocks) records = ap (λ (js : List Judged). front ++ js) (records_push blocks records) ∙ sym (append_assoc front (records_of blocks) records)
-
-records_more : (blocks : List (List Judged)) (i : ℕ) → i < length blocks → records_of (take (i + 1) blocks) ≡ records_of (take i blocks) ++ get_or blocks i []
-records_more blocks i lt = ap records_of (take_more blocks i [] lt) ∙ records_push (take i blocks) (get_or blocks i [])
 
 -- the bytes of the records above a position
 abbrev pub bytes_above : ℕ → List Judged → List ℕ
@@ -69,84 +68,6 @@ pub is_placed_record : (j : Judged) → IsRecord j → is_placed j ≡ true
 is_placed_record j is =
     rw (le-leb 1 j.seqno is.positive, le-leb j.seqno MAX_SEQNO is.seqno, placed_verdict j.seqno j.verdict is.verdict, placed_item j.item j.verdict is.suits)
 
--- So many of the blocks were written: none yet, or those of a tail.
-pub record WroteBlocks {D : Type 0} (history : D → History) (n : Node) (e : Engine D) (position index : ℕ) (old new : Option (List ℕ)) : Type 0 where
-  pub blocks : List (List Judged)
-  pub tail : IsTail n e.layout (history e.disk) e.checkpoint.base e.log blocks
-  pub within : index ≤ length blocks
-  pub are_records : AllByRecursion IsRecord (records_of (take index blocks))
-  pub written : Appends old new (bytes_above position (records_of (take index blocks)))
-
-pub record WroteTail {D : Type 0} (history : D → History) (n : Node) (e : Engine D) (position index : ℕ) (old new : Option (List ℕ)) : Type 0 where
-  pub none : index ≡ 0 → Appends old new []
-  pub some : 0 < index → WroteBlocks history n e position index old new
-
-module _ {D : Type 0} (history : D → History) (n : Node) (e : Engine D) (position : ℕ) where
-  -- what was written before a block of a tail, as blocks of it
-  before : TheTailIsTold → (index : ℕ) (records : List Judged) (old mid : Option (List ℕ)) → WroteTail history n e position index old mid
-      → (block : IsTailBlock n e.layout (history e.disk) e.checkpoint.base e.log index records) → AllByRecursion IsRecord (records_of (take index block.blocks)) × Appends old mid (bytes_above position (records_of (take index block.blocks)))
-  before told zero records old mid w block = (tt, w.none refl)
-  before told (suc k) records old mid w block =
-      let some = w.some (omega arith) in
-      let same : some.blocks ≡ block.blocks = told n e.layout (history e.disk) e.checkpoint.base e.log some.blocks block.blocks some.tail block.tail in
-      (subst (λ blocks. AllByRecursion IsRecord (records_of (take (suc k) blocks))) same some.are_records, subst (λ blocks. Appends old mid (bytes_above position (records_of (take (suc k) blocks)))) same some.written)
-
-  pub wrote_more_blocks : TheTailIsTold → (index : ℕ) (records : List Judged) (old mid new : Option (List ℕ)) → WroteTail history n e position index old mid → IsTailBlock n e.layout (history e.disk) e.checkpoint.base e.log index records
-      → index < e.log.next - e.log.start → AllByRecursion IsRecord records → Appends mid new (bytes_above position records) → WroteTail history n e position (index + 1) old new
-  wrote_more_blocks told index records old mid new w block due are written =
-      let first = before told index records old mid w block in
-      let lt : index < length block.blocks = omega (arith, due, block.tail.count) in
-      let is : records_of (take (index + 1) block.blocks) ≡ records_of (take index block.blocks) ++ records = records_more block.blocks index lt ∙ ap (λ (js : List Judged). records_of (take index block.blocks) ++ js) (sym block.here) in
-      record {
-        none = λ is_none. absurd (omega (arith, is_none));
-        some = λ _. record {
-          blocks = block.blocks;
-          tail = block.tail;
-          within = omega (arith, lt);
-          are_records = subst (AllByRecursion IsRecord) (sym is) (all_both IsRecord (records_of (take index block.blocks)) records first.0 are);
-          written = subst (λ js. Appends old new (bytes_above position js)) (sym is) (subst (Appends old new) (sym (bytes_join position (records_of (take index block.blocks)) records))
-              (Appends-trans old mid new (bytes_above position (records_of (take index block.blocks))) (bytes_above position records) first.1 written));
-        };
-      }
-
-  -- all were written
-  pub wrote_all_blocks : (index : ℕ) (old new : Option (List ℕ)) → WroteTail history n e position index old new → e.log.next - e.log.start ≤ index → (e.log.next - e.log.start ≡ 0 → durable_items n ≡ [])
-      → AllByRecursion IsRecord (above position (durable_items n)) × Appends old new (bytes_above position (durable_items n))
-  wrote_all_blocks zero old new w past none =
-      let is : durable_items n ≡ [] = none (omega (arith, past)) in
-      (subst (λ js. AllByRecursion IsRecord (above position js)) (sym is) tt, subst (λ js. Appends old new (bytes_above position js)) (sym is) (w.none refl))
-  wrote_all_blocks (suc k) old new w past none =
-      let some = w.some (omega arith) in
-      let is : records_of (take (suc k) some.blocks) ≡ durable_items n = ap records_of (take_all (suc k) some.blocks (omega (arith, past, some.tail.count))) ∙ some.tail.items in (
-        subst (λ js. AllByRecursion IsRecord (above position js)) is (all_filter IsRecord (λ (j : Judged). nat_lt position j.seqno) (records_of (take (suc k) some.blocks)) some.are_records),
-        subst (λ js. Appends old new (bytes_above position js)) is some.written,
-      )
-
--- ---- there are never so many
-
-few_cells : (p : Setting) → is_setting p ≡ true → p.cells ≤ MAX_CELLS
-few_cells p allowed = grind (arith, nat_tests)
-
-pub never_so_many : {D : Type 0} (history : D → History) (n : Node) (e : Engine D) (position index : ℕ) (old new : Option (List ℕ)) → IsNode n → n.facts.next ≡ e.log.next → n.facts.start ≡ e.log.start → WroteTail history n e position index old new → index ≤ MAX_CELLS
-never_so_many history n e position zero old new node next start w = omega arith
-never_so_many history n e position (suc k) old new node next start w =
-    let some = w.some (omega arith) in
-    omega (arith, some.within, some.tail.count, next, start, node.facts.room, few_cells n.facts.setting node.facts.allowed)
-
--- ---- what a read tells
-
-pub due_here : {T : Type 0} (index left : ℕ) (o : Option T) (x : T) → o ≡ Some x → is_some o ≡ nat_lt index left → index < left
-due_here index left o x is told = ltb-true index left (sym told ∙ ap is_some is)
-
-pub past_here : {T : Type 0} (index left : ℕ) (o : Option T) → o ≡ None → is_some o ≡ nat_lt index left → left ≤ index
-past_here index left o is told = ltb-false index left (sym told ∙ ap is_some is)
-
-pub bad_block : (r : Reading) (l : Layout) (b : SuperBody) (log : Log) (index : ℕ) (result : Result (Option Contents) Refusal) → (nat_lt index (log.next - log.start) ≡ false → result ≡ Ok None) → IsBlockAsSpelled r l (log.start + index) result InLog → result ≡ Err (Corrupt InLog) → IsBadPart r l b log InLog
-bad_block r l b log index result behind spelled is = elim (cases_lt index (log.next - log.start)) [
-  | inl due ↦ (log.start + index, omega arith, omega (arith, due), spelled.corrupt is)
-  | inr past ↦ absurd (let never : result ≡ Ok None = behind (le-ltb index (log.next - log.start) past) in cc)
-]
-
 -- ---- of a replica
 
 no_more : {A : Type 0} (xs : List A) → length xs ≡ 0 → xs ≡ []
@@ -169,3 +90,185 @@ module _ {D : Type 0} (honest : D → Type 0) (history : D → History) (failure
   block_at_first a b index records reads is_honest block =
       let here = subst (λ (r : Replica D). IsTailBlock n r.engine.layout (history b.engine.disk) r.engine.checkpoint.base r.engine.log index records) reads.rest block in
       subst (λ (h : History). IsTailBlock n a.engine.layout h a.engine.checkpoint.base a.engine.log index records) (reads.same is_honest) here
+
+-- ---- what a read tells
+
+pub due_here : {T : Type 0} (index left : ℕ) (o : Option T) (x : T) → o ≡ Some x → is_some o ≡ nat_lt index left → index < left
+due_here index left o x is told = ltb-true index left (sym told ∙ ap is_some is)
+
+pub past_here : {T : Type 0} (index left : ℕ) (o : Option T) → o ≡ None → is_some o ≡ nat_lt index left → left ≤ index
+past_here index left o is told = ltb-false index left (sym told ∙ ap is_some is)
+
+pub bad_block : (r : Reading) (l : Layout) (b : SuperBody) (log : Log) (index : ℕ) (result : Result (Option Contents) Refusal) → (nat_lt index (log.next - log.start) ≡ false → result ≡ Ok None) → IsBlockAsSpelled r l (log.start + index) result InLog → result ≡ Err (Corrupt InLog) → IsBadPart r l b log InLog
+bad_block r l b log index result behind spelled is = elim (cases_lt index (log.next - log.start)) [
+  | inl due ↦ (log.start + index, omega arith, omega (arith, due), spelled.corrupt is)
+  | inr past ↦ absurd (let never : result ≡ Ok None = behind (le-ltb index (log.next - log.start) past) in cc)
+]
+
+-- ---- blocks on any device
+
+records_join : (one two : List (List Judged)) → records_of (one ++ two) ≡ records_of one ++ records_of two
+records_join [] two = refl
+records_join (records ∷ one) two = ap (λ (js : List Judged). records ++ js) (records_join one two) ∙ sym (append_assoc records (records_of one) (records_of two))
+
+tail_join : (position : ℕ) (one two : List (List Judged)) → tail_part position (one ++ two) ≡ tail_part position one ++ tail_part position two
+tail_join position one two = ap (bytes_above position) (records_join one two) ∙ bytes_join position (records_of one) (records_of two)
+
+tail_push : (position : ℕ) (blocks : List (List Judged)) (records : List Judged) → tail_part position (blocks ++ records ∷ []) ≡ tail_part position blocks ++ bytes_above position records
+tail_push position blocks records = ap (bytes_above position) (records_push blocks records) ∙ bytes_join position (records_of blocks) records
+
+-- a block of one record, by which the window's size is changed
+one_record : Judged
+one_record = record { seqno = 1; item = SetWindow (record { size = 1; source = 0; trx = 0 }); verdict = Commit }
+
+is_one_record : IsRecord one_record
+unfolding one_record
+is_one_record = record { positive = omega arith; seqno = omega arith; verdict = tt; suits = refl; item = record { size = refl; source = omega arith; trx = omega arith } }
+
+one_size : length (run_bytes (one_record ∷ [])) ≤ MAX_BLOCK
+unfolding one_record
+one_size = simp (length-append, length_number) (omega arith)
+
+some_block : IsSomeBlock (one_record ∷ [])
+unfolding one_record
+some_block = (0, record { cell_fits = omega arith; some = omega arith; few = omega arith; are_records = (is_one_record, tt); follow = (refl, tt); fits = one_size })
+
+-- blocks that go on from these, up to so many
+pub blocks_cut : (log : Log) (position : ℕ) (blocks : List (List Judged)) (a b : Option (List ℕ)) → AllByRecursion IsSomeBlock blocks → length blocks ≤ log.next - log.start → WroteFront a b (tail_part position blocks)
+    → (all : List (List Judged)) × AreAllBlocks log all × WroteFront a b (tail_part position all)
+blocks_cut log position blocks a b are within cut =
+    let m = log.next - log.start - length blocks in
+    let more = replicate m (one_record ∷ []) in (
+      blocks ++ more,
+      (
+        all_both IsSomeBlock blocks more are (all_same IsSomeBlock (one_record ∷ []) m some_block),
+        length-append blocks more ∙ ap (λ (k : ℕ). length blocks + k) (length-replicate m (one_record ∷ [])) ∙ omega (arith, within),
+      ),
+      subst (WroteFront a b) (sym (tail_join position blocks more)) (front_before a b (tail_part position blocks) (tail_part position more) cut),
+    )
+
+-- nothing of them
+pub blocks_none : (log : Log) (position : ℕ) (a : Option (List ℕ)) → (all : List (List Judged)) × AreAllBlocks log all × WroteFront a a (tail_part position all)
+blocks_none log position a = blocks_cut log position [] a a tt (omega arith) (front_none a [])
+
+some_records : (blocks : List (List Judged)) → AllByRecursion IsSomeBlock blocks → AllByRecursion IsRecord (records_of blocks)
+some_records [] are = tt
+some_records (records ∷ blocks) are = all_both IsRecord records (records_of blocks) are.0.1.are_records (some_records blocks are.1)
+
+pub records_above : (log : Log) (position : ℕ) (blocks : List (List Judged)) → AreAllBlocks log blocks → AllByRecursion IsRecord (above position (records_of blocks))
+records_above log position blocks are = all_filter IsRecord (λ (j : Judged). nat_lt position j.seqno) (records_of blocks) (some_records blocks are.0)
+
+-- ---- as the bytes spell them
+
+there_push : (r : Reading) (l : Layout) (number : ℕ) (blocks : List (List Judged)) (records : List Judged) → AreBlocksThere r l number blocks → IsBlockThere r l (number + length blocks) records → AreBlocksThere r l number (blocks ++ records ∷ [])
+there_push r l number [] records are here = let same : number + 0 ≡ number = omega arith in (subst (λ (k : ℕ). IsBlockThere r l k records) same here, tt)
+there_push r l number (first ∷ blocks) records are here =
+    let same : number + suc (length blocks) ≡ number + 1 + length blocks = omega arith in
+    (are.0, there_push r l (number + 1) blocks records are.1 (subst (λ (k : ℕ). IsBlockThere r l k records) same here))
+
+-- ---- of a node
+
+-- The blocks are the first ones of a node's tail.
+pub record AreFirstBlocks {D : Type 0} (history : D → History) (n : Node) (e : Engine D) (index : ℕ) (blocks : List (List Judged)) : Type 0 where
+  pub all : List (List Judged)
+  pub tail : IsTail n e.layout (history e.disk) e.checkpoint.base e.log all
+  pub front : blocks ≡ take index all
+
+-- So many of the blocks were written.
+pub record WroteBlocks {D : Type 0} (honest : D → Type 0) (history : D → History) (failures : D → ℕ) (r : Replica D) (position index : ℕ) (old new : Option (List ℕ)) : Type 0 where
+  pub blocks : List (List Judged)
+  pub count : length blocks ≡ index
+  pub within : index ≤ r.engine.log.next - r.engine.log.start
+  pub are_blocks : AllByRecursion IsSomeBlock blocks
+  pub there : honest r.engine.disk → AreBlocksThere (as_seen history r.engine) r.engine.layout r.engine.log.start blocks
+  pub of_node : (n : Node) → Holds honest history failures n r → 0 < index → AreFirstBlocks history n r.engine index blocks
+  pub written : Appends old new (tail_part position blocks)
+
+first_ones : (index : ℕ) (blocks all : List (List Judged)) → length blocks ≡ index → (0 < index → blocks ≡ take index all) → blocks ≡ take index all
+first_ones zero blocks all size front = no_more blocks size
+first_ones (suc k) blocks all size front = front (omega arith)
+
+module _ {D : Type 0} (honest : D → Type 0) (history : D → History) (failures : D → ℕ) (r : Replica D) (position : ℕ) where
+  pub wrote_no_blocks : (old : Option (List ℕ)) → WroteBlocks honest history failures r position 0 old old
+  wrote_no_blocks old = record { blocks = []; count = refl; within = omega arith; are_blocks = tt; there = λ h. tt; of_node = λ n h some. absurd (omega (arith, some)); written = Appends-nil old }
+
+  same_tail : TheTailIsTold → (n : Node) (index : ℕ) (blocks all : List (List Judged)) → IsTail n r.engine.layout (history r.engine.disk) r.engine.checkpoint.base r.engine.log all → AreFirstBlocks history n r.engine index blocks → blocks ≡ take index all
+  same_tail told n index blocks all tail first = first.front ∙ ap (take index) (told n r.engine.layout (history r.engine.disk) r.engine.checkpoint.base r.engine.log first.all all first.tail tail)
+
+  pub wrote_more_blocks : TheTailIsTold → (index : ℕ) (records : List Judged) (old mid new : Option (List ℕ)) → WroteBlocks honest history failures r position index old mid → index < r.engine.log.next - r.engine.log.start → IsBlock (r.engine.log.start + index) records
+      → (honest r.engine.disk → as_seen history r.engine (log_of r.engine.layout (r.engine.log.start + index)) ≡ Some (block_bytes (r.engine.log.start + index) records))
+      → ((n : Node) → Holds honest history failures n r → IsTailBlock n r.engine.layout (history r.engine.disk) r.engine.checkpoint.base r.engine.log index records) → Appends mid new (bytes_above position records) → WroteBlocks honest history failures r position (index + 1) old new
+  wrote_more_blocks told index records old mid new w due block there node written = record {
+    blocks = w.blocks ++ records ∷ [];
+    count = length-append w.blocks (records ∷ []) ∙ ap (λ (k : ℕ). k + 1) w.count;
+    within = omega (arith, due);
+    are_blocks = all_push IsSomeBlock w.blocks records w.are_blocks (r.engine.log.start + index, block);
+    there = λ h. there_push (as_seen history r.engine) r.engine.layout r.engine.log.start w.blocks records (w.there h)
+        (subst (λ (k : ℕ). IsBlockThere (as_seen history r.engine) r.engine.layout (r.engine.log.start + k) records) (sym w.count) (block, there h));
+    of_node = λ n h some.
+        let here = node n h in
+        let lt : index < length here.blocks = omega (arith, due, here.tail.count) in
+        let first = first_ones index w.blocks here.blocks w.count (λ more. same_tail told n index w.blocks here.blocks here.tail (w.of_node n h more)) in
+        record {
+          all = here.blocks;
+          tail = here.tail;
+          front = ap (λ (bs : List (List Judged)). bs ++ records ∷ []) first ∙ ap (λ (js : List Judged). take index here.blocks ++ js ∷ []) here.here ∙ sym (take_more here.blocks index [] lt);
+        };
+    written = subst (Appends old new) (sym (tail_push position w.blocks records)) (Appends-trans old mid new (tail_part position w.blocks) (bytes_above position records) w.written written);
+  }
+
+  all_of_node : (n : Node) (index : ℕ) (blocks : List (List Judged)) → length blocks ≡ index → r.engine.log.next - r.engine.log.start ≤ index → (r.engine.log.next - r.engine.log.start ≡ 0 → durable_items n ≡ []) → (0 < index → AreFirstBlocks history n r.engine index blocks) → records_of blocks ≡ durable_items n
+  all_of_node n zero blocks size past none first = ap records_of (no_more blocks size) ∙ sym (none (omega (arith, past)))
+  all_of_node n (suc k) blocks size past none first =
+      let here = first (omega arith) in
+      ap records_of (here.front ∙ take_all (suc k) here.all (omega (arith, past, here.tail.count))) ∙ here.tail.items
+
+  -- all were written
+  pub wrote_all_blocks : (index : ℕ) (old new : Option (List ℕ)) → IsRunning r → WroteBlocks honest history failures r position index old new → r.engine.log.next - r.engine.log.start ≤ index → Writes {T = Unit {0}} (tail_part position) (AreAllBlocks r.engine.log) (λ done. KnowsBlocks honest history failures r) old new (Ok tt)
+  wrote_all_blocks index old new runs w past = record {
+    done = (
+      w.blocks,
+      (w.are_blocks, omega (arith, w.count, w.within, past)),
+      record { there = w.there; of_node = λ n h. all_of_node n index w.blocks w.count past (no_block_no_item honest history failures n r h runs) (w.of_node n h) },
+      w.written,
+    );
+    cut = tt;
+  }
+
+  -- the device showed no more
+  pub blocks_end : (index : ℕ) (old new : Option (List ℕ)) (e : Refusal) → WroteBlocks honest history failures r position index old new → Writes {T = Unit {0}} (tail_part position) (AreAllBlocks r.engine.log) (λ done. KnowsBlocks honest history failures r) old new (Err e)
+  blocks_end index old new e w = record { done = tt; cut = blocks_cut r.engine.log position w.blocks old new w.are_blocks (omega (arith, w.count, w.within)) (front_all old new (tail_part position w.blocks) w.written) }
+
+  -- the writer failed in a block
+  pub blocks_end_within : (index : ℕ) (records : List Judged) (old mid new : Option (List ℕ)) (e : Refusal) → WroteBlocks honest history failures r position index old mid → index < r.engine.log.next - r.engine.log.start → IsBlock (r.engine.log.start + index) records → Wrote mid new (bytes_above position records) (Err e)
+      → Writes {T = Unit {0}} (tail_part position) (AreAllBlocks r.engine.log) (λ done. KnowsBlocks honest history failures r) old new (Err e)
+  blocks_end_within index records old mid new e w due block wrote = record {
+    done = tt;
+    cut = blocks_cut r.engine.log position (w.blocks ++ records ∷ []) old new (all_push IsSomeBlock w.blocks records w.are_blocks (r.engine.log.start + index, block))
+        (omega (arith, length-append w.blocks (records ∷ []), w.count, due))
+        (subst (WroteFront old new) (sym (tail_push position w.blocks records)) (front_behind old mid new (tail_part position w.blocks) (bytes_above position records) w.written (front_of_wrote mid new (bytes_above position records) e wrote)));
+  }
+
+-- ---- what is read of a replica, by what it was at the beginning
+
+module _ {D : Type 0} (honest : D → Type 0) (history : D → History) (failures : D → ℕ) (a b : Replica D) (reads : ReadsAlone honest history a b) (index : ℕ) (o : Option Contents) where
+  same_log : b.engine.log ≡ a.engine.log
+  same_log = same_of honest history failures (λ (r : Replica D). r.engine.log) a b reads refl
+
+  pub past_first : o ≡ None → is_some o ≡ nat_lt index (b.engine.log.next - b.engine.log.start) → a.engine.log.next - a.engine.log.start ≤ index
+  past_first is told = subst (λ (log : Log). log.next - log.start ≤ index) same_log (past_here index (b.engine.log.next - b.engine.log.start) o is told)
+
+  module _ (block : Contents) (is : o ≡ Some block) where
+    pub due_first : is_some o ≡ nat_lt index (b.engine.log.next - b.engine.log.start) → index < a.engine.log.next - a.engine.log.start
+    due_first told = subst (λ (log : Log). index < log.next - log.start) same_log (due_here index (b.engine.log.next - b.engine.log.start) o block is told)
+
+    pub form_first : IfSome o (λ c. (c.cell ≡ b.engine.log.start + index) × IsBlock c.cell c.records) → IsBlock (a.engine.log.start + index) block.records
+    form_first form =
+        let here : (block.cell ≡ b.engine.log.start + index) × IsBlock block.cell block.records = subst (λ (x : Option Contents). IfSome x (λ c. (c.cell ≡ b.engine.log.start + index) × IsBlock c.cell c.records)) is form in
+        subst (λ (k : ℕ). IsBlock k block.records) (here.0 ∙ ap (λ (log : Log). log.start + index) same_log) here.1
+
+    pub there_first : honest a.engine.disk → IfSome o (λ c. as_seen history b.engine (log_of b.engine.layout (b.engine.log.start + index)) ≡ Some (block_bytes (b.engine.log.start + index) c.records))
+        → as_seen history a.engine (log_of a.engine.layout (a.engine.log.start + index)) ≡ Some (block_bytes (a.engine.log.start + index) block.records)
+    there_first is_honest there =
+        let here = subst (λ (x : Option Contents). IfSome x (λ c. as_seen history b.engine (log_of b.engine.layout (b.engine.log.start + index)) ≡ Some (block_bytes (b.engine.log.start + index) c.records))) is there in
+        seen_before honest history failures a b (λ r l s log. r (log_of l (log.start + index)) ≡ Some (block_bytes (log.start + index) block.records)) reads is_honest here

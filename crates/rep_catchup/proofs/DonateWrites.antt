@@ -1,14 +1,15 @@
 -- What is written of a donation, one part after another.
-use Rattle.std.proofs.Common.{◌≡◌, ℕ, ◌+◌, ◌<◌, List, [], ◌∷◌, ◌++◌, length, take, Option, Result, Ok, Err, inl, inr, refl, sym, ap, subst, ◌∙◌, append_assoc, arith, length-append}
-use Rattle.std.specs.Prelude.{OnOk, OnErr, Bool, true, false, filter}
+use Rattle.std.proofs.Common.{◌≡◌, ℕ, zero, suc, ◌+◌, ◌≤◌, ◌<◌, List, [], ◌∷◌, ◌++◌, length, take, Option, Result, Ok, Err, inl, inr, refl, sym, ap, subst, ◌∙◌, append_assoc, arith, length-append}
+use Rattle.std.specs.Prelude.{OnOk, OnErr, Bool, true, false, filter, replicate}
 use Rattle.std.specs.List.{AllByRecursion}
 use Rattle.std.specs.Io.KnownBytes.{Appends}
-use Rattle.std.proofs.KnownBytes.{Appends-trans}
+use Rattle.std.proofs.KnownBytes.{Appends-nil, Appends-trans}
 use Rattle.std.proofs.Math.Seq.{take-append-add, take-append-le}
 use Rattle.std.proofs.lemmas.List.{take_all}
 use Rattle.std.proofs.lemmas.Bool.{cases_lt}
 use Rattle.rep_types.specs.declared.refusal.Refusal.{Refusal}
 use Rattle.rep_transfer.specs.Writing.{Wrote}
+use Rattle.rep_catchup.specs.Donating.{WroteFront, Writes}
 
 -- ---- a part behind another
 
@@ -42,7 +43,46 @@ cut_before a b xs ys e first =
       refused = first.refused;
     }
 
+-- ---- fronts of what is written
+
+pub front_none : (a : Option (List ℕ)) (xs : List ℕ) → WroteFront a a xs
+front_none a xs = (0, Appends-nil a)
+
+pub front_all : (a b : Option (List ℕ)) (xs : List ℕ) → Appends a b xs → WroteFront a b xs
+front_all a b xs written = (length xs, subst (Appends a b) (sym (take_all (length xs) xs (omega arith))) written)
+
+pub front_of_wrote : (a b : Option (List ℕ)) (xs : List ℕ) (e : Refusal) → Wrote a b xs (Err e) → WroteFront a b xs
+front_of_wrote a b xs e wrote = (wrote.cut.0, wrote.cut.2)
+
+-- a front of a front, which is no longer
+front_of_front : (xs ys : List ℕ) (k : ℕ) → (m : ℕ) × (m ≤ length xs) × (take k xs ≡ take m (xs ++ ys))
+front_of_front xs ys k = elim (cases_lt k (length xs)) [
+  | inl below ↦ (k, omega (arith, below), sym (take-append-le k xs ys (omega (arith, below))))
+  | inr past ↦ (length xs, omega arith, take_all k xs past ∙ sym (take-append-le (length xs) xs ys (omega arith) ∙ take_all (length xs) xs (omega arith)))
+]
+
+pub front_before : (a b : Option (List ℕ)) (xs ys : List ℕ) → WroteFront a b xs → WroteFront a b (xs ++ ys)
+front_before a b xs ys (k, written) = let m = front_of_front xs ys k in (m.0, subst (Appends a b) m.2 written)
+
+pub front_behind : (a b c : Option (List ℕ)) (xs ys : List ℕ) → Appends a b xs → WroteFront b c ys → WroteFront a c (xs ++ ys)
+front_behind a b c xs ys first (k, written) = (length xs + k, subst (Appends a c) (sym (take-append-add xs ys k)) (Appends-trans a b c xs (take k ys) first written))
+
+-- where something has to come behind it, it is not all
+pub front_less : (a b : Option (List ℕ)) (xs ys : List ℕ) → 0 < length ys → WroteFront a b xs → (k : ℕ) × (k < length (xs ++ ys)) × Appends a b (take k (xs ++ ys))
+front_less a b xs ys some (k, written) = let m = front_of_front xs ys k in (m.0, omega (arith, m.1, some, length-append xs ys), subst (Appends a b) m.2 written)
+
+-- ---- what is written of one thing
+
+-- the same by other words
+pub writes_mapped : {A T : Type 0} (spell : A → List ℕ) (Is Js : A → Type 0) (Known Knows : T → A → Type 0) (a b : Option (List ℕ)) (result : Result T Refusal) → ((x : A) → Is x → Js x) → ((y : T) (x : A) → Is x → Known y x → Knows y x) → Writes spell Is Known a b result → Writes spell Js Knows a b result
+writes_mapped spell Is Js Known Knows a b (Ok y) f g w = let (x, is, known, written) = w.done in record { done = (x, f x is, g y x is known, written); cut = tt }
+writes_mapped spell Is Js Known Knows a b (Err e) f g w = let (x, is, front) = w.cut in record { done = tt; cut = (x, f x is, front) }
+
 -- ---- many values, one after another
+
+pub all_same : {A : Type 0} (P : A → Type 0) (x : A) (k : ℕ) → P x → AllByRecursion P (replicate k x)
+all_same P x zero here = tt
+all_same P x (suc k) here = (here, all_same P x k here)
 
 -- what was written of them, and what is left
 pub record Writing {A : Type 0} (P : A → Type 0) (spell : List A → List ℕ) (all left : List A) (old new : Option (List ℕ)) : Type 0 where

@@ -1,5 +1,5 @@
 -- What a donor gives to a joiner, and whom it refuses.
-use Rattle.std.specs.Prelude.{◌≡◌, ◌≢◌, ◌⊎◌, ℕ, ◌-◌, ◌<◌, ◌≤◌, ◌&&◌, ◌||◌, Bool, true, false, nat_lt, is_some, List, [], ◌∷◌, ◌++◌, filter, map, take, Option, None, Some, if◌then◌else◌, Result, Err, IfErr, IfSome, OnOk}
+use Rattle.std.specs.Prelude.{◌≡◌, ◌≢◌, ◌⊎◌, ℕ, ◌+◌, ◌-◌, ◌^◌, ◌<◌, ◌≤◌, ◌&&◌, ◌||◌, Bool, true, false, nat_lt, is_some, List, [], ◌∷◌, ◌++◌, filter, length, map, take, Option, None, Some, if◌then◌else◌, Result, Err, IfOk, IfErr, IfSome, OnOk, OnErr}
 use Rattle.std.specs.List.{flat_map, range_with_len, AllByRecursion}
 use Rattle.std.specs.Io.KnownBytes.{Appends}
 use Rattle.rep_types.specs.declared.key.Key.{Key}
@@ -8,10 +8,9 @@ use Rattle.rep_types.specs.declared.refusal.Refusal.{Refusal}
 use Rattle.rep_types.specs.declared.refusal.Refusal.TheVariants.{Stopped, Undefined, WrongCluster, Ahead, StreamFault, DiskFault, Corrupt}
 use Rattle.rep_types.specs.declared.refusal.Part.{Part}
 use Rattle.rep_types.specs.declared.refusal.Part.TheVariants.{Superblock, Window as InWindow, Log as InLog, Pages as InPages}
-use Rattle.rep_types.specs.Settings.{IsRow, has_row}
+use Rattle.rep_types.specs.Settings.{IsRow, has_row, is_setting, pages_of}
 use Rattle.rep_types.specs.Windows.{Window as Kept}
 use Rattle.rep_forms.specs.Forms.{number_bytes}
-use Rattle.rep_forms.specs.Entries.{EntryFits}
 use Rattle.rep_record.specs.Blocks.{IsBlock, block_bytes}
 use Rattle.rep_disk.specs.History.{History, seen}
 use Rattle.rep_disk.specs.Calls.{Rises}
@@ -24,15 +23,17 @@ use Rattle.rep_layout.specs.declared.super_body.SuperBody.{SuperBody}
 use Rattle.rep_layout.specs.Places.{log_of, side_of}
 use Rattle.rep_layout.specs.Rows.{row_place}
 use Rattle.rep_layout.specs.Supers.{IsNil}
-use Rattle.rep_layout.specs.Windows.{IsWindowBody, beside, window_bytes}
+use Rattle.rep_layout.specs.Windows.{IsWindowAt, IsOfFormat, IsWindowBody, beside, window_bytes}
 use Rattle.rep_cells.specs.Readings.{Reading, reading_of}
+use Rattle.rep_pages.specs.declared.page.Page.{Page as PageBody}
 use Rattle.rep_pages.specs.Images.{row_of}
 use Rattle.rep_pages.specs.Slots.{state_of_page}
-use Rattle.rep_pool.specs.BasePages.{IsBadPage}
+use Rattle.rep_pool.specs.BasePages.{IsBadPage, IsSpelledPage}
 use Rattle.rep_log.specs.Standing.{Standing as Log}
+use Rattle.rep_log.specs.Tail.{records_of}
 use Rattle.rep_steps.specs.Standings.{Standing}
 use Rattle.rep_steps.specs.Nodes.{Node}
-use Rattle.rep_engine.specs.Engines.{Engine}
+use Rattle.rep_engine.specs.Engines.{Engine, durable_of}
 use Rattle.rep_engine.specs.Donating.{HasNoRow}
 use Rattle.rep_replica.specs.Replicas.{Replica}
 use Rattle.rep_replica.specs.Holding.{Holds}
@@ -42,7 +43,7 @@ use Rattle.rep_transfer.specs.declared.have.Have.{Have}
 use Rattle.rep_transfer.specs.declared.pieces.NumberedPage.{NumberedPage}
 use Rattle.rep_transfer.specs.Shapes.{shape_of}
 use Rattle.rep_transfer.specs.Pieces.{PageFits, page_bytes}
-use Rattle.rep_transfer.specs.Transfers.{Snapshot, Transfer, IsTransfer, SnapshotFits, kept_bytes, snapshot_part}
+use Rattle.rep_transfer.specs.Transfers.{Snapshot, Transfer, IsTransfer, SnapshotFits, kept_bytes, record_part, transfer_bytes}
 use Rattle.rep_catchup.specs.Snapshots.{with_pages, state_of, number_of, IsPageOf, IsSnapshot}
 
 -- ---- whom it refuses
@@ -139,13 +140,23 @@ pub record IsDonated (n : Node) (have : Have) (t : Transfer) : Type 0 where
   pub brings : Brings n have t.snapshot t.records
   pub last : t.last ≡ n.facts.durable
 
--- ---- the parts that it writes
+-- ---- what it gives, on any device
 
--- The base's window was written, whole, behind the letter and the position of a snapshot.
-pub record WroteWindow (b : SuperBody) (v : Kept) (old new : Option (List ℕ)) : Type 0 where
-  pub is_window : IsWindowBody b.params (beside b v)
-  pub fit : AllByRecursion EntryFits v.entries
-  pub written : Appends old new ((83 ∷ number_bytes 8 b.position) ++ kept_bytes Two v)
+-- The joiner needs a snapshot: it is of no cluster yet, or not even at the donor's base.
+abbrev pub NeedsSnapshot : ℕ → Have → Type 0
+NeedsSnapshot base have = IsNil have.uuid ⊎ (have.position < base)
+
+-- A part is asked for: the log always, and others where the joiner needs a snapshot.
+abbrev pub IsAskedFor : SuperBody → Have → Part → Type 0
+IsAskedFor b have part = (part ≡ InLog) ⊎ NeedsSnapshot b.position have
+
+-- A window that can stand beside the superblock, whatever the superblock's number. The superblock's parameters and position are within their
+-- limits.
+pub record StandsBeside (b : SuperBody) (v : Kept) : Type 0 where
+  pub setting : is_setting b.params ≡ true
+  pub position : b.position < 2 ^ 64
+  pub format : IsOfFormat b.format b.params b.position v
+  pub kept : IsWindowAt b.params b.position v
 
 -- whether a page stands in a slot
 abbrev pub is_in_slot : PageState → Bool
@@ -155,6 +166,121 @@ is_in_slot (In slot) = true
 -- the pages below this number that the base has in a slot
 abbrev pub held_below : SuperBody → ℕ → List ℕ
 held_below b number = filter (λ (page : ℕ). is_in_slot (state_of_page b page)) (range_with_len 0 number)
+
+-- A snapshot of what the superblock says: of its position, with a window that can stand beside it, and with exactly the pages that it has in
+-- a slot.
+pub record IsSnapshotBeside (b : SuperBody) (s : Snapshot) : Type 0 where
+  pub position : s.position ≡ b.position
+  pub window : StandsBeside b s.kept
+  pub numbers : map number_of s.pages ≡ held_below b (pages_of b.params.rows)
+
+-- The snapshot comes exactly where the joiner needs one.
+abbrev pub ComesWhereNeeded : SuperBody → Have → Option Snapshot → Type 0
+ComesWhereNeeded b have None = NeedsSnapshot b.position have → ⊥
+ComesWhereNeeded b have (Some s) = NeedsSnapshot b.position have × IsSnapshotBeside b s
+
+-- the position behind which the records come: the snapshot's, or where none comes the joiner's
+abbrev pub behind : Have → Option Snapshot → ℕ
+behind have None = have.position
+behind have (Some s) = s.position
+
+-- the records of a block, whatever its number
+abbrev pub IsSomeBlock : List Judged → Type 0
+IsSomeBlock records = (cell : ℕ) × IsBlock cell records
+
+-- so many blocks as the log has behind the base
+abbrev pub AreAllBlocks : Log → List (List Judged) → Type 0
+AreAllBlocks log blocks = AllByRecursion IsSomeBlock blocks × (length blocks ≡ log.next - log.start)
+
+-- A transfer with all parts that the donor's superblock and log name for this joiner: in format 2, of the donor's cluster and shape; a
+-- snapshot exactly where the joiner needs one; of all blocks of the log the records behind that, or behind what the joiner has; and it
+-- ends at what is durable.
+pub record HasAllParts (b : SuperBody) (log : Log) (have : Have) (t : Transfer) : Type 0 where
+  pub is_transfer : IsTransfer t
+  pub format : t.header.format ≡ Two
+  pub uuid : t.header.uuid ≡ b.uuid
+  pub shape : t.header.shape ≡ shape_of b.params
+  pub snapshot : ComesWhereNeeded b have t.snapshot
+  pub blocks : List (List Judged)
+  pub are_blocks : AreAllBlocks log blocks
+  pub records : t.records ≡ above (behind have t.snapshot) (records_of blocks)
+  pub last : t.last ≡ durable_of log
+
+-- ---- as the bytes of a device spell it
+
+-- The window as the bytes of a reading spell it, where that of the superblock stands.
+abbrev pub IsWindowThere : Reading → SuperBody → Kept → Type 0
+IsWindowThere r b v = IsWindowBody b.params (beside b v) × (r (WindowArea (side_of b.number)) ≡ Some (window_bytes (beside b v)))
+
+-- The page as the bytes of a reading spell it, in the slot where the superblock has it.
+abbrev pub IsPageThere : Reading → SuperBody → NumberedPage → Type 0
+IsPageThere r b p = (page : PageBody) × IsSpelledPage r b p.number page × (page.rows ≡ p.rows)
+
+-- The snapshot's window and its pages are as the bytes spell them.
+pub record IsSnapshotThere (r : Reading) (b : SuperBody) (s : Snapshot) : Type 0 where
+  pub window : IsWindowThere r b s.kept
+  pub pages : AllByRecursion (IsPageThere r b) s.pages
+
+-- The block is as the bytes spell it, in the cell of its number.
+abbrev pub IsBlockThere : Reading → Layout → ℕ → List Judged → Type 0
+IsBlockThere r l number records = IsBlock number records × (r (log_of l number) ≡ Some (block_bytes number records))
+
+-- So are blocks from this number on.
+abbrev pub AreBlocksThere : Reading → Layout → ℕ → List (List Judged) → Type 0
+AreBlocksThere r l number [] = Unit {0}
+AreBlocksThere r l number (records ∷ blocks) = IsBlockThere r l number records × AreBlocksThere r l (number + 1) blocks
+
+-- Snapshot and records are as the bytes spell them, the records in all blocks of the log.
+pub record IsThere (r : Reading) (l : Layout) (b : SuperBody) (log : Log) (have : Have) (t : Transfer) : Type 0 where
+  pub snapshot : IfSome t.snapshot (IsSnapshotThere r b)
+  pub blocks : List (List Judged)
+  pub are_there : AreBlocksThere r l log.start blocks
+  pub count : length blocks ≡ log.next - log.start
+  pub records : t.records ≡ above (behind have t.snapshot) (records_of blocks)
+
+-- ---- what is written of it
+
+-- A front of these bytes was written.
+abbrev pub WroteFront : Option (List ℕ) → Option (List ℕ) → List ℕ → Type 0
+WroteFront old new bytes = (k : ℕ) × Appends old new (take k bytes)
+
+-- One of these was written whole, of which something is known beside; or where it was refused, a front of one.
+pub record Writes {A T : Type 0} (spell : A → List ℕ) (Is : A → Type 0) (Known : T → A → Type 0) (old new : Option (List ℕ)) (result : Result T Refusal) : Type 0 where
+  pub done : IfOk result (λ y. (x : A) × Is x × Known y x × Appends old new (spell x))
+  pub cut : OnErr result ((x : A) × Is x × WroteFront old new (spell x))
+
+-- the letter and the position of a snapshot, and the window
+abbrev pub window_part : SuperBody → Kept → List ℕ
+window_part b v = (83 ∷ number_bytes 8 b.position) ++ kept_bytes Two v
+
+-- a page, or nothing
+abbrev pub page_part : Option NumberedPage → List ℕ
+page_part None = []
+page_part (Some p) = page_bytes p
+
+-- The page of this number, or none where the base has it in no slot.
+abbrev pub IsPageFor : SuperBody → ℕ → Option NumberedPage → Type 0
+IsPageFor b number None = is_in_slot (state_of_page b number) ≡ false
+IsPageFor b number (Some p) = (p.number ≡ number) × (is_in_slot (state_of_page b number) ≡ true) × PageFits p
+
+-- The pages below this number that the base has in a slot.
+pub record ArePagesBelow (b : SuperBody) (number : ℕ) (pages : List NumberedPage) : Type 0 where
+  pub numbers : map number_of pages ≡ held_below b number
+  pub fit : AllByRecursion PageFits pages
+
+-- A snapshot of what the superblock says, which can be spelled.
+abbrev pub IsSnapshotFor : SuperBody → Snapshot → Type 0
+IsSnapshotFor b s = SnapshotFits s × IsSnapshotBeside b s
+
+-- It, where the joiner needs it.
+abbrev pub IsBaseFor : SuperBody → Have → Option Snapshot → Type 0
+IsBaseFor b have s = IfSome s SnapshotFits × ComesWhereNeeded b have s
+
+-- the records above a position of these blocks
+abbrev pub tail_part : ℕ → List (List Judged) → List ℕ
+tail_part position blocks = flat_map record_part (above position (records_of blocks))
+
+-- ---- what is so of it where the replica stands for a node
 
 -- the rows of the pages below this number
 abbrev pub rows_below : List ℕ → (Key → Option (List ℕ)) → ℕ → Key → Option (List ℕ)
@@ -176,29 +302,60 @@ pub record IsHeldPage (b : SuperBody) (content : Key → Option (List ℕ)) (num
   pub fits : PageFits page
   pub rows : (key : Key) → IsRow b.params.rows key → (row_place b.params.rows key).page ≡ number → content key ≡ row_of b.params.rows page.rows key
 
--- The base's page of this number was written, or nothing where it has it in no slot: it has no row then.
-abbrev pub WrotePage : SuperBody → (Key → Option (List ℕ)) → ℕ → Option (List ℕ) → Option (List ℕ) → Type 0
-WrotePage b content number old new =
-    ((page : NumberedPage) × IsHeldPage b content number page × Appends old new (page_bytes page)) ⊎ ((is_in_slot (state_of_page b number) ≡ false) × HasNoRow b content number × Appends old new [])
+-- The base's page of this number, or none where it has it in no slot: it has no row then.
+abbrev pub IsPageOfNode : SuperBody → (Key → Option (List ℕ)) → ℕ → Option NumberedPage → Type 0
+IsPageOfNode b content number None = HasNoRow b content number
+IsPageOfNode b content number (Some p) = IsHeldPage b content number p
 
--- The base's pages below this number were written.
-pub record WrotePages (b : SuperBody) (content : Key → Option (List ℕ)) (number : ℕ) (old new : Option (List ℕ)) : Type 0 where
-  pub pages : List NumberedPage
-  pub are_pages : ArePages b content number pages
-  pub written : Appends old new (flat_map page_bytes pages)
+-- What is known of the window that was written: on an honest device it is as its bytes spell it, and of a node it is that of its base.
+pub record KnowsWindow {D : Type 0} (honest : D → Type 0) (history : D → History) (failures : D → ℕ) (r : Replica D) (v : Kept) : Type 0 where
+  pub there : honest r.engine.disk → IsWindowThere (as_seen history r.engine) r.engine.checkpoint.base v
+  pub of_node : (n : Node) → Holds honest history failures n r → v ≡ n.base.kept
 
--- The joiner needs a snapshot: it is of no cluster yet, or not even at the donor's base.
-abbrev pub NeedsSnapshot : Standing → Have → Type 0
-NeedsSnapshot s have = IsNil have.uuid ⊎ (have.position < s.base)
+-- So it is with the page of a number,
+pub record KnowsPage {D : Type 0} (honest : D → Type 0) (history : D → History) (failures : D → ℕ) (r : Replica D) (number : ℕ) (p : Option NumberedPage) : Type 0 where
+  pub there : honest r.engine.disk → IfSome p (IsPageThere (as_seen history r.engine) r.engine.checkpoint.base)
+  pub of_node : (n : Node) → Holds honest history failures n r → IsPageOfNode r.engine.checkpoint.base n.base.content number p
 
--- the snapshot comes where it is needed, and the records behind this position
-abbrev pub Begins : Node → Have → Option Snapshot → ℕ → Type 0
-Begins n have None position = (NeedsSnapshot n.facts have → ⊥) × (position ≡ have.position)
-Begins n have (Some s) position = NeedsSnapshot n.facts have × IsSnapshotOf n s × (position ≡ n.facts.base)
+-- with the pages below a number,
+pub record KnowsPages {D : Type 0} (honest : D → Type 0) (history : D → History) (failures : D → ℕ) (r : Replica D) (number : ℕ) (pages : List NumberedPage) : Type 0 where
+  pub there : honest r.engine.disk → AllByRecursion (IsPageThere (as_seen history r.engine) r.engine.checkpoint.base) pages
+  pub of_node : (n : Node) → Holds honest history failures n r → ArePages r.engine.checkpoint.base n.base.content number pages
 
--- What comes before the records was written.
-pub record WroteBase (n : Node) (have : Have) (position : ℕ) (old new : Option (List ℕ)) : Type 0 where
-  pub snapshot : Option Snapshot
-  pub fits : IfSome snapshot SnapshotFits
-  pub begins : Begins n have snapshot position
-  pub written : Appends old new (snapshot_part Two snapshot)
+-- with a snapshot,
+pub record KnowsSnapshot {D : Type 0} (honest : D → Type 0) (history : D → History) (failures : D → ℕ) (r : Replica D) (s : Snapshot) : Type 0 where
+  pub there : honest r.engine.disk → IsSnapshotThere (as_seen history r.engine) r.engine.checkpoint.base s
+  pub of_node : (n : Node) → Holds honest history failures n r → IsSnapshotOf n s
+
+-- with what comes before the records, and the position behind which they come,
+pub record KnowsBase {D : Type 0} (honest : D → Type 0) (history : D → History) (failures : D → ℕ) (r : Replica D) (have : Have) (position : ℕ) (s : Option Snapshot) : Type 0 where
+  pub is_behind : position ≡ behind have s
+  pub snapshot : IfSome s (KnowsSnapshot honest history failures r)
+
+-- and with the blocks of the log.
+pub record KnowsBlocks {D : Type 0} (honest : D → Type 0) (history : D → History) (failures : D → ℕ) (r : Replica D) (blocks : List (List Judged)) : Type 0 where
+  pub there : honest r.engine.disk → AreBlocksThere (as_seen history r.engine) r.engine.layout r.engine.log.start blocks
+  pub of_node : (n : Node) → Holds honest history failures n r → records_of blocks ≡ durable_items n
+
+-- A transfer with all parts was written, which ends at this position. On an honest device its parts are as the bytes spell them; and of a
+-- node it is what the joiner needs.
+pub record Donates {D : Type 0} (honest : D → Type 0) (history : D → History) (failures : D → ℕ) (r : Replica D) (have : Have) (old new : Option (List ℕ)) (last : ℕ) : Type 0 where
+  pub transfer : Transfer
+  pub parts : HasAllParts r.engine.checkpoint.base r.engine.log have transfer
+  pub is_last : transfer.last ≡ last
+  pub written : Appends old new (transfer_bytes transfer)
+  pub there : honest r.engine.disk → IsThere (as_seen history r.engine) r.engine.layout r.engine.checkpoint.base r.engine.log have transfer
+  pub of_node : (n : Node) → Holds honest history failures n r → IsDonated n have transfer
+
+-- A transfer with all parts was written.
+abbrev pub WroteTransfer : SuperBody → Log → Have → Option (List ℕ) → Option (List ℕ) → ℕ → Type 0
+WroteTransfer b log have old new last = (t : Transfer) × HasAllParts b log have t × (t.last ≡ last) × Appends old new (transfer_bytes t)
+
+-- A front of one was written, and not all: so it is no transfer.
+abbrev pub WroteLess : SuperBody → Log → Have → Option (List ℕ) → Option (List ℕ) → Type 0
+WroteLess b log have old new = (t : Transfer) × HasAllParts b log have t × (k : ℕ) × (k < length (transfer_bytes t)) × Appends old new (take k (transfer_bytes t))
+
+-- The bytes of a device decide: what was written is as they spell it, and a part is told corrupt only where they do not spell it.
+pub record DonatesAsSpelled (r : Reading) (l : Layout) (b : SuperBody) (log : Log) (have : Have) (old new : Option (List ℕ)) (result : Result ℕ Refusal) : Type 0 where
+  pub given : IfOk result (λ last. (t : Transfer) × HasAllParts b log have t × IsThere r l b log have t × (t.last ≡ last) × Appends old new (transfer_bytes t))
+  pub corrupt : (part : Part) → result ≡ Err (Corrupt part) → IsBadPart r l b log part

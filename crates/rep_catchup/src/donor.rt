@@ -1,11 +1,12 @@
 //! What a donor writes for a joiner.
 
-ghost use Rattle.std.specs.Prelude.{◌≡◌, ◌≢◌, ◌↔◌, [], ◌∷◌, true, length, Option, None, Err, is_some, IfOk, IfErr, IfSome, OnOk};
+ghost use Rattle.std.specs.Prelude.{◌≡◌, ◌≢◌, ◌↔◌, [], ◌∷◌, true, length, Option, None, Err, is_some, IfOk, IfErr, IfSome, OnOk, OnErr};
 ghost use Rattle.std.specs.List.{flat_map, AllByRecursion};
 ghost use Rattle.std.specs.Io.KnownBytes.{Appends, Keeps};
 ghost use Rattle.rep_types.specs.declared.refusal.Refusal.TheVariants.{DiskFault};
 ghost use Rattle.rep_types.specs.Settings.{pages_of};
 ghost use Rattle.rep_types.specs.declared.refusal.Part.{Part};
+ghost use Rattle.rep_types.specs.declared.refusal.Part.TheVariants.{Log as in_log};
 ghost use Rattle.rep_disk.specs.Calls.{Rises};
 ghost use Rattle.rep_forms.specs.Entries.{EntryFits, entry_bytes};
 ghost use Rattle.rep_record.specs.Records.{IsRecord};
@@ -17,8 +18,9 @@ ghost use Rattle.rep_replica.specs.Replicas.{facts_of};
 ghost use Rattle.rep_replica.specs.Holding.{Holds};
 ghost use Rattle.rep_streams.specs.Streams.{Notes};
 ghost use Rattle.rep_transfer.specs.Writing.{Wrote};
-ghost use Rattle.rep_catchup.specs.Donating.{IsOfCluster, IsFirstRefusal, ComesFirst, EndsEarly, ReadsAlone, IsRunning, Leaves, IsSnapshotOf, IsDonated, NeedsSnapshot, WroteWindow, WrotePage, WrotePages, WroteBase, held_below, above, durable_items};
-ghost use Rattle.rep_transfer.specs.Transfers.{Transfer, Snapshot, SnapshotFits, snapshot_bytes, record_part, transfer_bytes};
+ghost use Rattle.rep_catchup.specs.Donating.{IsAskedFor, IsOfCluster, IsFirstRefusal, ComesFirst, EndsEarly, ReadsAlone, IsRunning, Leaves, IsDonated, NeedsSnapshot, StandsBeside, ArePagesBelow, IsPageFor, IsSnapshotFor, IsBaseFor, AreAllBlocks, window_part, page_part, tail_part, Writes, KnowsWindow, KnowsPage, KnowsPages, KnowsSnapshot, KnowsBase, KnowsBlocks, Donates, WroteTransfer, WroteLess, DonatesAsSpelled, as_seen, held_below, above};
+ghost use Rattle.rep_transfer.specs.Pieces.{page_bytes};
+ghost use Rattle.rep_transfer.specs.Transfers.{Snapshot, Transfer, snapshot_bytes, snapshot_part, record_part, transfer_bytes};
 
 use rep_disk::Disk;
 use rep_engine::the_tail_is_told;
@@ -65,7 +67,7 @@ pub fn donation_refusal<D: Disk>(replica: &Replica<D>, have: &Have) -> Option<Re
 
 /// Whether the joiner needs a snapshot: it is of no cluster yet, or not even at the donor's base.
 fn needs_snapshot<D: Disk>(replica: &Replica<D>, have: &Have) -> bool
-    ensures { (result ≡ true) ↔ NeedsSnapshot (facts_of D.failures replica.now) have.now }
+    ensures { (result ≡ true) ↔ NeedsSnapshot replica.now.engine.checkpoint.base.position have.now }
 {
     have.uuid.is_nil() || have.position < replica.base()
 }
@@ -110,10 +112,12 @@ fn write_entries<W: Sink>(window: WindowReader<'_>, writer: &mut W) -> Result<()
 fn write_window<D: Disk, W: Sink>(replica: &mut Replica<D>, writer: &mut W) -> Result<(), Refusal>
     requires { IsRunning replica.old }
     ensures leaves { Leaves D.honest D.history D.failures replica.old replica.new (W.failed writer.old) (W.failed writer.new) result }
-    ensures written { (n : Node) → Holds D.honest D.history D.failures n replica.old → OnOk result (WroteWindow replica.old.engine.checkpoint.base n.base.kept (W.contents writer.old) (W.contents writer.new)) }
+    ensures writes { Writes (window_part replica.old.engine.checkpoint.base) (StandsBeside replica.old.engine.checkpoint.base) (λ done. KnowsWindow D.honest D.history D.failures replica.old) (W.contents writer.old) (W.contents writer.new) result }
 {
     let mut room = [0; WINDOW_BODY];
     let position = replica.base();
+    // For its clause: the limits of the parameters.
+    replica.params().window();
     let window = replica.base_window(&mut room)?;
     write_front(writer, position, window.size(), window.floor())?;
     write_count(writer, window.len() as u16)?;
@@ -128,7 +132,7 @@ fn write_base_page<D: Disk, W: Sink>(
 ) -> Result<(), Refusal>
     requires { IsRunning replica.old }
     ensures leaves { Leaves D.honest D.history D.failures replica.old replica.new (W.failed writer.old) (W.failed writer.new) result }
-    ensures written { (n : Node) → Holds D.honest D.history D.failures n replica.old → OnOk result (WrotePage replica.old.engine.checkpoint.base n.base.content number (W.contents writer.old) (W.contents writer.new)) }
+    ensures writes { Writes page_part (IsPageFor replica.old.engine.checkpoint.base number) (λ done. KnowsPage D.honest D.history D.failures replica.old number) (W.contents writer.old) (W.contents writer.new) result }
 {
     match replica.base_page(u32::from(number))? {
         Some(found) => {
@@ -146,7 +150,7 @@ fn write_base_page<D: Disk, W: Sink>(
 fn write_pages<D: Disk, W: Sink>(replica: &mut Replica<D>, writer: &mut W) -> Result<(), Refusal>
     requires { IsRunning replica.old }
     ensures leaves { Leaves D.honest D.history D.failures replica.old replica.new (W.failed writer.old) (W.failed writer.new) result }
-    ensures written { (n : Node) → Holds D.honest D.history D.failures n replica.old → OnOk result (WrotePages replica.old.engine.checkpoint.base n.base.content (pages_of replica.old.engine.checkpoint.base.params.rows) (W.contents writer.old) (W.contents writer.new)) }
+    ensures writes { Writes (flat_map page_bytes) (ArePagesBelow replica.old.engine.checkpoint.base (pages_of replica.old.engine.checkpoint.base.params.rows)) (λ done. KnowsPages D.honest D.history D.failures replica.old (pages_of replica.old.engine.checkpoint.base.params.rows)) (W.contents writer.old) (W.contents writer.new) result }
 {
     for number in 0..page_count(replica) {
         write_base_page(replica, number, writer)?;
@@ -155,13 +159,10 @@ fn write_pages<D: Disk, W: Sink>(replica: &mut Replica<D>, writer: &mut W) -> Re
 }
 
 /// Writes a snapshot of the base.
-fn write_snapshot<D: Disk, W: Sink>(
-    replica: &mut Replica<D>,
-    writer: &mut W,
-) -> Result<(), Refusal>
+fn write_snapshot<D: Disk, W: Sink>(replica: &mut Replica<D>, writer: &mut W) -> Result<(), Refusal>
     requires { IsRunning replica.old }
     ensures leaves { Leaves D.honest D.history D.failures replica.old replica.new (W.failed writer.old) (W.failed writer.new) result }
-    ensures written { (n : Node) → Holds D.honest D.history D.failures n replica.old → OnOk result ((s : Snapshot) × SnapshotFits s × IsSnapshotOf n s × Appends (W.contents writer.old) (W.contents writer.new) (snapshot_bytes Two s)) }
+    ensures writes { Writes (snapshot_bytes Two) (IsSnapshotFor replica.old.engine.checkpoint.base) (λ done. KnowsSnapshot D.honest D.history D.failures replica.old) (W.contents writer.old) (W.contents writer.new) result }
 {
     row_places_are_told();
     write_window(replica, writer)?;
@@ -178,7 +179,8 @@ fn write_base<D: Disk, W: Sink>(
 ) -> Result<u64, Refusal>
     requires { IsRunning replica.old }
     ensures leaves { Leaves D.honest D.history D.failures replica.old replica.new (W.failed writer.old) (W.failed writer.new) result }
-    ensures written { (n : Node) → Holds D.honest D.history D.failures n replica.old → IfOk result (λ position. WroteBase n have.now position (W.contents writer.old) (W.contents writer.new)) }
+    ensures asked { (part : Part) → result ≡ Err (Refusal.Corrupt part) → NeedsSnapshot replica.old.engine.checkpoint.base.position have.now }
+    ensures writes { Writes (snapshot_part Two) (IsBaseFor replica.old.engine.checkpoint.base have.now) (KnowsBase D.honest D.history D.failures replica.old have.now) (W.contents writer.old) (W.contents writer.new) result }
 {
     if !needs_snapshot(replica, have) {
         return Ok(have.position);
@@ -225,17 +227,27 @@ fn write_tail<D: Disk, W: Sink>(
 ) -> Result<(), Refusal>
     requires { IsRunning replica.old }
     ensures leaves { Leaves D.honest D.history D.failures replica.old replica.new (W.failed writer.old) (W.failed writer.new) result }
-    ensures written { (n : Node) → Holds D.honest D.history D.failures n replica.old → OnOk result (AllByRecursion IsRecord (above position (durable_items n)) × Appends (W.contents writer.old) (W.contents writer.new) (flat_map record_part (above position (durable_items n)))) }
+    ensures asked { (part : Part) → result ≡ Err (Refusal.Corrupt part) → part ≡ in_log }
+    ensures writes { Writes (tail_part position) (AreAllBlocks replica.old.engine.log) (λ done. KnowsBlocks D.honest D.history D.failures replica.old) (W.contents writer.old) (W.contents writer.new) result }
 {
     the_tail_is_told();
     let mut room = [0; LOG_BODY];
-    for index in 0..u64::MAX {
-        match replica.tail_block(index, &mut room)? {
-            Some(block) => write_block(block, position, writer)?,
-            None => return Ok(()),
-        }
+    let mut index = 0;
+    while let Some(block) = replica.tail_block(index, &mut room)? {
+        write_block(block, position, writer)?;
+        index += 1;
     }
     Ok(())
+}
+
+/// Tells the proof that there is something to write, whatever the base is.
+fn some_base_comes<D: Disk>(replica: &Replica<D>, have: &Have)
+    ensures { (s : Option Snapshot) × IsBaseFor replica.now.engine.checkpoint.base have.now s }
+{
+    // For their clauses: the limits of the position and of the parameters.
+    replica.base();
+    replica.params().window();
+    needs_snapshot(replica, have);
 }
 
 /// Writes the transfer of a donor of a cluster that is not stopped, and answers where it ends.
@@ -247,17 +259,20 @@ fn write_transfer<D: Disk, W: Sink>(
     requires running { IsRunning replica.old }
     requires defined { IsNil replica.old.engine.checkpoint.base.uuid → ⊥ }
     ensures leaves { Leaves D.honest D.history D.failures replica.old replica.new (W.failed writer.old) (W.failed writer.new) result }
-    ensures donated { (n : Node) → Holds D.honest D.history D.failures n replica.old → IfOk result (λ last. (t : Transfer) × IsDonated n have.now t × (t.last ≡ last) × Appends (W.contents writer.old) (W.contents writer.new) (transfer_bytes t)) }
+    ensures asked { (part : Part) → result ≡ Err (Refusal.Corrupt part) → IsAskedFor replica.old.engine.checkpoint.base have.now part }
+    ensures donates { IfOk result (Donates D.honest D.history D.failures replica.old have.now (W.contents writer.old) (W.contents writer.new)) }
+    ensures cut { OnErr result (WroteLess replica.old.engine.checkpoint.base replica.old.engine.log have.now (W.contents writer.old) (W.contents writer.new)) }
 {
     let header = Header {
         format: Format::Two,
         uuid: replica.uuid(),
         shape: Shape::of(replica.params()),
     };
+    some_base_comes(replica, have);
+    let last = replica.durable();
     write_header(writer, &header)?;
     let position = write_base(replica, have, writer)?;
     write_tail(replica, position, writer)?;
-    let last = replica.durable();
     write_end(writer, last)?;
     Ok(last)
 }
@@ -269,8 +284,9 @@ fn write_transfer<D: Disk, W: Sink>(
 ///
 /// Refuses, in this order, with `Stopped`; with `Undefined` where the donor belongs to no cluster; with `WrongCluster` a joiner of
 /// another cluster, or of another first window size or schema; and with `Ahead` one that has more of the order than is durable here: so far nothing
-/// is written. Then with `StreamFault` where the writer fails; with `DiskFault` where the device fails, and then the replica is stopped;
-/// and with `Corrupt` where the device shows what is not of its form: what was written is then no transfer.
+/// is written. Then with `StreamFault` where the sink fails; with `DiskFault` where the device fails, and then alone the replica is stopped;
+/// and with `Corrupt` where the device shows what is not of its form, which an honest device does only where its bytes are bad. What was
+/// written by then is a front of a transfer with all parts, and shorter: so it is no transfer.
 pub fn donate<D: Disk, W: Sink>(
     replica: &mut Replica<D>,
     have: &Have,
@@ -287,6 +303,13 @@ pub fn donate<D: Disk, W: Sink>(
     ensures no_fault { result ≢ Err Refusal.DiskFault → D.failures replica.new.engine.disk ≡ D.failures replica.old.engine.disk }
     // On an honest device of a node what is written is what the joiner needs, whole.
     ensures donated { (n : Node) → Holds D.honest D.history D.failures n replica.old → IfOk result (λ last. (t : Transfer) × IsDonated n have.now t × (t.last ≡ last) × Appends (W.contents writer.old) (W.contents writer.new) (transfer_bytes t)) }
+    // On any device what is written is a transfer with all parts, or where it is refused a front of one, and shorter: so it is no transfer.
+    ensures wrote { IfOk result (WroteTransfer replica.old.engine.checkpoint.base replica.old.engine.log have.now (W.contents writer.old) (W.contents writer.new)) }
+    ensures cut { IsFirstRefusal (facts_of D.failures replica.old) have.now None → OnErr result (WroteLess replica.old.engine.checkpoint.base replica.old.engine.log have.now (W.contents writer.old) (W.contents writer.new)) }
+    // A part is told corrupt only where it is asked for.
+    ensures asked { (part : Part) → result ≡ Err (Refusal.Corrupt part) → IsAskedFor replica.old.engine.checkpoint.base have.now part }
+    // Whatever stands on an honest device: its bytes decide.
+    ensures spelled { D.honest replica.old.engine.disk → DonatesAsSpelled (as_seen D.history replica.old.engine) replica.old.engine.layout replica.old.engine.checkpoint.base replica.old.engine.log have.now (W.contents writer.old) (W.contents writer.new) result }
     ensures notes { Notes (W.failed writer.old) (W.failed writer.new) result }
 {
     if let Some(refusal) = donation_refusal(replica, have) {

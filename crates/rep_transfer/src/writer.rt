@@ -34,6 +34,7 @@ pub fn write_header<W: Sink>(writer: &mut W, header: &Header) -> Result<(), Refu
     ensures undefined { IsNil header.now.uuid → (result ≡ Err Refusal.Undefined) × Keeps (W.contents writer.old) (W.contents writer.new) }
     ensures written { (IsNil header.now.uuid → ⊥) → Wrote (W.contents writer.old) (W.contents writer.new) (header_bytes header.now) result }
     ensures fits { OnOk result (IsHeader header.now) }
+    ensures form { (IsNil header.now.uuid → ⊥) → IsHeader header.now }
     ensures notes { Notes (W.failed writer.old) (W.failed writer.new) result }
 {
     match header.write_bytes() {

@@ -18,9 +18,9 @@ loop-judged-preserved g c =
     let same = ap (λ (b : Contents). b.records) c.in-Some.ensures in
     record {
       writing = writing_more IsRecord (bytes_above c.args.position) (bytes_join c.args.position) c.args.block.records c.loop-judged.block.records c.next_record.new.self.records judged (bytes_above c.args.position (judged ∷ []))
-    (g.W.Sink.contents c.args.writer.now) (g.W.Sink.contents c.loop-judged.writer) (g.W.Sink.contents c.write_above.new.writer) refl c.loop-judged.invariant.writing same
-    (next_is IsRecord (bytes_above c.args.position) c.args.block.records c.loop-judged.block.records c.next_record.new.self.records judged
-    (g.W.Sink.contents c.args.writer.now) (g.W.Sink.contents c.loop-judged.writer) c.loop-judged.invariant.writing same c.requires.are_records) c.in_ok-write_above.ensures.written.done;
+          (g.W.Sink.contents c.args.writer.now) (g.W.Sink.contents c.loop-judged.writer) (g.W.Sink.contents c.write_above.new.writer) refl c.loop-judged.invariant.writing same
+          (next_is IsRecord (bytes_above c.args.position) c.args.block.records c.loop-judged.block.records c.next_record.new.self.records judged
+          (g.W.Sink.contents c.args.writer.now) (g.W.Sink.contents c.loop-judged.writer) c.loop-judged.invariant.writing same c.requires.are_records) c.in_ok-write_above.ensures.written.done;
       noted = notes_more (g.W.Sink.failed c.args.writer.now) (g.W.Sink.failed c.loop-judged.writer) (g.W.Sink.failed c.write_above.new.writer) tt c.loop-judged.invariant.noted c.in_ok-write_above.ensures.notes;
     }
 

@@ -13,8 +13,8 @@ loop-entry-preserved g c =
     let entry = c.in-Some.entry in
     record {
       writing = writing_more EntryFits (flat_map entry_bytes) (flat_map-append entry_bytes) c.args.window.kept.entries c.loop-entry.window.kept.entries c.next_entry.new.self.kept.entries entry (entry_bytes entry)
-    (g.W.Sink.contents c.args.writer.now) (g.W.Sink.contents c.loop-entry.writer) (g.W.Sink.contents c.write_entry.new.writer) (append-nil (entry_bytes entry)) c.loop-entry.invariant.writing
-    (ap (λ (w : Window). w.kept.entries) c.in-Some.ensures) c.write_entry.ensures.fits c.in_ok-write_entry.ensures.written.done;
+          (g.W.Sink.contents c.args.writer.now) (g.W.Sink.contents c.loop-entry.writer) (g.W.Sink.contents c.write_entry.new.writer) (append-nil (entry_bytes entry)) c.loop-entry.invariant.writing
+          (ap (λ (w : Window). w.kept.entries) c.in-Some.ensures) c.write_entry.ensures.fits c.in_ok-write_entry.ensures.written.done;
       noted = notes_more (g.W.Sink.failed c.args.writer.now) (g.W.Sink.failed c.loop-entry.writer) (g.W.Sink.failed c.write_entry.new.writer) tt c.loop-entry.invariant.noted c.in_ok-write_entry.ensures.notes;
     }
 

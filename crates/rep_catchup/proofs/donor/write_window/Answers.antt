@@ -1,7 +1,12 @@
-use Rattle.std.proofs.Common.{Ok, Err, []}
+use Rattle.std.proofs.Common.{◌≡◌, ◌<◌, ◌^◌, true, Some, Ok, Err, [], length, refl, subst, arith}
 use Rattle.std.proofs.lemmas.Result.{err_from_is_err_and}
+use Rattle.rep_types.specs.Settings.{Setting, is_setting}
+use Rattle.rep_layout.specs.declared.place.Place.TheVariants.{Window as WindowArea}
+use Rattle.rep_layout.specs.Places.{side_of}
+use Rattle.rep_layout.specs.Windows.{IsWindowBody, Window, window_bytes}
+use Rattle.rep_catchup.specs.Donating.{KnowsWindow, as_seen}
 use Rattle.rep_catchup.proofs.DonateReads.{leaves_asked, leaves_cut, leaves_passed, leaves_then, leaves_noted, leaves_wrote}
-use Rattle.rep_catchup.proofs.DonateWindow.{window_wrote}
+use Rattle.rep_catchup.proofs.DonateWindow.{window_none, window_cut, window_cut_behind, window_writes}
 use Rattle.rep_catchup.proofs.donor.write_window.Goals as goal
 
 pub returns-in_err-write_front-clause-leaves : goal.returns-in_err-write_front-clause-leaves
@@ -31,14 +36,46 @@ returns-clause-leaves g c =
     leaves_then g.D.Disk.honest g.D.Disk.history g.D.Disk.failures old new new _ _ _ tt c.write_entries.result counted
     (leaves_wrote g.D.Disk.honest g.D.Disk.history g.D.Disk.failures new _ _ _ _ _ c.write_entries.result c.write_entries.ensures.written c.write_entries.ensures.notes asked.runs)
 
-pub returns-clause-written : goal.returns-clause-written
-returns-clause-written g c = λ n holds.
-    let b = c.args.replica.now.engine.checkpoint.base in
+pub returns-clause-writes : goal.returns-clause-writes
+returns-clause-writes g c =
+    let old = c.args.replica.now in
     let w = c.in_ok-window.window in
-    window_wrote b w c.base-position.result c.len.result (record { size = c.size.result; floor = c.floor.result }) (g.W.Sink.contents c.args.writer.now) (g.W.Sink.contents c.write_front.new.writer)
-    (g.W.Sink.contents c.write_count.new.writer) (g.W.Sink.contents c.write_entries.new.writer) c.in_ok-window.ensures.form c.base-position.ensures
-    (λ i. record { size = c.size.ensures i; floor = c.floor.ensures i }) c.len.ensures (c.in_ok-write_front.ensures.written w.kept.entries).done c.in_ok-write_count.ensures.written.done n.base.kept c.write_entries.result
-    (c.in_ok-window.ensures.window n holds) c.write_entries.ensures.fit c.write_entries.ensures.written.done
+    let there = c.in_ok-window.ensures.form in
+    window_writes old.engine.checkpoint.base w c.base-position.result c.len.result (record { size = c.size.result; floor = c.floor.result }) (g.W.Sink.contents c.args.writer.now) (g.W.Sink.contents c.write_front.new.writer)
+    (g.W.Sink.contents c.write_count.new.writer) (g.W.Sink.contents c.write_entries.new.writer) (subst (λ (p : Setting). is_setting p ≡ true) c.params.ensures c.window.ensures.limits) there c.base-position.ensures
+    (λ i. record { size = c.size.ensures i; floor = c.floor.ensures i }) c.len.ensures (KnowsWindow g.D.Disk.honest g.D.Disk.history g.D.Disk.failures old)
+    (record {
+      there = λ h. (subst (IsWindowBody old.engine.checkpoint.base.params) there.0 there.1, subst (λ (x : Window). as_seen g.D.Disk.history old.engine (WindowArea (side_of old.engine.checkpoint.base.number)) ≡ Some (window_bytes x)) there.0 ((c.in_ok-window.ensures.spelled h).given));
+      of_node = λ n h. c.in_ok-window.ensures.window n h;
+    })
+    (c.in_ok-write_front.ensures.written w.kept.entries).done c.in_ok-write_count.ensures.written.done c.write_entries.result c.write_entries.ensures.written
+
+pub returns-in_err-write_front-clause-writes : goal.returns-in_err-write_front-clause-writes
+returns-in_err-write_front-clause-writes g c =
+    let p = err_from_is_err_and c.from_residual-in_err-write_front.result c.from_residual-in_err-write_front.ensures.1 in
+    let old = c.args.replica.now in
+    let w = c.in_ok-window.window in
+    let a = g.W.Sink.contents c.args.writer.now in
+    rw (p.1, p.2) (window_cut old.engine.checkpoint.base w c.base-position.result (length w.kept.entries) (record { size = c.size.result; floor = c.floor.result }) a (g.W.Sink.contents c.write_front.new.writer)
+    a a (subst (λ (p : Setting). is_setting p ≡ true) c.params.ensures c.window.ensures.limits) c.in_ok-window.ensures.form c.base-position.ensures
+    (λ i. record { size = c.size.ensures i; floor = c.floor.ensures i }) refl (KnowsWindow g.D.Disk.honest g.D.Disk.history g.D.Disk.failures old) c.in_err-write_front.field-0.0 (c.in_err-write_front.ensures.written w.kept.entries))
+
+pub returns-in_err-write_count-clause-writes : goal.returns-in_err-write_count-clause-writes
+returns-in_err-write_count-clause-writes g c =
+    let p = err_from_is_err_and c.from_residual-in_err-write_count.result c.from_residual-in_err-write_count.ensures.1 in
+    let old = c.args.replica.now in
+    let w = c.in_ok-window.window in
+    let a = g.W.Sink.contents c.args.writer.now in
+    rw (p.1, p.2) (window_cut_behind old.engine.checkpoint.base w c.base-position.result c.len.result (record { size = c.size.result; floor = c.floor.result }) a (g.W.Sink.contents c.write_front.new.writer)
+    (g.W.Sink.contents c.write_count.new.writer) a (subst (λ (p : Setting). is_setting p ≡ true) c.params.ensures c.window.ensures.limits) c.in_ok-window.ensures.form c.base-position.ensures
+    (λ i. record { size = c.size.ensures i; floor = c.floor.ensures i }) c.len.ensures (KnowsWindow g.D.Disk.honest g.D.Disk.history g.D.Disk.failures old) c.in_err-write_count.field-0.0 (c.in_ok-write_front.ensures.written w.kept.entries).done c.in_err-write_count.ensures.written)
+
+pub returns-in_err-window-clause-writes : goal.returns-in_err-window-clause-writes
+returns-in_err-window-clause-writes g c =
+    let p = err_from_is_err_and c.from_residual.result c.from_residual.ensures.1 in
+    let old = c.args.replica.now in
+    let small : old.engine.checkpoint.base.position < 2 ^ 64 = omega (arith, c.base-position.ensures) in
+    rw (p.1, p.2) (window_none old.engine.checkpoint.base (KnowsWindow g.D.Disk.honest g.D.Disk.history g.D.Disk.failures old) (g.W.Sink.contents c.args.writer.now) c.in_err-window.field-0.0 (subst (λ (p : Setting). is_setting p ≡ true) c.params.ensures c.window.ensures.limits) small)
 
 pub returns-in_err-window-clause-leaves : goal.returns-in_err-window-clause-leaves
 returns-in_err-window-clause-leaves g c =
