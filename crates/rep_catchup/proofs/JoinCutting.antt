@@ -102,12 +102,15 @@ module _ {D : Type 0} (honest : D → Type 0) (history : D → History) (failure
   node_grown : (uuid : List ℕ) (old new : Replica D) (records : List Judged) → Grown honest history failures old new records → (n : Node) → Holds honest history failures n old → (m : Node) × GoesOn n uuid None records m × Holds honest history failures m new
   node_grown uuid old new records grown n holds =
       let there = grown.node n holds in
-      let m = there.0 in
-      (m, record {
-        uuid_is = ap (λ (s : Standing). s.uuid) there.2.facts ∙ grown.uuid ∙ ap (λ (s : Standing). s.uuid) (sym holds.facts);
-        setting_is = ap (λ (s : Standing). s.setting) there.2.facts ∙ grown.setting ∙ ap (λ (s : Standing). s.setting) (sym holds.facts);
-        order = there.1.order;
-      }, there.2)
+      let m = there.0 in (
+        m,
+        record {
+          uuid_is = ap (λ (s : Standing). s.uuid) there.2.facts ∙ grown.uuid ∙ ap (λ (s : Standing). s.uuid) (sym holds.facts);
+          setting_is = ap (λ (s : Standing). s.setting) there.2.facts ∙ grown.setting ∙ ap (λ (s : Standing). s.setting) (sym holds.facts);
+          order = there.1.order;
+        },
+        there.2,
+      )
 
   -- a snapshot was given up
   still_of : (n m : Node) (L : Order) → IsStill n m → IsOf L n → IsOf (L ++ []) m
@@ -115,12 +118,15 @@ module _ {D : Type 0} (honest : D → Type 0) (history : D → History) (failure
 
   node_given : (uuid : List ℕ) (old new : Replica D) → GivenUp honest history failures old new → (n : Node) → Holds honest history failures n old → (m : Node) × GoesOn n uuid None [] m × Holds honest history failures m new
   node_given uuid old new given n holds =
-      let up = given n holds in
-      (up.node, record {
-        uuid_is = ap (λ (m : Node). m.facts.uuid) up.still;
-        setting_is = ap (λ (m : Node). m.facts.setting) up.still;
-        order = λ L is. still_of n up.node L up.still is;
-      }, up.holds)
+      let up = given n holds in (
+        up.node,
+        record {
+          uuid_is = ap (λ (m : Node). m.facts.uuid) up.still;
+          setting_is = ap (λ (m : Node). m.facts.setting) up.still;
+          order = λ L is. still_of n up.node L up.still is;
+        },
+        up.holds,
+      )
 
   -- one came, and items behind it
   node_brought : HistoryByItems → (old mid new : Replica D) (format : Format) (uuid : List ℕ) (position start now : ℕ) (before left : Option (List ℕ)) (records : List Judged) (b : Brought honest history failures old mid format uuid position start now before left)
@@ -128,12 +134,15 @@ module _ {D : Type 0} (honest : D → Type 0) (history : D → History) (failure
   node_brought by_items old mid new format uuid position start now before left records b grown n holds =
       let came = b.node n holds in
       let there = grown.node came.node came.holds in
-      let own : (facts_of failures old).setting ≡ n.facts.setting = ap (λ (s : Standing). s.setting) (sym holds.facts) in
-      (there.0, record {
-        uuid_is = ap (λ (s : Standing). s.uuid) there.2.facts ∙ grown.uuid ∙ b.uuid_is;
-        setting_is = ap (λ (s : Standing). s.setting) there.2.facts ∙ grown.setting ∙ b.setting ∙ own;
-        order = λ L is. there.1.order L (stands_is n uuid (state_of (facts_of failures old).setting b.snapshot) came.node L by_items came.stands (ap (λ (p : Setting). state_of p b.snapshot) own ∙ is));
-      }, there.2)
+      let own : (facts_of failures old).setting ≡ n.facts.setting = ap (λ (s : Standing). s.setting) (sym holds.facts) in (
+        there.0,
+        record {
+          uuid_is = ap (λ (s : Standing). s.uuid) there.2.facts ∙ grown.uuid ∙ b.uuid_is;
+          setting_is = ap (λ (s : Standing). s.setting) there.2.facts ∙ grown.setting ∙ b.setting ∙ own;
+          order = λ L is. there.1.order L (stands_is n uuid (state_of (facts_of failures old).setting b.snapshot) came.node L by_items came.stands (ap (λ (p : Setting). state_of p b.snapshot) own ∙ is));
+        },
+        there.2,
+      )
 
   -- ---- records that were taken
 

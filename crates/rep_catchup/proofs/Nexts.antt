@@ -117,15 +117,14 @@ module _ (goes : JudgingGoesOn) (extends : JudgedItemsExtendTheOrder) (holds : N
       let q : Setting = m.facts.setting in
       let past : m.base.position ≤ length front = there.within in
       let kept : window_at m (delivered m.facts) ≡ window q front =
-          ap (window_at m) on.count ∙ on.window (length front) past (let here : length front ≤ length front = omega arith in here) ∙ ap (window q) (take-length front) in
+      ap (window_at m) on.count ∙ on.window (length front) past (let here : length front ≤ length front = omega arith in here) ∙ ap (window q) (take-length front) in
       let alike : history q (front ++ j.item ∷ []) ≡ history p (front ++ j.item ∷ []) = ap (λ (s : Setting). history s (front ++ j.item ∷ [])) went.setting_is ∙ history_alike k.facts.setting p spans tables (front ++ j.item ∷ []) in
       let shorter : history q front ≡ history p front = ap (λ (s : Setting). history s front) went.setting_is ∙ history_alike k.facts.setting p spans tables front in
       let by_setting : Setting → Judged = λ s. record { seqno = length front + 1; item = j.item; verdict = verdict s (front ++ j.item ∷ []) (length front + 1) } in
       let same : by_setting q ≡ by_setting p =
-          same_one (by_setting q) (by_setting p) (same_behind (history p front) (by_setting q ∷ []) (by_setting p ∷ []) (ap (λ (h : List Judged). h ++ by_setting q ∷ []) (sym shorter) ∙ sym (by.one_more q front j.item) ∙ alike ∙ by.one_more p front j.item)) in
-      (
+      same_one (by_setting q) (by_setting p) (same_behind (history p front) (by_setting q ∷ []) (by_setting p ∷ []) (ap (λ (h : List Judged). h ++ by_setting q ∷ []) (sym shorter) ∙ sym (by.one_more q front j.item) ∙ alike ∙ by.one_more p front j.item)) in (
         ap (λ (i : Judged). i.seqno) next ∙ ap (λ c. c + 1) (sym on.count),
-        ap (λ c. judge q c (window_at m (delivered m.facts)) j.item) on.count ∙ ap (λ (v : Window). judge q (length front) v j.item) kept ∙ enough.verdicts q front j.item ∙ ap (λ (i : Judged). i.verdict) same ∙ sym (ap (λ (i : Judged). i.verdict) next)
+        ap (λ c. judge q c (window_at m (delivered m.facts)) j.item) on.count ∙ ap (λ (v : Window). judge q (length front) v j.item) kept ∙ enough.verdicts q front j.item ∙ ap (λ (i : Judged). i.verdict) same ∙ sym (ap (λ (i : Judged). i.verdict) next),
       )
 
   next_behind : (o : Option Snapshot) → o ≡ t.snapshot → Brings n have o t.records → ((L : Order) → StartsAt k o L → IsOf (L ++ items_of records) m) → AreNext m more end
@@ -135,8 +134,8 @@ module _ (goes : JudgingGoesOn) (extends : JudgedItemsExtendTheOrder) (holds : N
       let front : IsOf (take position whole) k = subst (λ d. IsOf (take d whole) k) (sym joiner.position) (joiner.front (λ nil. brings.0 (joiner.uuid ∙ nil))) in
       let past : position + 1 - (b + 1) ≡ position - b = omega arith in
       let all : drop position (history p whole) ≡ records ++ more =
-          ap (λ d. drop d (history p whole)) (let same : position ≡ b + (position - b) = omega (arith, low) in same) ∙ sym (drop-drop (position - b) b (history p whole)) ∙ ap (drop (position - b)) (sym durable_are) ∙ ap (λ d. drop d (durable_items n)) (sym past)
-          ∙ sym (above_drop (b + 1) position (durable_items n) (seqnos goes extends O n k m have t is_node is joiner spans tables) (omega (arith, low))) ∙ sym brings.2 ∙ are in
+      ap (λ d. drop d (history p whole)) (let same : position ≡ b + (position - b) = omega (arith, low) in same) ∙ sym (drop-drop (position - b) b (history p whole)) ∙ ap (drop (position - b)) (sym durable_are) ∙ ap (λ d. drop d (durable_items n)) (sym past)
+      ∙ sym (above_drop (b + 1) position (durable_items n) (seqnos goes extends O n k m have t is_node is joiner spans tables) (omega (arith, low))) ∙ sym brings.2 ∙ are in
       next_at position all (order (take position whole) front) more refl
   next_behind (Some s) own brings order =
       let starts : StartsAt k (Some s) (take b O) = snapshot_alike k.facts.setting p spans tables s ∙ brings.1.state ∙ is.base ∙ sym (state_alike k.facts.setting p spans tables (take b O)) in

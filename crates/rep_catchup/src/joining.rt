@@ -33,7 +33,7 @@ use std::alloc::Global;
 
 /// Takes the header: what cluster the transfer is of, and in which format a snapshot is spelled in it.
 ///
-/// Refuses with `StreamFault` where the reader fails, with `Malformed` what is no header, and with `WrongCluster` one of another cluster
+/// Refuses with `StreamFault` where the source fails, with `Malformed` what is no header, and with `WrongCluster` one of another cluster
 /// than the replica's, or of another window or schema.
 fn take_header<D: Disk, R: Source>(
     replica: &Replica<D>,
@@ -302,13 +302,14 @@ fn take_parts<D: Disk, R: Source>(
 /// The transfer is of either format, as its header says. A snapshot of format 2 brings its window with size and floor; one of format 1
 /// tells neither: the size is that of the parameters, and the floor the least seqno that this size spans at the position, 1 or more.
 ///
-/// It settles first and last. Refuses with `Stopped`; and else with the first that the transfer meets: `StreamFault` where the reader
-/// fails; `Malformed`, `at` being the number of bytes before the part that is not of its form, is cut short, or may not come there: a
-/// snapshot that is not above what was delivered, whose window is none of its position, or whose pages are none of the schema; an item
-/// that is not the next one or is judged otherwise; an end at another position; no snapshot where the replica belongs to no cluster;
-/// `WrongCluster` a transfer of another cluster, first window size or schema; and
-/// `OutOfMemory`, `DiskFault` and `Corrupt` as settling, installing and delivering do. The items before the refusal stay delivered; a
-/// snapshot that was not taken whole leaves the replica as it was; after `DiskFault` it is stopped.
+/// It settles first and last. Refuses with `Stopped`; and else with the first that the transfer meets: `StreamFault` where the source
+/// fails; `Malformed`, `at` being the number of bytes before the part that is not of its form, is cut short, or may not come there: at a
+/// replica of a cluster a snapshot that is not above what was delivered; a second snapshot; one whose window is none of its position, or
+/// whose pages do not ascend or are none of the schema; an item that is not the next one or is judged otherwise; an end at another
+/// position; no snapshot where the replica belongs to no cluster; `WrongCluster` a transfer of another cluster, first window size or
+/// schema; and `OutOfMemory`, `DiskFault` and `Corrupt` as settling, installing and delivering do. The items before the refusal stay
+/// delivered. After `DiskFault` the replica is stopped; else one that stands for a node goes on to stand for it where a snapshot was not
+/// taken whole.
 pub fn join<D: Disk, R: Source>(
     alloc: Global,
     replica: Replica<D>,

@@ -212,7 +212,7 @@ fn take_window<D: Disk, R: Source>(
 
 /// Takes the rest of a snapshot of this position, which stands at `at` of the transfer that begins so, and lets it take the base's place.
 ///
-/// Refuses with `Malformed` what is no snapshot for the replica, with `OutOfMemory`, and with `StreamFault` where the reader fails: the
+/// Refuses with `Malformed` what is no snapshot for the replica, with `OutOfMemory`, and with `StreamFault` where the source fails: the
 /// replica is then as it was. Refuses with `DiskFault` where the device fails: the replica is then stopped, and what is opened on its
 /// disk is what it was, or the snapshot.
 pub(crate) fn bring<D: Disk, R: Source>(

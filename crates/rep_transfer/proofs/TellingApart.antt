@@ -14,7 +14,7 @@ use Rattle.rep_layout.specs.Windows.{IsOfFormat}
 use Rattle.rep_record.specs.Records.{IsRecord, record_bytes, record_form}
 use Rattle.rep_record.specs.RecordLaws.{record_is_form}
 use Rattle.rep_transfer.specs.declared.header.Header.{Header}
-use Rattle.rep_transfer.specs.Haves.{IsHeader, header_bytes, header_form}
+use Rattle.rep_transfer.specs.Haves.{header_bytes, header_form}
 use Rattle.rep_transfer.specs.Pieces.{page_bytes, page_form}
 use Rattle.rep_transfer.specs.Shapes.{least_of}
 use Rattle.rep_transfer.specs.TransferLaws.{header_is_form, page_is_form}

@@ -27,10 +27,10 @@ use Rattle.rep_transfer.specs.Shapes.{shape_bytes}
 use Rattle.rep_transfer.specs.ShapeLaws.{shape_size}
 
 pub letter_is_paced : IsPaced byte 1 no_more
-letter_is_paced = record { size = λ x h. refl; room = λ x h. omega arith }
+letter_is_paced = record { size = λ x h. refl; room = λ x h. omega arith; first = omega arith }
 
 number_is_paced : (n : ℕ) → n ≤ 4034 → IsPaced (number n) n no_more
-number_is_paced n few = record { size = λ x h. omega (arith, length_number n x); room = λ x h. omega (arith, length_number n x, few) }
+number_is_paced n few = record { size = λ x h. omega (arith, length_number n x); room = λ x h. omega (arith, length_number n x, few); first = omega (arith, few) }
 
 pub count_is_paced : IsPaced (number 2) 2 no_more
 count_is_paced = number_is_paced 2 (omega arith)
@@ -56,7 +56,7 @@ header_size header h =
     )
 
 pub header_is_paced : IsPaced header_form 59 no_more
-header_is_paced = record { size = λ x h. header_size x h; room = λ x h. omega (arith, header_size x h) }
+header_is_paced = record { size = λ x h. header_size x h; room = λ x h. omega (arith, header_size x h); first = omega arith }
 
 have_mark_size : length have_mark ≡ 8
 unfolding have_mark
@@ -81,7 +81,7 @@ page_size p h =
     omega (arith, rows, h.rows.size, length_number 2 p.number, length-append (number_bytes 2 p.number) (flat_map row_bytes p.rows))
 
 pub page_is_paced : IsPaced page_form 4034 no_more
-page_is_paced = record { size = λ x h. page_size x h; room = λ x h. omega (arith, page_size x h) }
+page_is_paced = record { size = λ x h. page_size x h; room = λ x h. omega (arith, page_size x h); first = omega arith }
 
 -- ---- entries
 
@@ -108,7 +108,7 @@ entry_size e h =
     omega (arith, keys, length_number 8 e.seqno, length-append (number_bytes 8 e.seqno) (length e.keys ∷ flat_map key_bytes e.keys))
 
 pub entry_is_paced : IsPaced entry_form 9 more_of_entry
-entry_is_paced = record { size = λ x h. omega (arith, entry_size x h, entry_more x); room = λ x h. omega (arith, entry_size x h, h.few) }
+entry_is_paced = record { size = λ x h. omega (arith, entry_size x h, entry_more x); room = λ x h. omega (arith, entry_size x h, h.few); first = omega arith }
 
 -- ---- records
 
@@ -137,4 +137,4 @@ record_size seqno i v h =
     (omega (arith, size, sized_more (body_bytes seqno i v) short), omega (arith, size, short))
 
 pub record_is_paced : IsPaced record_form 2 more_of_record
-record_is_paced = record { size = λ j h. (record_size j.seqno j.item j.verdict h.item).0; room = λ j h. (record_size j.seqno j.item j.verdict h.item).1 }
+record_is_paced = record { size = λ j h. (record_size j.seqno j.item j.verdict h.item).0; room = λ j h. (record_size j.seqno j.item j.verdict h.item).1; first = omega arith }

@@ -9,6 +9,7 @@ use Rattle.rep_transfer.specs.declared.pieces.TheConstants.{PIECE}
 pub record IsPaced {A : Type 0} (F : Form A) (head : ℕ) (more : List ℕ → ℕ) : Type 0 where
   pub size : (x : A) → F.Fits x → length (F.spell x) ≡ head + more (take head (F.spell x))
   pub room : (x : A) → F.Fits x → length (F.spell x) ≤ PIECE
+  pub first : head ≤ PIECE
 
 -- no more
 abbrev pub no_more : List ℕ → ℕ

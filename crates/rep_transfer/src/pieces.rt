@@ -9,7 +9,7 @@ ghost use Rattle.rep_transfer.specs.Pieces.{IsPaced, IsWhole, no_more, more_of_e
 
 use crate::header::{HEADER, Header};
 use arrayvec::ArrayVec;
-use rep_forms::{Exact, Form, Put, put_u16, put_u64, read_front, read_u16, read_u64, strip_front};
+use rep_forms::{Exact, Form, Put, put_u16, read_front, read_u16, strip_front};
 use rep_pages::PageRows;
 use rep_record::read_record;
 use rep_types::{Entry, Judged};
@@ -23,19 +23,16 @@ pub trait Piece: Sized + Drop {
     ghost piece: { form_of Self };
 
     /// How many bytes tell how many more there are.
-    ghost head: { ℕ };
+    const HEAD: usize;
+
+    ghost HEAD: { ℕ };
 
     /// And how many more that is.
-    ghost more: { List ℕ → ℕ };
-
-    /// How many bytes tell how many more there are.
-    fn head_size() -> usize
-        ensures size { result ≡ head }
-        ensures room { result ≤ PIECE };
+    ghost more: { List ℕ → ℕ } = { no_more };
 
     /// How many more there are, where these are the first.
     fn more_size(first: &[u8]) -> usize
-        requires { length first.now ≡ head }
+        requires { length first.now ≡ HEAD }
         ensures size { result ≡ more first.now }
         ensures small { result < 2 ^ 16 };
 
@@ -43,7 +40,7 @@ pub trait Piece: Sized + Drop {
     fn of(bytes: &[u8]) -> Option<Self>
         ensures { IsWhole piece bytes.now result };
 
-    ghost is_paced: { IsPaced piece head more };
+    ghost is_paced: { IsPaced piece HEAD more };
 }
 
 /// The value that all of the bytes spell.
@@ -101,13 +98,9 @@ impl Piece for u8 {
 
     ghost piece = { byte };
 
-    ghost head = { 1 };
+    const HEAD: usize = 1;
 
-    ghost more = { no_more };
-
-    fn head_size() -> usize {
-        1
-    }
+    ghost HEAD = { 1 };
 
     fn more_size(_first: &[u8]) -> usize {
         0
@@ -129,27 +122,16 @@ impl Piece for u16 {
 
     ghost piece = { number 2 };
 
-    ghost head = { 2 };
+    const HEAD: usize = 2;
 
-    ghost more = { no_more };
-
-    fn head_size() -> usize {
-        2
-    }
+    ghost HEAD = { 2 };
 
     fn more_size(_first: &[u8]) -> usize {
         0
     }
 
     fn of(bytes: &[u8]) -> Option<u16> {
-        let (count, _) = read_u16(bytes)?;
-        let mut spelling: ArrayVec<u8, 2> = ArrayVec::new();
-        put_u16(&mut spelling, count);
-        if bytes == spelling.as_slice() {
-            Some(count)
-        } else {
-            None
-        }
+        Some(u16::from_be_bytes(bytes.try_into().ok()?))
     }
 
     ghost is_paced = { count_is_paced };
@@ -161,27 +143,16 @@ impl Piece for u64 {
 
     ghost piece = { number 8 };
 
-    ghost head = { 8 };
+    const HEAD: usize = 8;
 
-    ghost more = { no_more };
-
-    fn head_size() -> usize {
-        8
-    }
+    ghost HEAD = { 8 };
 
     fn more_size(_first: &[u8]) -> usize {
         0
     }
 
     fn of(bytes: &[u8]) -> Option<u64> {
-        let (position, _) = read_u64(bytes)?;
-        let mut spelling: ArrayVec<u8, 8> = ArrayVec::new();
-        put_u64(&mut spelling, position);
-        if bytes == spelling.as_slice() {
-            Some(position)
-        } else {
-            None
-        }
+        Some(u64::from_be_bytes(bytes.try_into().ok()?))
     }
 
     ghost is_paced = { position_is_paced };
@@ -192,13 +163,9 @@ impl Piece for Header {
 
     ghost piece = { header_form };
 
-    ghost head = { 59 };
+    const HEAD: usize = HEADER;
 
-    ghost more = { no_more };
-
-    fn head_size() -> usize {
-        HEADER
-    }
+    ghost HEAD = { 59 };
 
     fn more_size(_first: &[u8]) -> usize {
         0
@@ -217,13 +184,11 @@ impl Piece for Entry {
 
     ghost piece = { entry_form };
 
-    ghost head = { 9 };
+    const HEAD: usize = 9;
+
+    ghost HEAD = { 9 };
 
     ghost more = { more_of_entry };
-
-    fn head_size() -> usize {
-        9
-    }
 
     #[tactic(auto, unfolding(crate::specs::Pieces::more_of_entry))]
     fn more_size(first: &[u8]) -> usize {
@@ -242,13 +207,9 @@ impl Piece for NumberedPage {
 
     ghost piece = { page_form };
 
-    ghost head = { 4034 };
+    const HEAD: usize = PIECE;
 
-    ghost more = { no_more };
-
-    fn head_size() -> usize {
-        PIECE
-    }
+    ghost HEAD = { 4034 };
 
     fn more_size(_first: &[u8]) -> usize {
         0
@@ -267,13 +228,11 @@ impl Piece for Judged {
 
     ghost piece = { record_form };
 
-    ghost head = { 2 };
+    const HEAD: usize = 2;
+
+    ghost HEAD = { 2 };
 
     ghost more = { more_of_record };
-
-    fn head_size() -> usize {
-        2
-    }
 
     #[tactic(auto, unfolding(crate::specs::Pieces::more_of_record, rep_forms::specs::Forms::part))]
     fn more_size(first: &[u8]) -> usize {

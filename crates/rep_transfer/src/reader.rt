@@ -34,14 +34,17 @@ pub(crate) fn read_into<R: Source>(reader: &mut R, room: &mut [u8]) -> Result<bo
 /// or the room.
 ///
 /// Refuses with `StreamFault` where the source fails.
-fn fill<T: Piece, R: Source>(reader: &mut R, room: &mut [u8; PIECE]) -> Result<Option<usize>, Refusal>
+fn fill<T: Piece, R: Source>(
+    reader: &mut R,
+    room: &mut [u8; PIECE],
+) -> Result<Option<usize>, Refusal>
     ensures found { IfOk result (λ found. IfSome found (λ size. Consumes (R.remaining reader.old) (R.remaining reader.new) (take size room.new))) }
-    ensures size { IfOk result (λ found. IfSome found (λ size. (size ≡ T.head + T.more (take T.head room.new)) × (size ≤ PIECE))) }
+    ensures size { IfOk result (λ found. IfSome found (λ size. (size ≡ T.HEAD + T.more (take T.HEAD room.new)) × (size ≤ PIECE))) }
     ensures none { IfOk result (λ found. found ≡ None → IfSome (R.remaining reader.old) (BeginWithNone T.piece.Fits T.piece.spell)) }
     ensures notes { Notes (R.failed reader.old) (R.failed reader.new) result }
     ensures refused { IfErr result (λ e. e ≡ Refusal.StreamFault) }
 {
-    let head = T::head_size();
+    let head = T::HEAD;
     if !read_into(reader, &mut room[..head])? {
         return Ok(None);
     }

@@ -6,17 +6,13 @@ ghost use Rattle.rep_transfer.specs.Shapes.{shape_of, IsShape, shape_form};
 
 use arrayvec::ArrayVec;
 use rep_forms::{
-    Exact, Form, Put, put_run, put_u8, put_u16, put_zeros, read_part, read_run, read_u8, read_u16,
-    strip_front,
+    Form, Put, put_run, put_u8, put_u16, put_zeros, read_part, read_run, read_u8, read_u16,
 };
 use rep_types::{MAX_TABLES, MIN_CELLS, Params, Schema};
 use std::marker::Model;
 
 /// The number of bytes of the rows of all tables.
 const ROWS: usize = 4 * MAX_TABLES;
-
-/// The number of bytes of a shape.
-pub(crate) const SHAPE: usize = 3 + ROWS;
 
 /// What the nodes of a cluster have in common: how many seqnos the window spans, and the schema. How many cells its log has is each
 /// node's own affair.
@@ -106,13 +102,5 @@ impl<const N: usize> Put<N> for Shape {
         put_u8(out, rows.len() as u8);
         put_run(out, rows);
         put_zeros(out, ROWS - 4 * rows.len());
-    }
-}
-
-impl Exact for Shape {
-    fn strip<'a>(&self, bytes: &'a [u8]) -> Option<&'a [u8]> {
-        let mut spelling: ArrayVec<u8, SHAPE> = ArrayVec::new();
-        self.put(&mut spelling);
-        strip_front(bytes, spelling.as_slice())
     }
 }

@@ -7,8 +7,8 @@ use Rattle.rep_transfer.proofs.reader.TransferReader.next.Goals as goal
 pub returns-in_default-of-clause-known : goal.returns-in_default-of-clause-known
 returns-in_default-of-clause-known g c =
     let room = c.fill.new.room in
-    none_there g.T.Piece.piece g.T.Piece.head g.T.Piece.more g.met.T.Piece.is_paced (g.R.Source.remaining c.args.reader.now) (g.R.Source.remaining c.fill.new.reader) None room c.in-Some.size c.fill.array_long
-    (at_some (λ (n : ℕ). (n ≡ g.T.Piece.head + g.T.Piece.more (take g.T.Piece.head room)) × (n ≤ PIECE)) c.in_ok-size.field-0 c.in-Some.size c.in-Some.is c.in_ok-size.ensures.size)
+    none_there g.T.Piece.piece g.T.Piece.HEAD g.T.Piece.more g.met.T.Piece.is_paced (g.R.Source.remaining c.args.reader.now) (g.R.Source.remaining c.fill.new.reader) None room c.in-Some.size c.fill.array_long
+    (at_some (λ (n : ℕ). (n ≡ g.T.Piece.HEAD + g.T.Piece.more (take g.T.Piece.HEAD room)) × (n ≤ PIECE)) c.in_ok-size.field-0 c.in-Some.size c.in-Some.is c.in_ok-size.ensures.size)
     (at_some (λ (n : ℕ). Consumes (g.R.Source.remaining c.args.reader.now) (g.R.Source.remaining c.fill.new.reader) (take n room)) c.in_ok-size.field-0 c.in-Some.size c.in-Some.is c.in_ok-size.ensures.found)
     c.in_default-of.ensures
 
