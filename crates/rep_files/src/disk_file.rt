@@ -5,6 +5,7 @@ use rep_disk::FileDisk;
 use rep_layout::need;
 use rep_replica::Replica;
 use rep_script::{format_text, opened};
+use rep_streams::WriterSink;
 use rep_types::{Params, Refusal};
 use std::fs::{File, Files};
 use std::io;
@@ -62,7 +63,7 @@ fn format_new<R: Files<File = File> + Print>(
     let Ok(disk) = FileDisk::zeroed(rt, file, path, need(params) as usize) else {
         return Err(Refusal::DiskFault);
     };
-    let (_, outcome) = format_text(disk, params, uuid, &mut io::writer(rt));
+    let (_, outcome) = format_text(disk, params, uuid, &mut WriterSink::new(io::writer(rt)));
     outcome
 }
 

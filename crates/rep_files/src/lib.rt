@@ -11,6 +11,7 @@ use disk_file::{disk_at, opened_to_read};
 use rep_catchup::{donate, donation_refusal};
 use rep_saved::SavedState;
 use rep_script::{donated_text, join_text, read_saved, run_on_disk, state_text, write_have};
+use rep_streams::{ReaderSource, WriterSink};
 use rep_transfer::{Have, read_have};
 use rep_types::Refusal;
 use std::fs::{File, Files};
@@ -55,7 +56,9 @@ pub fn run_file<R: Files<File = File> + Input + Print + AllocGlobal>(
     path: &str,
 ) -> Result<(), Refusal> {
     let disk = disk_at(rt, path)?;
-    let (_, outcome) = run_on_disk(rt.alloc(), disk, &mut rt.reader(), &mut io::writer(rt));
+    let mut input = ReaderSource::new(rt.reader());
+    let mut output = WriterSink::new(io::writer(rt));
+    let (_, outcome) = run_on_disk(rt.alloc(), disk, &mut input, &mut output);
     outcome
 }
 
@@ -69,7 +72,7 @@ fn saved_in_file<R: Files<File = File> + AllocGlobal>(
     let Some(path) = path else {
         return Ok(None);
     };
-    let mut file = file_at(rt, path)?;
+    let mut file = ReaderSource::new(file_at(rt, path)?);
     Ok(Some(read_saved(rt.alloc(), &mut file)?))
 }
 
@@ -84,13 +87,13 @@ fn tell_state<R: Files<File = File> + Print + AllocGlobal>(
     saved: Option<&SavedState>,
     have: Option<&str>,
 ) -> Result<(), Refusal> {
-    state_text(replica, saved, &mut io::writer(rt))?;
+    state_text(replica, saved, &mut WriterSink::new(io::writer(rt)))?;
     let Some(have) = have else {
         return Ok(());
     };
-    let mut target = Target::open(rt, have, path)?;
+    let mut target = WriterSink::new(Target::open(rt, have, path)?);
     let written = write_have(replica, &mut target);
-    target.end(rt, written)
+    target.into_writer().end(rt, written)
 }
 
 /// Prints the state of the disk at this path, and writes what the node has to the file at the last one, where there is one: it has its name
@@ -115,7 +118,7 @@ pub fn print_state<R: Files<File = File> + Print + AllocGlobal>(
 ///
 /// Refuses with `StreamFault` a file that cannot be opened, and else as `read_have` does.
 fn have_in_file<R: Files<File = File>>(rt: &R, path: &str) -> Result<Have, Refusal> {
-    read_have(&mut file_at(rt, path)?)
+    read_have(&mut ReaderSource::new(file_at(rt, path)?))
 }
 
 /// Writes for the joiner what it lacks of the order of the replica on the disk at this path into the file at the last one, once nothing else
@@ -132,9 +135,9 @@ fn donate_from<R: Files<File = File> + Print + AllocGlobal>(
     if let Some(refusal) = donation_refusal(replica, have) {
         return Err(refusal);
     }
-    let mut target = Target::open(rt, out, path)?;
+    let mut target = WriterSink::new(Target::open(rt, out, path)?);
     let written = donate(replica, have, &mut target);
-    target.end(rt, written)
+    target.into_writer().end(rt, written)
 }
 
 /// Writes for the joiner what it lacks of the order on the disk at this path, into the file at the last one, once nothing else refuses it; and
@@ -153,7 +156,7 @@ pub fn donate_to_file<R: Files<File = File> + Print + AllocGlobal>(
     let have = have_in_file(rt, have)?;
     let mut replica = opened_to_read(rt, path)?;
     let donated = donate_from(rt, path, &mut replica, &have, out);
-    donated_text(donated, &mut io::writer(rt))
+    donated_text(donated, &mut WriterSink::new(io::writer(rt)))
 }
 
 /// Brings the node on the disk at this path up to date by the transfer in the file at the other one, which is opened first.
@@ -164,8 +167,9 @@ pub fn join_from_file<R: Files<File = File> + Print + AllocGlobal>(
     path: &str,
     from: &str,
 ) -> Result<(), Refusal> {
-    let mut file = file_at(rt, from)?;
+    let mut file = ReaderSource::new(file_at(rt, from)?);
     let replica = opened_file(rt, path)?;
-    let (_, outcome) = join_text(rt.alloc(), replica, &mut file, &mut io::writer(rt));
+    let mut output = WriterSink::new(io::writer(rt));
+    let (_, outcome) = join_text(rt.alloc(), replica, &mut file, &mut output);
     outcome
 }

@@ -14,9 +14,9 @@ use rep_record::{MAX_LINE, TextReader, is_blank};
 use rep_replica::Replica;
 use rep_script::{Command, format_text, read_command, write_line, write_refused};
 use rep_steps::Event;
+use rep_streams::{Sink, Source};
 use rep_types::{Params, Refusal};
 use std::alloc::Global;
-use std::io::{Read, Write};
 use uuid::Uuid;
 
 /// The bytes of the state UUID under which disks are formatted: 11111111-1111-4111-8111-111111111111.
@@ -28,7 +28,7 @@ const UUID: [u8; 16] = [
 type Line = ArrayVec<u8, MAX_LINE>;
 
 /// Writes why it was refused, where it was.
-fn write_outcome<W: Write>(writer: &mut W, outcome: Result<(), Refusal>) -> Result<(), Refusal> {
+fn write_outcome<W: Sink>(writer: &mut W, outcome: Result<(), Refusal>) -> Result<(), Refusal> {
     match outcome {
         Ok(()) => Ok(()),
         Err(refusal) => write_refused(writer, refusal),
@@ -36,7 +36,7 @@ fn write_outcome<W: Write>(writer: &mut W, outcome: Result<(), Refusal>) -> Resu
 }
 
 /// Formats the disk, as that of a node of no cluster where that is asked, and writes what came of it.
-fn formatted<D: Disk, W: Write>(
+fn formatted<D: Disk, W: Sink>(
     disk: D,
     params: &Params,
     is_undefined: bool,
@@ -52,7 +52,7 @@ fn formatted<D: Disk, W: Write>(
 }
 
 /// Has these bytes stand at this place of the disk, and writes whether they fit.
-fn put_part<W: Write>(
+fn put_part<W: Sink>(
     alloc: Global,
     device: &mut Device,
     at: u64,
@@ -64,7 +64,7 @@ fn put_part<W: Write>(
 }
 
 /// Has these bytes be written at this place of the disk, and writes whether they were.
-fn write_part<W: Write>(
+fn write_part<W: Sink>(
     device: &mut Device,
     at: u64,
     part: &[u8],
@@ -75,7 +75,7 @@ fn write_part<W: Write>(
 }
 
 /// Changes the bytes of the disk, and writes what came of it.
-fn change<W: Write>(
+fn change<W: Sink>(
     alloc: Global,
     device: &mut Device,
     change: Change,
@@ -98,7 +98,7 @@ fn change<W: Write>(
 }
 
 /// Shows the disk.
-fn show<W: Write>(device: &Device, sight: Sight, writer: &mut W) -> Result<(), Refusal> {
+fn show<W: Sink>(device: &Device, sight: Sight, writer: &mut W) -> Result<(), Refusal> {
     match sight {
         Sight::Bytes(at, count) => write_bytes(writer, device, at as usize, count as usize),
         Sight::Sum => write_sum(writer, bytes(device)),
@@ -107,7 +107,7 @@ fn show<W: Write>(device: &Device, sight: Sight, writer: &mut W) -> Result<(), R
 }
 
 /// Does this to the disk, and writes what came of it.
-fn on_disk<W: Write>(
+fn on_disk<W: Sink>(
     alloc: Global,
     mut device: Device,
     order: DiskOrder,
@@ -132,7 +132,7 @@ fn on_disk<W: Write>(
 }
 
 /// Does this to the node, where there is one, and writes what came of it.
-fn at_bench<W: Write>(
+fn at_bench<W: Sink>(
     alloc: Global,
     bench: Bench<Device>,
     order: NodeOrder,
@@ -151,7 +151,7 @@ fn at_bench<W: Write>(
 }
 
 /// The next line, if there is one. It promises nothing of the line, so that a proof of who calls it need not carry that.
-fn next_line<R: Read>(
+fn next_line<R: Source>(
     text: &mut TextReader,
     reader: &mut R,
     line: &mut Line,
@@ -168,7 +168,7 @@ fn read_event(line: &[u8], number: u64) -> Result<Event, Refusal> {
 }
 
 /// The events that the next so many lines ask for.
-fn read_events<R: Read>(
+fn read_events<R: Source>(
     alloc: Global,
     text: &mut TextReader,
     reader: &mut R,
@@ -186,7 +186,7 @@ fn read_events<R: Read>(
 }
 
 /// Runs the events together that the next so many lines ask for, and writes what came of it.
-fn batch<R: Read, W: Write>(
+fn batch<R: Source, W: Sink>(
     alloc: Global,
     bench: &mut Bench<Device>,
     text: &mut TextReader,
@@ -199,7 +199,7 @@ fn batch<R: Read, W: Write>(
 }
 
 /// Has a copy of the disk be the donor's from now on, and writes what came of it.
-fn lend_copy<W: Write>(
+fn lend_copy<W: Sink>(
     alloc: Global,
     device: &Device,
     donor: &mut Option<Donor<Device>>,
@@ -210,7 +210,7 @@ fn lend_copy<W: Write>(
 }
 
 /// Has the disk and the donor's change places, where there is a donor, and writes what came of it. A node on the disk is let go.
-fn swapped<D: Disk + Drop, W: Write>(
+fn swapped<D: Disk + Drop, W: Sink>(
     alloc: Global,
     bench: Bench<D>,
     donor: &mut Option<Donor<D>>,
@@ -227,7 +227,7 @@ fn swapped<D: Disk + Drop, W: Write>(
 
 /// Does what a line asks for, and writes what came of it. What asks for the disk lets a node on it go. Where there is no node, what asks
 /// for one is answered by `off`, and so it is while a snapshot comes to the node.
-fn done<R: Read, W: Write>(
+fn done<R: Source, W: Sink>(
     alloc: Global,
     mut bench: Bench<Device>,
     donor: &mut Option<Donor<Device>>,
@@ -258,7 +258,7 @@ fn done<R: Read, W: Write>(
 }
 
 /// What the next line with words asks for.
-fn next_order<R: Read>(text: &mut TextReader, reader: &mut R) -> Result<Option<Order>, Refusal> {
+fn next_order<R: Source>(text: &mut TextReader, reader: &mut R) -> Result<Option<Order>, Refusal> {
     let mut line = Line::new();
     for _ in 0..u64::MAX {
         if !next_line(text, reader, &mut line)? {
@@ -272,7 +272,7 @@ fn next_order<R: Read>(text: &mut TextReader, reader: &mut R) -> Result<Option<O
 }
 
 /// Does what each line of the text asks for, and writes what came of it.
-fn answer_all<R: Read, W: Write>(
+fn answer_all<R: Source, W: Sink>(
     alloc: Global,
     mut bench: Bench<Device>,
     donor: &mut Option<Donor<Device>>,
@@ -299,7 +299,7 @@ fn answer_all<R: Read, W: Write>(
 ///
 /// Refuses a line of no such form as `read_command` does, want of memory for a disk with `OutOfMemory`, and with
 /// `StreamFault` a reader or a writer that fails.
-pub(crate) fn run<R: Read, W: Write>(
+pub(crate) fn run<R: Source, W: Sink>(
     alloc: Global,
     reader: &mut R,
     writer: &mut W,

@@ -8,13 +8,13 @@ use rep_catchup::{donate, have, join};
 use rep_disk::Disk;
 use rep_replica::Replica;
 use rep_script::{write_line, write_refused};
+use rep_streams::{MemorySource, Sink};
 use rep_types::Refusal;
 use std::alloc::Global;
-use std::io::Write;
 use uuid::Uuid;
 
 /// Writes what came of a donation.
-fn write_donated<W: Write>(writer: &mut W, donated: Result<u64, Refusal>) -> Result<(), Refusal> {
+fn write_donated<W: Sink>(writer: &mut W, donated: Result<u64, Refusal>) -> Result<(), Refusal> {
     match donated {
         Ok(last) => write_line(writer, format_args!("donated {last}")),
         Err(refusal) => write_refused(writer, refusal),
@@ -22,19 +22,19 @@ fn write_donated<W: Write>(writer: &mut W, donated: Result<u64, Refusal>) -> Res
 }
 
 /// Has the donor write a transfer for the node, and writes what came of it, and which bytes were written.
-pub(crate) fn written_for<D: Disk, E: Disk, W: Write>(
+pub(crate) fn written_for<D: Disk, E: Disk, W: Sink>(
     node: &Replica<D>,
     donor: &mut Donor<E>,
     writer: &mut W,
 ) -> Result<(), Refusal> {
-    donor.transfer.clear();
+    donor.transfer.bytes.clear();
     let donated = donate(&mut donor.node, &have(node), &mut donor.transfer);
     write_donated(writer, donated)?;
-    write_sum(writer, &donor.transfer)
+    write_sum(writer, &donor.transfer.bytes)
 }
 
 /// Lets the transfer come to harm, and writes how many bytes it has then.
-pub(crate) fn spoilt<W: Write>(
+pub(crate) fn spoilt<W: Sink>(
     transfer: &mut Vec<u8>,
     harm: Harm,
     writer: &mut W,
@@ -52,7 +52,7 @@ pub(crate) fn spoilt<W: Write>(
 }
 
 /// Writes what came of a transfer for a node of this cluster.
-fn write_joined<W: Write>(
+fn write_joined<W: Sink>(
     writer: &mut W,
     uuid: Uuid,
     joined: Result<u64, Refusal>,
@@ -64,13 +64,13 @@ fn write_joined<W: Write>(
 }
 
 /// Has the node take the transfer, and writes what came of it.
-pub(crate) fn taken<D: Disk, W: Write>(
+pub(crate) fn taken<D: Disk, W: Sink>(
     alloc: Global,
     node: Replica<D>,
     transfer: &[u8],
     writer: &mut W,
 ) -> Left<D> {
-    let mut transfer = transfer;
+    let mut transfer = MemorySource::new(transfer);
     let (node, joined) = join(alloc, node, &mut transfer);
     let written = write_joined(writer, node.uuid(), joined);
     (Bench::Node(node), written)

@@ -1,23 +1,49 @@
 //! The donor: a node on a disk of its own, whose snapshot, or what it writes for another node, that is handed.
 
-ghost use Rattle.std.specs.Prelude.{◌≡◌, ◌++◌, IfOk, OnOk};
+ghost use Rattle.std.specs.Prelude.{◌≡◌, ◌++◌, Some, IfOk, OnOk};
 ghost use Rattle.rep_layout.specs.Windows.{IsWindowAt};
 
 use rep_disk::Disk;
 use rep_layout::{WINDOW_BODY, WindowReader};
 use rep_replica::Replica;
 use rep_script::{write_line, write_refused};
+use rep_streams::Sink;
 use rep_types::{Entry, Refusal, Window};
 use std::alloc::Global;
-use std::io::Write;
 use std::marker::Model;
 use std::mem::replace;
 use uuid::Uuid;
 
+/// A transfer that was written: a sink of its own, which fails only for want of memory.
+#[derive(Drop)]
+pub(crate) struct Written {
+    pub(crate) bytes: Vec<u8>,
+    failed: bool,
+}
+
+impl Sink for Written {
+    ghost contents = { λ s. Some s.bytes.items };
+
+    ghost failed = { λ s. s.failed };
+
+    fn put(&mut self, bytes: &[u8]) -> Result<(), Refusal> {
+        if self.bytes.extend_from_slice(bytes).is_err() {
+            self.failed = true;
+            return Err(Refusal::StreamFault);
+        }
+        Ok(())
+    }
+
+    fn give_up(&mut self) -> Refusal {
+        self.failed = true;
+        Refusal::StreamFault
+    }
+}
+
 /// A donor, and the transfer that it wrote last. It has no `Drop`, as a `Bench` has none: `into_disk` lets it go.
 pub(crate) struct Donor<D: Disk> {
     pub(crate) node: Replica<D>,
-    pub(crate) transfer: Vec<u8>,
+    pub(crate) transfer: Written,
 }
 
 impl<D: Disk> Donor<D> {
@@ -40,7 +66,7 @@ pub(crate) struct Snapshot {
 }
 
 /// Opens the disk as that of a donor, and writes what came of it. The donor, where there is one, comes beside whether that was written.
-fn lent<D: Disk + Drop, W: Write>(
+fn lent<D: Disk + Drop, W: Sink>(
     alloc: Global,
     disk: D,
     writer: &mut W,
@@ -49,7 +75,10 @@ fn lent<D: Disk + Drop, W: Write>(
         Ok(node) => {
             let (gtid, base) = (node.gtid(), node.base());
             let written = write_line(writer, format_args!("lent {gtid} base {base}"));
-            let transfer = Vec::new(alloc);
+            let transfer = Written {
+                bytes: Vec::new(alloc),
+                failed: false,
+            };
             (Some(Donor { node, transfer }), written)
         }
         Err((_, refusal)) => (None, write_refused(writer, refusal)),
@@ -57,7 +86,7 @@ fn lent<D: Disk + Drop, W: Write>(
 }
 
 /// Has the disk be that of the donor from now on, and writes what came of it. The donor before is let go.
-pub(crate) fn lend<D: Disk + Drop, W: Write>(
+pub(crate) fn lend<D: Disk + Drop, W: Sink>(
     alloc: Global,
     disk: D,
     donor: &mut Option<Donor<D>>,

@@ -19,9 +19,9 @@ use rep_forms::put_bytes;
 use rep_pages::PageRows;
 use rep_replica::{Installation, Replica};
 use rep_script::{write_line, write_refused};
+use rep_streams::Sink;
 use rep_types::{Gtid, MAX_SEQNO, Params, Refusal};
 use std::alloc::Global;
-use std::io::Write;
 use uuid::Uuid;
 
 /// A UUID has 16 bytes.
@@ -72,7 +72,7 @@ fn is_for<D: Disk>(node: &Replica<D>, params: &Params, snapshot: &Snapshot) -> b
 }
 
 /// Begins to install the snapshot, which is for the node, and writes what came of it.
-fn begun<D: Disk, W: Write>(
+fn begun<D: Disk, W: Sink>(
     alloc: Global,
     node: Replica<D>,
     snapshot: Snapshot,
@@ -96,7 +96,7 @@ fn begun<D: Disk, W: Write>(
 }
 
 /// Begins to install the donor's snapshot where it is for the node, and writes what came of it.
-fn bring<D: Disk, E: Disk, W: Write>(
+fn bring<D: Disk, E: Disk, W: Sink>(
     alloc: Global,
     node: Replica<D>,
     donor: &mut Replica<E>,
@@ -112,7 +112,7 @@ fn bring<D: Disk, E: Disk, W: Write>(
 }
 
 /// Puts the page, where it can come, and writes what came of it.
-fn put_page<D: Disk, W: Write>(
+fn put_page<D: Disk, W: Sink>(
     installation: &mut Installation<D>,
     page: u32,
     rows: PageRows,
@@ -128,7 +128,7 @@ fn put_page<D: Disk, W: Write>(
 }
 
 /// Puts this page of the donor's base, where that has it, and writes what came of it.
-fn put_page_of<D: Disk, E: Disk, W: Write>(
+fn put_page_of<D: Disk, E: Disk, W: Sink>(
     installation: &mut Installation<D>,
     donor: &mut Replica<E>,
     page: u32,
@@ -142,7 +142,7 @@ fn put_page_of<D: Disk, E: Disk, W: Write>(
 }
 
 /// Writes what came of a snapshot, behind which the node is at this GTID.
-fn write_installed<W: Write>(
+fn write_installed<W: Sink>(
     writer: &mut W,
     gtid: Gtid,
     outcome: Result<(), Refusal>,
@@ -154,14 +154,14 @@ fn write_installed<W: Write>(
 }
 
 /// Lets the snapshot take its place, and writes what came of it.
-fn ended<D: Disk, W: Write>(installation: Installation<D>, writer: &mut W) -> Left<D> {
+fn ended<D: Disk, W: Sink>(installation: Installation<D>, writer: &mut W) -> Left<D> {
     let (node, outcome) = installation.end();
     let written = write_installed(writer, node.gtid(), outcome);
     (Bench::Node(node), written)
 }
 
 /// Does this to the snapshot that comes to a node, and writes what came of it.
-fn coming<D: Disk, E: Disk, W: Write>(
+fn coming<D: Disk, E: Disk, W: Sink>(
     mut installation: Installation<D>,
     donor: &mut Replica<E>,
     order: JoinOrder,
@@ -182,7 +182,7 @@ fn coming<D: Disk, E: Disk, W: Write>(
 }
 
 /// Does this with the transfer that comes from the donor, for a node that stays as it is, and writes what came of it.
-fn at_transfer<D: Disk, E: Disk, W: Write>(
+fn at_transfer<D: Disk, E: Disk, W: Sink>(
     node: &Replica<D>,
     donor: &mut Donor<E>,
     order: JoinOrder,
@@ -190,13 +190,13 @@ fn at_transfer<D: Disk, E: Disk, W: Write>(
 ) -> Result<(), Refusal> {
     match order {
         JoinOrder::Donate => written_for(node, donor, writer),
-        JoinOrder::Spoil(harm) => spoilt(&mut donor.transfer, harm, writer),
+        JoinOrder::Spoil(harm) => spoilt(&mut donor.transfer.bytes, harm, writer),
         _ => write_line(writer, "off"),
     }
 }
 
 /// Does this with the donor for a node to which no snapshot comes, and writes what came of it.
-fn at_joiner<D: Disk, E: Disk, W: Write>(
+fn at_joiner<D: Disk, E: Disk, W: Sink>(
     alloc: Global,
     node: Replica<D>,
     donor: &mut Donor<E>,
@@ -205,7 +205,7 @@ fn at_joiner<D: Disk, E: Disk, W: Write>(
 ) -> Left<D> {
     match order {
         JoinOrder::Bring => bring(alloc, node, &mut donor.node, writer),
-        JoinOrder::Join => taken(alloc, node, &donor.transfer, writer),
+        JoinOrder::Join => taken(alloc, node, &donor.transfer.bytes, writer),
         order => {
             let written = at_transfer(&node, donor, order, writer);
             (Bench::Node(node), written)
@@ -215,7 +215,7 @@ fn at_joiner<D: Disk, E: Disk, W: Write>(
 
 /// Does this with the donor: what is done for a node where there is one, and what is done with a snapshot where one comes to it. Writes what
 /// came of it.
-pub(crate) fn joined<D: Disk, E: Disk, W: Write>(
+pub(crate) fn joined<D: Disk, E: Disk, W: Sink>(
     alloc: Global,
     bench: Bench<D>,
     donor: &mut Option<Donor<E>>,

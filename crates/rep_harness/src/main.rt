@@ -14,12 +14,15 @@ mod node;
 mod order;
 mod shown;
 
+use rep_streams::{ReaderSource, WriterSink};
 use rep_types::Refusal;
 use std::io;
 use std::process::ExitCode;
 
 fn run<R: Input + Print + AllocGlobal>(rt: &R) -> Result<(), Refusal> {
-    bench::run(rt.alloc(), &mut rt.reader(), &mut io::writer(rt))
+    let mut input = ReaderSource::new(rt.reader());
+    let mut output = WriterSink::new(io::writer(rt));
+    bench::run(rt.alloc(), &mut input, &mut output)
 }
 
 fn main(rt: HostRuntime) -> ExitCode {

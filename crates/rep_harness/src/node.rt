@@ -9,9 +9,9 @@ use rep_script::{
     Command, write_answer, write_limits, write_line, write_open, write_refused, write_state,
 };
 use rep_steps::{Answer, Event};
+use rep_streams::Sink;
 use rep_types::Refusal;
 use std::alloc::Global;
-use std::io::Write;
 
 /// What there is: a disk, a node on one, or a node to which a snapshot comes.
 ///
@@ -26,7 +26,7 @@ pub(crate) enum Bench<D: Disk> {
 pub(crate) type Left<D> = (Bench<D>, Result<(), Refusal>);
 
 /// Opens the disk, and writes what came of it.
-pub(crate) fn opened<D: Disk, W: Write>(alloc: Global, disk: D, writer: &mut W) -> Left<D> {
+pub(crate) fn opened<D: Disk, W: Sink>(alloc: Global, disk: D, writer: &mut W) -> Left<D> {
     match Replica::open(alloc, disk) {
         Ok(node) => {
             let written = write_open(writer, node.gtid());
@@ -37,7 +37,7 @@ pub(crate) fn opened<D: Disk, W: Write>(alloc: Global, disk: D, writer: &mut W) 
 }
 
 /// Has the node settle, and writes what came of it.
-fn settle<D: Disk, W: Write>(node: &mut Replica<D>, writer: &mut W) -> Result<(), Refusal> {
+fn settle<D: Disk, W: Sink>(node: &mut Replica<D>, writer: &mut W) -> Result<(), Refusal> {
     match node.settle() {
         Ok(()) => write_line(writer, "settled"),
         Err(refusal) => write_refused(writer, refusal),
@@ -45,7 +45,7 @@ fn settle<D: Disk, W: Write>(node: &mut Replica<D>, writer: &mut W) -> Result<()
 }
 
 /// Does one step, and writes its answer.
-fn step<D: Disk, W: Write>(
+fn step<D: Disk, W: Sink>(
     node: &mut Replica<D>,
     event: Event,
     writer: &mut W,
@@ -55,7 +55,7 @@ fn step<D: Disk, W: Write>(
 }
 
 /// Shows the node's state, and its window in full where that is asked.
-fn show_state<D: Disk, W: Write>(
+fn show_state<D: Disk, W: Sink>(
     alloc: Global,
     node: &Replica<D>,
     is_full: bool,
@@ -69,7 +69,7 @@ fn show_state<D: Disk, W: Write>(
 }
 
 /// Shows the size and the floor of the node's window.
-fn show_limits<D: Disk, W: Write>(
+fn show_limits<D: Disk, W: Sink>(
     alloc: Global,
     node: &Replica<D>,
     writer: &mut W,
@@ -96,7 +96,7 @@ fn parted<D: Disk>(node: Replica<D>, order: &NodeOrder) -> Replica<D> {
 }
 
 /// Does this to the node where it stays one and the same, and writes what came of it.
-fn at_node<D: Disk, W: Write>(
+fn at_node<D: Disk, W: Sink>(
     alloc: Global,
     node: &mut Replica<D>,
     order: NodeOrder,
@@ -113,7 +113,7 @@ fn at_node<D: Disk, W: Write>(
 }
 
 /// Does this to the node, which stays on its disk, and writes what came of it.
-pub(crate) fn kept<D: Disk, W: Write>(
+pub(crate) fn kept<D: Disk, W: Sink>(
     alloc: Global,
     node: Replica<D>,
     order: NodeOrder,
@@ -125,7 +125,7 @@ pub(crate) fn kept<D: Disk, W: Write>(
 }
 
 /// Writes the answer to an event that was run with others.
-fn write_answer_to<D: Disk, W: Write>(
+fn write_answer_to<D: Disk, W: Sink>(
     node: &Replica<D>,
     event: &Event,
     answer: &Answer,
@@ -143,7 +143,7 @@ fn write_answer_to<D: Disk, W: Write>(
 }
 
 /// Writes how many answers there are, where these are not as many as the events.
-fn write_counts<W: Write>(count: usize, wanted: usize, writer: &mut W) -> Result<(), Refusal> {
+fn write_counts<W: Sink>(count: usize, wanted: usize, writer: &mut W) -> Result<(), Refusal> {
     if count == wanted {
         return Ok(());
     }
@@ -151,7 +151,7 @@ fn write_counts<W: Write>(count: usize, wanted: usize, writer: &mut W) -> Result
 }
 
 /// Writes the answers to the events, which were run together.
-fn write_answers<D: Disk, W: Write>(
+fn write_answers<D: Disk, W: Sink>(
     node: &Replica<D>,
     events: &[Event],
     answers: &[Answer],
@@ -165,7 +165,7 @@ fn write_answers<D: Disk, W: Write>(
 }
 
 /// Runs the events together, and writes their answers.
-fn run_together<D: Disk, W: Write>(
+fn run_together<D: Disk, W: Sink>(
     alloc: Global,
     node: &mut Replica<D>,
     events: &[Event],
@@ -188,7 +188,7 @@ impl<D: Disk> Bench<D> {
     }
 
     /// Runs these events together, where there is a node.
-    pub(crate) fn batch<W: Write>(
+    pub(crate) fn batch<W: Sink>(
         &mut self,
         alloc: Global,
         events: &[Event],

@@ -3,9 +3,9 @@
 use crate::device::{Device, bytes};
 use arrayvec::ArrayVec;
 use rep_disk::Disk;
-use rep_record::put_all;
 use rep_replica::Replica;
 use rep_script::write_line;
+use rep_streams::Sink;
 use rep_types::{Entry, Refusal};
 use std::fmt::Display;
 use std::io::Write;
@@ -18,7 +18,7 @@ type Line = ArrayVec<u8, 1100>;
 
 /// Writes what the node says of itself: how many items were delivered, are durable, and are in the base, whether it is quiet, and
 /// whether it is stopped.
-pub(crate) fn write_node<D: Disk, W: Write>(
+pub(crate) fn write_node<D: Disk, W: Sink>(
     writer: &mut W,
     node: &Replica<D>,
 ) -> Result<(), Refusal> {
@@ -36,7 +36,7 @@ pub(crate) fn write_node<D: Disk, W: Write>(
 }
 
 /// Writes the entry of a window: its seqno and how many keys it has, and then each of these.
-fn write_entry<W: Write>(writer: &mut W, entry: &Entry) -> Result<(), Refusal> {
+fn write_entry<W: Sink>(writer: &mut W, entry: &Entry) -> Result<(), Refusal> {
     let (seqno, count) = (entry.seqno(), entry.keys().len());
     write_line(writer, format_args!("entry {seqno} {count}"))?;
     for key in entry.keys() {
@@ -46,7 +46,7 @@ fn write_entry<W: Write>(writer: &mut W, entry: &Entry) -> Result<(), Refusal> {
 }
 
 /// Writes a window: how many entries it has, and then each of these.
-pub(crate) fn write_window<W: Write>(writer: &mut W, window: &[Entry]) -> Result<(), Refusal> {
+pub(crate) fn write_window<W: Sink>(writer: &mut W, window: &[Entry]) -> Result<(), Refusal> {
     let count = window.len();
     write_line(writer, format_args!("window {count}"))?;
     for entry in window {
@@ -69,7 +69,7 @@ fn put_digits(line: &mut Line, bytes: &[u8]) -> Result<(), Refusal> {
 }
 
 /// Writes so many bytes of the disk from this place on, at most 512, two digits each.
-pub(crate) fn write_bytes<W: Write>(
+pub(crate) fn write_bytes<W: Sink>(
     writer: &mut W,
     device: &Device,
     at: usize,
@@ -78,8 +78,10 @@ pub(crate) fn write_bytes<W: Write>(
     let shown = bytes(device).get(at..).unwrap_or_default();
     let count = count.min(MAX_SHOWN).min(shown.len());
     let mut line = Line::new();
-    put_digits(&mut line, &shown[..count])?;
-    put_all(writer, line.as_slice())
+    match put_digits(&mut line, &shown[..count]) {
+        Ok(()) => writer.put(line.as_slice()),
+        Err(_) => Err(writer.give_up()),
+    }
 }
 
 /// A sum over the bytes, which differs where any byte does that stands alone (FNV-1a, 64 bits).
@@ -92,7 +94,7 @@ fn sum_of(bytes: &[u8]) -> u64 {
 }
 
 /// Writes how many bytes there are, and a sum over them.
-pub(crate) fn write_sum<W: Write>(writer: &mut W, bytes: &[u8]) -> Result<(), Refusal> {
+pub(crate) fn write_sum<W: Sink>(writer: &mut W, bytes: &[u8]) -> Result<(), Refusal> {
     let (size, sum) = (bytes.len(), sum_of(bytes));
     write_line(writer, format_args!("sum {size} {sum}"))
 }

@@ -3,11 +3,14 @@
 #![tactic(auto)]
 
 use rep_script::judge_text;
+use rep_streams::{ReaderSource, WriterSink};
 use std::io;
 use std::process::ExitCode;
 
 fn main(rt: HostRuntime) -> ExitCode {
-    match judge_text(rt.alloc(), &mut rt.reader(), &mut io::writer(&rt)) {
+    let mut input = ReaderSource::new(rt.reader());
+    let mut output = WriterSink::new(io::writer(&rt));
+    match judge_text(rt.alloc(), &mut input, &mut output) {
         Ok(()) => ExitCode::SUCCESS,
         Err(refusal) => {
             let number = refusal.number();

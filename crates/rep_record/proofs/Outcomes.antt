@@ -1,6 +1,6 @@
 -- What comes of a line, by what it says.
 use Rattle.std.proofs.Common.{◌≡◌, ℕ, ◌<◌, Bool, true, false, cond, ltb, leb, List, [], ◌∷◌, length, take, drop, map, Option, Some, None, Result, Ok, Err, refl, sym, ap, subst, ◌∙◌, arith, inl, inr}
-use Rattle.std.specs.Prelude.{◌&&◌, ◌||◌, IfOk, codes}
+use Rattle.std.specs.Prelude.{◌≢◌, ◌&&◌, ◌||◌, IfOk, IfErr, codes}
 use Rattle.std.specs.List.{list_any}
 use Rattle.std.specs.Option.{option_map}
 use Rattle.std.proofs.Math.Bool.{and-false}
@@ -11,7 +11,7 @@ use Rattle.rep_types.specs.declared.item.Item.{Item}
 use Rattle.rep_types.specs.declared.item.Item.TheVariants.{WriteSet, SetWindow as OfSetWindow}
 use Rattle.rep_types.specs.declared.item.SetWindow.{SetWindow}
 use Rattle.rep_types.specs.declared.refusal.Refusal.{Refusal}
-use Rattle.rep_types.specs.declared.refusal.Refusal.TheVariants.{Malformed, ValueTooLong, BadParams}
+use Rattle.rep_types.specs.declared.refusal.Refusal.TheVariants.{Malformed, TooManyReads, TooManyWrites, ValueTooLong, BadParams, StreamFault}
 use Rattle.rep_types.specs.Transactions.{Transaction, misplaced}
 use Rattle.rep_types.specs.Settings.{Setting, setting, is_setting, allowed}
 use Rattle.rep_types.specs.Windows.{is_window_size}
@@ -171,3 +171,44 @@ order_comes number line r e =
 pub params_come : (number : ℕ) (line : List ℕ) (r : Result Setting Refusal) → r ≡ params_line number line → Comes (IsParamsLine line) allowed number r
 params_come number line r e =
     subst (Comes (IsParamsLine line) allowed number) (sym e) (comes allowed number (λ p. allowed_same p (is_setting p)) (params_form line) (params_mean.found line).of (params_mean.again line))
+
+-- ---- no line is refused as a stream that has failed
+
+abbrev pub IsOwn : {A : Type 0} → Result A Refusal → Type 0
+IsOwn r = IfErr r (λ refusal. refusal ≢ StreamFault)
+
+own_unless : {A : Type 0} (refusal : Refusal) (r : Result A Refusal) (b : Bool) → refusal ≢ StreamFault → IsOwn r → IsOwn (cond b (Err refusal) r)
+own_unless refusal r true other own = other
+own_unless refusal r false other own = own
+
+own_if : {A : Type 0} (x : A) (b : Bool) → IsOwn (cond b (Ok x) (Err BadParams))
+own_if x true = tt
+own_if x false = λ e. absurd cc
+
+outcome_own : {A B : Type 0} (limit : A → Result B Refusal) → ((x : A) → IsOwn (limit x)) → (number : ℕ) (form : Option A) → IsOwn (outcome limit number form)
+outcome_own limit own number None = λ e. absurd cc
+outcome_own limit own number (Some x) = own x
+
+placed_own : (number : ℕ) (w : Transaction) (place : Option ℕ) → IsOwn (well_placed number w place)
+placed_own number w None = tt
+placed_own number w (Some at) = λ e. absurd cc
+
+limited_own : (number : ℕ) (w : Transaction) → IsOwn (limited number w)
+limited_own number w =
+    own_unless TooManyReads _ (ltb 16 (length w.reads)) (λ e. absurd cc)
+    (own_unless TooManyWrites _ (ltb 16 (length w.writes)) (λ e. absurd cc)
+    (own_unless ValueTooLong _ (list_any is_long w.writes) (λ e. absurd cc) (placed_own number w (misplaced w.reads w.writes))))
+
+kind_own : {A : Type 0} (kind : A → Item) (r : Result A Refusal) → IsOwn r → IsOwn (of_kind kind r)
+kind_own kind (Ok x) own = tt
+kind_own kind (Err refusal) own = own
+
+item_own : (number : ℕ) (i : Item) → IsOwn (limited_item number i)
+item_own number (WriteSet w) = kind_own WriteSet (limited number w) (limited_own number w)
+item_own number (OfSetWindow c) = kind_own OfSetWindow (sized c) (own_if c (is_window_size c.size))
+
+pub order_own : (number : ℕ) (form : Option Item) (r : Result Item Refusal) → r ≡ order_outcome number form → IfErr r (λ refusal. refusal ≢ StreamFault)
+order_own number form r is = rw is (outcome_own (limited_item number) (item_own number) number form)
+
+pub params_own : (number : ℕ) (form : Option Setting) (r : Result Setting Refusal) → r ≡ params_outcome number form → IfErr r (λ refusal. refusal ≢ StreamFault)
+params_own number form r is = rw is (outcome_own allowed (λ p. own_if p (is_setting p)) number form)

@@ -2,10 +2,11 @@
 use Rattle.std.proofs.Common.{◌≡◌, ℕ, suc, ◌+◌, ◌-◌, ◌<◌, ◌≤◌, Bool, true, false, eqb, List, [], ◌∷◌, ◌++◌, length, get_or, slice_range, Option, None, Some, refl, sym, ap, ◌∙◌, arith, add-one, inl, inr, IfSome, Result, Ok, Err, append_assoc, append-nil, length-append}
 use Rattle.std.proofs.Math.Seq.{drop-cons}
 use Rattle.std.specs.Io.KnownBytes.{Keeps, Consumes, prepend_known, IsAtEnd}
-use Rattle.std.proofs.lemmas.Bool.{eqb-true, le-ltb, lt-ltb}
-use Rattle.std.specs.List.{onto_first}
+use Rattle.std.proofs.lemmas.Bool.{eqb-true, le-ltb, lt-ltb, ltb-true}
+use Rattle.std.specs.Prelude.{nat_lt}
+use Rattle.std.specs.List.{onto_first, flat_map}
 use Rattle.rep_record.proofs.Lines.{IsFree, free_append}
-use Rattle.rep_record.specs.Lines.{raw_lines, without_feed, EndsAtFeed, AreFed, AreLines, Unread, ahead, HandedOut, IsRefused, NextLine, Counted}
+use Rattle.rep_record.specs.Lines.{raw_lines, without_feed, EndsAtFeed, AreFed, AreLines, Unread, ahead, HandedOut, IsRefused, NextLine, Counted, IsCutShort, IsTooLong}
 use Rattle.rep_types.specs.declared.refusal.Refusal.{Refusal}
 use Rattle.rep_types.specs.declared.refusal.Refusal.TheVariants.{Malformed, StreamFault}
 
@@ -181,3 +182,63 @@ long_next old mid (Some known) (Some y) line b consumed none other full =
         IsRefused (old.pending ++ known) old (Malformed (old.number + 1))
     refused [] e long = absurd (omega arith)
     refused (raw ∷ rest) e long = record { raw = raw; rest = rest; lines = e; fault = rw (lt-ltb 4096 (length (without_feed raw)) long) refl }
+
+-- ---- a line that does not end within the limit of a text
+
+-- a text is no shorter than its first line
+first_within : (text raw : List ℕ) (rest : List (List ℕ)) → raw_lines text ≡ raw ∷ rest → length raw ≤ length text
+first_within text raw rest lines =
+    let whole : flat_map (λ (line : List ℕ). line) (raw ∷ rest) ≡ text = ap (flat_map (λ (line : List ℕ). line)) (sym lines) ∙ (are_lines text).whole in
+    omega (arith, ap length whole, length-append raw (flat_map (λ (line : List ℕ). line) rest))
+
+-- a line with its line feed
+pub fed_cut : (old mid new : Unread) (start left : Option (List ℕ)) (line : List ℕ) (r : Result Bool Refusal) →
+    Consumes (ahead old start) (ahead mid left) (line ++ 10 ∷ []) → HasNoFeed line → length line ≤ 4096 → mid.taken ≡ old.taken →
+    Counted mid (length line + 1) r new → r ≡ Err StreamFault → IsCutShort old start
+fed_cut old mid new None left line r consumed none short taken counted e = tt
+fed_cut old mid new (Some known) None line r consumed none short taken counted e = absurd consumed
+fed_cut old mid new (Some known) (Some y) line (Ok b) consumed none short taken counted e = absurd cc
+fed_cut old mid new (Some known) (Some y) line (Err StreamFault) consumed none short taken counted e =
+    let lines : raw_lines (old.pending ++ known) ≡ (line ++ 10 ∷ []) ∷ raw_lines (mid.pending ++ y) =
+    rw (consumed, append_assoc line (10 ∷ []) (mid.pending ++ y)) (fed_lines line (mid.pending ++ y) none) in
+    let long : 67108864 < old.taken + length (line ++ 10 ∷ []) = omega (arith, counted.1, taken, length-append line (10 ∷ [])) in
+    record {
+      raw = line ++ 10 ∷ [];
+      rest = raw_lines (mid.pending ++ y);
+      lines = lines;
+      fault = rw (fed_without line none, le-ltb 4096 (length line) short, lt-ltb 67108864 (old.taken + length (line ++ 10 ∷ [])) long) refl;
+    }
+fed_cut old mid new (Some known) (Some y) line (Err refusal) consumed none short taken counted e = absurd counted
+
+-- the last line, where it lacks its line feed
+pub last_cut : (old mid new : Unread) (start left : Option (List ℕ)) (line : List ℕ) (r : Result Bool Refusal) →
+    Consumes (ahead old start) (ahead mid left) line → IsAtEnd (ahead mid left) → HasNoFeed line → length line ≤ 4096 → mid.taken ≡ old.taken →
+    Counted mid (length line) r new → r ≡ Err StreamFault → IsCutShort old start
+last_cut old mid new None left line r consumed end none short taken counted e = tt
+last_cut old mid new (Some known) None line r consumed end none short taken counted e = absurd consumed
+last_cut old mid new (Some known) (Some y) line (Ok b) consumed end none short taken counted e = absurd cc
+last_cut old mid new (Some known) (Some y) [] (Err StreamFault) consumed end none short taken counted e = absurd (omega (arith, counted.0))
+last_cut old mid new (Some known) (Some y) (b ∷ bs) (Err StreamFault) consumed end none short taken counted e =
+    let whole : old.pending ++ known ≡ b ∷ bs = consumed ∙ ap (λ l. (b ∷ bs) ++ l) end ∙ append-nil (b ∷ bs) in
+    let long : 67108864 < old.taken + length (b ∷ bs) = omega (arith, counted.1, taken) in
+    record {
+      raw = b ∷ bs;
+      rest = [];
+      lines = rw whole (last_lines b bs none);
+      fault = rw (last_without (b ∷ bs) none, le-ltb 4096 (length (b ∷ bs)) short, lt-ltb 67108864 (old.taken + length (b ∷ bs)) long) refl;
+    }
+last_cut old mid new (Some known) (Some y) line (Err refusal) consumed end none short taken counted e = absurd counted
+
+-- a text whose line does not end within the limit is longer
+refused_long : (text : List ℕ) (u : Unread) → (r : IsRefused text u StreamFault) → (long full : Bool) → nat_lt 4096 (length (without_feed r.raw)) ≡ long →
+    nat_lt 67108864 (u.taken + length r.raw) ≡ full → 67108864 < u.taken + length text
+refused_long text u r true full is ends =
+    let other : Some (Malformed (u.number + 1)) ≡ Some StreamFault = rw is at r.fault in absurd cc
+refused_long text u r false false is ends =
+    let other : None ≡ Some StreamFault = rw (is, ends) at r.fault in absurd cc
+refused_long text u r false true is ends =
+    omega (arith, ltb-true 67108864 (u.taken + length r.raw) ends, first_within text r.raw r.rest r.lines)
+
+pub cut_long : (u : Unread) (left : Option (List ℕ)) → IsCutShort u left → IsTooLong u left
+cut_long u None r = tt
+cut_long u (Some known) r = refused_long (u.pending ++ known) u r _ _ refl refl

@@ -1,5 +1,5 @@
 -- The lines of a text, and how they are handed out one after another.
-use Rattle.std.specs.Prelude.{◌≡◌, ℕ, ◌+◌, ◌<◌, ◌≤◌, ◌⊎◌, Bool, true, false, ◌==◌, nat_lt, if◌then◌else◌, List, [], ◌∷◌, ◌++◌, length, Option, None, Some, Result, Ok, Err}
+use Rattle.std.specs.Prelude.{◌≡◌, ◌≢◌, ℕ, ◌+◌, ◌<◌, ◌≤◌, ◌⊎◌, Bool, true, false, ◌==◌, nat_lt, if◌then◌else◌, List, [], ◌∷◌, ◌++◌, length, Option, None, Some, IfSome, Result, Ok, Err}
 use Rattle.std.specs.List.{AllByRecursion, flat_map, onto_first}
 use Rattle.std.specs.Io.KnownBytes.{prepend_known}
 use Rattle.rep_types.specs.declared.refusal.Refusal.{Refusal}
@@ -91,5 +91,23 @@ Counts old false new = (new.number ≡ old.number) × (new.taken ≡ old.taken)
 abbrev pub Counted : Unread → ℕ → Result Bool Refusal → Unread → Type 0
 Counted old n (Ok true) new = (new ≡ record old { taken = old.taken + n; number = old.number + 1 }) × (0 < n) × (old.taken + n ≤ 67108864)
 Counted old n (Ok false) new = (n ≡ 0) × (new ≡ old)
-Counted old n (Err StreamFault) new = 67108864 < old.taken + n
+Counted old n (Err StreamFault) new = (0 < n) × (67108864 < old.taken + n)
 Counted old n (Err refusal) new = ⊥
+
+-- The line that comes next does not end within the first 67,108,864 bytes of the text. Nothing is said of a text of which no byte is known.
+abbrev pub IsCutShort : Unread → Option (List ℕ) → Type 0
+IsCutShort u left = IfSome left (λ known. IsRefused (u.pending ++ known) u StreamFault)
+
+-- The text has more than 67,108,864 bytes: so many were handed out, and so many are ahead. Nothing is said of a text of which no byte is known.
+abbrev pub IsTooLong : Unread → Option (List ℕ) → Type 0
+IsTooLong u left = IfSome (ahead u left) (λ rest. 67108864 < u.taken + length rest)
+
+-- the same of a text of which nothing was read
+abbrev pub IsLongText : Option (List ℕ) → Type 0
+IsLongText left = IfSome left (λ text. 67108864 < length text)
+
+-- A call that reads a text answers a stream fault only where a stream has failed, or the text is too long; and any other answer leaves the
+-- note as it was.
+pub record NotesText {T : Type 0} (Long : Type 0) (old new : Bool) (result : Result T Refusal) : Type 0 where
+  pub fault : result ≡ Err StreamFault → (new ≡ true) ⊎ Long
+  pub fine : result ≢ Err StreamFault → new ≡ old

@@ -30,5 +30,5 @@ pub use pieces::{cut_at, read_key};
 pub use record::{is_placed, put_record, read_record, records_are_told};
 pub use room::Room;
 pub use text_reader::{MAX_LINE, MAX_TEXT, TextReader};
-pub use verdict_line::{push_decimal, put_all, write_verdict};
+pub use verdict_line::{push_decimal, write_verdict};
 pub use words::{Words, is_blank};

@@ -1,6 +1,6 @@
 //! The line of an item of either kind: a write set, or a change of the window's size.
 
-ghost use Rattle.std.specs.Prelude.{◌≡◌, IfOk, Err};
+ghost use Rattle.std.specs.Prelude.{◌≡◌, ◌≢◌, IfOk, IfErr, Err};
 ghost use Rattle.rep_types.specs.declared.item.Item.{Item};
 ghost use Rattle.rep_record.specs.Grammar.{IsOrderLine};
 ghost use Rattle.rep_record.specs.Reading.{sized, change_in, change_outcome, item_in, limited_item, order_outcome, order_line};
@@ -70,17 +70,27 @@ fn read_change(words: Words, number: u64) -> Result<SetWindow, Refusal>
     change_of(read_change_draft(words), number)
 }
 
-/// The item that the words say, in the line with this number: `window size [id source:trx]`, or a tail.
-///
-/// Refuses as `read_order_line` does.
+/// The item of either kind that the words say, in the line with this number.
 #[tactic(auto, using(crate::proofs::Outcomes::stated_by_kind))]
-pub fn read_stated(mut words: Words, number: u64) -> Result<Item, Refusal>
+fn read_by_kind(mut words: Words, number: u64) -> Result<Item, Refusal>
     ensures { result ≡ order_outcome number (item_in words.entry) }
 {
     if words.skip(b"window") {
         return Ok(Item::SetWindow(read_change(words, number)?));
     }
     Ok(Item::WriteSet(read_tail(words, number)?))
+}
+
+/// The item that the words say, in the line with this number: `window size [id source:trx]`, or a tail.
+///
+/// Refuses as `read_order_line` does.
+#[tactic(auto, using(crate::proofs::Outcomes::order_own))]
+pub fn read_stated(words: Words, number: u64) -> Result<Item, Refusal>
+    ensures value { result ≡ order_outcome number (item_in words.entry) }
+    // No item is refused as a stream that has failed.
+    ensures own { IfErr result (λ refusal. refusal ≢ Refusal.StreamFault) }
+{
+    read_by_kind(words, number)
 }
 
 /// The item of either kind that the line with this number says.
@@ -109,6 +119,8 @@ pub fn read_order_line(line: &[u8], number: u64) -> Result<Item, Refusal>
     // A line of no form is malformed.
     ensures unformed { ((i : Item) → IsOrderLine line.now i → ⊥) → result ≡ Err (Refusal.Malformed number) }
     ensures exact { result ≡ order_line number line.now }
+    // No line is refused as a stream that has failed.
+    ensures own { IfErr result (λ refusal. refusal ≢ Refusal.StreamFault) }
 {
     read_either(line, number)
 }

@@ -1,6 +1,6 @@
 //! The line of a node's parameters.
 
-ghost use Rattle.std.specs.Prelude.{◌≡◌, ◌^◌, List, IfOk, Err, take};
+ghost use Rattle.std.specs.Prelude.{◌≡◌, ◌≢◌, ◌^◌, List, IfOk, IfErr, Err, take};
 ghost use Rattle.std.specs.Option.{option_map};
 ghost use Rattle.rep_types.specs.Settings.{Setting, allowed};
 ghost use Rattle.rep_record.specs.Grammar.{IsParamsLine};
@@ -97,6 +97,8 @@ pub fn read_params_line(line: &[u8], number: u64) -> Result<Params, Refusal>
     // A line of no form is malformed.
     ensures unformed { ((p : Setting) → IsParamsLine line.now p → ⊥) → result ≡ Err (Refusal.Malformed number) }
     ensures exact { result ≡ params_line number line.now }
+    // No line is refused as a stream that has failed.
+    ensures own { IfErr result (λ refusal. refusal ≢ Refusal.StreamFault) }
 {
     params_of(read_draft(line), number)
 }

@@ -1,12 +1,14 @@
 //! Texts, read line by line.
 
-ghost use Rattle.std.specs.Prelude.{◌≡◌, ◌+◌, ◌<◌, ◌≤◌, ◌⊎◌, [], ◌∷◌, ◌++◌, length, take, IfSome, IfOk, IfErr, IfNone, OnOk};
+ghost use Rattle.std.specs.Prelude.{◌≡◌, ◌==◌, ◌+◌, ◌<◌, ◌≤◌, ◌⊎◌, true, [], ◌∷◌, ◌++◌, length, take, Err, IfSome, IfOk, IfErr, IfNone, OnOk};
+ghost use Rattle.std.specs.List.{list_any};
 ghost use Rattle.std.specs.Io.KnownBytes.{Keeps, Consumes, IsAtEnd};
 ghost use Rattle.arrayvec.specs.ArrayVec.{array_vec_len};
+ghost use Rattle.rep_streams.specs.Streams.{Notes};
 
 use arrayvec::ArrayVec;
+use rep_streams::Source;
 use rep_types::Refusal;
-use std::io::{ErrorKind, Read};
 use std::marker::Model;
 
 /// The greatest number of bytes of a line, its line feed not counted.
@@ -41,29 +43,8 @@ impl Model for TextReader {
     ghost invariant = { λ r. (r.start ≤ r.end) × (r.end ≤ 8192) × (r.number ≤ r.taken) × (r.taken ≤ 67108864) };
 }
 
-/// Reads into the buffer what there is, and answers how many bytes; 0 is the end of the stream. A
-/// read that was interrupted is tried again.
-///
-/// Refuses with `StreamFault` where the reader fails.
-fn read_some<R: Read>(reader: &mut R, buffer: &mut [u8]) -> Result<usize, Refusal>
-    requires { 0 < length buffer.old }
-    ensures within { IfOk result (λ count. count ≤ length buffer.new) }
-    ensures bytes { IfOk result (λ count. Consumes (R.remaining reader.old) (R.remaining reader.new) (take count buffer.new)) }
-    ensures end { IfOk result (λ count. count ≡ 0 → IsAtEnd (R.remaining reader.new)) }
-    ensures err { IfErr result (λ e. e ≡ Refusal.StreamFault) }
-{
-    for _ in 0..u64::MAX {
-        match reader.read(buffer) {
-            Ok(count) => return Ok(count),
-            Err(error) if error.kind() == ErrorKind::Interrupted => {}
-            Err(_) => return Err(Refusal::StreamFault),
-        }
-    }
-    Err(Refusal::StreamFault)
-}
-
 impl TextReader {
-    ghost use Rattle.rep_record.specs.Lines.{Unread, ahead, NextLine, Counted, Counts};
+    ghost use Rattle.rep_record.specs.Lines.{Unread, ahead, NextLine, Counted, Counts, IsCutShort, IsTooLong, NotesText};
 
     /// A reader that stands at the start of a text.
     pub fn new() -> TextReader
@@ -86,20 +67,29 @@ impl TextReader {
         self.number
     }
 
+    /// Whether the line that comes next, with its line feed, was read already: the stream is not asked for more before it is
+    /// handed out.
+    pub fn has_line(&self) -> bool
+        ensures { result ≡ list_any (λ b. b == 10) self.now.pending }
+    {
+        self.buffer[self.start..self.end].contains(&b'\n')
+    }
+
     /// Reads more of the stream where the buffer is empty.
     ///
-    /// Refuses with `StreamFault` where the reader fails.
-    fn fill<R: Read>(&mut self, reader: &mut R) -> Result<(), Refusal>
+    /// Refuses with `StreamFault` where the reader fails, which it notes.
+    fn fill<R: Source>(&mut self, reader: &mut R) -> Result<(), Refusal>
         ensures ok { OnOk result (Keeps (ahead self.old (R.remaining reader.old)) (ahead self.new (R.remaining reader.new))) }
         ensures end { OnOk result (self.new.pending ≡ [] → (self.old.pending ≡ []) × IsAtEnd (R.remaining reader.new)) }
         ensures err { IfErr result (λ e. e ≡ Refusal.StreamFault) }
+        ensures notes { Notes (R.failed reader.old) (R.failed reader.new) result }
         ensures taken { self.new.taken ≡ self.old.taken }
         ensures number { self.new.number ≡ self.old.number }
     {
         if self.start < self.end {
             return Ok(());
         }
-        let count = read_some(reader, &mut self.buffer)?;
+        let count = reader.read(&mut self.buffer)?;
         self.start = 0;
         self.end = count;
         Ok(())
@@ -108,14 +98,15 @@ impl TextReader {
     /// The next byte of the text, or `None` at its end. The stream is asked for more only where the
     /// buffer is empty.
     ///
-    /// Refuses with `StreamFault` where the reader fails.
+    /// Refuses with `StreamFault` where the reader fails, which it notes.
     #[tactic(auto, using(crate::proofs::TextLines::byte_taken))]
-    fn next_byte<R: Read>(&mut self, reader: &mut R) -> Result<Option<u8>, Refusal>
+    fn next_byte<R: Source>(&mut self, reader: &mut R) -> Result<Option<u8>, Refusal>
         ensures some { IfOk result (λ byte. IfSome byte (λ b.
             Consumes (ahead self.old (R.remaining reader.old)) (ahead self.new (R.remaining reader.new)) (b ∷ []))) }
         ensures end { IfOk result (λ byte. IfNone byte (IsAtEnd (ahead self.new (R.remaining reader.new)))) }
         ensures left { IfOk result (λ byte. IfNone byte (Keeps (ahead self.old (R.remaining reader.old)) (ahead self.new (R.remaining reader.new)))) }
         ensures err { IfErr result (λ e. e ≡ Refusal.StreamFault) }
+        ensures notes { Notes (R.failed reader.old) (R.failed reader.new) result }
         ensures taken { self.new.taken ≡ self.old.taken }
         ensures number { self.new.number ≡ self.old.number }
     {
@@ -155,10 +146,10 @@ impl TextReader {
     /// Refuses a line of more than 4,096 bytes, its line feed not counted, with `Malformed` and its
     /// number, from 1, after its 4,097th byte. Refuses with `StreamFault` any other line that does
     /// not end, with its line feed, within the first 67,108,864 bytes of the text. Refuses with
-    /// `StreamFault` also where the reader fails; an interrupted read is tried again. After a
-    /// refusal the rest of the text is not to be read.
+    /// `StreamFault` also where the reader fails, which it notes. After a refusal the rest of the
+    /// text is not to be read.
     #[tactic(auto, using(crate::proofs::TextLines::last_next))]
-    pub fn next_line<R: Read>(
+    pub fn next_line<R: Source>(
         &mut self,
         reader: &mut R,
         line: &mut ArrayVec<u8, MAX_LINE>,
@@ -170,6 +161,11 @@ impl TextReader {
         ensures ok { IfOk result (λ handed. Counts self.old handed self.new) }
         ensures err { IfErr result (λ e. (e ≡ Refusal.StreamFault) ⊎ (e ≡ Refusal.Malformed (self.old.number + 1))) }
         ensures short { array_vec_len line.new ≤ 4096 }
+        // A stream fault is told of a reader that has failed, or of a line that does not end within the limit of a text.
+        ensures cut { result ≡ Err Refusal.StreamFault → (R.failed reader.new ≡ true) ⊎ IsCutShort self.old (R.remaining reader.old) }
+        ensures notes { NotesText (IsTooLong self.old (R.remaining reader.old)) (R.failed reader.old) (R.failed reader.new) result }
+        // Where too much is left behind the line, there was before.
+        ensures left { OnOk result (IsTooLong self.new (R.remaining reader.new) → IsTooLong self.old (R.remaining reader.old)) }
     {
         line.clear();
         loop {

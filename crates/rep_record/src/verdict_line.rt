@@ -4,37 +4,12 @@ ghost use Rattle.std.specs.Prelude.{◌≡◌, ℕ, ◌+◌, ◌<◌, ◌≤◌,
 ghost use Rattle.std.specs.Fmt.{decimal};
 ghost use Rattle.std.specs.Io.KnownBytes.{Appends};
 ghost use Rattle.arrayvec.specs.ArrayString.{array_string_len};
+ghost use Rattle.rep_streams.specs.Streams.{Notes};
 ghost use Rattle.rep_record.specs.Texts.{verdict_line};
 
 use arrayvec::ArrayString;
+use rep_streams::Sink;
 use rep_types::{Refusal, Verdict};
-use std::io::{ErrorKind, Write};
-
-/// Writes all of the bytes. A write that was interrupted is tried again.
-///
-/// Refuses with `StreamFault` where the writer fails or takes nothing of what is left; it has then
-/// taken a front of the bytes.
-#[tactic(auto, using(crate::proofs::Writing::front_grows, crate::proofs::Writing::front_stays))]
-pub fn put_all<W: Write>(writer: &mut W, bytes: &[u8]) -> Result<(), Refusal>
-    ensures ok { OnOk result (Appends (W.contents writer.old) (W.contents writer.new) bytes.now) }
-    // A writer that fails has taken a front of the bytes.
-    ensures cut { OnErr result ((k : ℕ) × Appends (W.contents writer.old) (W.contents writer.new) (take k bytes.now)) }
-    ensures err { IfErr result (λ e. e ≡ Refusal.StreamFault) }
-{
-    let mut taken = 0;
-    for _ in 0..u64::MAX {
-        if taken == bytes.len() {
-            return Ok(());
-        }
-        match writer.write(&bytes[taken..]) {
-            Ok(0) => return Err(Refusal::StreamFault),
-            Ok(count) => taken += count,
-            Err(error) if error.kind() == ErrorKind::Interrupted => {}
-            Err(_) => return Err(Refusal::StreamFault),
-        }
-    }
-    Err(Refusal::StreamFault)
-}
 
 /// Puts the digit behind the text.
 #[tactic(auto, using(std::proofs::lemmas::Str::encode_ascii))]
@@ -85,12 +60,13 @@ fn line_of(seqno: u64, verdict: Verdict) -> ArrayString<64>
 /// Writes the line of the verdict on the item with this seqno: the seqno, a space, the verdict and
 /// a line feed.
 ///
-/// Refuses with `StreamFault` where the writer fails; it has then taken a front of the line.
-pub fn write_verdict<W: Write>(writer: &mut W, seqno: u64, verdict: Verdict) -> Result<(), Refusal>
+/// Refuses with `StreamFault` where the writer fails, which it notes; it has then taken a front of the line.
+pub fn write_verdict<W: Sink>(writer: &mut W, seqno: u64, verdict: Verdict) -> Result<(), Refusal>
     ensures ok { OnOk result (Appends (W.contents writer.old) (W.contents writer.new) (verdict_line seqno verdict)) }
     // A writer that fails has taken a front of the line.
     ensures cut { OnErr result ((k : ℕ) × Appends (W.contents writer.old) (W.contents writer.new) (take k (verdict_line seqno verdict))) }
+    ensures notes { Notes (W.failed writer.old) (W.failed writer.new) result }
     ensures err { IfErr result (λ e. e ≡ Refusal.StreamFault) }
 {
-    put_all(writer, line_of(seqno, verdict).as_bytes())
+    writer.put(line_of(seqno, verdict).as_bytes())
 }

@@ -1,17 +1,18 @@
 //! The saved state.
 
-ghost use Rattle.std.specs.Prelude.{◌≡◌, ◌<◌, ◌≤◌, ℕ, length, take, IfSome, IfErr, OnOk, OnErr, IsTrue, Ok};
+ghost use Rattle.std.specs.Prelude.{◌≡◌, ◌≢◌, ◌<◌, ◌≤◌, ℕ, length, take, IfSome, IfErr, OnOk, OnErr, IsTrue, Ok};
 ghost use Rattle.std.specs.Io.KnownBytes.{Appends};
 ghost use Rattle.std.specs.Fmt.{signed_decimal};
 ghost use Rattle.arrayvec.specs.ArrayString.{array_string_len};
 ghost use Rattle.rep_types.specs.Gtids.{is_seqno};
+ghost use Rattle.rep_streams.specs.Streams.{Notes};
 ghost use Rattle.rep_saved.specs.Saved.{saved_text, bit_text, saved_in, IsWithin, found_with, whole};
 
 use crate::line::{Said, read_line, without_return};
 use arrayvec::ArrayString;
-use rep_record::{cut_at, push_decimal, put_all};
+use rep_record::{cut_at, push_decimal};
+use rep_streams::Sink;
 use rep_types::{Gtid, Refusal, gtids_read_back};
-use std::io::Write;
 use uuid::Uuid;
 
 /// What a node was at when it stopped, as a text that operators and tools read: its GTID, and whether it
@@ -61,7 +62,8 @@ impl Found {
     /// The saved state, where a UUID and a seqno are there; else the fault of a text of this size.
     fn whole(self, size: usize) -> Result<SavedState, Refusal>
         requires { IfSome self.seqno (λ n. IsTrue (is_seqno n)) }
-        ensures { result ≡ whole size self.uuid self.seqno self.safe }
+        ensures value { result ≡ whole size self.uuid self.seqno self.safe }
+        ensures own { IfErr result (λ refusal. refusal ≢ Refusal.StreamFault) }
     {
         let fault = Err(Refusal::Malformed { at: size as u64 });
         let Some(uuid) = self.uuid else {
@@ -133,7 +135,9 @@ impl SavedState {
     /// Refuses with `Malformed`, `at` being the offset of the first line with a bad value, also where a
     /// later line repeats the key; or the size of the text where the UUID or the seqno is missing.
     pub fn parse(text: &[u8]) -> Result<SavedState, Refusal>
-        ensures { result ≡ saved_in text.now }
+        ensures value { result ≡ saved_in text.now }
+        // No text is refused as a stream that has failed.
+        ensures own { IfErr result (λ refusal. refusal ≢ Refusal.StreamFault) }
     {
         let mut found = Found {
             uuid: None,
@@ -163,17 +167,18 @@ impl SavedState {
 
     /// Writes the state as a text, which reads back as it.
     ///
-    /// Refuses with `StreamFault` where the writer fails; it has then taken a front of the text.
-    pub fn write_to<W: Write>(&self, writer: &mut W) -> Result<(), Refusal>
+    /// Refuses with `StreamFault` where the writer fails, which it notes; it has then taken a front of the text.
+    pub fn write_to<W: Sink>(&self, writer: &mut W) -> Result<(), Refusal>
         ensures ok { OnOk result (Appends (W.contents writer.old) (W.contents writer.new) (saved_text self.now)) }
         ensures cut { OnErr result ((k : ℕ) × Appends (W.contents writer.old) (W.contents writer.new) (take k (saved_text self.now))) }
+        ensures notes { Notes (W.failed writer.old) (W.failed writer.new) result }
         ensures err { IfErr result (λ e. e ≡ Refusal.StreamFault) }
         // What is written reads back.
         ensures back { saved_in (saved_text self.now) ≡ Ok self.now }
     {
         // Brings the law that what is written here reads back.
         saved_states_read_back(*self);
-        put_all(writer, text_of(*self).as_bytes())
+        writer.put(text_of(*self).as_bytes())
     }
 }
 

@@ -1,7 +1,7 @@
 -- What is answered, and what of it waits.
 use Rattle.std.proofs.Common.{ℕ, ◌+◌, List, [], ◌++◌, length, take, Option, Some, Err, refl, sym, ap, ◌∙◌, arith, append_assoc}
-use Rattle.std.specs.Io.KnownBytes.{Appends}
-use Rattle.std.proofs.KnownBytes.{Appends-trans, Appends-nil}
+use Rattle.std.specs.Io.KnownBytes.{Appends, Keeps}
+use Rattle.std.proofs.KnownBytes.{Appends-trans, Appends-nil, Appends-kept}
 use Rattle.std.proofs.lemmas.List.{take_all}
 use Rattle.std.proofs.Math.Seq.{take-append-add}
 use Rattle.rep_types.specs.declared.refusal.Refusal.{Refusal}
@@ -15,6 +15,10 @@ nothing_answered before = ([], refl, Appends-nil before)
 -- all of what waits is a front of it
 pub whole_front : (before after : Option (List ℕ)) (waiting bytes : List ℕ) → Answered before after waiting bytes → (k : ℕ) × Answered before after waiting (take k bytes)
 whole_front before after waiting bytes answered = (length bytes, rw (take_all (length bytes) bytes (omega arith)) answered)
+
+-- all that waits was written, and then the writer given up
+pub given_up : (before mid after : Option (List ℕ)) (waiting : List ℕ) → Appends before mid waiting → Keeps mid after → (k : ℕ) × Appends before after (take k waiting)
+given_up before mid after waiting first kept = (length waiting, rw (take_all (length waiting) waiting (omega arith)) (Appends-kept before mid after waiting first kept))
 
 -- some of what waits was written
 pub answered_on : (before mid after : Option (List ℕ)) (waiting left bytes : List ℕ) → Answered before mid waiting bytes → Answered mid after left waiting → Answered before after left bytes

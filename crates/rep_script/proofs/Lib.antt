@@ -1,4 +1,5 @@
 pub mod Answering
+pub mod Noting
 pub mod Stepping
 pub mod Progress
 pub mod LineEnds

@@ -1,13 +1,14 @@
 -- Lemmas on the lines of a saved state that end within some bytes.
-use Rattle.std.proofs.Common.{◌≡◌, ℕ, ◌+◌, ◌<◌, ◌≤◌, ◌==◌, Bool, true, false, cond, List, [], ◌∷◌, ◌++◌, length, take, Option, None, Some, Result, Err, refl, sym, ap, ◌∙◌, arith, inl, subst}
-use Rattle.std.proofs.lemmas.List.{take_all, take-take, length-take-le}
+use Rattle.std.proofs.Common.{◌≡◌, ℕ, ◌+◌, ◌<◌, ◌≤◌, ◌==◌, Bool, true, false, ◌⊎◌, cond, List, [], ◌∷◌, ◌++◌, length, take, Option, None, Some, Result, Err, refl, sym, ap, ◌∙◌, arith, inl, inr, append-nil}
+use Rattle.std.proofs.lemmas.List.{take_all, take_at, take-take, length-take, length-take-le}
 use Rattle.std.specs.List.{slice_split, onto_first}
-use Rattle.std.specs.Option.{option_map}
+use Rattle.std.specs.Io.KnownBytes.{Consumes, IsAtEnd}
 use Rattle.std.specs.Prelude.{ℤ, nat_le, if◌then◌else◌, IfSome}
 use Rattle.std.proofs.lemmas.Bool.{lt-leb, leb-true, leb-false}
 use Rattle.rep_types.specs.declared.refusal.Refusal.{Refusal}
-use Rattle.rep_types.specs.declared.refusal.Refusal.TheVariants.{Malformed, StreamFault}
+use Rattle.rep_types.specs.declared.refusal.Refusal.TheVariants.{Malformed, OutOfMemory, StreamFault}
 use Rattle.rep_record.specs.Words.{cut}
+use Rattle.rep_record.specs.Lines.{IsLongText}
 use Rattle.rep_saved.specs.declared.saved.SavedState.{SavedState}
 use Rattle.rep_saved.specs.Lines.{said, without_return}
 use Rattle.rep_saved.specs.Saved.{sayings, sayings_of, is_bad, first_bad, whole, unless_bad, saved_in, last_uuid, last_seqno, last_safe}
@@ -141,14 +142,35 @@ front_by n text false e =
 front_says_it : (text : List ℕ) → saved_within (take 67108865 text) ≡ saved_within text
 front_says_it text = front_by 67108864 text (nat_le (length text) 67108864) refl
 
-read_by : (known : Option (List ℕ)) (bytes : List ℕ) (r : Result SavedState Refusal) → IfSome (option_map (take 67108865) known) (λ xs. bytes ≡ xs) →
+-- what a text says, of which a front was read
+pub front_read_as : (known : Option (List ℕ)) (bytes : List ℕ) (r : Result SavedState Refusal) → IfSome known (λ text. bytes ≡ take 67108865 text) →
     r ≡ saved_within bytes → IfSome known (λ text. ReadsAs text r)
-read_by None bytes r is says = tt
-read_by (Some text) bytes r is says = inl (says ∙ ap saved_within is ∙ front_says_it text)
+front_read_as None bytes r is says = tt
+front_read_as (Some text) bytes r is says = inl (says ∙ ap saved_within is ∙ front_says_it text)
 
--- a text was read to its end, or to one byte behind those that count
-pub read_as : (limit : ℕ) (before known : Option (List ℕ)) (empty bytes : List ℕ) (r : Result SavedState Refusal) → limit ≡ 67108865 → before ≡ known → empty ≡ [] →
-    IfSome (option_map (take limit) before) (λ xs. bytes ≡ empty ++ xs) → r ≡ saved_within bytes → IfSome known (λ text. ReadsAs text r)
-read_as limit before known empty bytes r few same none is says =
-    let P : ℕ → Option (List ℕ) → List ℕ → Type 0 = λ n o e. IfSome (option_map (take n) o) (λ xs. bytes ≡ e ++ xs) in
-    read_by known bytes r (subst (P 67108865 known) none (subst (λ o. P 67108865 o empty) same (subst (λ n. P n before empty) few is))) says
+-- a text whose front is too long is too long
+pub front_long : (known : Option (List ℕ)) (bytes : List ℕ) → IfSome known (λ text. bytes ≡ take 67108865 text) → 67108864 < length bytes → IsLongText known
+front_long None bytes is long = tt
+front_long (Some text) bytes is long = omega (arith, length-take 67108865 text, ap length is, long)
+
+-- a text of which none was read
+pub front_unread : (known : Option (List ℕ)) (e : Refusal) → (e ≡ OutOfMemory) ⊎ (e ≡ StreamFault) → IfSome known (λ text. ReadsAs text (Err e))
+front_unread None e why = tt
+front_unread (Some text) e (inl memory) = inr (inl (ap Err memory))
+front_unread (Some text) e (inr stream) = inr (inr (ap Err stream))
+
+-- ---- reading a front of a text
+
+-- as many bytes as are wanted
+pub front_full : (known left : Option (List ℕ)) (front : List ℕ) (most : ℕ) → Consumes known left front → length front ≡ most → IfSome known (λ text. front ≡ take most text)
+front_full None left front most taken size = tt
+front_full (Some text) None front most taken size = absurd taken
+front_full (Some text) (Some rest) front most taken size = rw taken (sym (take_at front rest most size))
+
+-- or all that there are
+pub front_whole : (known left : Option (List ℕ)) (front : List ℕ) (most : ℕ) → Consumes known left front → IsAtEnd left → length front ≤ most → IfSome known (λ text. front ≡ take most text)
+front_whole None left front most taken end few = tt
+front_whole (Some text) None front most taken end few = absurd taken
+front_whole (Some text) (Some rest) front most taken end few =
+    let whole : text ≡ front = taken ∙ ap (λ l. front ++ l) end ∙ append-nil front in
+    rw whole (sym (take_all most front few))

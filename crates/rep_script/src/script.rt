@@ -1,14 +1,16 @@
 //! Running a script.
 
-ghost use Rattle.std.specs.Prelude.{◌≡◌, IfSome};
+ghost use Rattle.std.specs.Prelude.{◌≡◌, ◌≢◌, ◌⊎◌, true, IfSome, IfErr};
 ghost use Rattle.rep_types.specs.Settings.{Setting};
-ghost use Rattle.rep_record.specs.Lines.{Unread, ahead};
+ghost use Rattle.rep_streams.specs.Streams.{Notes};
+ghost use Rattle.rep_record.specs.Lines.{Unread, ahead, IsTooLong, IsLongText};
+ghost use Rattle.rep_script.specs.Answering.{NotesBoth};
 ghost use Rattle.rep_script.specs.ScriptLines.{script_line};
 ghost use Rattle.rep_script.specs.Judging.{reading_of, said_ahead, content};
 ghost use Rattle.rep_script.specs.Scripts.{script, script_on_disk, disk_line, Opened, OnNewDisk, Crashes, Stops, ScriptEnds, RunEnds, EndsOnDisk, Does, RunsCommand, RunsLine, RunsDiskLine};
 
 use crate::answers::{write_answer, write_open, write_refused, write_state};
-use crate::exchange::{Counted, Waiting, next_line, send};
+use crate::exchange::{Waiting, next_line, send};
 use crate::judge::read_params;
 use crate::limits::answer_limits;
 use crate::script_line::{Command, read_command};
@@ -18,9 +20,9 @@ use rep_layout::need;
 use rep_record::{TextReader, is_blank};
 use rep_recover::format_disk;
 use rep_replica::Replica;
+use rep_streams::{Sink, Source};
 use rep_types::{Params, Refusal};
 use std::alloc::Global;
-use std::io::{Read, Write};
 use uuid::Uuid;
 
 /// The bytes of the state UUID of the disk in memory that a script runs on:
@@ -33,7 +35,9 @@ const SCRIPT_UUID: [u8; 16] = [
 ///
 /// Refuses the disk as `Replica::open` does.
 pub fn opened<D: Disk + Drop>(alloc: Global, disk: D) -> Result<Replica<D>, Refusal>
-    ensures { Opened D.size D.failures D.honest D.history disk result }
+    ensures opened { Opened D.size D.failures D.honest D.history disk result }
+    // No disk is refused as a stream that has failed.
+    ensures own { IfErr result (λ refusal. refusal ≢ Refusal.StreamFault) }
 {
     match Replica::open(alloc, disk) {
         Ok(replica) => Ok(replica),
@@ -46,7 +50,8 @@ pub fn opened<D: Disk + Drop>(alloc: Global, disk: D) -> Result<Replica<D>, Refu
 ///
 /// Refuses with `OutOfMemory` where there is no room for the disk, and else as `format_disk` and `Replica::open` do.
 pub fn on_new_disk(alloc: Global, params: &Params) -> Result<Replica<MemDisk>, Refusal>
-    ensures { OnNewDisk ⟦<MemDisk as Disk>⟧.size ⟦<MemDisk as Disk>⟧.failures ⟦<MemDisk as Disk>⟧.honest ⟦<MemDisk as Disk>⟧.history params.now result }
+    ensures opened { OnNewDisk ⟦<MemDisk as Disk>⟧.size ⟦<MemDisk as Disk>⟧.failures ⟦<MemDisk as Disk>⟧.honest ⟦<MemDisk as Disk>⟧.history params.now result }
+    ensures own { IfErr result (λ refusal. refusal ≢ Refusal.StreamFault) }
 {
     let disk = MemDisk::new(alloc, need(params) as usize)?;
     let (disk, outcome) = format_disk(disk, params, Some(Uuid::from_bytes(SCRIPT_UUID)));
@@ -69,20 +74,22 @@ fn stopped_and_opened(
     replica: Replica<MemDisk>,
     loss: Loss,
 ) -> Result<Replica<MemDisk>, Refusal>
-    ensures { Stops ⟦<MemDisk as Disk>⟧.size ⟦<MemDisk as Disk>⟧.failures ⟦<MemDisk as Disk>⟧.honest ⟦<MemDisk as Disk>⟧.history Crashes loss replica result }
+    ensures stops { Stops ⟦<MemDisk as Disk>⟧.size ⟦<MemDisk as Disk>⟧.failures ⟦<MemDisk as Disk>⟧.honest ⟦<MemDisk as Disk>⟧.history Crashes loss replica result }
+    ensures own { IfErr result (λ refusal. refusal ≢ Refusal.StreamFault) }
 {
     let disk = stopped(replica, loss);
     opened(alloc, disk)
 }
 
 /// Does what the command asks for, and writes what came of it. A stop is handed back: what it is depends on the disk.
-fn run_command<D: Disk, W: Write>(
+fn run_command<D: Disk, W: Sink>(
     alloc: Global,
     replica: &mut Replica<D>,
     command: Command,
     writer: &mut W,
 ) -> Result<Option<Loss>, Refusal>
-    ensures { RunsCommand D.honest D.history D.failures replica.old command result replica.new }
+    ensures runs { RunsCommand D.honest D.history D.failures replica.old command result replica.new }
+    ensures notes { Notes (W.failed writer.old) (W.failed writer.new) result }
 {
     match command {
         Command::Step(event) => {
@@ -102,14 +109,15 @@ fn run_command<D: Disk, W: Write>(
 /// Does what the line with this number asks for, and writes what came of it. A stop is handed back.
 ///
 /// Refuses a line as `read_command` does, and with `StreamFault` a writer that fails.
-fn run_line<D: Disk, W: Write>(
+fn run_line<D: Disk, W: Sink>(
     alloc: Global,
     replica: &mut Replica<D>,
     line: &[u8],
     number: u64,
     writer: &mut W,
 ) -> Result<Option<Loss>, Refusal>
-    ensures { RunsLine D.honest D.history D.failures replica.old (content script_line number line.now) result replica.new }
+    ensures runs { RunsLine D.honest D.history D.failures replica.old (content script_line number line.now) result replica.new }
+    ensures notes { Notes (W.failed writer.old) (W.failed writer.new) result }
 {
     if is_blank(line) {
         return Ok(None);
@@ -119,16 +127,18 @@ fn run_line<D: Disk, W: Write>(
 }
 
 /// Runs the rest of a script at a replica on a new disk in memory. The last answers wait.
-fn run_in_memory<R: Read, W: Write>(
+fn run_in_memory<R: Source, W: Sink>(
     alloc: Global,
     mut replica: Replica<MemDisk>,
     text: &mut TextReader,
-    reader: &mut Counted<'_, R>,
+    reader: &mut R,
     writer: &mut W,
     waiting: &mut Waiting,
 ) -> Result<(), Refusal>
-    ensures { (p : Setting) → OnNewDisk ⟦<MemDisk as Disk>⟧.size ⟦<MemDisk as Disk>⟧.failures ⟦<MemDisk as Disk>⟧.honest ⟦<MemDisk as Disk>⟧.history p (Ok replica) → IfSome (ahead text.old (R.remaining reader.old.reader.now)) (λ known.
+    ensures ends { (p : Setting) → OnNewDisk ⟦<MemDisk as Disk>⟧.size ⟦<MemDisk as Disk>⟧.failures ⟦<MemDisk as Disk>⟧.honest ⟦<MemDisk as Disk>⟧.history p (Ok replica) → IfSome (ahead text.old (R.remaining reader.old)) (λ known.
         ScriptEnds ⟦<MemDisk as Disk>⟧.size ⟦<MemDisk as Disk>⟧.failures ⟦<MemDisk as Disk>⟧.honest ⟦<MemDisk as Disk>⟧.history Crashes (reading_of p (said_ahead script_line text.old known)) result) }
+    // An answer without room may be the fault too: the writer is told of it where the last answers are sent.
+    ensures notes { NotesBoth ((waiting.new.failed ≡ true) ⊎ IsTooLong text.old (R.remaining reader.old)) (R.failed reader.old) (R.failed reader.new) (W.failed writer.old) (W.failed writer.new) result }
 {
     let mut line = ArrayVec::new();
     'lines: while next_line(text, reader, &mut line, writer, waiting)? {
@@ -141,15 +151,16 @@ fn run_in_memory<R: Read, W: Write>(
 }
 
 /// Runs the rest of a script at a replica on a new disk in memory, and writes what came of it.
-fn run_from<R: Read, W: Write>(
+fn run_from<R: Source, W: Sink>(
     alloc: Global,
     replica: Replica<MemDisk>,
     text: &mut TextReader,
-    reader: &mut Counted<'_, R>,
+    reader: &mut R,
     writer: &mut W,
 ) -> Result<(), Refusal>
-    ensures { (p : Setting) → OnNewDisk ⟦<MemDisk as Disk>⟧.size ⟦<MemDisk as Disk>⟧.failures ⟦<MemDisk as Disk>⟧.honest ⟦<MemDisk as Disk>⟧.history p (Ok replica) → IfSome (ahead text.old (R.remaining reader.old.reader.now)) (λ known.
+    ensures ends { (p : Setting) → OnNewDisk ⟦<MemDisk as Disk>⟧.size ⟦<MemDisk as Disk>⟧.failures ⟦<MemDisk as Disk>⟧.honest ⟦<MemDisk as Disk>⟧.history p (Ok replica) → IfSome (ahead text.old (R.remaining reader.old)) (λ known.
         ScriptEnds ⟦<MemDisk as Disk>⟧.size ⟦<MemDisk as Disk>⟧.failures ⟦<MemDisk as Disk>⟧.honest ⟦<MemDisk as Disk>⟧.history Crashes (reading_of p (said_ahead script_line text.old known)) result) }
+    ensures notes { NotesBoth (IsTooLong text.old (R.remaining reader.old)) (R.failed reader.old) (R.failed reader.new) (W.failed writer.old) (W.failed writer.new) result }
 {
     let mut waiting = Waiting::new();
     let outcome = run_in_memory(alloc, replica, text, reader, writer, &mut waiting);
@@ -168,33 +179,35 @@ fn run_from<R: Read, W: Write>(
 ///
 /// Refuses a params line as `read_params_line` does, a line that cannot be read as `read_command`
 /// does, a disk that cannot be made or opened with `OutOfMemory` or `DiskFault`, and with `StreamFault` a reader
-/// or a writer that fails and a text of more than 67,108,864 bytes. What was written before stands.
-pub fn run_script<R: Read, W: Write>(
+/// or a writer that fails, which it notes, and a text of more than 67,108,864 bytes. What was written before stands.
+pub fn run_script<R: Source, W: Sink>(
     alloc: Global,
     reader: &mut R,
     writer: &mut W,
 ) -> Result<(), Refusal>
-    ensures { IfSome (R.remaining reader.old) (λ text. ScriptEnds ⟦<MemDisk as Disk>⟧.size ⟦<MemDisk as Disk>⟧.failures ⟦<MemDisk as Disk>⟧.honest ⟦<MemDisk as Disk>⟧.history Crashes (script text) result) }
+    ensures ends { IfSome (R.remaining reader.old) (λ text. ScriptEnds ⟦<MemDisk as Disk>⟧.size ⟦<MemDisk as Disk>⟧.failures ⟦<MemDisk as Disk>⟧.honest ⟦<MemDisk as Disk>⟧.history Crashes (script text) result) }
+    // A stream fault is one of the streams, or the text is too long.
+    ensures notes { NotesBoth (IsLongText (R.remaining reader.old)) (R.failed reader.old) (R.failed reader.new) (W.failed writer.old) (W.failed writer.new) result }
 {
     let mut text = TextReader::new();
     let mut line = ArrayVec::new();
-    let mut reader = Counted::new(reader);
-    let params = read_params(&mut text, &mut reader, &mut line)?;
+    let params = read_params(&mut text, reader, &mut line)?;
     let replica = on_new_disk(alloc, &params)?;
-    run_from(alloc, replica, &mut text, &mut reader, writer)
+    run_from(alloc, replica, &mut text, reader, writer)
 }
 
 /// Does what the line with this number of a script on a disk asks for, and writes what came of it.
 ///
 /// Refuses a line as `read_command` does, a stop with `Malformed`, and with `StreamFault` a writer that fails.
-fn run_disk_line<D: Disk, W: Write>(
+fn run_disk_line<D: Disk, W: Sink>(
     alloc: Global,
     replica: &mut Replica<D>,
     line: &[u8],
     number: u64,
     writer: &mut W,
 ) -> Result<(), Refusal>
-    ensures { RunsDiskLine D.honest D.history D.failures replica.old (content disk_line number line.now) result replica.new }
+    ensures runs { RunsDiskLine D.honest D.history D.failures replica.old (content disk_line number line.now) result replica.new }
+    ensures notes { Notes (W.failed writer.old) (W.failed writer.new) result }
 {
     match run_line(alloc, replica, line, number, writer)? {
         None => Ok(()),
@@ -203,16 +216,18 @@ fn run_disk_line<D: Disk, W: Write>(
 }
 
 /// Does what the lines of a script ask for, on a disk that does not crash at a line's word. The last answers wait.
-fn run_lines<D: Disk, R: Read, W: Write>(
+fn run_lines<D: Disk, R: Source, W: Sink>(
     alloc: Global,
     replica: &mut Replica<D>,
     text: &mut TextReader,
-    reader: &mut Counted<'_, R>,
+    reader: &mut R,
     writer: &mut W,
     waiting: &mut Waiting,
 ) -> Result<(), Refusal>
-    ensures { IfSome (ahead text.old (R.remaining reader.old.reader.now)) (λ known.
+    ensures ends { IfSome (ahead text.old (R.remaining reader.old)) (λ known.
         RunEnds (Does D.honest D.history D.failures) (said_ahead disk_line text.old known) replica.old result replica.new) }
+    // An answer without room may be the fault too: the writer is told of it where the last answers are sent.
+    ensures notes { NotesBoth ((waiting.new.failed ≡ true) ⊎ IsTooLong text.old (R.remaining reader.old)) (R.failed reader.old) (R.failed reader.new) (W.failed writer.old) (W.failed writer.new) result }
 {
     let mut line = ArrayVec::new();
     'lines: while next_line(text, reader, &mut line, writer, waiting)? {
@@ -222,19 +237,19 @@ fn run_lines<D: Disk, R: Read, W: Write>(
 }
 
 /// Does what the lines of a script ask for, on a disk that does not crash at a line's word, and writes what came of it.
-fn run_text<D: Disk, R: Read, W: Write>(
+fn run_text<D: Disk, R: Source, W: Sink>(
     alloc: Global,
     replica: &mut Replica<D>,
     reader: &mut R,
     writer: &mut W,
 ) -> Result<(), Refusal>
-    ensures { IfSome (R.remaining reader.old) (λ text.
+    ensures ends { IfSome (R.remaining reader.old) (λ text.
         RunEnds (Does D.honest D.history D.failures) (script_on_disk text) replica.old result replica.new) }
+    ensures notes { NotesBoth (IsLongText (R.remaining reader.old)) (R.failed reader.old) (R.failed reader.new) (W.failed writer.old) (W.failed writer.new) result }
 {
     let mut text = TextReader::new();
-    let mut reader = Counted::new(reader);
     let mut waiting = Waiting::new();
-    let outcome = run_lines(alloc, replica, &mut text, &mut reader, writer, &mut waiting);
+    let outcome = run_lines(alloc, replica, &mut text, reader, writer, &mut waiting);
     send(writer, &mut waiting)?;
     outcome
 }
@@ -243,14 +258,16 @@ fn run_text<D: Disk, R: Read, W: Write>(
 /// line of such a script. The disk comes back beside the answer.
 ///
 /// Refuses the disk as `Replica::open` does, before the first line is read.
-pub fn run_on_disk<D: Disk, R: Read, W: Write>(
+pub fn run_on_disk<D: Disk, R: Source, W: Sink>(
     alloc: Global,
     disk: D,
     reader: &mut R,
     writer: &mut W,
 ) -> (D, Result<(), Refusal>)
-    ensures { IfSome (R.remaining reader.old) (λ text.
+    ensures ends { IfSome (R.remaining reader.old) (λ text.
         EndsOnDisk D.size D.failures D.honest D.history (script_on_disk text) disk result.0 result.1) }
+    // A stream fault is one of the streams, or the text is too long.
+    ensures notes { NotesBoth (IsLongText (R.remaining reader.old)) (R.failed reader.old) (R.failed reader.new) (W.failed writer.old) (W.failed writer.new) result.1 }
 {
     match Replica::open(alloc, disk) {
         Ok(mut replica) => {

@@ -1,6 +1,6 @@
 //! The lines of a script.
 
-ghost use Rattle.std.specs.Prelude.{◌≡◌, ◌^◌};
+ghost use Rattle.std.specs.Prelude.{◌≡◌, ◌≢◌, ◌^◌, IfErr};
 ghost use Rattle.rep_record.specs.Reading.{number_in, next};
 ghost use Rattle.rep_record.specs.Drafts.{Gives};
 ghost use Rattle.rep_script.specs.ScriptLines.{loss_in, flush_in, read_in, stop_in, plain_in, whole_in, delivery_of, script_line};
@@ -114,7 +114,8 @@ fn read_whole(mut words: Words) -> Option<Command>
 
 /// The delivery of the item that the words say behind its seqno, in the line with this number.
 fn read_delivery(mut words: Words, number: u64) -> Result<Command, Refusal>
-    ensures { result ≡ delivery_of number (next (number_in (2 ^ 64)) words.entry) }
+    ensures value { result ≡ delivery_of number (next (number_in (2 ^ 64)) words.entry) }
+    ensures own { IfErr result (λ refusal. refusal ≢ Refusal.StreamFault) }
 {
     let Some(seqno) = next_number(&mut words) else {
         return Err(Refusal::Malformed { at: number });
@@ -130,7 +131,9 @@ fn read_delivery(mut words: Words, number: u64) -> Result<Command, Refusal>
 /// Refuses with `Malformed`, `at` being the line's number, a line of no such form; and the item of a
 /// delivery as `read_stated` does, whatever its seqno: a size outside 1 to 256 with `BadParams`.
 pub fn read_command(line: &[u8], number: u64) -> Result<Command, Refusal>
-    ensures { result ≡ script_line number line.now }
+    ensures value { result ≡ script_line number line.now }
+    // No line is refused as a stream that has failed.
+    ensures own { IfErr result (λ refusal. refusal ≢ Refusal.StreamFault) }
 {
     let mut words = Words::new(line);
     if words.skip(b"deliver") {

@@ -4,13 +4,14 @@ ghost use Rattle.std.specs.Prelude.{◌≡◌, ◌↔◌, ◌⊎◌, ℕ, [], ta
 ghost use Rattle.std.specs.Option.{option_copied};
 ghost use Rattle.std.specs.Io.KnownBytes.{Appends};
 ghost use Rattle.rep_engine.specs.Engines.{gtid_of};
+ghost use Rattle.rep_streams.specs.Streams.{Notes};
 ghost use Rattle.rep_script.specs.States.{IsOfAnother, node_text};
 
 use rep_disk::Disk;
 use rep_replica::Replica;
 use rep_saved::SavedState;
+use rep_streams::Sink;
 use rep_types::{Gtid, Refusal};
-use std::io::Write;
 
 /// Whether the saved state is of another cluster than a node at this GTID: it names a cluster, and not the node's.
 fn is_of_another(saved: Option<&SavedState>, gtid: Gtid) -> bool
@@ -28,8 +29,8 @@ fn is_of_another(saved: Option<&SavedState>, gtid: Gtid) -> bool
 /// position is the disk's.
 ///
 /// Refuses with `WrongCluster` where the saved state names another cluster, and then writes nothing; the nil UUID names
-/// none. Refuses with `StreamFault` where the writer fails, which has then taken a front of the text.
-pub fn state_text<D: Disk, W: Write>(
+/// none. Refuses with `StreamFault` where the writer fails, which it notes, and has then taken a front of the text.
+pub fn state_text<D: Disk, W: Sink>(
     replica: &Replica<D>,
     saved: Option<&SavedState>,
     writer: &mut W,
@@ -38,6 +39,7 @@ pub fn state_text<D: Disk, W: Write>(
     ensures another { (result ≡ Err Refusal.WrongCluster) ↔ IsOfAnother (option_copied saved.entry) (gtid_of replica.now.engine).uuid }
     ensures nothing { result ≡ Err Refusal.WrongCluster → Appends (W.contents writer.old) (W.contents writer.new) [] }
     ensures cut { OnErr result ((k : ℕ) × Appends (W.contents writer.old) (W.contents writer.new) (take k (node_text (gtid_of replica.now.engine)))) }
+    ensures notes { Notes (W.failed writer.old) (W.failed writer.new) result }
     ensures refused { IfErr result (λ refusal. (refusal ≡ Refusal.WrongCluster) ⊎ (refusal ≡ Refusal.StreamFault)) }
 {
     let gtid = replica.gtid();

@@ -6,13 +6,14 @@ use Rattle.std.proofs.Math.Seq.{take-append-add}
 use Rattle.std.proofs.lemmas.List.Concat.{flat_map-append}
 use Rattle.std.proofs.lemmas.Option.{slice_get-get_or, slice_get_within}
 use Rattle.std.proofs.KnownBytes.{Appends-trans}
-use Rattle.std.specs.Prelude.{OnOk, OnErr}
+use Rattle.std.specs.Prelude.{◌≢◌, IfSome, OnOk, OnErr}
 use Rattle.rep_types.specs.declared.item.Item.{Item}
 use Rattle.rep_types.specs.declared.judged.Judged.{Judged}
 use Rattle.rep_types.specs.declared.refusal.Refusal.{Refusal}
 use Rattle.rep_types.specs.declared.refusal.Refusal.TheVariants.{StreamFault}
 use Rattle.rep_ordered.specs.Views.{Every}
-use Rattle.rep_node.specs.Served.{IsTold}
+use Rattle.rep_replica.specs.Replicas.{Replica}
+use Rattle.rep_node.specs.Served.{EndedFor, IsTold}
 use Rattle.rep_node.specs.declared.batch.Receipt.{Receipt}
 use Rattle.rep_script.specs.Answering.{Answered}
 use Rattle.rep_script.proofs.Answering.{answered_cut, answered_front, answered_more, answered_on}
@@ -109,3 +110,10 @@ places_within items position upto history (r ∷ rs) told = (
   slice_get_within items r.index told.0.receipt.item told.0.receipt.at,
   places_within items position upto history rs told.1,
 )
+
+-- no batch ends as a stream that has failed
+pub end_own : {D : Type 0} (old new : Replica D) (count : ℕ) (receipts : List Receipt) (end : Option Refusal) → IfSome end (EndedFor old count new receipts) → IfSome end (λ refusal. refusal ≢ StreamFault)
+end_own old new count receipts None h = tt
+end_own old new count receipts (Some e) (inl (is, stopped)) = λ same. absurd cc
+end_own old new count receipts (Some e) (inr (inl (is, many), none)) = λ same. absurd cc
+end_own old new count receipts (Some e) (inr (inr is, none)) = λ same. absurd cc

@@ -1,7 +1,9 @@
 //! The lines of receipts.
 
-ghost use Rattle.std.specs.Prelude.{◌≡◌, ℕ, ◌<◌, [], length, take, Some, IfErr, OnOk, OnErr};
+ghost use Rattle.std.specs.Prelude.{◌≡◌, true, ℕ, ◌<◌, [], length, take, Some, IfErr, OnOk, OnErr};
 ghost use Rattle.std.specs.Io.KnownBytes.{Appends};
+ghost use Rattle.rep_streams.specs.Streams.{Notes};
+ghost use Rattle.rep_record.specs.Lines.{NotesText};
 ghost use Rattle.rep_ordered.specs.Views.{Every};
 ghost use Rattle.rep_node.specs.declared.batch.Receipt.{Receipt as Told};
 ghost use Rattle.rep_script.specs.Answering.{Answered};
@@ -9,21 +11,22 @@ ghost use Rattle.rep_serve.specs.Serving.{receipt_line, receipt_lines};
 
 use rep_node::Receipt;
 use rep_script::{Waiting, send, write_line};
+use rep_streams::Sink;
 use rep_types::{Item, Refusal};
-use std::io::Write;
 
 /// More bytes than the line of a receipt has.
 const LONGEST: usize = 128;
 
 /// Writes the lines that wait where the next one may have no room behind them.
 ///
-/// Refuses with `StreamFault` where the writer fails.
-fn make_room<W: Write>(writer: &mut W, waiting: &mut Waiting) -> Result<(), Refusal>
-    ensures sent { OnOk result (Answered (W.contents writer.old) (W.contents writer.new) waiting.new.items waiting.old.items) }
-    ensures cut { OnErr result ((k : ℕ) × Answered (W.contents writer.old) (W.contents writer.new) waiting.new.items (take k waiting.old.items)) }
+/// Refuses with `StreamFault` where the writer fails, which it notes.
+fn make_room<W: Sink>(writer: &mut W, waiting: &mut Waiting) -> Result<(), Refusal>
+    ensures sent { OnOk result (Answered (W.contents writer.old) (W.contents writer.new) waiting.new.bytes waiting.old.bytes) }
+    ensures cut { OnErr result ((k : ℕ) × Answered (W.contents writer.old) (W.contents writer.new) waiting.new.bytes (take k waiting.old.bytes)) }
+    ensures notes { Notes (W.failed writer.old) (W.failed writer.new) result }
     ensures err { IfErr result (λ refusal. refusal ≡ Refusal.StreamFault) }
 {
-    if waiting.remaining_capacity() < LONGEST {
+    if waiting.room() < LONGEST {
         send(writer, waiting)?;
     }
     Ok(())
@@ -31,10 +34,11 @@ fn make_room<W: Write>(writer: &mut W, waiting: &mut Waiting) -> Result<(), Refu
 
 /// Puts the line of the receipt, with the labels of its item, behind the lines that wait.
 ///
-/// A line without room would be refused as a writer that fails.
+/// Refuses with `StreamFault` a line without room, which those that wait note.
 fn put_receipt(item: &Item, receipt: &Receipt, waiting: &mut Waiting) -> Result<(), Refusal>
-    ensures ok { OnOk result (Appends (Some waiting.old.items) (Some waiting.new.items) (receipt_line receipt.now item.now)) }
-    ensures cut { OnErr result ((k : ℕ) × Appends (Some waiting.old.items) (Some waiting.new.items) (take k (receipt_line receipt.now item.now))) }
+    ensures ok { OnOk result (Appends (Some waiting.old.bytes) (Some waiting.new.bytes) (receipt_line receipt.now item.now)) }
+    ensures cut { OnErr result ((k : ℕ) × Appends (Some waiting.old.bytes) (Some waiting.new.bytes) (take k (receipt_line receipt.now item.now))) }
+    ensures notes { Notes waiting.old.failed waiting.new.failed result }
     ensures err { IfErr result (λ refusal. refusal ≡ Refusal.StreamFault) }
 {
     let text = format_args!(
@@ -49,17 +53,19 @@ fn put_receipt(item: &Item, receipt: &Receipt, waiting: &mut Waiting) -> Result<
 
 /// Puts the lines of these receipts, each with the labels of its item, behind those that wait. The last lines wait.
 ///
-/// Refuses with `StreamFault` where the writer fails.
-fn put_receipts<W: Write>(
+/// Refuses with `StreamFault` where the writer fails, which it notes.
+fn put_receipts<W: Sink>(
     items: &[Item],
     receipts: &[Receipt],
     writer: &mut W,
     waiting: &mut Waiting,
 ) -> Result<(), Refusal>
     requires places { Every (λ (r : Told). r.index < length items.now) receipts.now }
-    requires none { waiting.old.items ≡ [] }
-    ensures ok { OnOk result (Answered (W.contents writer.old) (W.contents writer.new) waiting.new.items (receipt_lines items.now receipts.now)) }
-    ensures cut { OnErr result ((k : ℕ) × Answered (W.contents writer.old) (W.contents writer.new) waiting.new.items (take k (receipt_lines items.now receipts.now))) }
+    requires none { waiting.old.bytes ≡ [] }
+    ensures ok { OnOk result (Answered (W.contents writer.old) (W.contents writer.new) waiting.new.bytes (receipt_lines items.now receipts.now)) }
+    ensures cut { OnErr result ((k : ℕ) × Answered (W.contents writer.old) (W.contents writer.new) waiting.new.bytes (take k (receipt_lines items.now receipts.now))) }
+    // A line without room may be the fault too: the writer is told of it where the last lines are sent.
+    ensures notes { NotesText (waiting.new.failed ≡ true) (W.failed writer.old) (W.failed writer.new) result }
     ensures err { IfErr result (λ refusal. refusal ≡ Refusal.StreamFault) }
 {
     for receipt in receipts {
@@ -71,8 +77,8 @@ fn put_receipts<W: Write>(
 
 /// Writes the lines of these receipts, each with the labels of its item.
 ///
-/// Refuses with `StreamFault` where the writer fails, which has then taken a front of the lines.
-pub(crate) fn write_receipts<W: Write>(
+/// Refuses with `StreamFault` where the writer fails, which it notes, and has then taken a front of the lines.
+pub(crate) fn write_receipts<W: Sink>(
     items: &[Item],
     receipts: &[Receipt],
     writer: &mut W,
@@ -80,6 +86,7 @@ pub(crate) fn write_receipts<W: Write>(
     requires { Every (λ (r : Told). r.index < length items.now) receipts.now }
     ensures ok { OnOk result (Appends (W.contents writer.old) (W.contents writer.new) (receipt_lines items.now receipts.now)) }
     ensures cut { OnErr result ((k : ℕ) × Appends (W.contents writer.old) (W.contents writer.new) (take k (receipt_lines items.now receipts.now))) }
+    ensures notes { Notes (W.failed writer.old) (W.failed writer.new) result }
     ensures err { IfErr result (λ refusal. refusal ≡ Refusal.StreamFault) }
 {
     let mut waiting = Waiting::new();

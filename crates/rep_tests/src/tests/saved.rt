@@ -2,6 +2,7 @@
 //! is written.
 
 use rep_saved::SavedState;
+use rep_streams::WriterSink;
 use rep_types::{Gtid, Refusal};
 use std::alloc::Global;
 use std::test::Fail;
@@ -104,7 +105,7 @@ fn faults_are_named_by_their_line_or_the_end(rt: HostRuntime) {
 /// The text that is written.
 fn written(alloc: Global, saved: &SavedState) -> Result<Vec<u8>, Refusal> {
     let mut text: Vec<u8> = Vec::new(alloc);
-    saved.write_to(&mut text)?;
+    saved.write_to(&mut WriterSink::new(&mut text))?;
     Ok(text)
 }
 
@@ -151,8 +152,7 @@ fn what_is_written_reads_back(rt: HostRuntime) -> Result<(), Fail> {
 /// How the writing of the state ends where there is room for 50 bytes, and whether what was written begins as it should.
 fn writes_without_room(saved: &SavedState) -> (Result<(), Refusal>, bool) {
     let mut room = [0; 50];
-    let mut rest = &mut room[..];
-    let end = saved.write_to(&mut rest);
+    let end = saved.write_to(&mut WriterSink::new(&mut room[..]));
     (end, room.starts_with(b"# GALERA "))
 }
 

@@ -8,4 +8,4 @@ use Rattle.rep_script.proofs.catchup.donated_text.Goals as goal
 pub returns-in_err-last-clause-told : goal.returns-in_err-last-clause-told
 returns-in_err-last-clause-told g c =
     let p = err_from_is_err_and c.from_residual.result c.from_residual.ensures.1 in
-    rw p.1 (0, nothing_told (donated_line 0) (g.W.Write.contents c.args.writer.now) p.0)
+    rw p.1 (0, nothing_told (donated_line 0) (g.W.Sink.contents c.args.writer.now) p.0)

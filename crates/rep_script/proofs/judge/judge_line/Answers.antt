@@ -7,7 +7,7 @@ use Rattle.rep_script.proofs.judge.judge_line.Goals as goal
 
 pub returns-clause-judged : goal.returns-clause-judged
 returns-clause-judged g c L follows =
-    let held = g.W.Write.contents in
+    let held = g.W.Sink.contents in
     let old = c.args.certifier.now.current in
     let new = c.admit_item.new.self.current in
     let i = c.in_ok-item.item in

@@ -13,19 +13,19 @@ use Rattle.rep_script.proofs.limits.write_limits_of.Goals as goal
 pub returns-in_err-window-clause-told : goal.returns-in_err-window-clause-told
 returns-in_err-window-clause-told g c =
     let p = err_from_is_err_and c.from_residual.result c.from_residual.ensures.1 in
-    rw p.1 (nothing_told (limits_line (window_of c.args.replica.now.certifier.current (durable_of c.args.replica.now.engine.log))) (g.W.Write.contents c.args.writer.now) p.0)
+    rw p.1 (nothing_told (limits_line (window_of c.args.replica.now.certifier.current (durable_of c.args.replica.now.engine.log))) (g.W.Sink.contents c.args.writer.now) p.0)
 
 pub returns-in_err-window-clause-node : goal.returns-in_err-window-clause-node
 returns-in_err-window-clause-node g c = λ n holds.
     let p = err_from_is_err_and c.from_residual.result c.from_residual.ensures.1 in
-    rw p.1 (nothing_told (limits_line (window_at n n.facts.durable)) (g.W.Write.contents c.args.writer.now) p.0)
+    rw p.1 (nothing_told (limits_line (window_at n n.facts.durable)) (g.W.Sink.contents c.args.writer.now) p.0)
 
 -- ---- where there is
 
 pub returns-clause-told : goal.returns-clause-told
 returns-clause-told g c =
-    subst (λ (v : Window). Tells (limits_line v) (g.W.Write.contents c.args.writer.now) (g.W.Write.contents c.write_limits.new.writer) c.write_limits.result) (rw c.in_ok-window.was at c.window.ensures.window) c.write_limits.ensures.told
+    subst (λ (v : Window). Tells (limits_line v) (g.W.Sink.contents c.args.writer.now) (g.W.Sink.contents c.write_limits.new.writer) c.write_limits.result) (rw c.in_ok-window.was at c.window.ensures.window) c.write_limits.ensures.told
 
 pub returns-clause-node : goal.returns-clause-node
 returns-clause-node g c = λ n holds.
-    subst (λ (v : Window). Tells (limits_line v) (g.W.Write.contents c.args.writer.now) (g.W.Write.contents c.write_limits.new.writer) c.write_limits.result) (rw c.in_ok-window.was at (c.window.ensures.node n holds)) c.write_limits.ensures.told
+    subst (λ (v : Window). Tells (limits_line v) (g.W.Sink.contents c.args.writer.now) (g.W.Sink.contents c.write_limits.new.writer) c.write_limits.result) (rw c.in_ok-window.was at (c.window.ensures.node n holds)) c.write_limits.ensures.told

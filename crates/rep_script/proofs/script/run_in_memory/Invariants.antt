@@ -1,14 +1,18 @@
 use Rattle.std.proofs.Common.{◌-◌, IfSome}
-use Rattle.rep_record.specs.Lines.{ahead}
+use Rattle.rep_record.specs.Lines.{ahead, IsTooLong}
 use Rattle.rep_script.specs.ScriptLines.{script_line}
+use Rattle.rep_script.proofs.Noting.{GoesOn}
 use Rattle.rep_script.proofs.Scripting.{HasRun, DoesInMemory}
 use Rattle.rep_script.proofs.script.run_in_memory.Given as goal
 
 -- the commands of the lines so far were done
 abbrev pub invariant-lines : goal.invariant-lines
-invariant-lines g l =
-    IfSome (ahead l.initial.text (g.R.Read.remaining l.initial.reader.reader.now)) (λ known.
-    HasRun DoesInMemory script_line known l.initial.text l.initial.replica l.text (ahead l.text (g.R.Read.remaining l.reader.reader.now)) l.replica)
+invariant-lines g l = record {
+  done : IfSome (ahead l.initial.text (g.R.Source.remaining l.initial.reader)) (λ known.
+      HasRun DoesInMemory script_line known l.initial.text l.initial.replica l.text (ahead l.text (g.R.Source.remaining l.reader)) l.replica);
+  noted : GoesOn (IsTooLong l.initial.text (g.R.Source.remaining l.initial.reader)) (IsTooLong l.text (g.R.Source.remaining l.reader))
+      (g.R.Source.failed l.initial.reader) (g.R.Source.failed l.reader) (g.W.Sink.failed l.initial.writer) (g.W.Sink.failed l.writer);
+}
 
 -- what is left of the limit of a text
 abbrev pub decreases-lines : goal.decreases-lines

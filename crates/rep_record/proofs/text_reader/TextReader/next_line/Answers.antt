@@ -1,7 +1,8 @@
-use Rattle.std.proofs.Common.{◌≡◌, arith, ap, sym, ◌∙◌}
-use Rattle.std.proofs.KnownBytes.{Consumes-trans}
+use Rattle.std.proofs.Common.{◌≡◌, arith, ap, sym, inr, ◌∙◌}
+use Rattle.std.proofs.KnownBytes.{Consumes-trans, Consumes-kept}
 use Rattle.std.proofs.lemmas.Bool.{ne_eqb, eqb-true, eqb-false}
-use Rattle.rep_record.proofs.TextLines.{no_feed_more, fed_next, long_next}
+use Rattle.rep_record.proofs.TextLines.{no_feed_more, fed_next, long_next, fed_cut, last_cut, cut_long}
+use Rattle.rep_streams.proofs.Noted.{noted_ok}
 use Rattle.rep_record.proofs.text_reader.TextReader.next_line.Goals as goal
 
 pub returns-then-byte-eq10-clause-known : goal.returns-then-byte-eq10-clause-known
@@ -30,4 +31,46 @@ loop-byte-preserved g c =
       short = omega (arith, c.push.ensures.len, c.is_full.ensures.fits, room);
       taken = c.next_byte.ensures.taken ∙ so_far.taken;
       number = c.next_byte.ensures.number ∙ so_far.number;
+      failed = noted_ok _ _ _ c.in_ok-byte.ensures.notes ∙ so_far.failed;
     }
+
+pub returns-in_default-clause-cut : goal.returns-in_default-clause-cut
+returns-in_default-clause-cut g c e =
+    let so_far = c.loop-byte.invariant in
+    let left = rw c.in_default.is at c.in_ok-byte.ensures.left in
+    let ends = rw c.in_default.is at c.in_ok-byte.ensures.end in
+    let counted = rw c.len.ensures.value at c.count_line.ensures in
+    inr (last_cut c.args.self.now c.next_byte.new.self c.count_line.new.self _ _ _ _ (Consumes-kept _ _ _ _ so_far.front left) ends so_far.no_feed so_far.short (c.next_byte.ensures.taken ∙ so_far.taken) counted e)
+
+pub returns-in_default-clause-notes : goal.returns-in_default-clause-notes
+returns-in_default-clause-notes g c =
+    let so_far = c.loop-byte.invariant in
+    let left = rw c.in_default.is at c.in_ok-byte.ensures.left in
+    let ends = rw c.in_default.is at c.in_ok-byte.ensures.end in
+    let counted = rw c.len.ensures.value at c.count_line.ensures in
+    record {
+      fault = λ e. inr (cut_long c.args.self.now (g.R.Source.remaining c.args.reader.now) (last_cut c.args.self.now c.next_byte.new.self c.count_line.new.self _ _ _ _ (Consumes-kept _ _ _ _ so_far.front left) ends so_far.no_feed so_far.short (c.next_byte.ensures.taken ∙ so_far.taken) counted e));
+      fine = λ other. noted_ok _ _ _ c.in_ok-byte.ensures.notes ∙ so_far.failed;
+    }
+
+pub returns-then-byte-eq10-clause-cut : goal.returns-then-byte-eq10-clause-cut
+returns-then-byte-eq10-clause-cut g c e =
+    let so_far = c.loop-byte.invariant in
+    let taken = rw (c.in-Some.is, c.if-byte-eq10.true) at c.in_ok-byte.ensures.some in
+    let counted = rw c.len-then-byte-eq10.ensures.value at c.count_line-then-byte-eq10.ensures in
+    inr (fed_cut c.args.self.now c.next_byte.new.self c.count_line-then-byte-eq10.new.self _ _ _ _ (Consumes-trans _ _ _ _ _ so_far.front taken) so_far.no_feed so_far.short (c.next_byte.ensures.taken ∙ so_far.taken) counted e)
+
+pub returns-then-byte-eq10-clause-notes : goal.returns-then-byte-eq10-clause-notes
+returns-then-byte-eq10-clause-notes g c =
+    let so_far = c.loop-byte.invariant in
+    let taken = rw (c.in-Some.is, c.if-byte-eq10.true) at c.in_ok-byte.ensures.some in
+    let counted = rw c.len-then-byte-eq10.ensures.value at c.count_line-then-byte-eq10.ensures in
+    record {
+      fault = λ e. inr (cut_long c.args.self.now (g.R.Source.remaining c.args.reader.now) (fed_cut c.args.self.now c.next_byte.new.self c.count_line-then-byte-eq10.new.self _ _ _ _ (Consumes-trans _ _ _ _ _ so_far.front taken) so_far.no_feed so_far.short (c.next_byte.ensures.taken ∙ so_far.taken) counted e));
+      fine = λ other. noted_ok _ _ _ c.in_ok-byte.ensures.notes ∙ so_far.failed;
+    }
+
+pub returns-then-is_full-clause-notes : goal.returns-then-is_full-clause-notes
+returns-then-is_full-clause-notes g c =
+    let so_far = c.loop-byte.invariant in
+    record { fault = λ e. absurd cc; fine = λ other. noted_ok _ _ _ c.in_ok-byte.ensures.notes ∙ so_far.failed }

@@ -5,8 +5,8 @@ use Rattle.rep_saved.specs.Saved.{saved_in, rest_of, sayings, found_with}
 use Rattle.rep_saved.proofs.Sayings.{first_line, told_more, told_bad, told_last, told_last_bad}
 use Rattle.rep_saved.proofs.saved.SavedState.parse.Goals as goal
 
-pub returns-in-None : goal.returns-in-None
-returns-in-None c =
+pub returns-in-None-clause-value : goal.returns-in-None-clause-value
+returns-in-None-clause-value c =
     told_bad (length c.args.text.now) (length c.args.text.now - length c.loop-line.rest.now) c.loop-line.found c.loop-line.rest.now c.in-Some.line.now c.in-Some.behind.now (saved_in c.args.text.now) c.in-Some.ensures
     (ap (found_with c.loop-line.found) (sym (c.read_line.ensures.value ∙ ap said c.without_return.ensures)) ∙ sym c.with.ensures.value ∙ c.in-None.is) c.loop-line.invariant.told
 
@@ -32,12 +32,12 @@ loop-line-preserved c =
       limit = c.in-Some-with.ensures.limit;
     }
 
-pub returns-in-Some-with-2 : goal.returns-in-Some-with-2
-returns-in-Some-with-2 c =
-    c.whole.ensures ∙ told_last (length c.args.text.now) (length c.args.text.now - length c.loop-line.rest.now) c.loop-line.found c.in-Some-with-2.all c.loop-line.rest.now (saved_in c.args.text.now) c.in_default.ensures
+pub returns-in-Some-with-2-clause-value : goal.returns-in-Some-with-2-clause-value
+returns-in-Some-with-2-clause-value c =
+    c.whole.ensures.value ∙ told_last (length c.args.text.now) (length c.args.text.now - length c.loop-line.rest.now) c.loop-line.found c.in-Some-with-2.all c.loop-line.rest.now (saved_in c.args.text.now) c.in_default.ensures
     (ap (found_with c.loop-line.found) (sym c.read_line-2.ensures.value) ∙ sym c.with-2.ensures.value ∙ c.in-Some-with-2.is) c.loop-line.invariant.told
 
-pub returns-in-None-with : goal.returns-in-None-with
-returns-in-None-with c =
+pub returns-in-None-with-clause-value : goal.returns-in-None-with-clause-value
+returns-in-None-with-clause-value c =
     told_last_bad (length c.args.text.now) (length c.args.text.now - length c.loop-line.rest.now) c.loop-line.found c.loop-line.rest.now (saved_in c.args.text.now) c.in_default.ensures
     (ap (found_with c.loop-line.found) (sym c.read_line-2.ensures.value) ∙ sym c.with-2.ensures.value ∙ c.in-None-with.is) c.loop-line.invariant.told
