@@ -52,6 +52,13 @@ impl<W: Write + Drop> WriterSink<W> {
         }
     }
 
+    /// The writer again.
+    pub fn into_writer(self) -> W
+        ensures { result ≡ writer_of self }
+    {
+        self.writer
+    }
+
     /// Writes some of the bytes, of which there are any, and answers how many. A write that was interrupted is tried again; one that takes
     /// nothing is a failure. A writer that has failed is not asked again.
     fn put_some(&mut self, bytes: &[u8]) -> Result<usize, Refusal>
