@@ -95,6 +95,8 @@ module _ {D : Type 0} (honest : D → Type 0) (history : D → History) (failure
       let p = w.work.desk.shown refl in
       let b = w.queue.below.begins in
       let log : e.log ≡ d.engine.log = ap (λ (z : Engine D). z.log) rest in
+      let all : published d.publisher.list ++ waiting ≡ shown (F ++ take count q.backlog) = ap (λ l. published d.publisher.list ++ l) waits ∙ sym (append_assoc (published d.publisher.list) d.waiting (shown (take n q.backlog))) ∙ ap (λ l. l ++ shown (take n q.backlog)) p.shown_or_waits
+      ∙ sym (shown_both F (take n q.backlog)) ∙ ap (λ k. shown (F ++ take k q.backlog)) same in
       let taken : HasTaken honest history failures s.desk.engine c (F ++ take count q.backlog) e = takes s.desk.engine c F w.work.desk.taken legal_whole in
       let parts : w.queue.front ≡ (F ++ take count q.backlog) ++ drop count q.backlog = whole ∙ ap (λ l. F ++ l) (sym (take-append-drop count q.backlog)) ∙ sym (append_assoc F (take count q.backlog) (drop count q.backlog)) in
       let last = accepted_last e count accepted within takes is in record {
@@ -107,9 +109,10 @@ module _ {D : Type 0} (honest : D → Type 0) (history : D → History) (failure
             taken = taken;
             publisher = w.work.desk.publisher;
             works = λ running. ap (λ (z : Engine D). z.halted) rest ∙ w.work.desk.works running;
+            ahead = let ahead = w.work.desk.ahead in let still : durable_of e.log ≡ durable_of d.engine.log = ap durable_of log in omega (arith, ahead, still);
+            fronts = (waiting, sym all);
             shown = λ _. record {
-              shown_or_waits = ap (λ l. published d.publisher.list ++ l) waits ∙ sym (append_assoc (published d.publisher.list) d.waiting (shown (take n q.backlog))) ∙ ap (λ l. l ++ shown (take n q.backlog)) p.shown_or_waits ∙ sym (shown_both F (take n q.backlog))
-                  ∙ ap (λ k. shown (F ++ take k q.backlog)) same;
+              shown_or_waits = all;
               durable = p.durable ∙ ap durable_of (sym log);
               oldest = let before = p.oldest in let base : e.checkpoint.base.position ≡ d.engine.checkpoint.base.position = ap (λ (z : Engine D). z.checkpoint.base.position) rest in omega (arith, before, base);
             };

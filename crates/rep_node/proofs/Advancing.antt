@@ -28,12 +28,14 @@ module _ {D : Type 0} (honest : D → Type 0) (history : D → History) (failure
     same_common = let after = taken_still.count in let before = w.desk.taken.count in omega (arith, after, before)
 
     -- one that failed is to be given up
-    pub step_failed : DeskAt honest history failures s 1 items (record (d) { engine = e })
-    step_failed = record {
+    pub step_failed : durable_of d.engine.log ≤ durable_of e.log → DeskAt honest history failures s 1 items (record (d) { engine = e })
+    step_failed rises = record {
       front = w.desk.front;
       begins = w.desk.begins;
       taken = taken_still;
       publisher = w.desk.publisher;
+      ahead = let ahead = w.desk.ahead in omega (arith, ahead, rises);
+      fronts = w.desk.fronts;
       works = λ (z : 1 ≡ 0). absurd (omega arith);
       shown = λ (z : 1 ≡ 0). absurd (omega arith);
     }
@@ -82,12 +84,14 @@ module _ {D : Type 0} (honest : D → Type 0) (history : D → History) (failure
     is_behind = let start = start_is in let behind = h.behind in omega (arith, start, behind)
 
     module _ (p : Listing Origin) (waiting : List Pair) (same : (p.book ≡ d.publisher.book) × (p.basis ≡ d.publisher.basis) × (p.start ≡ d.publisher.start)) where
-      pub given_up : DeskAt honest history failures s 1 items (record { engine = d.engine; publisher = p; waiting = waiting })
-      given_up = record {
+      pub given_up : published p.list ++ waiting ≡ published d.publisher.list ++ d.waiting → d.publisher.start + length (published p.list) ≤ durable_of d.engine.log → DeskAt honest history failures s 1 items (record { engine = d.engine; publisher = p; waiting = waiting })
+      given_up whole behind = record {
         front = h.front;
         begins = h.starts;
         taken = h.taken;
         publisher = (same.0 ∙ h.publisher.0, same.1 ∙ h.publisher.1, same.2 ∙ h.publisher.2);
+        ahead = let start = start_is in omega (arith, start, behind);
+        fronts = (waiting, sym (whole ∙ h.waits));
         works = λ (z : 1 ≡ 0). absurd (omega arith);
         shown = λ (z : 1 ≡ 0). absurd (omega arith);
       }
@@ -102,6 +106,8 @@ module _ {D : Type 0} (honest : D → Type 0) (history : D → History) (failure
           begins = h.starts;
           taken = h.taken;
           publisher = (same.0 ∙ h.publisher.0, same.1 ∙ h.publisher.1, same.2 ∙ h.publisher.2);
+          ahead = let start = start_is in omega (arith, start, durable);
+          fronts = (waiting, sym (whole ∙ h.waits));
           works = λ _. h.works;
           shown = λ _. record {
             shown_or_waits = whole ∙ h.waits;
@@ -127,6 +133,8 @@ module _ {D : Type 0} (honest : D → Type 0) (history : D → History) (failure
         begins = w.desk.begins;
         taken = w.desk.taken;
         publisher = (same.0 ∙ w.desk.publisher.0, same.1 ∙ w.desk.publisher.1, same.2 ∙ w.desk.publisher.2);
+        ahead = let ahead = w.desk.ahead in let long : length (published p.list) ≡ length (published d.publisher.list) = ap length list in omega (arith, ahead, long);
+        fronts = (w.desk.fronts.0, w.desk.fronts.1 ∙ ap (λ l. l ++ w.desk.fronts.0) (sym list));
         works = λ _. w.desk.works refl;
         shown = λ _. record {
           shown_or_waits = ap (λ l. l ++ d.waiting) list ∙ before.shown_or_waits;

@@ -1,5 +1,5 @@
 -- What an engine that is read answers, and what a seat that asked it may say.
-use Rattle.std.proofs.Common.{◌≡◌, inl, inr, ℕ, ◌≤◌, Bool, true, false, not, nat_lt, if◌then◌else◌, Option, None, Some, Result, Ok, Err, IfOk, IfErr, List, refl, sym, ap, subst, ◌∙◌, arith, ltb-true, ltb-false}
+use Rattle.std.proofs.Common.{◌≡◌, inl, inr, ℕ, ◌+◌, ◌≤◌, length, Bool, true, false, not, nat_lt, if◌then◌else◌, Option, None, Some, Result, Ok, Err, IfOk, IfErr, List, refl, sym, ap, subst, ◌∙◌, arith, ltb-true, ltb-false}
 use Rattle.std.specs.Prelude.{is_some, MatchOption}
 use Rattle.std.proofs.lemmas.Option.{same_Some}
 use Rattle.rep_types.specs.declared.key.Key.{Key}
@@ -28,6 +28,8 @@ use Rattle.rep_node.specs.declared.home.Desk.{Desk}
 use Rattle.rep_node.specs.declared.home.Home.{Home}
 use Rattle.rep_node.specs.declared.origin.Origin.{Origin}
 use Rattle.rep_node.specs.Homes.{Start, DeskAt, values_of}
+use Rattle.rep_node.specs.Keeping.{AtDesk}
+use Rattle.rep_node.proofs.Desks.{desk_moved}
 use Rattle.rep_node.specs.Reading.{EngineRefuses, IsRowAt, IsRowOf, RefusesAsked}
 
 pub none_of : {A : Type 0} (o : Option A) → is_some o ≡ false → o ≡ None
@@ -146,6 +148,8 @@ module _ {D : Type 0} (honest : D → Type 0) (history : D → History) (failure
     taken = taken;
     publisher = here.publisher;
     works = works;
+    ahead = here.ahead;
+    fronts = here.fronts;
     shown = λ _. let h = here.shown refl in record { shown_or_waits = h.shown_or_waits; durable = h.durable; oldest = h.oldest };
   }
 
@@ -153,6 +157,15 @@ module _ {D : Type 0} (honest : D → Type 0) (history : D → History) (failure
   desk_read given works =
       subst (λ (x : Engine D). DeskAt honest history failures s given items (record { engine = x; publisher = d.publisher; waiting = d.waiting })) (sym still)
       (read_as given e.disk e.halted (subst (HasTaken honest history failures s.desk.engine s.certifier.current here.front) still (stays s.desk.engine s.certifier.current here.front here.taken)) works)
+
+-- the seat is at it still
+pub at_read : {D : Type 0} (honest : D → Type 0) (history : D → History) (failures : D → ℕ) (v u : View (Home D) Judged) (d : Desk D) (e : Engine D) → AtDesk honest history failures 0 v u d → e ≡ record d.engine { disk = e.disk; halted = e.halted }
+    → ((first : Engine D) (c : Holding) (items : List Judged) → HasTaken honest history failures first c items d.engine → HasTaken honest history failures first c items e) → (given : ℕ) → (given ≡ 0 → e.halted ≡ None)
+    → AtDesk honest history failures given v u (record { engine = e; publisher = d.publisher; waiting = d.waiting })
+at_read honest history failures v u d e a still stays given works =
+    let log : durable_of e.log ≡ durable_of d.engine.log = ap (λ (z : Engine _). durable_of z.log) still in
+    let common : durable_of e.log + length e.block ≡ durable_of d.engine.log + length d.engine.block = ap (λ (z : Engine _). durable_of z.log + length z.block) still in
+    desk_moved honest history failures 0 v u d a given (record { engine = e; publisher = d.publisher; waiting = d.waiting }) (omega (arith, log)) common (λ s first. desk_read honest history failures s u.seen d (a.desk s first) e still stays given works)
 
 -- ---- what a seat says that asked it
 

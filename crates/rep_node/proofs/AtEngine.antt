@@ -13,20 +13,12 @@ use Rattle.rep_ordered.specs.GoingLaws.{goes_on, goes_entered, goes_later, goes_
 use Rattle.rep_node.specs.declared.home.Home.{Home}
 use Rattle.rep_node.specs.Homes.{AtHome, IsLegal, common_in, durable_in}
 use Rattle.rep_node.specs.Seats.{WentIdle}
+use Rattle.rep_node.specs.Keeping.{AtEngine}
 
 module _ {D : Type 0} where
   -- what a seat of the lock knows
   pub view_is : (p : Place (Home D) Judged) (lock : TableId) (u : View (Home D) Judged) → p ≡ seat_of lock u → p.view ≡ u
   view_is p lock u is = ap (λ (z : Place (Home D) Judged). z.view) is
-
-  -- It went on to the engine, at this number of its turn, and holds nothing else; this was durable there, and engine and queue name this one.
-  pub record AtEngine (v u : View (Home D) Judged) (number floor common : ℕ) : Type 0 where
-    pub goes : Goes v u
-    pub own : u.own ≡ v.own
-    pub joined : u.joined ≡ v.joined
-    pub sees : Sees (IsLegal v.first) u
-    pub held : u.held ≡ hold 1 (4 * number + 2) floor ∷ []
-    pub common_is : u.common ≡ common
 
   module _ (v u : View (Home D) Judged) (n floor common : ℕ) (a : AtEngine v u n floor common) where
     pub stayed : (l : View (Home D) Judged) → Later u l → Sees (IsLegal u.first) l → AtEngine v l n floor common
@@ -34,6 +26,7 @@ module _ {D : Type 0} where
       goes = goes_on v u l a.goes (goes_later u l later);
       own = ap (λ (z : View (Home D) Judged). z.own) later.same ∙ a.own;
       joined = ap (λ (z : View (Home D) Judged). z.joined) later.same ∙ a.joined;
+      kept = ap (λ (z : View (Home D) Judged). z.given_up) later.same ∙ a.kept;
       sees = subst (λ first. Sees (IsLegal first) l) a.goes.first sees;
       held = ap (λ (z : View (Home D) Judged). z.held) later.same ∙ a.held;
       common_is = ap (λ (z : View (Home D) Judged). z.common) later.same ∙ a.common_is;
@@ -91,6 +84,7 @@ module _ {D : Type 0} (honest : D → Type 0) (history : D → History) (failure
     goes = goes_entered (IsLegal v.first) (AtHome honest history failures v.first) durable_in common_in 1 n 2 v w x e;
     own = ap (λ (z : View (Home D) Judged). z.own) e.view;
     joined = ap (λ (z : View (Home D) Judged). z.joined) e.view;
+    kept = ap (λ (z : View (Home D) Judged). z.given_up) e.view;
     sees = e.sees;
     held = ap (λ (z : View (Home D) Judged). z.held) e.view ∙ ap (λ hs. hold 1 (4 * n + 2) (durable_in x) ∷ hs) free;
     common_is = ap (λ (z : View (Home D) Judged). z.common) e.view;
@@ -104,6 +98,7 @@ module _ {D : Type 0} (honest : D → Type 0) (history : D → History) (failure
         goes = goes_on v u t a.goes through.0;
         own = ap (λ (z : View (Home D) Judged). z.own) left ∙ (ap (λ (z : View (Home D) Judged). z.own) e.view ∙ a.own);
         joined = ap (λ (z : View (Home D) Judged). z.joined) left ∙ (ap (λ (z : View (Home D) Judged). z.joined) e.view ∙ a.joined);
+        kept = ap (λ (z : View (Home D) Judged). z.given_up) left ∙ (ap (λ (z : View (Home D) Judged). z.given_up) e.view ∙ a.kept);
         sees = sees_left (IsLegal v.first) 2 k d c w t (subst (λ first. Sees (IsLegal first) w) a.goes.first e.sees) left;
         held = through.1 ∙ a.held;
         common_is = ap (λ (z : View (Home D) Judged). z.common) left;

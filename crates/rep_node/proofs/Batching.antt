@@ -1,5 +1,5 @@
 -- Batches in parts: one item more, parts side by side, and what comes of all of them.
-use Rattle.std.proofs.Common.{◌≡◌, ◌⊎◌, inl, inr, ℕ, zero, suc, ◌+◌, ◌-◌, ◌*◌, ◌/◌, ◌%◌, min, ◌<◌, ◌≤◌, List, [], ◌∷◌, ◌++◌, map, length, get_or, take, drop, Option, Some, None, ⊎_elim, sym, refl, ap, ◌∙◌, subst, arith, length-append, append_assoc}
+use Rattle.std.proofs.Common.{◌≡◌, ◌⊎◌, inl, inr, ℕ, zero, suc, ◌+◌, ◌-◌, ◌*◌, ◌/◌, ◌%◌, min, max, ◌<◌, ◌≤◌, List, [], ◌∷◌, ◌++◌, map, length, get_or, take, drop, Option, Some, None, ⊎_elim, sym, refl, ap, ◌∙◌, subst, arith, length-append, append_assoc}
 use Rattle.std.specs.Prelude.{slice_get, IfSome, All}
 use Rattle.std.specs.Option.{option_or}
 use Rattle.std.specs.List.{sum_by}
@@ -27,15 +27,18 @@ use Rattle.rep_ordered.specs.Views.{Every, Later, OwnEntry, Sees, both, given, g
 use Rattle.rep_ordered.specs.Seats.{Place, seat_of}
 use Rattle.rep_ordered.specs.Steps.{Learns}
 use Rattle.rep_ordered.specs.Going.{Went}
-use Rattle.rep_ordered.specs.GoingLaws.{append_nil, goes_later, goes_shared, passed_joined, times_append, went_later, went_on, went_same}
+use Rattle.rep_ordered.specs.GoingLaws.{append_nil, goes_shared, passed_joined, times_append, went_on, went_same}
 use Rattle.rep_node.specs.declared.home.Home.{Home}
 use Rattle.rep_node.specs.declared.batch.Receipt.{Receipt}
+use Rattle.rep_node.specs.declared.batch.Batch.{Batch}
 use Rattle.rep_node.specs.declared.batch.Job.{Job}
 use Rattle.rep_node.specs.declared.batch.Share.{Share}
-use Rattle.rep_node.specs.Seats.{DrewOne, IsGiven, IsSeat, Joins, PassedOrStopped, own_entry}
+use Rattle.rep_node.specs.declared.pace.Point.{Point}
+use Rattle.rep_node.specs.Homes.{IsLegal}
+use Rattle.rep_node.specs.Seats.{DrewOne, IsGiven, IsSeat, Joins, PassedOrStopped, SeesLegal, own_entry}
 use Rattle.rep_ordered.specs.Beginnings.{shorter}
-use Rattle.rep_node.proofs.Moves.{seat_still}
-use Rattle.rep_node.specs.Batches.{Ascends, ComeFrom, IsBatch, IsReceipt, IsWhole, carried, entry_of, index_of, seqno_of}
+use Rattle.rep_node.specs.Serving.{HandedIn, IsRefusal}
+use Rattle.rep_node.specs.Batches.{AreLetOn, LetsOn, Ascends, ComeFrom, IsBatch, IsReceipt, IsWhole, carried, entry_of, index_of, seqno_of}
 use Rattle.rep_node.specs.Jobs.{Adjoin, Among, Gathered, IsAll, IsDone, IsJob, IsNoted, IsPart, IsReady, IsShare, Worked, regaining}
 
 -- ---- lists
@@ -44,7 +47,7 @@ pub every_to : {A : Type 0} (P Q : A → Type 0) (xs : List A) → ((x : A) → 
 every_to P Q [] f e = tt
 every_to P Q (x ∷ xs) f e = (f x e.0, every_to P Q xs f e.1)
 
-every_append : {A : Type 0} (P : A → Type 0) (xs ys : List A) → Every P xs → Every P ys → Every P (xs ++ ys)
+pub every_append : {A : Type 0} (P : A → Type 0) (xs ys : List A) → Every P xs → Every P ys → Every P (xs ++ ys)
 every_append P [] ys e f = f
 every_append P (x ∷ xs) ys e f = (e.0, every_append P xs ys e.1 f)
 
@@ -219,8 +222,6 @@ part_both items a b c low upto above more drawn numbers joined others rs qs up o
 }
 
 -- more is durable
-part_upto : (items : List Item) (from to low upto more : ℕ) (drawn : List ℕ) (joined : List (Joined Judged)) (rs : List Receipt) → upto ≤ more → IsPart items from to low upto drawn joined rs → IsPart items from to low more drawn joined rs
-part_upto items from to low upto more drawn joined rs up p = record { few = p.few; most = p.most; noted = every_to (IsNoted items low upto joined) (IsNoted items low more joined) rs (noted_more items low upto more joined joined up (λ o h. h)) p.noted; seqnos = p.seqnos; places = p.places; within = p.within; come = p.come }
 
 -- the receipts in another order
 pub part_permuted : (items : List Item) (from to low upto : ℕ) (drawn : List ℕ) (joined : List (Joined Judged)) (rs qs : List Receipt) → IsPermutation rs qs → IsPart items from to low upto drawn joined rs → IsPart items from to low upto drawn joined qs
@@ -274,6 +275,15 @@ either_stopped : (a b : Option Refusal) (low high most : ℕ) → low ≤ most �
 either_stopped None None low high most p q s t = tt
 either_stopped None (Some y) low high most p q s t = (t.0, let z = t.1 in omega arith)
 either_stopped (Some x) b low high most p q s t = (s.0, let z = s.1 in omega arith)
+
+stopped_one : (end : Option Refusal) (halted : ℕ) → IfSome end (λ (r : Refusal). (r ≡ Stopped) × (0 < halted)) → halted ≤ 1 → IfSome end (λ (r : Refusal). (r ≡ Stopped) × (halted ≡ 1))
+stopped_one None halted why low = tt
+stopped_one (Some e) halted why low = (why.0, let some = why.1 in omega (arith, some, low))
+
+-- a worker knows of a halt or not
+halts_low : (end : Option Refusal) (halted : ℕ) → (end ≡ None → halted ≡ 0) → IfSome end (λ (r : Refusal). (r ≡ Stopped) × (halted ≡ 1)) → halted ≤ 1
+halts_low None halted runs stopped = let none = runs refl in omega (arith, none)
+halts_low (Some r) halted runs stopped = let one = stopped.1 in omega (arith, one)
 
 -- ---- a worker
 
@@ -343,13 +353,16 @@ module _ {D : Type 0} where
       → IsJob table v count (record { seat = other; from = share.from; to = share.to; receipts = share.receipts; end = None })
   job_of table v count place share s other is gave h = record { seat = gave ∙ ap (λ (z : Place (Home D) Judged). seat_of z.lock (given (share.to - share.from) z.view)) is; range = h.range; room = h.room; fresh = refl }
 
-  pub done_of : (table : TableId) (v : View (Home D) Judged) (items : List Item) (count : ℕ) (j k : Job D) → IsJob table v count j → Worked items j k → IsDone table v items count k
-  done_of table v items count j k h w = let is : j.seat.view ≡ given (j.to - j.from) v = ap (λ (z : Place (Home D) Judged). z.view) h.seat in let from = w.range.0 in let to = w.range.1 in
+  pub done_of : (lets : Point → ℕ → Type 0) (table : TableId) (v : View (Home D) Judged) (items : List Item) (count : ℕ) (j k : Job D) → IsJob table v count j → Worked lets items j k → IsDone lets table v items count k
+  done_of lets table v items count j k h w = let is : j.seat.view ≡ given (j.to - j.from) v = ap (λ (z : Place (Home D) Judged). z.view) h.seat in let from = w.range.0 in let to = w.range.1 in
       let same : given (j.to - j.from) v ≡ given (k.to - k.from) v = λ i. given (sym to i - sym from i) v in
       let low : j.seat.view.start + length j.seat.view.seen ≡ v.start + length v.seen = ap (λ (z : View (Home D) Judged). z.start + length z.seen) is in record {
         lock = w.lock ∙ ap (λ (z : Place (Home D) Judged). z.lock) h.seat;
         range = (let r = h.range.0 in omega arith, let r = h.range.1 in omega arith);
         went = subst (λ (z : View (Home D) Judged). Went z k.seat.view) (is ∙ same) w.went;
+        kept = w.kept ∙ ap (λ (z : View (Home D) Judged). z.given_up) is;
+        runs = w.runs;
+        paced = w.paced;
         passed = w.passed;
         part = subst (λ (z : ℕ × ℕ × ℕ). IsPart items z.0 z.1 z.2 k.seat.view.durable k.seat.view.own k.seat.view.joined k.receipts.items) (λ i. (sym from i, sym to i, low i)) w.part;
         all = λ none. subst (λ (z : ℕ × ℕ). IsAll z.0 z.1 k.seat.view.own k.receipts.items) (λ i. (sym from i, sym to i)) (w.all none);
@@ -358,9 +371,14 @@ module _ {D : Type 0} where
 
   -- ---- the seats come together again
 
-  pub gathered_none : (items : List Item) (count : ℕ) (v : View (Home D) Judged) (rs : List Receipt) → v.held ≡ [] → ((x : ℕ) → times x v.own ≤ 1) → PassedOrStopped v → rs ≡ [] → Gathered items count count v v rs None
-  gathered_none items count v rs free once passed none = let e : v.allowance + (count - count) ≡ v.allowance = omega arith in record {
+  pub gathered_none : (lets : Point → ℕ → Type 0) (items : List Item) (count : ℕ) (v : View (Home D) Judged) (rs : List Receipt) → v.held ≡ [] → v.halted ≡ 0 → ((x : ℕ) → times x v.own ≤ 1) → SeesLegal v v → PassedOrStopped v → rs ≡ [] → Gathered lets items count count v v rs None
+  gathered_none lets items count v rs free running once sees passed none = let e : v.allowance + (count - count) ≡ v.allowance = omega arith in record {
     went = subst (λ n. Went (record v { allowance = n }) v) (sym e) (went_same v free);
+    kept = refl;
+    runs = λ _. refl;
+    low = omega arith;
+    sees = sees;
+    paced = subst (AreLetOn lets) (sym none) tt;
     once = once;
     passed = passed;
     drawn = [];
@@ -372,12 +390,17 @@ module _ {D : Type 0} where
     stopped = tt;
   }
 
-  pub gathered_next : (law : List Judged → Type 0) (table : TableId) (items : List Item) (count : ℕ) (v w u : View (Home D) Judged) (k : Job D) (rs : List Receipt) (end : Option Refusal) → Gathered items k.to count v w rs end → IsDone table v items count k → Learns law k.seat.view.seen (both w k.seat.view) u
-      → Gathered items k.from count v u (rs ++ k.receipts.items) (option_or k.end end)
-  gathered_next law table items count v w u k rs end g d joined = let is = joined.same in let range = d.range in let up = joined.durable in let halts = joined.halted in
-      let shared = goes_shared law (k.to - k.from) (regaining (count - k.from) v) (regaining (count - k.to) v) (given (k.to - k.from) v) w k.seat.view u (omega arith)
+  pub gathered_next : (lets : Point → ℕ → Type 0) (table : TableId) (items : List Item) (count : ℕ) (v w u : View (Home D) Judged) (k : Job D) (rs : List Receipt) (end : Option Refusal) → v.halted ≡ 0 → Gathered lets items k.to count v w rs end → IsDone lets table v items count k → Learns (IsLegal w.first) k.seat.view.seen (both w k.seat.view) u
+      → u.halted ≡ max w.halted k.seat.view.halted → Gathered lets items k.from count v u (rs ++ k.receipts.items) (option_or k.end end)
+  gathered_next lets table items count v w u k rs end runs g d joined halted = let is = joined.same in let range = d.range in let up = joined.durable in let halts = joined.halted in
+      let shared = goes_shared (IsLegal w.first) (k.to - k.from) (regaining (count - k.from) v) (regaining (count - k.to) v) (given (k.to - k.from) v) w k.seat.view u (omega arith)
       (let e : v.allowance + (count - k.to) ≡ (v.allowance + (count - k.from)) - (k.to - k.from) = omega arith in λ i. record v { allowance = e i }) refl g.went.goes d.went.goes joined in record {
         went = record { goes = shared.0; free = shared.1 ∙ g.went.free };
+        kept = ap (λ (z : View (Home D) Judged). z.given_up) is ∙ ((λ i. g.kept i ++ d.kept i) ∙ append_nil v.given_up);
+        runs = λ none. let n = both_none k.end end none in let a = d.runs n.0 in let b = g.runs n.1 in omega (arith, halted, a, b, runs);
+        low = let a = halts_low k.end k.seat.view.halted d.runs d.stopped in let b = g.low in omega (arith, halted, a, b);
+        sees = subst (λ first. Sees (IsLegal first) u) (sym (ap (λ (z : View (Home D) Judged). z.first) is)) joined.sees;
+        paced = every_append _ rs k.receipts.items g.paced d.paced;
         once = λ x. let o = joined.once x in let e : times x u.own ≡ times x (w.own ++ k.seat.view.own) = ap (λ (z : View (Home D) Judged). times x z.own) is in omega arith;
         passed = λ running. passed_joined 2 w k.seat.view u (ap (λ (z : View (Home D) Judged). z.own) is) (ap (λ (z : View (Home D) Judged). z.reached) is) (g.passed (omega arith)) (d.passed (omega arith));
         drawn = g.drawn ++ k.seat.view.own;
@@ -440,29 +463,40 @@ module _ {D : Type 0} where
   pub job_giving : (table : TableId) (n count : ℕ) (v a : View (Home D) Judged) (j : Job D) → a ≡ giving n v → IsJob table v count j → IsJob table a count j
   job_giving table n count v a j is h = subst (λ z. IsJob table z count j) (sym is) record { seat = h.seat; range = h.range; room = h.room; fresh = h.fresh }
 
-  module _ (items : List Item) (n : ℕ) (v a s w : View (Home D) Judged) (rs : List Receipt) (end : Option Refusal) (enough : n ≤ v.allowance) (is : a ≡ giving n v) (g : Gathered items 0 n a s rs end) (l : Later s w) where
+  module _ (items : List Item) (n : ℕ) (lets : Point → ℕ → Type 0) (v a w : View (Home D) Judged) (rs : List Receipt) (end : Option Refusal) (enough : n ≤ v.allowance) (is : a ≡ giving n v) (g : Gathered lets items 0 n a w rs end) where
     pub settled_went : Went v w
-    settled_went = went_on v s w (subst (λ (z : View (Home D) Judged). Went z s) (ap (λ (z : View (Home D) Judged). regaining (n - 0) z) is ∙ (let e : (v.allowance - n) + (n - 0) ≡ v.allowance = omega arith in λ i. record v { allowance = e i })) g.went) (went_later s w l g.went.free)
+    settled_went = subst (λ (z : View (Home D) Judged). Went z w) (ap (λ (z : View (Home D) Judged). regaining (n - 0) z) is ∙ (let e : (v.allowance - n) + (n - 0) ≡ v.allowance = omega arith in λ i. record v { allowance = e i })) g.went
 
     settled_own : w.own ≡ v.own ++ g.drawn
-    settled_own = ap (λ (z : View (Home D) Judged). z.own) l.same ∙ (g.own ∙ ap (λ (z : View (Home D) Judged). z.own ++ g.drawn) is)
+    settled_own = g.own ∙ ap (λ (z : View (Home D) Judged). z.own ++ g.drawn) is
 
-    pub settled_once : (x : ℕ) → times x w.own ≤ 1
-    settled_once x = let o = g.once x in let e : times x w.own ≡ times x s.own = ap (λ (z : View (Home D) Judged). times x z.own) l.same in omega arith
-
-    pub settled_batch : (law : List Judged → Type 0) (qs : List Receipt) → Sees law w → IsPermutation rs qs → IsBatch items 0 n v w qs
-    settled_batch law qs sees moved = batch_of law items 0 n v w g.drawn g.more qs settled_own
-        (ap (λ (z : View (Home D) Judged). z.joined) l.same ∙ (g.joined ∙ ap (λ (z : View (Home D) Judged). z.joined ++ g.more) is)) sees
-        (subst (λ low. IsPart items 0 n low w.durable g.drawn g.more qs) (ap (λ (z : View (Home D) Judged). z.start + length z.seen) is)
-        (part_permuted items 0 n (a.start + length a.seen) w.durable g.drawn g.more rs qs moved (part_upto items 0 n (a.start + length a.seen) s.durable w.durable g.drawn g.more rs l.durable g.part)))
-
-    pub settled_order : (qs : List Receipt) → IsPermutation rs qs → IsNonDecreasingBy seqno_of qs → Ascends qs
-    settled_order qs moved up = ascending qs up (λ x. let o = settled_once x in let e : times x w.own ≡ times x (v.own ++ g.drawn) = ap (times x) settled_own in let t = times_append x v.own g.drawn in let m = g.part.seqnos x in
+    settled_order : (qs : List Receipt) → IsPermutation rs qs → IsNonDecreasingBy seqno_of qs → Ascends qs
+    settled_order qs moved up = ascending qs up (λ x. let o = g.once x in let e : times x w.own ≡ times x (v.own ++ g.drawn) = ap (times x) settled_own in let t = times_append x v.own g.drawn in let m = g.part.seqnos x in
         let p = times_permuted x (map seqno_of rs) (map seqno_of qs) (IsPermutation-map seqno_of rs qs moved) in omega arith)
 
-    pub settled_whole : (qs : List Receipt) → IsPermutation rs qs → end ≡ None → IsWhole 0 n v w qs
-    settled_whole qs moved none = let h = g.all none in let count = h.count in let drawn = h.drawn in let p = length_permutation rs qs moved in let e : length w.own ≡ length (v.own ++ g.drawn) = ap (λ (z : List ℕ). length z) settled_own in
-        record { count = omega arith; drawn = omega (arith, length-append v.own g.drawn) }
+    settled_ended : (end : Option Refusal) (qs : List Receipt) → IfSome end (λ (r : Refusal). (r ≡ Stopped) × (0 < w.halted)) → w.halted ≤ 1 → IfSome end (IsRefusal n v w qs)
+    settled_ended None qs why low = tt
+    settled_ended (Some e) qs why low = let halted = why.1 in inl (why.0, omega (arith, halted, low))
+
+    pub settled_stopped : IfSome end (λ (r : Refusal). (r ≡ Stopped) × (w.halted ≡ 1))
+    settled_stopped = stopped_one end w.halted g.stopped g.low
+
+    -- what came of the batch, in the order of the seqnos
+    pub settled : (b : Batch) → IsPermutation rs b.receipts.items → IsNonDecreasingBy seqno_of b.receipts.items → b.end ≡ end → HandedIn lets items n n v w b
+    settled b moved up ends = let qs : List Receipt = b.receipts.items in record {
+      went = settled_went;
+      sees = subst (λ first. Sees (IsLegal first) w) settled_went.goes.first g.sees;
+      passed = g.passed;
+      batch = batch_of (IsLegal w.first) items 0 n v w g.drawn g.more qs settled_own
+          (g.joined ∙ ap (λ (z : View (Home D) Judged). z.joined ++ g.more) is) g.sees
+          (subst (λ low. IsPart items 0 n low w.durable g.drawn g.more qs) (ap (λ (z : View (Home D) Judged). z.start + length z.seen) is)
+          (part_permuted items 0 n (a.start + length a.seen) w.durable g.drawn g.more rs qs moved g.part));
+      order = settled_order qs moved up;
+      paced = let P : Receipt → Type 0 = λ r. LetsOn lets r.seqno in all_every P qs (All-permutation P rs qs moved (every_all P rs g.paced));
+      whole = λ none. let h = g.all (sym ends ∙ none) in let count = h.count in let drawn = h.drawn in let p = length_permutation rs qs moved in let e : length w.own ≡ length (v.own ++ g.drawn) = ap (λ (z : List ℕ). length z) settled_own in
+          record { count = omega arith; drawn = omega (arith, length-append v.own g.drawn) };
+      ended = settled_ended b.end qs (subst (λ (e : Option Refusal). IfSome e (λ (r : Refusal). (r ≡ Stopped) × (0 < w.halted))) (sym ends) g.stopped) g.low;
+    }
 
   -- ---- a batch that came to nothing
 
@@ -480,13 +514,3 @@ module _ {D : Type 0} where
     joined = ap (λ (z : View (Home D) Judged). z.joined) l.same ∙ sym (append_nil v.joined);
     come = come_none items 0 n;
   }
-
-  -- what a seat of the node keeps, when it has looked at the front
-  pub standing_later : (honest : D → Type 0) (history : D → History) (failures : D → ℕ) (a : ℕ) (v w : View (Home D) Judged) → IsSeat honest history failures v × (v.held ≡ []) × (a ≤ v.allowance) × (v.halted ≡ 0 → a ≡ v.allowance) → Later v w
-      → IsSeat honest history failures w × (w.held ≡ []) × (a ≤ w.allowance) × (w.halted ≡ 0 → a ≡ w.allowance)
-  standing_later honest history failures a v w h l = let same : w.allowance ≡ v.allowance = ap (λ (z : View (Home D) Judged). z.allowance) l.same in let up = l.halted in (
-    seat_still honest history failures v w (goes_later v w l) (ap (λ (z : View (Home D) Judged). z.own) l.same) h.0,
-    ap (λ (z : View (Home D) Judged). z.held) l.same ∙ h.1,
-    let le = h.2 in omega arith,
-    λ running. let eq = h.3 (omega arith) in omega arith,
-  )

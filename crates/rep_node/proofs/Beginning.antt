@@ -27,7 +27,7 @@ use Rattle.rep_node.specs.declared.origin.Origin.{Origin}
 use Rattle.rep_node.specs.Homes.{Start, Begins, CertifierAt, DeskAt, QueueAt, AtHome, IsLegal, position_of, values_of, durable_in, common_in}
 use Rattle.rep_node.specs.Reading.{AreParams}
 use Rattle.rep_node.proofs.Standing.{of_the_start}
-use Rattle.rep_node.proofs.Sharing.{Owns}
+use Rattle.rep_node.specs.Seats.{Rests}
 
 -- it wasn't stopped from outside, and its device has not failed
 runs : {A : Type 0} (stopped : Bool) (halted : Option A) → stopped || is_some halted ≡ false → (stopped ≡ false) × (halted ≡ None)
@@ -94,6 +94,8 @@ module _ {D : Type 0} (honest : D → Type 0) (history : D → History) (failure
     taken = b.taken;
     publisher = (refl, refl, refl);
     works = λ _. b.works;
+    ahead = let none : length (published s.desk.publisher.list) ≡ 0 = ap (λ l. length (published l)) b.list in let at = b.at in omega arith;
+    fronts = ([], sym (λ i. published (b.list i) ++ []));
     shown = λ _. record {
       shown_or_waits = (λ i. published (b.list i) ++ b.waiting i);
       durable = let none : length (published s.desk.publisher.list) ≡ 0 = ap (λ l. length (published l)) b.list in let at = b.at in omega arith;
@@ -135,13 +137,15 @@ module _ {D : Type 0} (honest : D → Type 0) (history : D → History) (failure
   -- ---- the first seat
 
   pub first_seat : (s : Start D) (position : ℕ) (values : List (Home D)) (lock : TableId) (seat : Place (Home D) Judged) → Begins honest history failures s → position ≡ position_of s → position ≤ MAX_SEQNO → values ≡ values_of s
-      → seat ≡ seat_of lock (opened durable_in common_in (position + 1) (MAX_SEQNO - position) values position) → Owns honest history failures seat.view (MAX_SEQNO - position)
-  first_seat s position values lock seat b at limit is opens = subst (λ (z : Place (Home D) Judged). Owns honest history failures z.view (MAX_SEQNO - position)) (sym opens) (
-    record { start = s; first = is; begins = b; number = omega arith; whole = omega arith; once = λ x. omega arith },
-    refl,
-    omega arith,
-    λ _. refl,
-  )
+      → seat ≡ seat_of lock (opened durable_in common_in (position + 1) (MAX_SEQNO - position) values position) → Rests honest history failures seat.view (MAX_SEQNO - position)
+  first_seat s position values lock seat b at limit is opens = subst (λ (z : Place (Home D) Judged). Rests honest history failures z.view (MAX_SEQNO - position)) (sym opens) record {
+    seat = record { start = s; first = is; begins = b; number = omega arith; whole = omega arith; once = λ x. omega arith };
+    free = refl;
+    less = omega arith;
+    left = λ _. refl;
+    sees = record { legal = λ t at. record { legal = tt; placed = tt }; placed = record { entries = tt; others = λ x drawn none_joined. absurd (omega arith) } };
+    passed = λ running x drawn. absurd (omega arith);
+  }
 
 -- ---- the readers
 

@@ -1,45 +1,48 @@
 -- What a checkpoint's step leaves of the engine.
-use Rattle.std.proofs.Common.{◌≡◌, ◌⊎◌, inl, inr, ℕ, true, false, ap, ◌∙◌, Option, None, Some, Result, Ok, Err, List, refl, sym, subst}
-use Rattle.std.specs.Prelude.{IfErr, IsOk, OnOk}
-use Rattle.rep_types.specs.declared.refusal.Refusal.TheVariants.{NotDue}
+use Rattle.std.proofs.Common.{◌≡◌, ℕ, ◌≤◌, Bool, true, false, nat_le, if◌then◌else◌, ap, ◌∙◌, Option, None, Some, Result, Ok, Err, List, refl, sym, subst}
+use Rattle.std.specs.Prelude.{is_some}
+use Rattle.std.proofs.lemmas.Bool.{leb-true}
+use Rattle.rep_types.specs.declared.refusal.Part.TheVariants.{Pages}
+use Rattle.rep_types.specs.declared.refusal.Refusal.TheVariants.{Corrupt, DiskFault, NotDue, OutOfMemory, Stopped}
+use Rattle.rep_steps.specs.declared.answer.Answer.TheVariants.{Refused}
+use Rattle.rep_steps.specs.Standings.{Standing, Stage, Off, Toward, Retiring, check_refusal, refusal}
+use Rattle.rep_checkpoint.specs.Standing.{stage_in}
 use Rattle.rep_types.specs.declared.judged.Judged.{Judged}
 use Rattle.rep_types.specs.declared.refusal.Refusal.{Refusal}
 use Rattle.rep_disk.specs.History.{History}
 use Rattle.rep_cert.specs.Holdings.{Holding, window_of}
 use Rattle.rep_steps.specs.declared.event.Event.TheVariants.{Check}
-use Rattle.rep_steps.specs.Moves.{Moves}
+use Rattle.rep_steps.specs.Moves.{Moves, check_answer}
 use Rattle.rep_steps.specs.Nodes.{Node, Steps, window_at}
 use Rattle.rep_engine.specs.Engines.{Engine, facts_of, durable_of}
 use Rattle.rep_engine.specs.Checking.{HoldsWindow, checked}
 use Rattle.rep_engine.specs.Holding.{Holds}
 use Rattle.rep_stations.specs.Taking.{HasTaken, TakenItemsStay, IsAnEngine}
-use Rattle.rep_ordered.specs.declared.view.View.{View}
-use Rattle.rep_ordered.specs.Views.{Sees}
-use Rattle.rep_ordered.specs.GoingLaws.{goes_on}
-use Rattle.rep_node.specs.declared.home.Home.{Home}
-use Rattle.rep_node.specs.Homes.{Start, IsLegal}
-use Rattle.rep_node.specs.Seats.{WentIdle}
-use Rattle.rep_node.proofs.AtEngine.{AtEngine}
-use Rattle.rep_node.specs.Checking.{MayLend}
-use Rattle.rep_node.proofs.Stepping.{is_refusal, moves_rise, runs_on}
+use Rattle.rep_node.specs.Homes.{Start}
+use Rattle.rep_node.specs.Checking.{HasNoneDue, MayLend}
+use Rattle.rep_node.proofs.Stepping.{is_refusal, moves_rise, refused_so, runs_on}
 
--- what is so of the engine that is put back
-abbrev refusal_or : {T : Type 0} → Refusal → Result T Refusal → Refusal
-refusal_or d (Ok x) = d
-refusal_or d (Err e) = e
+-- ---- none may begin
 
-pub put_back_so : {A T : Type 0} (P : A → Type 0) (d d' : A) (r : Result T Refusal) → P d → OnOk r (P d') → IfErr r (λ e. e ≡ NotDue → d' ≡ d) → (r ≡ Err NotDue) ⊎ IsOk r → P d'
-put_back_so P d d' (Ok x) before done same wanted = done
-put_back_so P d d' (Err e) before done same wanted = elim wanted [ inl is ↦ subst P (sym (same (ap (refusal_or e) is))) before | inr told ↦ absurd (let never : false ≡ true = told in cc) ]
+abbrev off_refusal : Bool → Bool → Option Refusal
+off_refusal stopped low = if stopped then Some Stopped else if low then Some NotDue else None
 
--- a seat was at the engine, and left it
-pub idle_from : {D : Type 0} (v w u : View (Home D) Judged) (n floor common : ℕ) → AtEngine v w n floor common → WentIdle w u → WentIdle v u
-idle_from v w u n floor common a h = (
-  record { goes = goes_on v w u a.goes h.0.goes; free = h.0.free },
-  h.1 ∙ a.own,
-  h.2 ∙ a.joined,
-  subst (λ first. Sees (IsLegal first) u) a.goes.first h.3,
-)
+is_low : (stopped low : Bool) → off_refusal stopped low ≡ Some NotDue → low ≡ true
+is_low true low is = let e : Some Stopped ≡ Some NotDue = is in absurd cc
+is_low false true is = refl
+is_low false false is = let e : None ≡ Some NotDue = is in absurd cc
+
+check_answers : (s : Standing) (stage : Stage) → is_refusal (check_answer s stage) ≡ false
+check_answers s Off = refl
+check_answers s (Toward goal part) = refl
+check_answers s (Retiring written) = refl
+
+-- what is answered is refused for what the facts say
+pub none_due : {D : Type 0} (failures : D → ℕ) (old new : Engine D) → Moves (facts_of failures old) Check (Refused NotDue) (facts_of failures new) → HasNoneDue old
+none_due failures old new moves off =
+    let is : refusal (facts_of failures old) Check ≡ Some NotDue = refused_so (facts_of failures old) (facts_of failures new) Check NotDue moves (λ f. check_answers (facts_of failures old) (stage_in old.checkpoint.stage))
+    (λ e. absurd (let z : NotDue ≡ OutOfMemory = e in cc)) (λ e. absurd (let z : NotDue ≡ DiskFault = e in cc)) (λ e. absurd (let z : NotDue ≡ Corrupt Pages = e in cc)) in
+    leb-true (durable_of old.log) old.checkpoint.base.position (is_low (is_some old.halted) (nat_le (durable_of old.log) old.checkpoint.base.position) (subst (λ (z : Stage). (if is_some old.halted then Some Stopped else check_refusal (facts_of failures old) z) ≡ Some NotDue) (ap stage_in off) is))
 
 checked_told : (o : Option ℕ) → is_refusal (checked (Ok o)) ≡ false
 checked_told None = refl

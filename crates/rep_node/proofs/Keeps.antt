@@ -1,5 +1,5 @@
 -- What a keeper finds at the engine, and what it says.
-use Rattle.std.proofs.Common.{◌≡◌, ℕ, ◌+◌, ◌-◌, ◌≤◌, List, [], length, take, Result, Ok, Err, OnOk, IfErr, refl, sym, ap, subst, ◌∙◌, length-append, arith}
+use Rattle.std.proofs.Common.{◌≡◌, ℕ, ◌+◌, ◌-◌, ◌≤◌, List, [], length, take, Result, Ok, Err, OnOk, IfOk, IfErr, refl, sym, ap, subst, ◌∙◌, length-append, arith}
 use Rattle.std.proofs.lemmas.List.{length-map, take-append-le}
 use Rattle.rep_types.specs.declared.judged.Judged.{Judged}
 use Rattle.rep_types.specs.declared.refusal.Refusal.{Refusal}
@@ -7,24 +7,29 @@ use Rattle.rep_disk.specs.History.{History}
 use Rattle.rep_engine.specs.Engines.{durable_of}
 use Rattle.rep_snap.specs.Lists.{published}
 use Rattle.rep_ordered.specs.declared.view.View.{View}
-use Rattle.rep_ordered.specs.Views.{StartsWith}
-use Rattle.rep_ordered.specs.Steps.{Entered}
+use Rattle.rep_ordered.specs.Views.{Sees, StartsWith}
 use Rattle.rep_ordered.specs.GoingLaws.{begins_on}
 use Rattle.rep_node.specs.declared.home.Desk.{Desk}
 use Rattle.rep_node.specs.declared.home.Home.{Home}
-use Rattle.rep_node.specs.declared.home.Home.TheVariants.{Desk as AtSecond}
 use Rattle.rep_node.specs.Publishing.{shown, shown_of}
-use Rattle.rep_node.specs.Homes.{Start, Begins, AtHome, DeskAt, IsLegal, common_in, durable_in, position_of, values_of}
-use Rattle.rep_node.specs.Seats.{IsSeat, WentIdle}
+use Rattle.rep_node.specs.Homes.{Start, DeskAt, IsLegal, position_of}
+use Rattle.rep_node.specs.Seats.{Rests, WentIdle}
 use Rattle.rep_node.specs.Keeping.{AtWork}
 use Rattle.rep_node.proofs.Publishes.{take_front, take_map}
-use Rattle.rep_node.proofs.Moves.{seat_still}
-use Rattle.rep_node.proofs.Standing.{at_second, of_the_start}
+use Rattle.rep_node.proofs.Moves.{passed_went, seat_still}
 
 -- ---- answers
 
 pub told_ok : {T : Type 0} (P : Type 0) (r : Result T Refusal) (x : T) → r ≡ Ok x → OnOk r P → P
 told_ok P r x is h = subst (λ (z : Result _ Refusal). OnOk z P) is h
+
+-- what holds whatever was answered
+pub in_any_case : {T : Type 0} (r : Result T Refusal) (P : Type 0) → P → IfErr r (λ _. P)
+in_any_case (Ok x) P h = tt
+in_any_case (Err e) P h = h
+
+pub told_ok_so : {T : Type 0} (P : T → Type 0) (r : Result T Refusal) (x : T) → r ≡ Ok x → IfOk r P → P x
+told_ok_so P r x is h = subst (λ (z : Result _ Refusal). IfOk z P) is h
 
 pub told_err : {T : Type 0} (P : Refusal → Type 0) (r : Result T Refusal) (e : Refusal) → r ≡ Err e → IfErr r P → P e
 told_err P r e is h = subst (λ (z : Result _ Refusal). IfErr z P) is h
@@ -32,32 +37,24 @@ told_err P r e is h = subst (λ (z : Result _ Refusal). IfErr z P) is h
 module _ {D : Type 0} (honest : D → Type 0) (history : D → History) (failures : D → ℕ) where
   -- it lies there still as the history grows
   pub desk_grown : (s : Start D) (given : ℕ) (items later : List Judged) (d : Desk D) → DeskAt honest history failures s given items d → StartsWith later items → DeskAt honest history failures s given later d
-  desk_grown s given items later d h more = record { front = h.front; begins = begins_on h.front items later h.begins more; taken = h.taken; publisher = h.publisher; works = h.works; shown = h.shown }
-
-  -- who is at the engine finds it at work
-  pub work_found : (v w : View (Home D) Judged) (n : ℕ) (x : Home D) (d : Desk D) → IsSeat honest history failures v → Entered (IsLegal v.first) (AtHome honest history failures v.first) durable_in common_in 1 n 2 v w x → x ≡ AtSecond d
-      → (s : Start D) → v.first ≡ values_of s → AtWork honest history failures s w.seen d
-  work_found v w n x d seat e is s first = record {
-    begins = of_the_start (Begins honest history failures) v.first seat.start seat.first seat.begins s first;
-    legal = e.sees.legal s first;
-    desk = at_second honest history failures v.first n 0 w.durable w.seen x d e.keeps is s first;
-  }
+  desk_grown s given items later d h more = record { front = h.front; begins = begins_on h.front items later h.begins more; taken = h.taken; publisher = h.publisher; works = h.works; ahead = h.ahead; fronts = h.fronts; shown = h.shown }
 
   -- what holds of a seat between two calls
-  pub invariant_idle : (v w : View (Home D) Judged) (allowance : ℕ) → IsSeat honest history failures v × (v.held ≡ []) × (allowance ≤ v.allowance) × (v.halted ≡ 0 → allowance ≡ v.allowance) → WentIdle v w
-      → IsSeat honest history failures w × (w.held ≡ []) × (allowance ≤ w.allowance) × (w.halted ≡ 0 → allowance ≡ w.allowance)
+  pub invariant_idle : (v w : View (Home D) Judged) (allowance : ℕ) → Rests honest history failures v allowance → WentIdle v w → Rests honest history failures w allowance
   invariant_idle v w allowance h idle =
       let goes = idle.0.goes in
       let kept = goes.kept in
       let own : length w.own ≡ length v.own = ap length idle.1 in
       let same : w.allowance ≡ v.allowance = omega (arith, kept, own) in
-      let few = h.2 in
-      let halts = goes.halted in (
-        seat_still honest history failures v w goes idle.1 h.0,
-        idle.0.free,
-        omega (arith, same, few),
-        λ running. h.3 (omega (arith, halts, running)) ∙ sym same,
-      )
+      let few = h.less in
+      let halts = goes.halted in record {
+        seat = seat_still honest history failures v w goes idle.1 h.seat;
+        free = idle.0.free;
+        less = omega (arith, same, few);
+        left = λ running. h.left (omega (arith, halts, running)) ∙ sym same;
+        sees = subst (λ first. Sees (IsLegal first) w) (sym goes.first) idle.3;
+        passed = passed_went v w idle.0 idle.1 h.passed;
+      }
 
   module _ (s : Start D) (items later : List Judged) (d : Desk D) (h : AtWork honest history failures s items d) (more : StartsWith later items) where
     -- nothing before the start is said to be durable

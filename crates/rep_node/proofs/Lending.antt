@@ -1,9 +1,6 @@
 -- A seat of the node that holds the certifier from the side, and then the engine too, to which it lends the certifier.
-use Rattle.std.proofs.Common.{◌≡◌, ◌⊎◌, ℕ, ◌+◌, ◌*◌, ◌<◌, ◌≤◌, None, List, [], ◌∷◌, ◌++◌, Result, Ok, Err, refl, sym, ap, subst, ◌∙◌, arith}
-use Rattle.std.specs.Prelude.{IfErr, IfOk, IsOk, OnOk}
+use Rattle.std.proofs.Common.{◌≡◌, ℕ, ◌+◌, ◌*◌, ◌<◌, ◌≤◌, None, List, [], ◌∷◌, ◌++◌, length, refl, sym, ap, subst, ◌∙◌, arith}
 use Rattle.rep_types.specs.declared.judged.Judged.{Judged}
-use Rattle.rep_types.specs.declared.refusal.Refusal.{Refusal}
-use Rattle.rep_types.specs.declared.refusal.Refusal.TheVariants.{NotDue}
 use Rattle.rep_disk.specs.History.{History}
 use Rattle.rep_cert.specs.Holdings.{Holding, Holdings}
 use Rattle.rep_engine.specs.Engines.{Engine, durable_of}
@@ -20,17 +17,11 @@ use Rattle.rep_node.specs.Homes.{Start, AtHome, CertifierAt, DeskAt, IsLegal, Is
 use Rattle.rep_node.specs.Seats.{IsSeat, WentIdle}
 use Rattle.rep_node.specs.Checking.{MayLend}
 use Rattle.rep_node.proofs.Standing.{all_judged, at_first, at_second}
-use Rattle.rep_node.proofs.AtEngine.{AtEngine}
-use Rattle.rep_node.proofs.Checks.{put_back_so}
+use Rattle.rep_node.specs.Keeping.{AtDesk, AtEngine}
 
 -- the certifier stays where it is as more joins the history, and more is durable
 certifier_later : {D : Type 0} (s : Start D) (n : ℕ) (items later : List Judged) (durable up : ℕ) (h : Holding) → CertifierAt s n items durable h → StartsWith later items → durable ≤ up → CertifierAt s n later up h
 certifier_later s n items later durable up h at begins rises = let room = at.room in record { front = at.front; below = record { begins = begins_on at.front items later at.below.begins begins; long = at.below.long }; room = omega arith; judged = at.judged }
-
--- what is answered is what the check answered, where nothing was refused
-pub position_known : (known durable : ℕ) (done r : Result ℕ Refusal) → known ≤ durable → IfOk done (λ position. position ≡ durable) → OnOk r (r ≡ done) → IfOk r (λ position. known ≤ position)
-position_known known durable done (Ok n) less is same = let here : n ≡ durable = subst (λ (z : Result ℕ Refusal). IfOk z (λ position. position ≡ durable)) (sym same) is in omega (arith, less, here)
-position_known known durable done (Err e) less is same = tt
 
 module _ {D : Type 0} (honest : D → Type 0) (history : D → History) (failures : D → ℕ) (v w : View (Home D) Judged) (n : ℕ) (x : Home D) (c : Holdings) (seat : IsSeat honest history failures v) (free : v.held ≡ [])
     (e : Entered (IsLegal v.first) (AtHome honest history failures v.first) durable_in common_in 0 n 2 v w x) (is : x ≡ AtFirst c) where
@@ -106,6 +97,7 @@ module _ {D : Type 0} (honest : D → Type 0) (history : D → History) (failure
             (goes_on w u t (goes_entered (IsLegal w.first) (AtHome honest history failures w.first) durable_in common_in 1 m 2 w u y f) (goes_left 0 k a b None u t left));
         own = ap (λ (z : View (Home D) Judged). z.own) left ∙ (ap (λ (z : View (Home D) Judged). z.own) f.view ∙ ap (λ (z : View (Home D) Judged). z.own) e.view);
         joined = ap (λ (z : View (Home D) Judged). z.joined) left ∙ (ap (λ (z : View (Home D) Judged). z.joined) f.view ∙ ap (λ (z : View (Home D) Judged). z.joined) e.view);
+        kept = ap (λ (z : View (Home D) Judged). z.given_up) left ∙ (ap (λ (z : View (Home D) Judged). z.given_up) f.view ∙ ap (λ (z : View (Home D) Judged). z.given_up) e.view);
         sees = sees_left (IsLegal v.first) 0 k a b u t (subst (λ first. Sees (IsLegal first) u) first_is f.sees) left;
         held = ap (λ (z : View (Home D) Judged). z.held) left
             ∙ (ap (except 0) (ap (λ (z : View (Home D) Judged). z.held) f.view ∙ (λ i. hold 1 (4 * m + 2) (ap durable_in this i) ∷ holds_first i)));
@@ -128,16 +120,30 @@ module _ {D : Type 0} (honest : D → Type 0) (history : D → History) (failure
               taken = taken s here.front here.begins.0 (may_lend s first);
               publisher = here.publisher;
               works = works;
+              ahead = let ahead = here.ahead in let still : durable_of new.log ≡ durable_of d.engine.log = ap durable_of log in omega (arith, ahead, still);
+              fronts = here.fronts;
               shown = λ _. let h = here.shown refl in record { shown_or_waits = h.shown_or_waits; durable = h.durable ∙ sym (ap durable_of log); oldest = let before = h.oldest in omega (arith, before, rises) };
             }
 
-        pub desk_given : (s : Start D) → t.first ≡ values_of s → DeskAt honest history failures s 1 t.seen (record { engine = new; publisher = d.publisher; waiting = d.waiting })
-        desk_given s first = desk_as 1 s (sym at_engine.goes.first ∙ first) (λ (z : 1 ≡ 0). absurd (omega arith))
+        at_desk : (given : ℕ) → ((s : Start D) → v.first ≡ values_of s → given ≡ 0 → new.halted ≡ None) → AtDesk honest history failures given v t (record { engine = new; publisher = d.publisher; waiting = d.waiting })
+        at_desk given works = record {
+          number = m;
+          floor = durable_of d.engine.log;
+          at = subst (AtEngine v t m (durable_of d.engine.log)) same_common at_engine;
+          low = let still : durable_of new.log ≡ durable_of d.engine.log = ap durable_of log in omega (arith, still);
+          desk = λ s first. desk_as given s first (works s first);
+        }
+          where
+            same_common : durable_of d.engine.log + length d.engine.block ≡ durable_of new.log + length new.block
+            same_common =
+                let here = desk_at seat.start seat.first in
+                let now : HasTaken honest history failures seat.start.desk.engine seat.start.certifier.current here.front new = taken seat.start here.front here.begins.0 (may_lend seat.start seat.first) in
+                let before = here.taken.count in let after = now.count in omega (arith, before, after)
+
+        pub desk_given : AtDesk honest history failures 1 v t (record { engine = new; publisher = d.publisher; waiting = d.waiting })
+        desk_given = at_desk 1 (λ s first (z : 1 ≡ 0). absurd (omega arith))
 
         -- it works still where nothing was refused, and is the same where it was not due
-        module _ (r : Result ℕ Refusal) (works : d.engine.halted ≡ None → OnOk r (new.halted ≡ None)) (same : IfErr r (λ e. e ≡ NotDue → new ≡ d.engine)) where
-          still_works : (s : Start D) → v.first ≡ values_of s → (r ≡ Err NotDue) ⊎ IsOk r → new.halted ≡ None
-          still_works s first wanted = let old = (desk_at s first).works refl in put_back_so (λ (z : Engine D). z.halted ≡ None) d.engine new r old (works old) same wanted
-
-          pub desk_back : (r ≡ Err NotDue) ⊎ IsOk r → (s : Start D) → t.first ≡ values_of s → DeskAt honest history failures s 0 t.seen (record { engine = new; publisher = d.publisher; waiting = d.waiting })
-          desk_back wanted s first = let before : v.first ≡ values_of s = sym at_engine.goes.first ∙ first in desk_as 0 s before (λ _. still_works s before wanted)
+        module _ (works : d.engine.halted ≡ None → new.halted ≡ None) where
+          pub desk_back : AtDesk honest history failures 0 v t (record { engine = new; publisher = d.publisher; waiting = d.waiting })
+          desk_back = at_desk 0 (λ s first _. works ((desk_at s first).works refl))

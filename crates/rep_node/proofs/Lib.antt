@@ -10,6 +10,7 @@ pub mod Beginning
 pub mod Closing
 pub mod AtEngine
 pub mod Keeps
+pub mod Desks
 pub mod Accepts
 pub mod Checks
 pub mod Lending

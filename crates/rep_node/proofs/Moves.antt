@@ -51,22 +51,3 @@ module _ {D : Type 0} where
   -- one more number was drawn, and has passed
   pub passed_next : (v w : View (Home D) Judged) (n : ℕ) → Went v w → w.own ≡ v.own ++ n ∷ [] → n < reached_at 2 w.reached → PassedOrStopped v → PassedOrStopped w
   passed_next v w n went own here passed running = let h = went.goes.halted in passed_more 2 v w n (went.goes.reached 2) own here (passed (omega arith))
-
-module _ {D : Type 0} where
-  -- it left a station, the last that it held, from the side or without an entry
-  pub idle_left : (j n d c : ℕ) (v w : View (Home D) Judged) → w ≡ without None j n d c v → except j v.held ≡ [] → Sees (IsLegal v.first) v → WentIdle v w
-  idle_left j n d c v w left free sees = (
-    record { goes = goes_left j n d c None v w left; free = ap (λ (z : View (Home D) Judged). z.held) left ∙ free },
-    ap (λ (z : View (Home D) Judged). z.own) left,
-    ap (λ (z : View (Home D) Judged). z.joined) left,
-    sees_left (IsLegal v.first) j n d c v w sees left,
-  )
-
-  -- it gave up a station, the last that it held
-  pub idle_gone : (j n d c : ℕ) (y : Home D) (v l w : View (Home D) Judged) → Later v l → w ≡ abandoned j y (without None j n d c l) → except j v.held ≡ [] → Sees (IsLegal v.first) l → WentIdle v w
-  idle_gone j n d c y v l w later left free sees = (
-    record { goes = goes_on v l w (goes_later v l later) (goes_gave_up j n d c y l w left); free = ap (λ (z : View (Home D) Judged). z.held) left ∙ (ap (λ (z : View (Home D) Judged). except j z.held) later.same ∙ free) },
-    ap (λ (z : View (Home D) Judged). z.own) left ∙ ap (λ (z : View (Home D) Judged). z.own) later.same,
-    ap (λ (z : View (Home D) Judged). z.joined) left ∙ ap (λ (z : View (Home D) Judged). z.joined) later.same,
-    subst (Sees (IsLegal v.first)) (sym left) (record { legal = sees.legal; placed = sees.placed }),
-  )

@@ -34,7 +34,6 @@ use Rattle.rep_node.specs.declared.home.Home.{Home}
 use Rattle.rep_node.specs.declared.origin.Origin.{Origin}
 use Rattle.rep_node.specs.declared.batch.Receipt.{Receipt}
 use Rattle.rep_node.specs.Homes.{Start}
-use Rattle.rep_node.specs.Seats.{PassedOrStopped}
 use Rattle.rep_node.specs.Ending.{StartsFrom, EndsAs}
 use Rattle.rep_node.specs.Batches.{Ascends, IsBatch, IsReceipt, IsWhole, entry_of}
 use Rattle.rep_node.specs.Served.{EndedFor, IsReceiptOf, IsServed, IsTold}
@@ -158,9 +157,6 @@ module _ {D : Type 0} where
 
   -- ---- the first seat
 
-  pub passed_none : (v : View (Home D) Judged) → v.own ≡ [] → PassedOrStopped v
-  passed_none v own running x drawn = let none : times x v.own ≡ 0 = ap (times x) own in absurd (omega arith)
-
   pub has_all : (v w : View (Home D) Judged) → v.own ≡ [] → v.allowance ≡ v.whole → Went v w → HasAll w
   has_all v w own all went = let none : length v.own ≡ 0 = ap (λ (l : List ℕ). length l) own in let kept = went.goes.kept in let whole = went.goes.whole in omega arith
 
@@ -174,6 +170,7 @@ module _ {D : Type 0} (honest : D → Type 0) (history : D → History) (failure
     judged = w.seen;
     legal = legal;
     told = every_to (IsReceipt items v w) (IsTold items (durable_of old.engine.log) (durable_of new.engine.log) w.seen) receipts (λ r h. told items v w (durable_of old.engine.log) (durable_of new.engine.log) r (went.goes.start ∙ starts) e.durable h) batch.told;
+    order = up;
     places = batch.places;
     count = λ ended. let count = (whole ended).count in omega arith;
     whole = λ ended. let drawn = (whole ended).drawn in let none : length v.own ≡ 0 = ap (λ (l : List ℕ). length l) own in let few = e.drawn in
@@ -210,6 +207,7 @@ module _ {D : Type 0} (honest : D → Type 0) (history : D → History) (failure
     judged = [];
     legal = tt;
     told = tt;
+    order = tt;
     places = λ i. omega arith;
     count = λ ended. absurd (none-some refusal (sym ended));
     whole = λ ended. absurd (none-some refusal (sym ended));

@@ -1,10 +1,11 @@
 -- What a step of the log leaves of the engine.
-use Rattle.std.proofs.Common.{◌≡◌, ◌⊎◌, inl, inr, ℕ, ◌≤◌, Bool, true, false, List, Option, None, Some, Result, Ok, Err, refl, sym, ap, subst, ◌∙◌, arith}
+use Rattle.std.proofs.Common.{◌≡◌, ◌⊎◌, inl, inr, ℕ, ◌≤◌, Bool, true, false, if◌then◌else◌, List, Option, None, Some, Result, Ok, Err, refl, sym, ap, subst, ◌∙◌, arith}
 use Rattle.std.specs.Prelude.{is_some, is_ok, IfErr, OnOk, MatchOption, MatchResult}
 use Rattle.rep_types.specs.declared.judged.Judged.{Judged}
 use Rattle.rep_types.specs.declared.reply.Reply.{Reply}
 use Rattle.rep_types.specs.declared.refusal.Refusal.{Refusal}
-use Rattle.rep_types.specs.declared.refusal.Refusal.TheVariants.{DiskFault, LogFull, NotDue}
+use Rattle.rep_types.specs.declared.refusal.Part.TheVariants.{Pages}
+use Rattle.rep_types.specs.declared.refusal.Refusal.TheVariants.{Corrupt, DiskFault, LogFull, NotDue, OutOfMemory, Stopped}
 use Rattle.rep_disk.specs.History.{History}
 use Rattle.rep_log.specs.declared.phase.Phase.{Phase}
 use Rattle.rep_cert.specs.Holdings.{Holding}
@@ -13,17 +14,23 @@ use Rattle.rep_steps.specs.declared.event.Event.TheVariants.{Deliver, SetWindow,
 use Rattle.rep_steps.specs.declared.answer.Answer.{Answer}
 use Rattle.rep_steps.specs.declared.answer.Answer.TheVariants.{Gave, Wrote, Began, Synced, Row, Refused}
 use Rattle.rep_steps.specs.Standings.{Stage, Off, Toward, Retiring, Flushing, Saving, Ready, SuperFilling, SuperFilled, SuperOpening, Standing, HasGoal, refusal}
-use Rattle.rep_steps.specs.Moves.{Found, Moves, Fails, after, base_after}
+use Rattle.rep_steps.specs.Moves.{Found, Moves, Fails, after, answer, base_after}
 use Rattle.rep_steps.specs.Nodes.{Node, Steps}
 use Rattle.rep_engine.specs.Engines.{Engine, facts_of, durable_of}
 use Rattle.rep_engine.specs.Holding.{Holds, wrote, synced}
 use Rattle.rep_stations.specs.Taking.{HasTaken, TakenItemsStay, IsAnEngine, IsOfAnEngine}
+use Rattle.rep_node.specs.Keeping.{IsFull}
 
 -- ---- the facts
 
 by_refusal : (A : Type 0) (B : Refusal → Type 0) (C : Type 0) (o : Option Refusal) → MatchOption o A B → (A → C) → ((r : Refusal) → B r → C) → C
 by_refusal A B C None m done refused = done m
 by_refusal A B C (Some r) m done refused = refused r m
+
+-- What an event refuses it refuses for what the facts say, unless memory, the device or a page is to blame.
+refused_is : (o : Option Refusal) (A : Type 0) (r : Refusal) (P : Type 0) → MatchOption o A (λ x. (Refused r ≡ Refused x) × P) → (A → ⊥) → o ≡ Some r
+refused_is None A r P m none = absurd (none m)
+refused_is (Some x) A r P m none = let same : x ≡ r = (let alike : Refused r ≡ Refused x = m.0 in cc) in ap Some same
 
 -- a call was answered, and not refused
 abbrev pub is_refusal : Answer → Bool
@@ -79,7 +86,39 @@ moves_rise s t e a own goal moves =
     ])
     (λ r is. same_rises s t a is.1)
 
+pub refused_so : (s t : Standing) (e : Event) (r : Refusal) → Moves s e (Refused r) t → ((f : Found) → is_refusal (answer s e f) ≡ false) → (r ≡ OutOfMemory → ⊥) → (r ≡ DiskFault → ⊥) → (r ≡ Corrupt Pages → ⊥) → refusal s e ≡ Some r
+refused_so s t e r moves answers memory device page = refused_is (refusal s e) _ r (t ≡ s) moves
+    (λ went. elim went [
+      | inl done ↦ answered (answer s e done.0) r (answers done.0) (sym done.1)
+      | inr other ↦ elim other [
+        | inl fails ↦ elim fails [ inl m ↦ memory (let is : Refused r ≡ Refused OutOfMemory = m.1 in cc) | inr d ↦ device (let is : Refused r ≡ Refused DiskFault = d.1 in cc) ]
+        | inr corrupt ↦ page (let is : Refused r ≡ Refused (Corrupt Pages) = corrupt.1 in cc)
+      ]
+    ])
+
+-- a log that is full is told by what is refused
+full_so : (s t : Standing) → Moves s Log (Refused LogFull) t → refusal s Log ≡ Some LogFull
+full_so s t moves = refused_so s t Log LogFull moves (λ f. refl) (λ is. absurd (let e : LogFull ≡ OutOfMemory = is in cc)) (λ is. absurd (let e : LogFull ≡ DiskFault = is in cc)) (λ is. absurd (let e : LogFull ≡ Corrupt Pages = is in cc))
+
+sync_refuses : (stopped : Bool) → (if stopped then Some Stopped else None) ≡ Some LogFull → ⊥
+sync_refuses true is = let e : Some Stopped ≡ Some LogFull = is in absurd cc
+sync_refuses false is = let e : None ≡ Some LogFull = is in absurd cc
+
+never_full : (s t : Standing) → Moves s Sync (Refused LogFull) t → ⊥
+never_full s t moves = sync_refuses s.stopped (refused_so s t Sync LogFull moves (λ f. refl) (λ is. absurd (let e : LogFull ≡ OutOfMemory = is in cc)) (λ is. absurd (let e : LogFull ≡ DiskFault = is in cc)) (λ is. absurd (let e : LogFull ≡ Corrupt Pages = is in cc)))
+
 -- ---- the engine
+
+-- what was answered is no refusal, and one refusal no other
+never_told : (u : Unit {0}) → ◌≡◌ {A = Result (Unit {0}) Refusal} (Ok u) (Err LogFull) → ⊥
+never_told u is = absurd cc
+
+abbrev refusal_or : Refusal → Result (Unit {0}) Refusal → Refusal
+refusal_or d (Ok u) = d
+refusal_or d (Err e) = e
+
+same_err : (r e : Refusal) → ◌≡◌ {A = Result (Unit {0}) Refusal} (Err r) (Err e) → r ≡ e
+same_err r e is = ap (refusal_or r) is
 
 running : (o : Option Phase) → is_some o ≡ false → o ≡ None
 running None e = refl
@@ -98,6 +137,7 @@ module _ {D : Type 0} (honest : D → Type 0) (history : D → History) (failure
     pub base : old.checkpoint.base.position ≤ new.checkpoint.base.position
     pub works : OnOk done (old.halted ≡ None → new.halted ≡ None)
     pub same : IfErr done (λ e. (e ≡ DiskFault) ⊎ (new ≡ old))
+    pub full : done ≡ Err LogFull → IsFull failures old
 
   pub runs_on : (old new : Engine D) (a : Answer) → Rises (facts_of failures old) (facts_of failures new) a → is_refusal a ≡ false → old.halted ≡ None → new.halted ≡ None
   runs_on old new a h told works = running new.halted (h.stopped told ∙ ap is_some works)
@@ -110,6 +150,7 @@ module _ {D : Type 0} (honest : D → Type 0) (history : D → History) (failure
     base = h.base;
     works = runs_on old new Wrote h refl;
     same = same;
+    full = λ told. absurd (never_told u told);
   }
   goes_logged laws old new (Err r) is moves steps same = let h = moves_rise (facts_of failures old) (facts_of failures new) Log (Refused r) tt is.goal moves in record {
     taken = laws.step old new Log (Refused r) tt is moves steps;
@@ -117,6 +158,7 @@ module _ {D : Type 0} (honest : D → Type 0) (history : D → History) (failure
     base = h.base;
     works = tt;
     same = same;
+    full = λ told. full_so (facts_of failures old) (facts_of failures new) (subst (λ (e : Refusal). Moves (facts_of failures old) Log (Refused e) (facts_of failures new)) (same_err r LogFull told) moves);
   }
 
   -- the same of a sync, whose replies are let go
@@ -129,6 +171,7 @@ module _ {D : Type 0} (honest : D → Type 0) (history : D → History) (failure
     base = h.base;
     works = runs_on old new (Synced rs) h refl;
     same = same;
+    full = λ told. absurd (never_told u told);
   }
   goes_synced laws old new (Ok rs) (Err r) P ok err is moves steps same = absurd (let e : false ≡ true = ok in cc)
   goes_synced laws old new (Err r) (Ok u) P ok err is moves steps same = absurd (let e : true ≡ false = ok in cc)
@@ -138,6 +181,7 @@ module _ {D : Type 0} (honest : D → Type 0) (history : D → History) (failure
     base = h.base;
     works = tt;
     same = subst (λ (d : Result (Unit {0}) Refusal). IfErr d (λ e. (e ≡ DiskFault) ⊎ (new ≡ old))) (sym err) same;
+    full = λ told. absurd (never_full (facts_of failures old) (facts_of failures new) (subst (λ (x : Refusal). Moves (facts_of failures old) Sync (Refused x) (facts_of failures new)) (same_err r LogFull (sym err ∙ told)) moves));
   }
 
   -- ---- the same with an answer that says nothing of a step that was not due
@@ -150,9 +194,9 @@ module _ {D : Type 0} (honest : D → Type 0) (history : D → History) (failure
   goes_working old new (Ok u) h works = h.works works
   goes_working old new (Err r) h works = tt
 
-  pub goes_full : (old new : Engine D) (done : Result (Unit {0}) Refusal) → Goes old new done → IfErr done (λ r. r ≡ LogFull → new ≡ old)
+  pub goes_full : (old new : Engine D) (done : Result (Unit {0}) Refusal) → Goes old new done → IfErr done (λ r. r ≡ LogFull → (new ≡ old) × IsFull failures old)
   goes_full old new (Ok u) h = tt
-  goes_full old new (Err r) h = λ full. not_the_device old new r (λ fault. let e : LogFull ≡ DiskFault = sym full ∙ fault in absurd cc) h.same
+  goes_full old new (Err r) h = λ full. (not_the_device old new r (λ fault. let e : LogFull ≡ DiskFault = sym full ∙ fault in absurd cc) h.same, h.full (ap (λ (x : Refusal). Err x) full))
 
   pub goes_not_due : (old new : Engine D) (done : Result (Unit {0}) Refusal) → Goes old new done → done ≡ Err NotDue → new ≡ old
   goes_not_due old new done h is = not_the_device old new NotDue (λ fault. let e : NotDue ≡ DiskFault = fault in absurd cc) (subst (λ (d : Result (Unit {0}) Refusal). IfErr d (λ e. (e ≡ DiskFault) ⊎ (new ≡ old))) is h.same)

@@ -8,6 +8,8 @@ use Rattle.rep_ordered.specs.Counts.{times}
 use Rattle.rep_ordered.specs.Views.{Every, OwnEntry}
 use Rattle.rep_node.specs.declared.home.Home.{Home}
 use Rattle.rep_node.specs.declared.batch.Receipt.{Receipt}
+use Rattle.rep_node.specs.declared.pace.Point.{Point}
+use Rattle.rep_node.specs.declared.pace.Point.TheVariants.{Claimed, Certified, Queued}
 use Rattle.rep_node.specs.Seats.{own_entry}
 
 -- what a receipt says of its item, as an entry of the history
@@ -19,6 +21,14 @@ seqno_of r = r.seqno
 
 abbrev pub index_of : Receipt → ℕ
 index_of r = r.index
+
+-- The pace let a worker go on with the item of this seqno behind each of its steps.
+abbrev pub LetsOn : (Point → ℕ → Type 0) → ℕ → Type 0
+LetsOn lets seqno = lets Claimed seqno × lets Certified seqno × lets Queued seqno
+
+-- and so with the item of each receipt
+abbrev pub AreLetOn : (Point → ℕ → Type 0) → List Receipt → Type 0
+AreLetOn lets receipts = Every (λ (r : Receipt). LetsOn lets r.seqno) receipts
 
 abbrev pub carried : Joined Judged → Option Item
 carried o = Some o.entry.item

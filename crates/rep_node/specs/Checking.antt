@@ -7,6 +7,7 @@ use Rattle.rep_cert.specs.Holdings.{Holding}
 use Rattle.rep_engine.specs.Engines.{Engine, durable_of}
 use Rattle.rep_stations.specs.Judging.{HasJudged}
 use Rattle.rep_stations.specs.Taking.{HasTaken}
+use Rattle.rep_checkpoint.specs.declared.stage.Stage.TheVariants.{Off}
 use Rattle.rep_checkpoint.specs.declared.stage.Step.{Step}
 use Rattle.rep_checkpoint.specs.declared.stage.Step.TheVariants.{Begin, Flush, Next, Sync}
 use Rattle.rep_snap.specs.Lists.{oldest_of, published}
@@ -19,7 +20,7 @@ use Rattle.rep_node.specs.declared.checking.Progress.TheVariants.{Goes as anothe
 use Rattle.rep_node.specs.declared.checking.Outcome.{Outcome}
 use Rattle.rep_node.specs.declared.checking.Outcome.TheVariants.{Goes, ForCertifier, Ended}
 use Rattle.rep_node.specs.Publishing.{shown}
-use Rattle.rep_node.specs.Homes.{Start, Begins, IsLegalBehind, position_of, values_of}
+use Rattle.rep_node.specs.Homes.{Start, Begins, DeskAt, IsLegalBehind, position_of, values_of}
 
 -- The certifier has judged what the engine has taken, and perhaps more, of one legal history, and is not too far ahead: so it holds the
 -- window that a checkpoint asks for.
@@ -37,6 +38,16 @@ progress_of Begin = nothing_more
 progress_of (Flush page) = another_step
 progress_of Next = with_the_certifier
 progress_of Sync = another_step
+
+-- Where no checkpoint is under way, the base stands at what is durable: so none may begin.
+abbrev pub HasNoneDue : {D : Type 0} → Engine D → Type 0
+HasNoneDue e = e.checkpoint.stage ≡ Off → durable_of e.log ≤ e.checkpoint.base.position
+
+-- An engine was found at the desk that has none to begin.
+pub record FoundNoneDue {D : Type 0} (honest : D → Type 0) (history : D → History) (failures : D → ℕ) (s : Start D) (w : View (Home D) Judged) : Type 0 where
+  pub desk : Desk D
+  pub here : DeskAt honest history failures s 0 w.seen desk
+  pub none : HasNoneDue desk.engine
 
 -- readers find no snapshot below the base, and each from there on
 abbrev pub IsPruned : {D : Type 0} → Start D → Desk D → Type 0

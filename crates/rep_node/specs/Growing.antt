@@ -23,7 +23,7 @@ module _ {D : Type 0} (honest : D → Type 0) (history : D → History) (failure
   )
   home_grows first station number given durable later items more (AtSecond d) h up = (
     h.0,
-    λ s is. let at = h.1 s is in record { front = at.front; begins = begins_grown items more at.front at.begins; taken = at.taken; publisher = at.publisher; works = at.works; shown = at.shown },
+    λ s is. let at = h.1 s is in record { front = at.front; begins = begins_grown items more at.front at.begins; taken = at.taken; publisher = at.publisher; works = at.works; shown = at.shown; ahead = at.ahead; fronts = at.fronts },
   )
   home_grows first station number given durable later items more (AtThird q) h up = (
     h.0,

@@ -66,13 +66,15 @@ pub record IsPublished {D : Type 0} (s : Start D) (taken : List Judged) (d : Des
 
 module _ {D : Type 0} (honest : D → Type 0) (history : D → History) (failures : D → ℕ) where
   -- The engine has taken a front of the history, and works; what is durable of it is published. One that was given up has taken such a
-  -- front, and may have failed, or have published less.
+  -- front, and may have failed, or have published less. Given up or not, what is published is durable, and of what the engine has taken.
   pub record DeskAt (s : Start D) (given : ℕ) (items : List Judged) (d : Desk D) : Type 0 where
     pub front : List Judged
     pub begins : StartsWith items front
     pub taken : HasTaken honest history failures s.desk.engine s.certifier.current front d.engine
     pub publisher : (d.publisher.book ≡ s.desk.publisher.book) × (d.publisher.basis ≡ s.desk.publisher.basis) × (d.publisher.start ≡ s.desk.publisher.start)
     pub works : given ≡ 0 → d.engine.halted ≡ None
+    pub ahead : position_of s + length (published d.publisher.list) ≤ durable_of d.engine.log
+    pub fronts : StartsWith (shown front) (published d.publisher.list)
     pub shown : given ≡ 0 → IsPublished s front d
 
   -- Certifier and queue are never given up.

@@ -1,23 +1,44 @@
 -- What the engine and the queue are while somebody works at them, and what a keeper says.
-use Rattle.std.specs.Prelude.{◌≡◌, ℕ, ◌+◌, ◌-◌, ◌≤◌, ◌++◌, max, None, List, length, take}
+use Rattle.std.specs.Prelude.{◌≡◌, ℕ, ◌+◌, ◌-◌, ◌*◌, ◌≤◌, [], ◌∷◌, ◌++◌, max, None, Some, List, Result, OnOk, IfErr, length, take}
 use Rattle.rep_types.specs.declared.judged.Judged.{Judged}
 use Rattle.rep_types.specs.declared.limits.TheConstants.{MAX_SEQNO}
+use Rattle.rep_types.specs.declared.refusal.Refusal.{Refusal}
+use Rattle.rep_types.specs.declared.refusal.Refusal.TheVariants.{LogFull}
 use Rattle.rep_disk.specs.History.{History}
-use Rattle.rep_engine.specs.Engines.{durable_of}
+use Rattle.rep_engine.specs.Engines.{Engine, durable_of, facts_of}
+use Rattle.rep_steps.specs.declared.event.Event.TheVariants.{Log}
+use Rattle.rep_steps.specs.Standings.{refusal}
 use Rattle.rep_snap.specs.Lists.{oldest_of, published}
 use Rattle.rep_stations.specs.Taking.{HasTaken}
 use Rattle.rep_ordered.specs.declared.view.View.{View}
-use Rattle.rep_ordered.specs.Views.{StartsWith}
+use Rattle.rep_ordered.specs.Views.{StartsWith, hold}
+use Rattle.rep_ordered.specs.Going.{Goes}
 use Rattle.rep_node.specs.declared.home.Desk.{Desk}
 use Rattle.rep_node.specs.declared.home.Queue.{Queue}
 use Rattle.rep_node.specs.declared.home.Home.{Home}
 use Rattle.rep_node.specs.declared.keeping.Kept.{Kept}
 use Rattle.rep_node.specs.Publishing.{shown}
 use Rattle.rep_node.specs.Homes.{Start, Begins, DeskAt, IsLegalBehind, QueueAt, position_of, values_of}
+use Rattle.rep_node.specs.Seats.{SeesLegal}
 
 -- the number that the value of the engine's station names for queue and engine
 abbrev pub common_of_desk : {D : Type 0} → Desk D → ℕ
 common_of_desk d = durable_of d.engine.log + length d.engine.block
+
+-- Items wait to be written, and the log's next cell is still needed: so the engine refuses to write.
+abbrev pub IsFull : {D : Type 0} → (D → ℕ) → Engine D → Type 0
+IsFull failures e = refusal (facts_of failures e) Log ≡ Some LogFull
+
+-- The seat of this view went on to the engine, from the side, at this number of its turn, and holds nothing else; this was durable there, and
+-- engine and queue name this one.
+pub record AtEngine {D : Type 0} (v u : View (Home D) Judged) (number floor common : ℕ) : Type 0 where
+  pub goes : Goes v u
+  pub own : u.own ≡ v.own
+  pub joined : u.joined ≡ v.joined
+  pub kept : u.given_up ≡ v.given_up
+  pub sees : SeesLegal v u
+  pub held : u.held ≡ hold 1 (4 * number + 2) floor ∷ []
+  pub common_is : u.common ≡ common
 
 module _ {D : Type 0} (honest : D → Type 0) (history : D → History) (failures : D → ℕ) where
   -- At the engine: it has taken a front of a history that is legal behind what the node was started with.
@@ -45,6 +66,26 @@ module _ {D : Type 0} (honest : D → Type 0) (history : D → History) (failure
     pub queue : QueueAt s number items q
     pub common : q.accepted ≡ common_of_desk d
     pub limit : number ≤ MAX_SEQNO + 1
+
+  -- The seat of this view is at the engine, and this desk lies there: one that works, or one to be given up (1).
+  pub record AtDesk (given : ℕ) (v u : View (Home D) Judged) (d : Desk D) : Type 0 where
+    pub number : ℕ
+    pub floor : ℕ
+    pub at : AtEngine v u number floor (common_of_desk d)
+    pub low : floor ≤ durable_of d.engine.log
+    pub desk : (s : Start D) → v.first ≡ values_of s → DeskAt honest history failures s given u.seen d
+
+  -- An engine was found at the desk whose log is full.
+  pub record FoundFull (s : Start D) (w : View (Home D) Judged) : Type 0 where
+    pub desk : Desk D
+    pub here : DeskAt honest history failures s 0 w.seen desk
+    pub full : IsFull failures desk.engine
+
+  -- What a round leaves: a desk that works, also where the log is full, or one to be given up.
+  pub record HasWorked {T : Type 0} (v u : View (Home D) Judged) (d : Desk D) (done : Result T Refusal) : Type 0 where
+    pub works : OnOk done (AtDesk 0 v u d)
+    pub full : IfErr done (λ (r : Refusal). r ≡ LogFull → AtDesk 0 v u d × IsFull failures d.engine)
+    pub given : AtDesk 1 v u d
 
 -- What a keeper says: an item that is durable, which the seat has seen durable since; and readers may be told the list of all items up
 -- to there, each with what it wrote, which is nothing unless it committed.

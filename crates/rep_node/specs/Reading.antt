@@ -24,7 +24,7 @@ use Rattle.rep_snap.specs.Lists.{published, front_of}
 use Rattle.rep_snap.specs.Looks.{IsPeek}
 use Rattle.rep_snap.specs.Views.{Watching}
 use Rattle.rep_ordered.specs.declared.view.View.{View}
-use Rattle.rep_ordered.specs.Views.{StartsWith, Later}
+use Rattle.rep_ordered.specs.Views.{StartsWith}
 use Rattle.rep_node.specs.declared.home.Home.{Home}
 use Rattle.rep_node.specs.declared.home.Desk.{Desk}
 use Rattle.rep_node.specs.declared.origin.Origin.{Origin}
@@ -81,13 +81,13 @@ module _ {D : Type 0} where
       abbrev pub AsksEngine : Result (Option (List ℕ)) Refusal → Type 0
       AsksEngine answer = ((answer ≡ Err Stopped) × (w.halted ≡ 1)) ⊎ ((s : Start D) → v.first ≡ values_of s → Asked s w key at answer)
 
-      -- Where the published list says what the row is, or refuses, so it is answered, and the seat at most learnt something. Where no write of the
-      -- row is left in it, the engine is asked.
+      -- Where the published list says what the row is, or refuses, so it is answered, and the seat is as it was. Where no write of the row is left
+      -- in it, the engine is asked.
       abbrev pub Answers : Result Peek Refusal → Result (Option (List ℕ)) Refusal → Type 0
-      Answers (Ok (Value value)) answer = (answer ≡ Ok (Some value)) × Later v w
-      Answers (Ok Absent) answer = (answer ≡ Ok None) × Later v w
+      Answers (Ok (Value value)) answer = (answer ≡ Ok (Some value)) × (w ≡ v)
+      Answers (Ok Absent) answer = (answer ≡ Ok None) × (w ≡ v)
       Answers (Ok Cold) answer = AsksEngine answer
-      Answers (Err refusal) answer = (answer ≡ Err refusal) × Later v w
+      Answers (Err refusal) answer = (answer ≡ Err refusal) × (w ≡ v)
 
       -- What a refusal says where the engine was asked: a position that is not there yet is above what is durable as far as the seat then sees, and
       -- no page is corrupt on an honest device.
@@ -102,7 +102,7 @@ module _ {D : Type 0} where
       module _ (shut : Watching Origin → Type 0) (r q : Watching Origin) where
         -- What a read comes to: the key is outside the schema, and the reader did not look; or it looked, or found the door shut, and that decides.
         abbrev pub Reads : Result (Option (List ℕ)) Refusal → Type 0
-        Reads answer = ((answer ≡ Err BadKey) × (q ≡ r) × Later v w) ⊎ ((peek : Result Peek Refusal) × IsPeek allowed shut r key at q peek × Answers peek answer)
+        Reads answer = ((answer ≡ Err BadKey) × (q ≡ r) × (w ≡ v)) ⊎ ((peek : Result Peek Refusal) × IsPeek allowed shut r key at q peek × Answers peek answer)
 
         -- What a refusal says, wherever it comes from. A position that is not there yet is above the front of the list that the reader then sees, or
         -- above what is durable as far as the seat then sees.

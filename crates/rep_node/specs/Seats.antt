@@ -60,3 +60,13 @@ module _ {D : Type 0} where
     pub stands : OwnEntry w.start w.seen w.own (own_entry (record { seqno = seqno; item = item; verdict = verdict }))
     pub later : v.start + length v.seen ≤ seqno
     pub durable : seqno ≤ w.durable
+
+-- A seat between two calls, whose owner may draw so many seqnos more: it holds no station and sees a legal history, and each seqno that it
+-- drew has passed, unless it knows of a halt. Then it may draw fewer than it might.
+pub record Rests {D : Type 0} (honest : D → Type 0) (history : D → History) (failures : D → ℕ) (v : View (Home D) Judged) (allowance : ℕ) : Type 0 where
+  pub seat : IsSeat honest history failures v
+  pub free : v.held ≡ []
+  pub less : allowance ≤ v.allowance
+  pub left : v.halted ≡ 0 → allowance ≡ v.allowance
+  pub sees : SeesLegal v v
+  pub passed : PassedOrStopped v

@@ -19,7 +19,7 @@ use Rattle.rep_stations.specs.Judging.{Legal}
 use Rattle.rep_ordered.specs.Views.{Every, StartsWith}
 use Rattle.rep_ordered.specs.Counts.{times}
 use Rattle.rep_node.specs.declared.batch.Receipt.{Receipt}
-use Rattle.rep_node.specs.Batches.{entry_of, index_of}
+use Rattle.rep_node.specs.Batches.{Ascends, entry_of, index_of}
 
 -- the receipt is of the item at its place, as this entry of the history
 pub record IsReceiptOf (items : List Item) (r : Receipt) (j : Judged) : Type 0 where
@@ -40,13 +40,14 @@ abbrev pub EndedFor : {D : Type 0} → Replica D → ℕ → Replica D → List 
 EndedFor old count new receipts refusal = ((refusal ≡ Stopped) × ((new.stopped || is_some new.engine.halted) ≡ true)) ⊎ ((((refusal ≡ Exhausted) × (MAX_SEQNO ≤ durable_of old.engine.log + count + 1)) ⊎ (refusal ≡ OutOfMemory)) × (receipts ≡ []))
 
 -- The history that the node came to is legal behind what the old replica held. Each receipt is of an entry of it, of another item of the
--- batch, and durable; where the batch has no end, the history is that of the receipts, one for each item, and where it was refused, there is
+-- batch, and durable, and its seqno is above that of the one before; where the batch has no end, the history is that of the receipts, one for each item, and where it was refused, there is
 -- none. Where the old replica stood for an order, the history is what that order has behind it with the history's items at its end; so the new
 -- one stands for that longer order unless it was stopped, and each image of its device for a front of it with what is durable.
 pub record IsServed {D : Type 0} (honest : D → Type 0) (history : D → History) (failures : D → ℕ) (old : Replica D) (items : List Item) (new : Replica D) (receipts : List Receipt) (end : Option Refusal) : Type 0 where
   pub judged : List Judged
   pub legal : Legal old.certifier.current judged
   pub told : Every (IsTold items (durable_of old.engine.log) (durable_of new.engine.log) judged) receipts
+  pub order : Ascends receipts
   pub places : (i : ℕ) → times i (map index_of receipts) ≤ 1
   pub count : end ≡ None → length receipts ≡ length items
   pub whole : end ≡ None → AllZip (IsReceiptOf items) receipts judged

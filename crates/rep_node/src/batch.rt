@@ -1,14 +1,13 @@
 //! Items that are handed in together, by several workers.
 
-ghost use Rattle.std.specs.Prelude.{◌≡◌, ◌⊎◌, ◌+◌, ◌≤◌, ◌<◌, ◌++◌, ℕ, Some, None, [], length, slice_index_or, IfSome, IfOk, IfErr, vec_capacity};
-ghost use Rattle.rep_types.specs.declared.refusal.Refusal.TheVariants.{Exhausted, OutOfMemory, Stopped as is_stopped};
-ghost use Rattle.rep_ordered.specs.Going.{Went};
+ghost use Rattle.std.specs.Prelude.{◌≡◌, ◌≢◌, ◌+◌, ◌≤◌, ◌<◌, ◌++◌, ℕ, Some, None, [], max, length, slice_index_or, IfSome, IfOk, IfErr, vec_capacity};
+ghost use Rattle.rep_types.specs.declared.refusal.Refusal.TheVariants.{OutOfMemory, Stopped as is_stopped};
 ghost use Rattle.rep_ordered.specs.Seats.{seat_of};
 ghost use Rattle.rep_ordered.specs.Steps.{Learns};
 ghost use Rattle.rep_ordered.specs.Views.{Every, both, giving};
 ghost use Rattle.rep_node.specs.Homes.{IsLegal};
-ghost use Rattle.rep_node.specs.Seats.{IsSeat, PassedOrStopped, SeesLegal};
-ghost use Rattle.rep_node.specs.Batches.{Ascends, IsBatch, IsWhole};
+ghost use Rattle.rep_node.specs.Seats.{IsSeat, PassedOrStopped, Rests, SeesLegal};
+ghost use Rattle.rep_node.specs.Serving.{HandedIn};
 ghost use Rattle.rep_node.specs.Jobs.{AreJobs, AreShares, Gathered, IsReady, Worked};
 
 use crate::node::{LockSeat, Node};
@@ -94,7 +93,7 @@ impl<D: Disk> Node<D> {
     /// Hands in a worker's items, one after the other, until one is refused.
     fn work<R: Wait, P: Pace>(&self, rt: &R, items: &[Item], job: &mut Job<D>, pace: &P)
         requires ready { IsReady D.honest D.history D.failures self.now (length items.now) job.old }
-        ensures worked { Worked items.now job.old job.new }
+        ensures worked { Worked (P.lets pace.now) items.now job.old job.new }
     {
         for place in job.from..job.to {
             match self.submit(rt, &mut job.seat, &items[place], pace) {
@@ -143,6 +142,7 @@ impl<D: Disk> Node<D> {
         requires room { length receipts.old.items + length job.receipts.items ≤ vec_capacity receipts.old }
         ensures lock { seat.new.lock ≡ seat.old.lock }
         ensures joined { Learns (IsLegal seat.old.view.first) job.seat.view.seen (both seat.old.view job.seat.view) seat.new.view }
+        ensures halted { seat.new.view.halted ≡ max seat.old.view.halted job.seat.view.halted }
         ensures receipts { (receipts.new.items ≡ receipts.old.items ++ job.receipts.items) × (vec_capacity receipts.old ≤ vec_capacity receipts.new) }
         ensures end { result ≡ job.end }
     {
@@ -174,7 +174,7 @@ impl<D: Disk + Send> Node<D> {
         requires workers { 0 < workers }
         requires ready { Every (IsReady D.honest D.history D.failures self.now (length items.now)) jobs.old }
         ensures len { length jobs.new ≡ length jobs.old }
-        ensures worked { (i : ℕ) (d : Job D) → i < length jobs.old → Worked items.now (slice_index_or jobs.old i d) (slice_index_or jobs.new i d) }
+        ensures worked { (i : ℕ) (d : Job D) → i < length jobs.old → Worked (P.lets pace.now) items.now (slice_index_or jobs.old i d) (slice_index_or jobs.new i d) }
     {
         for_each_mut(
             rt,
@@ -182,7 +182,7 @@ impl<D: Disk + Send> Node<D> {
             workers,
             &|_place: usize, job: &mut Job<D>|
                 requires { IsReady D.honest D.history D.failures self.now (length items.now) job.old }
-                ensures { Worked items.entry.now job.old job.new }
+                ensures { Worked (P.lets pace.entry.now) items.entry.now job.old job.new }
             { self.work(rt, items, job, pace) },
         );
     }
@@ -202,12 +202,14 @@ impl<D: Disk + Send> Node<D> {
         requires lock { seat.old.lock ≡ self.now }
         requires seat { IsSeat D.honest D.history D.failures seat.old.view }
         requires free { seat.old.view.held ≡ [] }
+        requires runs { seat.old.view.halted ≡ 0 }
+        requires sees { SeesLegal seat.old.view seat.old.view }
         requires passed { PassedOrStopped seat.old.view }
         requires workers { 0 < workers }
         requires room { (receipts.old.items ≡ []) × (length items.now ≤ vec_capacity receipts.old) }
         requires jobs { AreJobs self.now seat.old.view (length items.now) jobs.items }
         ensures lock { seat.new.lock ≡ seat.old.lock }
-        ensures gathered { Gathered items.now 0 (length items.now) seat.old.view seat.new.view receipts.new.items result }
+        ensures gathered { Gathered (P.lets pace.now) items.now 0 (length items.now) seat.old.view seat.new.view receipts.new.items result }
     {
         self.work_all(rt, items, jobs.as_mut_slice(), workers, pace);
         let mut end = None;
@@ -218,7 +220,7 @@ impl<D: Disk + Send> Node<D> {
         end
     }
 
-    /// Hands in a batch by a seat that may draw more seqnos than there are items.
+    /// Hands in a batch by a seat that may draw more seqnos than there are items, and that knows of no halt.
     fn submit_shared<R: Threads + Wait + Sync, P: Pace + Sync>(
         &self,
         rt: &R,
@@ -229,19 +231,16 @@ impl<D: Disk + Send> Node<D> {
         pace: &P,
     ) -> Result<Batch, Refusal>
         requires lock { seat.old.lock ≡ self.now }
-        requires seat { IsSeat D.honest D.history D.failures seat.old.view }
-        requires free { seat.old.view.held ≡ [] }
+        requires rests { (allowance : ℕ) × Rests D.honest D.history D.failures seat.old.view allowance }
         requires allowance { length items.now < seat.old.view.allowance }
-        requires passed { PassedOrStopped seat.old.view }
+        requires runs { seat.old.view.halted ≡ 0 }
         requires workers { 0 < workers }
         ensures lock { seat.new.lock ≡ seat.old.lock }
-        ensures went { Went seat.old.view seat.new.view }
         ensures seat { IsSeat D.honest D.history D.failures seat.new.view }
-        ensures passed { PassedOrStopped seat.new.view }
-        ensures sees { IfOk result (λ batch. SeesLegal seat.old.view seat.new.view) }
-        ensures batch { IfOk result (λ batch. IsBatch items.now 0 (length items.now) seat.old.view seat.new.view batch.receipts.items) }
-        ensures order { IfOk result (λ batch. Ascends batch.receipts.items) }
-        ensures whole { IfOk result (λ batch. batch.end ≡ None → IsWhole 0 (length items.now) seat.old.view seat.new.view batch.receipts.items) }
+        ensures sees { SeesLegal seat.new.view seat.new.view }
+        ensures handed_in { IfOk result (HandedIn (P.lets pace.now) items.now (length items.now) (length items.now) seat.old.view seat.new.view) }
+        ensures goes { seat.new.view.given_up ≡ seat.old.view.given_up }
+        ensures runs { IfOk result (λ batch. batch.end ≡ None → seat.new.view.halted ≡ 0) }
         ensures stopped { IfOk result (λ batch. IfSome batch.end (λ refusal. (refusal ≡ is_stopped) × (seat.new.view.halted ≡ 1))) }
         ensures refused { IfErr result (λ refusal. (refusal ≡ OutOfMemory) × (seat.new ≡ seat.old)) }
     {
@@ -251,7 +250,6 @@ impl<D: Disk + Send> Node<D> {
         self.split_off(seat, shares, &mut jobs);
         let end = self.run(rt, seat, items, jobs, &mut receipts, workers, pace);
         receipts.sort_unstable_by_key(|receipt| receipt.seqno);
-        let _front = self.lock.front(seat);
         Ok(Batch { receipts, end })
     }
 
@@ -261,7 +259,8 @@ impl<D: Disk + Send> Node<D> {
     ///
     /// The end is `Exhausted` where the seat has no more seqnos left than there are items, and `OutOfMemory` where a growth was refused:
     /// then no seqno was drawn. It is `Stopped` where the node was halted, which a worker does where the pace says no: of an item without a
-    /// receipt it is then not known whether it stands in the history; it stands there at most once, and unchanged.
+    /// receipt it is then not known whether it stands in the history; it stands there at most once, and unchanged. Where the end is not
+    /// `Stopped`, the seat knows of no halt.
     ///
     /// It is not promised that it returns: somebody has to make items durable.
     pub fn submit_batch<R: Threads + Wait + Sync, P: Pace + Sync>(
@@ -275,18 +274,14 @@ impl<D: Disk + Send> Node<D> {
     ) -> Batch
         requires lock { seat.old.lock ≡ self.now }
         requires workers { (0 < workers) × (workers ≤ 64) }
-        requires passed { PassedOrStopped seat.old.view }
         ensures lock { seat.new.lock ≡ seat.old.lock }
-        ensures went { Went seat.old.view seat.new.view }
-        ensures sees { SeesLegal seat.old.view seat.new.view }
-        ensures passed { PassedOrStopped seat.new.view }
-        ensures batch { IsBatch items.now 0 (length items.now) seat.old.view seat.new.view result.receipts.items }
-        ensures order { Ascends result.receipts.items }
-        ensures whole { result.end ≡ None → IsWhole 0 (length items.now) seat.old.view seat.new.view result.receipts.items }
-        ensures ended { IfSome result.end (λ refusal. ((refusal ≡ is_stopped) × (seat.new.view.halted ≡ 1)) ⊎ ((((refusal ≡ Exhausted) × (seat.old.view.allowance ≤ length items.now)) ⊎ (refusal ≡ OutOfMemory)) × (seat.new.view.own ≡ seat.old.view.own) × (result.receipts.items ≡ []))) }
+        ensures handed_in { HandedIn (P.lets pace.now) items.now (length items.now) (length items.now) seat.old.view seat.new.view result }
+        ensures goes { seat.new.view.given_up ≡ seat.old.view.given_up }
+        ensures runs { result.end ≢ Some is_stopped → seat.new.view.halted ≡ 0 }
     {
-        let front = self.lock.front(&mut seat.seat);
-        if front.halted {
+        // Tells the proof what holds of every seat.
+        seat.is_one();
+        if self.is_halted(seat) {
             return Batch::refused(alloc, Refusal::Stopped);
         }
         if seat.allowance <= items.len() as u64 {

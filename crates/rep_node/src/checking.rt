@@ -1,17 +1,16 @@
 //! Checkpoints of a node that threads run.
 
-ghost use Rattle.std.specs.Prelude.{◌≡◌, ◌≢◌, ◌⊎◌, ℕ, ◌≤◌, [], List, None, Err, IsOk, IfOk, IfErr, OnOk};
+ghost use Rattle.std.specs.Prelude.{◌≡◌, ◌≢◌, ◌⊎◌, ℕ, ◌≤◌, [], List, true, None, Err, IfOk, IfErr, OnOk};
 ghost use Rattle.rep_types.specs.declared.judged.Judged.{Judged as Entry};
 ghost use Rattle.rep_types.specs.declared.refusal.Refusal.TheVariants.{NotDue, OutOfMemory, Stopped as is_stopped};
 ghost use Rattle.rep_cert.specs.Holdings.{Holding};
 ghost use Rattle.rep_checkpoint.specs.Standing.{due_in};
 ghost use Rattle.rep_engine.specs.Engines.{Engine as Contents, durable_of};
 ghost use Rattle.rep_stations.specs.Taking.{HasTaken};
-ghost use Rattle.rep_ordered.specs.Views.{Holds, HoldsSide, Names, except, floor_of, turn_of};
-ghost use Rattle.rep_node.specs.Homes.{Start, AtHome, DeskAt};
+ghost use Rattle.rep_node.specs.Homes.{Start, DeskAt, values_of};
 ghost use Rattle.rep_node.specs.Keeping.{AtWork, common_of_desk};
-ghost use Rattle.rep_node.specs.Seats.{IsSeat, SeesLegal, WentIdle};
-ghost use Rattle.rep_node.specs.Checking.{EndsAt, IsChecked, IsPruned, MayLend, Tells, progress_of};
+ghost use Rattle.rep_node.specs.Seats.{IsSeat, WentIdle};
+ghost use Rattle.rep_node.specs.Checking.{EndsAt, FoundNoneDue, HasNoneDue, IsChecked, IsPruned, MayLend, Tells, progress_of};
 
 use crate::home::{Desk, Home};
 use crate::keeping::publish_durable;
@@ -39,8 +38,8 @@ pub struct Checked {
 /// Begins a checkpoint at what is durable, which it says, or takes the one that is under way on by its next write: `begins` says which is
 /// wanted.
 ///
-/// Refuses with `NotDue` where the other is due, or neither, or where the base stands at what is durable: the engine is then as it was. Any
-/// other refusal, of the device or of a growth, leaves an engine to be given up.
+/// Refuses with `NotDue` only where the other is due, or neither, or where the base stands at what is durable: the engine is then as it was.
+/// Any other refusal, of the device or of a growth, leaves an engine to be given up.
 fn check<D: Disk>(
     engine: &mut Engine<D>,
     certifier: &Certifier,
@@ -53,6 +52,7 @@ fn check<D: Disk>(
     ensures works { engine.old.halted ≡ None → OnOk result (engine.new.halted ≡ None) }
     ensures position { IfOk result (λ position. position ≡ durable_of engine.old.log) }
     ensures unchanged { IfErr result (λ refusal. refusal ≡ NotDue → engine.new ≡ engine.old) }
+    ensures due { begins ≡ true → result ≡ Err NotDue → HasNoneDue engine.old }
 {
     taken_items_stay::<D>();
     let position = engine.durable();
@@ -89,7 +89,6 @@ fn flush_or_sync<D: Disk>(engine: &mut Engine<D>) -> Result<Progress, Refusal>
     ensures base { engine.old.checkpoint.base.position ≤ engine.new.checkpoint.base.position }
     ensures works { engine.old.halted ≡ None → OnOk result (engine.new.halted ≡ None) }
     ensures progress { IfOk result (λ progress. progress ≡ progress_of (due_in engine.old.checkpoint.stage)) }
-    ensures unchanged { IfErr result (λ refusal. refusal ≡ NotDue → engine.new ≡ engine.old) }
 {
     taken_items_stay::<D>();
     // Tells the proof what holds of the engine.
@@ -118,7 +117,6 @@ fn take_on<D: Disk, R: Wait>(rt: &R, desk: Desk<D>) -> (Desk<D>, Result<Progress
     ensures rises { durable_of desk.engine.log ≤ durable_of result.0.engine.log }
     ensures common { common_of_desk result.0 ≡ common_of_desk desk }
     ensures progress { IfOk result.1 (λ progress. progress ≡ progress_of (due_in desk.engine.checkpoint.stage)) }
-    ensures unchanged { IfErr result.1 (λ refusal. refusal ≡ NotDue → result.0 ≡ desk) }
 {
     let mut desk = desk;
     let progress = match flush_or_sync(desk.engine.get_mut()) {
@@ -174,7 +172,6 @@ fn step_on<D: Disk, R: Wait>(rt: &R, desk: Desk<D>) -> (Desk<D>, Result<Progress
     ensures common { common_of_desk result.0 ≡ common_of_desk desk }
     ensures progress { IfOk result.1 (λ progress. progress ≡ progress_of (due_in desk.engine.checkpoint.stage)) }
     ensures pruned { (s : Start D) → (items : List Entry) → AtWork D.honest D.history D.failures s items desk → IfOk result.1 (λ progress. progress ≡ Progress.Ended → IsPruned s result.0) }
-    ensures unchanged { IfErr result.1 (λ refusal. refusal ≡ NotDue → result.0 ≡ desk) }
 {
     let (desk, done) = take_on(rt, desk);
     match done {
@@ -197,50 +194,11 @@ enum Outcome {
 }
 
 impl<D: Disk> Node<D> {
-    /// Puts the engine back, where the node goes on; else the node is halted, and the engine given up. It goes on after a success, and after
-    /// a refusal with `NotDue`: whoever is not refused with `Stopped` has given nothing up.
-    fn put_back<T: Drop>(
-        &self,
-        seat: &mut LockSeat<D>,
-        desk: Desk<D>,
-        done: Result<T, Refusal>,
-    ) -> Result<T, Refusal>
-        requires lock { seat.old.lock ≡ self.now }
-        requires side { HoldsSide seat.old.view 1 × Holds seat.old.view 1 × (except 1 seat.old.view.held ≡ []) }
-        requires sees { SeesLegal seat.old.view seat.old.view }
-        requires works { (done ≡ Err NotDue) ⊎ IsOk done → AtHome D.honest D.history D.failures seat.old.view.first 1 (turn_of 1 seat.old.view) 0 seat.old.view.seen seat.old.view.durable (Home.Desk desk) }
-        requires given { AtHome D.honest D.history D.failures seat.old.view.first 1 (turn_of 1 seat.old.view) 1 seat.old.view.seen seat.old.view.durable (Home.Desk desk) }
-        requires floor { floor_of 1 seat.old.view ≤ durable_of desk.engine.log }
-        requires common { Names seat.old.view (common_of_desk desk) }
-        ensures lock { seat.new.lock ≡ seat.old.lock }
-        ensures idle { WentIdle seat.old.view seat.new.view }
-        ensures same { OnOk result (result ≡ done) }
-        ensures backed { OnOk result (seat.new.view.backed ≡ durable_of desk.engine.log) }
-        ensures goes { result ≢ Err is_stopped → seat.new.view.given_up ≡ seat.old.view.given_up }
-        ensures refused { IfErr result (λ refusal. ((refusal ≡ NotDue) × (done ≡ Err NotDue)) ⊎ ((refusal ≡ is_stopped) × (seat.new.view.halted ≡ 1))) }
-    {
-        match done {
-            Ok(value) => {
-                self.lock.side_leave(seat, 1, Home::Desk(desk));
-                Ok(value)
-            }
-            Err(Refusal::NotDue) => {
-                self.lock.side_leave(seat, 1, Home::Desk(desk));
-                Err(Refusal::NotDue)
-            }
-            Err(_) => {
-                self.changes.halt(&self.lock, seat);
-                self.lock.give_up(seat, 1, Home::Desk(desk));
-                Err(Refusal::Stopped)
-            }
-        }
-    }
-
     /// The step of a checkpoint that asks for the certifier: it begins, or makes its next write. Where it begins, it does so at what is
     /// durable, which it says: no less than the seat had seen durable.
     ///
-    /// Refuses with `NotDue` where the other is due, or neither, or where the base stands at what is durable. Refuses with `Stopped` where
-    /// the node was halted, which it does itself where the device fails, or where there is no memory.
+    /// Refuses with `NotDue` only where the other is due, or neither, or where the base stands at what is durable. Refuses with `Stopped`
+    /// where the node was halted, which it does itself where the device fails, or where there is no memory.
     fn check_once<R: Wait>(
         &self,
         rt: &R,
@@ -253,7 +211,8 @@ impl<D: Disk> Node<D> {
         ensures lock { seat.new.lock ≡ seat.old.lock }
         ensures idle { WentIdle seat.old.view seat.new.view }
         ensures position { IfOk result (λ position. seat.old.view.durable ≤ position) }
-        ensures goes { result ≢ Err is_stopped → seat.new.view.given_up ≡ seat.old.view.given_up }
+        ensures goes { result ≢ Err is_stopped → (seat.new.view.halted ≡ 0) × (seat.new.view.given_up ≡ seat.old.view.given_up) }
+        ensures due { begins ≡ true → result ≡ Err NotDue → (s : Start D) → seat.old.view.first ≡ values_of s → FoundNoneDue D.honest D.history D.failures s seat.new.view }
         ensures refused { IfErr result (λ refusal. (refusal ≡ NotDue) ⊎ ((refusal ≡ is_stopped) × (seat.new.view.halted ≡ 1))) }
     {
         let certifier = certifier_of(self.lock.side_enter(rt, seat, 0)?);
@@ -267,7 +226,20 @@ impl<D: Disk> Node<D> {
         let mut desk = desk_of(home);
         let done = check(desk.engine.get_mut(), &certifier, begins);
         self.lock.side_leave(seat, 0, Home::Certifier(certifier));
-        self.put_back(seat, desk, done)
+        match done {
+            Ok(position) => {
+                self.leave_desk(seat, desk);
+                Ok(position)
+            }
+            Err(Refusal::NotDue) => {
+                self.leave_desk(seat, desk);
+                Err(Refusal::NotDue)
+            }
+            Err(_) => {
+                self.give_desk_up(seat, desk);
+                Err(Refusal::Stopped)
+            }
+        }
     }
 
     /// The step that the checkpoint under way waits for, where that asks for no certifier. Where none is under way, it says where the base
@@ -282,24 +254,29 @@ impl<D: Disk> Node<D> {
         ensures lock { seat.new.lock ≡ seat.old.lock }
         ensures idle { WentIdle seat.old.view seat.new.view }
         ensures ended { IfOk result (Tells seat.old.view.first seat.new.view) }
-        ensures goes { result ≢ Err is_stopped → seat.new.view.given_up ≡ seat.old.view.given_up }
-        ensures refused { IfErr result (λ refusal. (refusal ≡ NotDue) ⊎ ((refusal ≡ is_stopped) × (seat.new.view.halted ≡ 1))) }
+        ensures goes { OnOk result ((seat.new.view.halted ≡ 0) × (seat.new.view.given_up ≡ seat.old.view.given_up)) }
+        ensures refused { IfErr result (λ refusal. (refusal ≡ is_stopped) × (seat.new.view.halted ≡ 1)) }
     {
-        let desk = desk_of(self.lock.side_enter(rt, seat, 1)?);
+        let desk = self.enter_desk(rt, seat)?;
         let (desk, done) = step_on(rt, desk);
         let durable = desk.engine.get().durable();
         let checked = Checked {
             base: desk.engine.get().base(),
             told: desk.publisher.tell(),
         };
-        match self.put_back(seat, desk, done)? {
+        let progress = match done {
+            Ok(progress) => progress,
+            Err(_) => {
+                self.give_desk_up(seat, desk);
+                return Err(Refusal::Stopped);
+            }
+        };
+        self.leave_desk(seat, desk);
+        self.tell_durable(seat, durable)?;
+        match progress {
             Progress::Goes => Ok(Outcome::Goes),
             Progress::ForCertifier => Ok(Outcome::ForCertifier),
-            Progress::Ended => {
-                self.changes.raise(&self.lock, seat, durable);
-                self.wait_durable(rt, seat, durable)?;
-                Ok(Outcome::Ended(checked))
-            }
+            Progress::Ended => Ok(Outcome::Ended(checked)),
         }
     }
 
@@ -318,8 +295,8 @@ impl<D: Disk> Node<D> {
         ensures lock { seat.new.lock ≡ seat.old.lock }
         ensures idle { WentIdle seat.old.view seat.new.view }
         ensures ended { IfOk result (λ checked. (position ≤ checked.base) × EndsAt seat.old.view.first seat.new.view checked) }
-        ensures goes { result ≢ Err is_stopped → seat.new.view.given_up ≡ seat.old.view.given_up }
-        ensures refused { IfErr result (λ refusal. (refusal ≡ NotDue) ⊎ ((refusal ≡ is_stopped) × (seat.new.view.halted ≡ 1))) }
+        ensures goes { OnOk result ((seat.new.view.halted ≡ 0) × (seat.new.view.given_up ≡ seat.old.view.given_up)) }
+        ensures refused { IfErr result (λ refusal. (refusal ≡ is_stopped) × (seat.new.view.halted ≡ 1)) }
     {
         for _ in rt.forever() {
             match self.go_on(rt, seat)? {
@@ -343,9 +320,9 @@ impl<D: Disk> Node<D> {
     /// readers who learn what they may be told find no snapshot below the base any more, and each from there on still. The certifier is held
     /// where the checkpoint begins and for the few writes behind its pages; else items are judged and queued beside it.
     ///
-    /// Refuses with `NotDue` where a checkpoint is under way, or the base stands at what is durable: nothing was given up, and the node goes on.
-    /// Refuses with `Stopped` where the node was halted, which it does itself where the device fails, where a page of the base is not of its
-    /// form, or where there is no memory.
+    /// Refuses with `NotDue` only where a checkpoint is under way, or the base stands at what is durable: nothing was given up, and the node
+    /// goes on. Refuses with `Stopped` where the node was halted, which it does itself where the device fails, where a page of the base is not
+    /// of its form, or where there is no memory. Who is not refused with `Stopped` knows of no halt.
     ///
     /// It is not promised that it returns.
     pub fn check_run<R: Wait>(&self, rt: &R, seat: &mut Seat<D>) -> Result<Checked, Refusal>
@@ -353,7 +330,8 @@ impl<D: Disk> Node<D> {
         ensures lock { seat.new.lock ≡ seat.old.lock }
         ensures idle { WentIdle seat.old.view seat.new.view }
         ensures checked { IfOk result (λ checked. IsChecked seat.old.view seat.new.view checked) }
-        ensures goes { result ≢ Err is_stopped → seat.new.view.given_up ≡ seat.old.view.given_up }
+        ensures goes { result ≢ Err is_stopped → (seat.new.view.halted ≡ 0) × (seat.new.view.given_up ≡ seat.old.view.given_up) }
+        ensures due { result ≡ Err NotDue → (s : Start D) → seat.old.view.first ≡ values_of s → FoundNoneDue D.honest D.history D.failures s seat.new.view }
         ensures refused { IfErr result (λ refusal. (refusal ≡ NotDue) ⊎ ((refusal ≡ is_stopped) × (seat.new.view.halted ≡ 1))) }
     {
         let position = self.check_once(rt, &mut seat.seat, true)?;

@@ -8,7 +8,6 @@ ghost use Rattle.rep_replica.specs.Settling.{is_quiet, IsRunning};
 ghost use Rattle.rep_engine.specs.Engines.{durable_of};
 ghost use Rattle.rep_ordered.specs.Views.{HasAll, opened};
 ghost use Rattle.rep_node.specs.Homes.{Start, IsLegal, durable_in, common_in, values_of};
-ghost use Rattle.rep_node.specs.Seats.{PassedOrStopped};
 ghost use Rattle.rep_node.specs.Ending.{AreParts, StartsFrom, StartsFromParts, EndsAs};
 ghost use Rattle.rep_node.specs.Reading.{AreParams};
 
@@ -206,7 +205,7 @@ fn start_from<D: Disk, R: Wait>(
                 allowance: MAX_SEQNO - position,
             };
             let readers = with_params(readers, &params, kept);
-            let changes = Changes::new(position);
+            let changes = Changes::new();
             Ok((Node { lock, changes }, seat, readers))
         }
         Err(Refused { values }) => {
@@ -261,7 +260,6 @@ impl<D: Disk> Node<D> {
     pub fn close<R: Wait>(self, rt: &R, seat: Seat<D>) -> Replica<D>
         requires lock { seat.lock ≡ self }
         requires all { HasAll seat.view }
-        requires passed { PassedOrStopped seat.view }
         ensures stopped { (IsTrue result.stopped → seat.view.halted ≡ 1) × (IsFalse result.stopped → seat.view.halted ≡ 0) }
         ensures legal { IsLegal seat.view.first seat.view.seen }
         ensures ends { EndsAs D.honest D.history D.failures seat.view result }

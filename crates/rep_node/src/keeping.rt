@@ -6,13 +6,13 @@ ghost use Rattle.rep_types.specs.declared.refusal.Refusal.TheVariants.{LogFull, 
 ghost use Rattle.rep_cert.specs.Holdings.{Holding};
 ghost use Rattle.rep_engine.specs.Engines.{Engine as Contents, durable_of};
 ghost use Rattle.rep_stations.specs.Taking.{HasTaken};
-ghost use Rattle.rep_node.specs.Homes.{Start, DeskAt};
+ghost use Rattle.rep_node.specs.Homes.{Start, DeskAt, values_of};
 ghost use Rattle.rep_node.specs.Seats.{IsSeat, WentIdle};
-ghost use Rattle.rep_node.specs.Keeping.{AtWork, AreAtWork, HasStepped, IsKept, common_of_desk};
+ghost use Rattle.rep_node.specs.Keeping.{AtDesk, AtWork, AreAtWork, FoundFull, HasStepped, HasWorked, IsFull, IsKept, common_of_desk};
 
 use crate::home::{Desk, Home, Queue};
 use crate::node::{LockSeat, Node};
-use crate::parts::{desk_of, queue_of};
+use crate::parts::queue_of;
 use crate::publishing::{publish_upto, wait_for};
 use crate::seat::Seat;
 use crossbeam_utils::Backoff;
@@ -43,6 +43,7 @@ fn accept<D: Disk>(desk: &mut Desk<D>, queue: &mut Queue) -> Result<(), Refusal>
     ensures durable { OnOk result (durable_of desk.new.engine.log ≡ durable_of desk.old.engine.log) }
     ensures rises { queue.old.accepted ≤ queue.new.accepted }
     ensures unchanged { OnErr result ((desk.new.engine ≡ desk.old.engine) × (desk.new.publisher ≡ desk.old.publisher) × (queue.new ≡ queue.old)) }
+    ensures refused { IfErr result (λ refusal. (refusal ≡ is_stopped) ⊎ (refusal ≡ OutOfMemory)) }
 {
     histories_go_on();
     taken_items_stay::<D>();
@@ -59,14 +60,14 @@ fn accept<D: Disk>(desk: &mut Desk<D>, queue: &mut Queue) -> Result<(), Refusal>
 
 /// The step that the log waits for: its next write, where there is something to write, or a sync.
 ///
-/// Refuses with `LogFull` where the log's next cell is still needed: the engine is then as it was; and with `DiskFault` where the device
-/// failed.
+/// Refuses with `LogFull` only where the log's next cell is still needed: the engine is then as it was; and with `DiskFault` where the
+/// device failed.
 fn write_or_sync<D: Disk>(engine: &mut Engine<D>) -> Result<(), Refusal>
     ensures taken { (first : Contents D) → (c : Holding) → (items : List Entry) → HasTaken D.honest D.history D.failures first c items engine.old → HasTaken D.honest D.history D.failures first c items engine.new }
     ensures rises { durable_of engine.old.log ≤ durable_of engine.new.log }
     ensures base { engine.old.checkpoint.base.position ≤ engine.new.checkpoint.base.position }
     ensures works { engine.old.halted ≡ None → OnOk result (engine.new.halted ≡ None) }
-    ensures full { IfErr result (λ refusal. refusal ≡ LogFull → engine.new ≡ engine.old) }
+    ensures full { IfErr result (λ refusal. refusal ≡ LogFull → (engine.new ≡ engine.old) × IsFull D.failures engine.old) }
 {
     taken_items_stay::<D>();
     // Tells the proof what holds of the engine.
@@ -119,7 +120,7 @@ fn advance<D: Disk, R: Wait>(rt: &R, desk: Desk<D>) -> (Desk<D>, Result<(), Refu
     ensures given { (s : Start D) → (items : List Entry) → AtWork D.honest D.history D.failures s items desk → DeskAt D.honest D.history D.failures s 1 items result.0 }
     ensures rises { durable_of desk.engine.log ≤ durable_of result.0.engine.log }
     ensures common { common_of_desk result.0 ≡ common_of_desk desk }
-    ensures full { IfErr result.1 (λ refusal. refusal ≡ LogFull → result.0 ≡ desk) }
+    ensures full { IfErr result.1 (λ refusal. refusal ≡ LogFull → (result.0 ≡ desk) × IsFull D.failures desk.engine) }
 {
     let mut desk = desk;
     if let Err(refusal) = write_or_sync(desk.engine.get_mut()) {
@@ -128,40 +129,72 @@ fn advance<D: Disk, R: Wait>(rt: &R, desk: Desk<D>) -> (Desk<D>, Result<(), Refu
     publish_durable(rt, desk)
 }
 
+/// Whether the engine gathers items for its next block.
+fn gathers<D: Disk>(engine: &Engine<D>) -> bool {
+    match engine.log_step() {
+        Step::Recycle | Step::Seal | Step::Full => true,
+        Step::Gate | Step::Sync => false,
+    }
+}
+
 impl<D: Disk> Node<D> {
-    /// Has the engine accept what comes next of the items that wait.
+    /// Has the engine, whose station the seat is in, accept what comes next of the items that wait.
     ///
-    /// Refuses with `Stopped` where the node was halted, which it does itself where there is no memory.
-    fn accept_next<R: Wait>(&self, rt: &R, seat: &mut LockSeat<D>) -> Result<(), Refusal>
+    /// Refuses with `Stopped` where the node was halted, and with `OutOfMemory` where there is no memory: the engine is then as it was, but is to be given up.
+    fn accept_next<R: Wait>(
+        &self,
+        rt: &R,
+        seat: &mut LockSeat<D>,
+        desk: Desk<D>,
+    ) -> (Desk<D>, Result<(), Refusal>)
         requires lock { seat.old.lock ≡ self.now }
-        requires seat { IsSeat D.honest D.history D.failures seat.old.view }
-        requires free { seat.old.view.held ≡ [] }
+        requires at { (v : _) × IsSeat D.honest D.history D.failures v × AtDesk D.honest D.history D.failures 0 v seat.old.view desk }
         ensures lock { seat.new.lock ≡ seat.old.lock }
-        ensures idle { WentIdle seat.old.view seat.new.view }
-        ensures goes { OnOk result (seat.new.view.given_up ≡ seat.old.view.given_up) }
-        ensures stopped { IfErr result (λ refusal. (refusal ≡ is_stopped) × (seat.new.view.halted ≡ 1)) }
+        ensures at { (v : _) → IsSeat D.honest D.history D.failures v → AtDesk D.honest D.history D.failures 0 v seat.old.view desk → OnOk result.1 (AtDesk D.honest D.history D.failures 0 v seat.new.view result.0) }
+        ensures given { (v : _) → IsSeat D.honest D.history D.failures v → AtDesk D.honest D.history D.failures 0 v seat.old.view desk → AtDesk D.honest D.history D.failures 1 v seat.new.view result.0 }
+        ensures runs { OnOk result.1 (seat.new.view.halted ≡ seat.old.view.halted) }
+        ensures refused { IfErr result.1 (λ refusal. refusal ≢ LogFull) }
     {
-        let mut desk = desk_of(self.lock.side_enter(rt, seat, 1)?);
+        let mut desk = desk;
         let home = match self.lock.side_enter(rt, seat, 2) {
             Ok(home) => home,
-            Err(refusal) => {
-                self.lock.side_leave(seat, 1, Home::Desk(desk));
-                return Err(refusal);
-            }
+            Err(refusal) => return (desk, Err(refusal)),
         };
         let mut queue = queue_of(home);
         let done = accept(&mut desk, &mut queue);
         self.lock.side_leave(seat, 2, Home::Queue(queue));
-        if done.is_err() {
-            self.changes.halt(&self.lock, seat);
-            self.lock.give_up(seat, 1, Home::Desk(desk));
-            return Err(Refusal::Stopped);
-        }
-        self.lock.side_leave(seat, 1, Home::Desk(desk));
-        Ok(())
+        (desk, done)
     }
 
-    /// The log's next step: a write, or a sync, after which what is durable is published. It says what is durable then.
+    /// A round at the engine, whose station the seat is in: it accepts what comes next, where it gathers, and the log makes its next step,
+    /// a write or a sync, after which what is durable is published.
+    ///
+    /// Refuses with `LogFull` where a checkpoint has to free the log's next cell: the engine is as it was then, but for what it accepted. Any
+    /// other refusal leaves an engine to be given up.
+    fn work_on<R: Wait>(
+        &self,
+        rt: &R,
+        seat: &mut LockSeat<D>,
+        desk: Desk<D>,
+    ) -> (Desk<D>, Result<(), Refusal>)
+        requires lock { seat.old.lock ≡ self.now }
+        requires at { (v : _) × IsSeat D.honest D.history D.failures v × AtDesk D.honest D.history D.failures 0 v seat.old.view desk }
+        ensures lock { seat.new.lock ≡ seat.old.lock }
+        ensures at { (v : _) → IsSeat D.honest D.history D.failures v → AtDesk D.honest D.history D.failures 0 v seat.old.view desk → HasWorked D.honest D.history D.failures v seat.new.view result.0 result.1 }
+        ensures runs { OnOk result.1 (seat.new.view.halted ≡ seat.old.view.halted) }
+        ensures stays { IfErr result.1 (λ refusal. refusal ≡ LogFull → seat.new.view.halted ≡ seat.old.view.halted) }
+    {
+        if !gathers(desk.engine.get()) {
+            return advance(rt, desk);
+        }
+        let (desk, accepted) = self.accept_next(rt, seat, desk);
+        match accepted {
+            Ok(()) => advance(rt, desk),
+            Err(refusal) => (desk, Err(refusal)),
+        }
+    }
+
+    /// A keeper's round. It says what is durable then, and what readers may be told.
     ///
     /// Refuses with `LogFull` where a checkpoint has to free the log's next cell: nothing was given up. Refuses with `Stopped` where the node
     /// was halted, which it does itself where the device fails, or where there is no memory.
@@ -172,27 +205,26 @@ impl<D: Disk> Node<D> {
         ensures lock { seat.new.lock ≡ seat.old.lock }
         ensures idle { WentIdle seat.old.view seat.new.view }
         ensures kept { IfOk result (IsKept seat.old.view seat.new.view) }
-        ensures goes { result ≢ Err is_stopped → seat.new.view.given_up ≡ seat.old.view.given_up }
+        ensures goes { result ≢ Err is_stopped → (seat.new.view.halted ≡ 0) × (seat.new.view.given_up ≡ seat.old.view.given_up) }
+        ensures full { result ≡ Err LogFull → (s : Start D) → seat.old.view.first ≡ values_of s → FoundFull D.honest D.history D.failures s seat.new.view }
         ensures refused { IfErr result (λ refusal. (refusal ≡ LogFull) ⊎ ((refusal ≡ is_stopped) × (seat.new.view.halted ≡ 1))) }
     {
-        let desk = desk_of(self.lock.side_enter(rt, seat, 1)?);
-        let (desk, done) = advance(rt, desk);
+        let desk = self.enter_desk(rt, seat)?;
+        let (desk, done) = self.work_on(rt, seat, desk);
         let durable = desk.engine.get().durable();
         let told = desk.publisher.tell();
         match done {
             Ok(()) => {
-                self.lock.side_leave(seat, 1, Home::Desk(desk));
-                self.changes.raise(&self.lock, seat, durable);
-                self.wait_durable(rt, seat, durable)?;
+                self.leave_desk(seat, desk);
+                self.tell_durable(seat, durable)?;
                 Ok(Kept { durable, told })
             }
             Err(Refusal::LogFull) => {
-                self.lock.side_leave(seat, 1, Home::Desk(desk));
+                self.leave_desk(seat, desk);
                 Err(Refusal::LogFull)
             }
             Err(_) => {
-                self.changes.halt(&self.lock, seat);
-                self.lock.give_up(seat, 1, Home::Desk(desk));
+                self.give_desk_up(seat, desk);
                 Err(Refusal::Stopped)
             }
         }
@@ -206,12 +238,12 @@ impl<D: Disk> Node<D> {
         ensures lock { seat.new.lock ≡ seat.old.lock }
         ensures idle { WentIdle seat.old.view seat.new.view }
         ensures kept { IfOk result (λ kept. (upto ≤ kept.durable) × IsKept seat.old.view seat.new.view kept) }
-        ensures goes { result ≢ Err is_stopped → seat.new.view.given_up ≡ seat.old.view.given_up }
+        ensures goes { result ≢ Err is_stopped → (seat.new.view.halted ≡ 0) × (seat.new.view.given_up ≡ seat.old.view.given_up) }
+        ensures full { result ≡ Err LogFull → (s : Start D) → seat.old.view.first ≡ values_of s → FoundFull D.honest D.history D.failures s seat.new.view }
         ensures refused { IfErr result (λ refusal. (refusal ≡ LogFull) ⊎ ((refusal ≡ is_stopped) × (seat.new.view.halted ≡ 1))) }
     {
         let backoff = Backoff::new();
         for _ in rt.forever() {
-            self.accept_next(rt, seat)?;
             let kept = self.keep_once(rt, seat)?;
             if kept.durable >= upto {
                 return Ok(kept);
@@ -225,8 +257,9 @@ impl<D: Disk> Node<D> {
     ///
     /// Each durable item is published, with what it wrote, which is nothing unless it committed.
     ///
-    /// Refuses with `LogFull` where a checkpoint has to free the log's next cell: nothing was given up, the node goes on, and `check_run` frees
-    /// the cell. Refuses with `Stopped` where the node was halted, which it does itself where the device fails, or where there is no memory.
+    /// Refuses with `LogFull` only where the log's next cell is still needed, so that a checkpoint has to free it: nothing was given up, the
+    /// node goes on, and `check_run` frees the cell. Refuses with `Stopped` where the node was halted, which it does itself where the device
+    /// fails, or where there is no memory. Who is not refused with `Stopped` knows of no halt.
     ///
     /// It is not promised that it returns: somebody has to hand items in up to there.
     pub fn keep<R: Wait>(&self, rt: &R, seat: &mut Seat<D>, upto: u64) -> Result<Kept, Refusal>
@@ -234,7 +267,8 @@ impl<D: Disk> Node<D> {
         ensures lock { seat.new.lock ≡ seat.old.lock }
         ensures idle { WentIdle seat.old.view seat.new.view }
         ensures kept { IfOk result (λ kept. (upto ≤ kept.durable) × IsKept seat.old.view seat.new.view kept) }
-        ensures goes { result ≢ Err is_stopped → seat.new.view.given_up ≡ seat.old.view.given_up }
+        ensures goes { result ≢ Err is_stopped → (seat.new.view.halted ≡ 0) × (seat.new.view.given_up ≡ seat.old.view.given_up) }
+        ensures full { result ≡ Err LogFull → (s : Start D) → seat.old.view.first ≡ values_of s → FoundFull D.honest D.history D.failures s seat.new.view }
         ensures refused { IfErr result (λ refusal. (refusal ≡ LogFull) ⊎ ((refusal ≡ is_stopped) × (seat.new.view.halted ≡ 1))) }
     {
         self.keep_upto(rt, &mut seat.seat, upto)

@@ -6,6 +6,7 @@ mod batch;
 mod beside;
 mod changes;
 mod checking;
+mod desk;
 mod ends;
 mod home;
 mod keeping;

@@ -1,7 +1,8 @@
 //! The node.
 
-ghost use Rattle.std.specs.Prelude.{◌≡◌, ◌≤◌, IfOk, IfErr, IsTrue, ◌↔◌};
-ghost use Rattle.rep_ordered.specs.Views.{Later};
+ghost use Rattle.std.specs.Prelude.{◌≡◌, ◌≤◌, IfOk, IfErr, OnOk, IsTrue, ◌↔◌};
+ghost use Rattle.rep_types.specs.declared.limits.TheConstants.{MAX_SEQNO};
+ghost use Rattle.rep_ordered.specs.Views.{HasAll, Later};
 ghost use Rattle.rep_node.specs.Seats.{SeesLegal};
 
 use crate::changes::Changes;
@@ -49,6 +50,26 @@ impl<D: Disk> Model for Node<D> {
 }
 
 impl<D: Disk> Node<D> {
+    /// Tells all who wait that items are durable up to this seqno, which the seat has seen so at the engine.
+    ///
+    /// Refuses with `Stopped` where the node was halted.
+    pub(crate) fn tell_durable(&self, seat: &mut LockSeat<D>, durable: u64) -> Result<(), Refusal>
+        requires lock { seat.old.lock ≡ self.now }
+        requires saw { (durable ≤ seat.old.view.backed) × (durable ≤ MAX_SEQNO) }
+        ensures lock { seat.new.lock ≡ seat.old.lock }
+        ensures later { Later seat.old.view seat.new.view }
+        ensures sees { SeesLegal seat.old.view seat.new.view }
+        ensures durable { OnOk result (durable ≤ seat.new.view.durable) }
+        ensures runs { OnOk result (seat.new.view.halted ≡ 0) }
+        ensures stopped { IfErr result (λ refusal. (refusal ≡ Refusal.Stopped) × (seat.new.view.halted ≡ 1)) }
+        ensures last { HasAll seat.old.view → seat.new.view.halted ≡ seat.old.view.halted }
+    {
+        if self.changes.raise(&self.lock, seat, durable).halted {
+            return Err(Refusal::Stopped);
+        }
+        Ok(())
+    }
+
     /// Waits until so many items are durable, and says how many are.
     ///
     /// Refuses with `Stopped` where the node was halted. It is not promised that it returns.
@@ -63,6 +84,7 @@ impl<D: Disk> Node<D> {
         ensures later { Later seat.old.view seat.new.view }
         ensures sees { SeesLegal seat.old.view seat.new.view }
         ensures durable { IfOk result (λ durable. (least ≤ durable) × (durable ≡ seat.new.view.durable)) }
+        ensures runs { IfOk result (λ _. seat.new.view.halted ≡ 0) }
         ensures stopped { IfErr result (λ refusal. (refusal ≡ Refusal.Stopped) × (seat.new.view.halted ≡ 1)) }
     {
         let backoff = Backoff::new();

@@ -58,6 +58,7 @@ pub(crate) fn publish_upto<R: Wait>(
     requires within { upto ≤ publisher.start + length (published publisher.list ++ waiting.old) }
     ensures same { (result.0.book ≡ publisher.book) × (result.0.basis ≡ publisher.basis) × (result.0.start ≡ publisher.start) }
     ensures whole { published result.0.list ++ waiting.new ≡ published publisher.list ++ waiting.old }
+    ensures behind { publisher.start + length (published result.0.list) ≤ upto }
     ensures oldest { oldest_of publisher.start result.0.list ≡ oldest_of publisher.start publisher.list }
     ensures shown { OnOk result.1 (publisher.start + length (published result.0.list) ≡ upto) }
     ensures refused { IfErr result.1 (λ refusal. refusal ≡ OutOfMemory) }

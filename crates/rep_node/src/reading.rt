@@ -3,7 +3,7 @@
 ghost use Rattle.std.specs.Prelude.{◌≡◌, ◌≢◌, ◌⊎◌, ◌↔◌, ℕ, ◌∷◌, [], List, true, false, None, Err, IsSome, IfOk, IfErr};
 ghost use mathlib.Core.List.{IsPrefix};
 ghost use Rattle.rep_types.specs.declared.judged.Judged.{Judged as Entry};
-ghost use Rattle.rep_types.specs.declared.refusal.Refusal.TheVariants.{BadKey, DiskFault};
+ghost use Rattle.rep_types.specs.declared.refusal.Refusal.TheVariants.{BadKey, DiskFault, Stopped as is_stopped};
 ghost use Rattle.rep_types.specs.Settings.{has_row};
 ghost use Rattle.rep_cert.specs.Holdings.{Holding, Holdings};
 ghost use Rattle.rep_steps.specs.declared.event.Event.TheVariants.{Read};
@@ -14,15 +14,13 @@ ghost use Rattle.rep_snap.specs.Views.{Watching, longer};
 ghost use Rattle.rep_snap.specs.Looks.{IsPeek, IsFront};
 ghost use Rattle.rep_snap.specs.Doors.{FoundShut};
 ghost use Rattle.rep_stations.specs.Taking.{HasTaken};
-ghost use Rattle.rep_ordered.specs.Views.{Later};
+ghost use Rattle.rep_ordered.specs.Views.{HasAll};
 ghost use Rattle.rep_node.specs.Homes.{Start, values_of};
-ghost use Rattle.rep_node.specs.Seats.{IsSeat, WentIdle};
+ghost use Rattle.rep_node.specs.Seats.{IsSeat, PassedOrStopped, WentIdle};
 ghost use Rattle.rep_node.specs.Reading.{allowed, AsksEngine, EngineRefuses, IsReaderOf, IsRowAt, IsRowOf, Reads, Refuses, RefusesAsked};
 
-use crate::home::{Desk, Home};
 use crate::node::{LockSeat, Node};
 use crate::origin::Origin;
-use crate::parts::desk_of;
 use crate::seat::Seat;
 use rep_disk::Disk;
 use rep_engine::Engine;
@@ -123,23 +121,15 @@ fn look_up<D: Disk>(engine: &mut Engine<D>, key: Key, at: u64) -> Result<Option<
 impl<D: Disk> Seat<D> {
     /// Tells the proof what holds of every seat.
     pub(crate) fn is_one(&self)
-        ensures { IsSeat D.honest D.history D.failures self.now.view }
+        ensures seat { IsSeat D.honest D.history D.failures self.now.view }
+        ensures idle { WentIdle self.now.view self.now.view }
+        ensures passed { PassedOrStopped self.now.view }
     {
         let _seat = &self.seat;
     }
 }
 
 impl<D: Disk> Node<D> {
-    /// The seat looks how far the history has come, and what is durable. It waits for nobody.
-    fn look(&self, seat: &mut Seat<D>)
-        requires { seat.old.lock ≡ self.now }
-        ensures lock { seat.new.lock ≡ seat.old.lock }
-        ensures later { Later seat.old.view seat.new.view }
-        ensures idle { WentIdle seat.old.view seat.new.view }
-    {
-        self.lock.front(&mut seat.seat);
-    }
-
     /// What the engine says that stands under the key in the state after so many items, if anything does.
     ///
     /// Refuses with `Stopped` where the node was halted; with `NotYet` above what is durable; with `TooOld` below the base; with `DiskFault`
@@ -160,16 +150,18 @@ impl<D: Disk> Node<D> {
         ensures asked { AsksEngine D.honest D.history D.failures seat.old.view seat.new.view key at result }
         ensures row { IfOk result (λ row. (s : Start D) → seat.old.view.first ≡ values_of s → (r : Watching Origin) → IsRowOf D.honest D.history D.failures s seat.new.view r key at row) }
         ensures refused { IfErr result (RefusesAsked D.honest D.history D.failures seat.old.view seat.new.view key at) }
+        ensures goes { result ≢ Err DiskFault → seat.new.view.given_up ≡ seat.old.view.given_up }
+        ensures runs { result ≢ Err DiskFault → result ≢ Err is_stopped → seat.new.view.halted ≡ seat.old.view.halted }
+        ensures last { HasAll seat.old.view → result ≢ Err DiskFault → seat.new.view.halted ≡ seat.old.view.halted }
     {
         histories_go_on();
-        let mut desk = desk_of(self.lock.side_enter(rt, seat, 1)?);
+        let mut desk = self.enter_desk(rt, seat)?;
         let row = look_up(desk.engine.get_mut(), key, at);
         if desk.engine.get().is_stopped() {
-            self.changes.halt(&self.lock, seat);
-            self.lock.give_up(seat, 1, Home::Desk(desk));
+            self.give_desk_up(seat, desk);
             return row;
         }
-        self.lock.side_leave(seat, 1, Home::Desk(desk));
+        self.leave_desk(seat, desk);
         row
     }
 
@@ -181,6 +173,8 @@ impl<D: Disk> Node<D> {
     /// it is refused with `Stopped` where the node was halted; with `NotYet` and what is durable where that is below the position; with
     /// `TooOld` and the base where that moved above the position meanwhile; with `DiskFault` where the device failed, and then the node is
     /// halted; and with `Corrupt` of the pages where the page that is read is not of its form, which does not happen on an honest device.
+    ///
+    /// It does not halt the node but where the device failed, and where the engine is not asked the seat is as it was.
     ///
     /// It takes no memory. It is not promised that it returns where the engine is asked.
     pub fn read<R: Wait, W: Door<Origin> + Drop>(
@@ -201,6 +195,9 @@ impl<D: Disk> Node<D> {
         ensures reads { Reads D.honest D.history D.failures seat.old.view seat.new.view key at (FoundShut W.knows W.shut) reader result.0 result.1 }
         ensures row { IfOk result.1 (λ row. (s : Start D) → seat.old.view.first ≡ values_of s → IsRowOf D.honest D.history D.failures s seat.new.view result.0 key at row) }
         ensures refused { IfErr result.1 (Refuses D.honest D.history D.failures seat.old.view seat.new.view key at (FoundShut W.knows W.shut) reader result.0) }
+        ensures goes { result.1 ≢ Err DiskFault → seat.new.view.given_up ≡ seat.old.view.given_up }
+        ensures runs { result.1 ≢ Err DiskFault → result.1 ≢ Err is_stopped → seat.new.view.halted ≡ seat.old.view.halted }
+        ensures last { HasAll seat.old.view → result.1 ≢ Err DiskFault → seat.new.view.halted ≡ seat.old.view.halted }
     {
         peeks_follow_the_fold();
         versions_follow_the_items();
@@ -213,18 +210,9 @@ impl<D: Disk> Node<D> {
                 let row = self.ask(rt, &mut seat.seat, key, at);
                 (reader, row)
             }
-            Ok(Peek::Value(value)) => {
-                self.look(seat);
-                (reader, Ok(Some(value)))
-            }
-            Ok(Peek::Absent) => {
-                self.look(seat);
-                (reader, Ok(None))
-            }
-            Err(refusal) => {
-                self.look(seat);
-                (reader, Err(refusal))
-            }
+            Ok(Peek::Value(value)) => (reader, Ok(Some(value))),
+            Ok(Peek::Absent) => (reader, Ok(None)),
+            Err(refusal) => (reader, Err(refusal)),
         }
     }
 }

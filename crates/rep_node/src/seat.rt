@@ -1,11 +1,11 @@
 //! The seats of a node.
 
-ghost use Rattle.std.specs.Prelude.{◌≡◌, ◌<◌, ◌≤◌, [], max};
+ghost use Rattle.std.specs.Prelude.{◌≡◌, ◌<◌, ◌≤◌, ◌↔◌, IsTrue, max};
 ghost use Rattle.rep_ordered.specs.Seats.{seat_of};
 ghost use Rattle.rep_ordered.specs.Steps.{Learns};
-ghost use Rattle.rep_ordered.specs.Views.{HasAll, Later, both, given, giving};
+ghost use Rattle.rep_ordered.specs.Views.{Later, both, given, giving};
 ghost use Rattle.rep_node.specs.Homes.{IsLegal};
-ghost use Rattle.rep_node.specs.Seats.{SeesLegal};
+ghost use Rattle.rep_node.specs.Seats.{SeesLegal, WentIdle};
 
 use crate::home::Home;
 use crate::node::{LockSeat, Node};
@@ -22,13 +22,12 @@ pub struct Seat<D: Disk> {
 }
 
 impl<D: Disk> Model for Seat<D> {
-    ghost use Rattle.std.specs.Prelude.{◌≡◌, ◌≤◌, []};
     ghost use Rattle.rep_types.specs.declared.judged.Judged.{Judged};
     ghost use Rattle.rep_ordered.specs.Seats.{Place};
     ghost use Rattle.rep_node.specs.declared.home.Home.{Home};
     ghost use Rattle.std.specs.Coded.{codes};
     ghost use Rattle.rep_engine.specs.Engines.{engine_code};
-    ghost use Rattle.rep_node.specs.Seats.{IsSeat};
+    ghost use Rattle.rep_node.specs.Seats.{Rests};
 
     ghost Value = { Place (Home D) Judged };
 
@@ -36,7 +35,7 @@ impl<D: Disk> Model for Seat<D> {
 
     ghost view = { λ s. s.seat };
 
-    ghost invariant = { λ s. IsSeat D.honest D.history D.failures s.seat.view × (s.seat.view.held ≡ []) × (s.allowance ≤ s.seat.view.allowance) × (s.seat.view.halted ≡ 0 → s.allowance ≡ s.seat.view.allowance) };
+    ghost invariant = { λ s. Rests D.honest D.history D.failures s.seat.view s.allowance };
 }
 
 impl<D: Disk> Node<D> {
@@ -60,15 +59,14 @@ impl<D: Disk> Node<D> {
     }
 
     /// Takes in another seat of the node. The seat then may draw what both might, has drawn what both had, no seqno twice, and has seen at
-    /// least what both had: the whole history, which is legal. Where it then has all the seqnos, it learns of no halt that neither of the
-    /// two knew.
+    /// least what both had: the whole history, which is legal. It learns of no halt that neither of the two knew.
     ///
     /// It takes no memory and does not wait.
     pub fn join(&self, seat: &mut Seat<D>, other: Seat<D>)
         requires lock { (seat.old.lock ≡ self.now) × (other.lock ≡ self.now) }
         ensures lock { seat.new.lock ≡ seat.old.lock }
         ensures joined { Learns (IsLegal seat.old.view.first) other.view.seen (both seat.old.view other.view) seat.new.view }
-        ensures last { HasAll (both seat.old.view other.view) → seat.new.view.halted ≡ max seat.old.view.halted other.view.halted }
+        ensures halted { seat.new.view.halted ≡ max seat.old.view.halted other.view.halted }
     {
         let Seat {
             seat: other,
@@ -88,5 +86,17 @@ impl<D: Disk> Node<D> {
         ensures halted { seat.new.view.halted ≡ 1 }
     {
         self.changes.halt(&self.lock, &mut seat.seat);
+    }
+
+    /// Whether the node was halted.
+    pub(crate) fn is_halted(&self, seat: &mut Seat<D>) -> bool
+        requires { seat.old.lock ≡ self.now }
+        ensures lock { seat.new.lock ≡ seat.old.lock }
+        ensures later { Later seat.old.view seat.new.view }
+        ensures idle { WentIdle seat.old.view seat.new.view }
+        ensures halted { IsTrue result ↔ (seat.new.view.halted ≡ 1) }
+        ensures one_bit { seat.new.view.halted ≤ 1 }
+    {
+        self.lock.front(&mut seat.seat).halted
     }
 }

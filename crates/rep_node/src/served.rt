@@ -5,6 +5,7 @@ ghost use Rattle.uuid.specs.Parts.{is_nil_bytes};
 ghost use Rattle.rep_types.specs.declared.refusal.Refusal.TheVariants.{Stopped as is_stopped};
 ghost use Rattle.rep_replica.specs.Replicas.{facts_of};
 ghost use Rattle.rep_replica.specs.Settling.{is_quiet, IsRunning};
+ghost use Rattle.rep_node.specs.Batches.{AreLetOn};
 ghost use Rattle.rep_node.specs.Served.{EndedFor, IsServed};
 
 use crate::batch::Batch;
@@ -22,7 +23,7 @@ use std::thread::Threads;
 /// keeper beside, and closes the node. The replica comes back beside what came of the batch.
 ///
 /// The history of the node is legal behind what the replica held, and each receipt is of an item of it. Where the batch has no end, the
-/// history is the batch's items in the order of the receipts. Unless it was stopped, the replica stands for its order with the history
+/// history is the batch's items in the order of the receipts, which is that of the seqnos. Unless it was stopped, the replica stands for its order with the history
 /// at its end; and stopped or not, each image that a crash may leave of its device stands for a front of that order with all receipts.
 ///
 /// The end is `Stopped` where the replica was stopped, or the node was halted, as it is where the device fails or the pace says no: then
@@ -42,6 +43,7 @@ pub fn serve_batch<D: Disk + Send, R: Threads + Wait + Sync, P: Pace + Sync>(
     requires workers { (0 < workers) × (workers ≤ 64) }
     ensures stopped { (replica.stopped || is_some replica.engine.halted) ≡ true → (result.0 ≡ replica) × (result.1.receipts.items ≡ []) × (result.1.end ≡ Some is_stopped) }
     ensures served { IsRunning replica → IsServed D.honest D.history D.failures replica items.now result.0 result.1.receipts.items result.1.end }
+    ensures paced { AreLetOn (P.lets pace.now) result.1.receipts.items }
     ensures ended { IfSome result.1.end (EndedFor replica (length items.now) result.0 result.1.receipts.items) }
 {
     histories_lie_between_replicas::<D>();
@@ -49,6 +51,7 @@ pub fn serve_batch<D: Disk + Send, R: Threads + Wait + Sync, P: Pace + Sync>(
     if replica.is_stopped() {
         return (replica, Batch::refused(alloc, Refusal::Stopped));
     }
+    // Tells the proof what holds of the replica.
     let _position = replica.durable();
     let (node, mut seat, _readers) = match Node::start(alloc, rt, replica, 1) {
         Ok(made) => made,

@@ -1,13 +1,9 @@
 //! Items that are handed in together, with a keeper beside.
 
-ghost use Rattle.std.specs.Prelude.{◌≡◌, ◌⊎◌, ◌+◌, ◌≤◌, ◌<◌, ◌↔◌, ℕ, List, None, [], length, IfSome, IfErr, IsTrue};
+ghost use Rattle.std.specs.Prelude.{◌≡◌, ◌+◌, ◌≤◌, ◌<◌, ℕ, List, length, IfErr};
 ghost use Rattle.std.specs.Thread.{IsSync};
-ghost use Rattle.rep_types.specs.declared.item.Item.{Item};
-ghost use Rattle.rep_types.specs.declared.refusal.Refusal.TheVariants.{Exhausted, OutOfMemory, Stopped as is_stopped};
-ghost use Rattle.rep_ordered.specs.Going.{Went};
-ghost use Rattle.rep_ordered.specs.Views.{Later};
-ghost use Rattle.rep_node.specs.Seats.{PassedOrStopped, SeesLegal, WentIdle};
-ghost use Rattle.rep_node.specs.Batches.{Ascends, IsBatch, IsWhole};
+ghost use Rattle.rep_types.specs.declared.refusal.Refusal.TheVariants.{Stopped as is_stopped};
+ghost use Rattle.rep_node.specs.Seats.{WentIdle};
 ghost use Rattle.rep_node.specs.Serving.{HandedIn};
 
 use crate::batch::Batch;
@@ -33,18 +29,6 @@ impl<D: Disk> Seat<D> {
 }
 
 impl<D: Disk> Node<D> {
-    /// Whether the node was halted.
-    fn is_halted(&self, seat: &mut Seat<D>) -> bool
-        requires { seat.old.lock ≡ self.now }
-        ensures lock { seat.new.lock ≡ seat.old.lock }
-        ensures later { Later seat.old.view seat.new.view }
-        ensures idle { WentIdle seat.old.view seat.new.view }
-        ensures halted { IsTrue result ↔ (seat.new.view.halted ≡ 1) }
-        ensures one_bit { seat.new.view.halted ≤ 1 }
-    {
-        self.lock.front(&mut seat.seat).halted
-    }
-
     /// A keeper's round: the engine accepts what comes next and the log makes its next step, or a checkpoint runs where the log is full. It
     /// says what is durable, or nothing where the log was full.
     ///
@@ -105,19 +89,6 @@ impl<D: Disk> Node<D> {
     }
 }
 
-impl<D: Disk> Node<D> {
-    /// Hands in nothing of a batch, as there is no thread for its keeper: no seqno is drawn.
-    fn refuse_batch(&self, alloc: Global, seat: &mut Seat<D>) -> Batch
-        requires lock { seat.old.lock ≡ self.now }
-        requires passed { PassedOrStopped seat.old.view }
-        ensures lock { seat.new.lock ≡ seat.old.lock }
-        ensures handed_in { (items : List Item) (count : ℕ) → HandedIn items count seat.old.view seat.new.view result }
-    {
-        let _halted = self.is_halted(seat);
-        Batch::refused(alloc, Refusal::OutOfMemory)
-    }
-}
-
 impl<D: Disk + Send> Node<D> {
     /// Hands in a batch by a seat that may draw more seqnos than there are items, where a keeper is beside, else nothing of it; and tells
     /// the keeper that it need not go on.
@@ -134,14 +105,15 @@ impl<D: Disk + Send> Node<D> {
     ) -> Batch
         requires lock { seat.old.lock ≡ self.now }
         requires allowance { length items.now < seat.old.view.allowance }
-        requires passed { PassedOrStopped seat.old.view }
         requires workers { (0 < workers) × (workers ≤ 64) }
         ensures lock { seat.new.lock ≡ seat.old.lock }
-        ensures handed_in { HandedIn items.now (length items.now) seat.old.view seat.new.view result }
+        ensures handed_in { HandedIn (P.lets pace.now) items.now (length items.now) (length items.now) seat.old.view seat.new.view result }
     {
         if !beside {
             goes.store(false);
-            return self.refuse_batch(alloc, seat);
+            // Tells the proof what holds of every seat.
+            seat.is_one();
+            return Batch::refused(alloc, Refusal::OutOfMemory);
         }
         let batch = self.submit_batch(rt, alloc, seat, items, workers, pace);
         goes.store(false);
@@ -163,11 +135,10 @@ impl<D: Disk + Send> Node<D> {
     ) -> Batch
         requires lock { (keeper.old.lock ≡ self.now) × (seat.old.lock ≡ self.now) }
         requires allowance { length items.now < seat.old.view.allowance }
-        requires passed { PassedOrStopped seat.old.view }
         requires workers { (0 < workers) × (workers ≤ 64) }
         ensures lock { (keeper.new.lock ≡ keeper.old.lock) × (seat.new.lock ≡ seat.old.lock) }
         ensures idle { WentIdle keeper.old.view keeper.new.view }
-        ensures handed_in { HandedIn items.now (length items.now) seat.old.view seat.new.view result }
+        ensures handed_in { HandedIn (P.lets pace.now) items.now (length items.now) (length items.now) seat.old.view seat.new.view result }
     {
         let cell = AtomicCell::new(true);
         let goes = &cell;
@@ -176,8 +147,8 @@ impl<D: Disk + Send> Node<D> {
             ensures { (keeper.exit.now.lock ≡ keeper.entry.now.lock) × WentIdle keeper.entry.now.view keeper.exit.now.view }
         { self.keep_while(rt, goes, keeper) };
         let mut hand_in = |beside: bool| -> Batch
-            requires { IsSync R.row × (seat.now.lock ≡ self.now) × (length items.now < seat.now.view.allowance) × PassedOrStopped seat.now.view × (0 < workers) × (workers ≤ 64) }
-            ensures { (seat.exit.now.lock ≡ seat.entry.now.lock) × HandedIn items.entry.now (length items.entry.now) seat.entry.now.view seat.exit.now.view result }
+            requires { IsSync R.row × (seat.now.lock ≡ self.now) × (length items.now < seat.now.view.allowance) × (0 < workers) × (workers ≤ 64) }
+            ensures { (seat.exit.now.lock ≡ seat.entry.now.lock) × HandedIn (P.lets pace.entry.now) items.entry.now (length items.entry.now) (length items.entry.now) seat.entry.now.view seat.exit.now.view result }
         { self.hand_in(rt, alloc, items, workers, pace, goes, beside, seat) };
         let (_kept, batch) = join_beside(rt, &mut keep, &mut hand_in);
         batch
@@ -203,16 +174,11 @@ impl<D: Disk + Send> Node<D> {
     ) -> Batch
         requires lock { seat.old.lock ≡ self.now }
         requires workers { (0 < workers) × (workers ≤ 64) }
-        requires passed { PassedOrStopped seat.old.view }
         ensures lock { seat.new.lock ≡ seat.old.lock }
-        ensures went { Went seat.old.view seat.new.view }
-        ensures sees { SeesLegal seat.old.view seat.new.view }
-        ensures passed { PassedOrStopped seat.new.view }
-        ensures batch { IsBatch items.now 0 (length items.now) seat.old.view seat.new.view result.receipts.items }
-        ensures order { Ascends result.receipts.items }
-        ensures whole { result.end ≡ None → IsWhole 0 (length items.now) seat.old.view seat.new.view result.receipts.items }
-        ensures ended { IfSome result.end (λ refusal. ((refusal ≡ is_stopped) × (seat.new.view.halted ≡ 1)) ⊎ ((((refusal ≡ Exhausted) × (seat.old.view.allowance ≤ length items.now + 1)) ⊎ (refusal ≡ OutOfMemory)) × (seat.new.view.own ≡ seat.old.view.own) × (result.receipts.items ≡ []))) }
+        ensures handed_in { HandedIn (P.lets pace.now) items.now (length items.now) (length items.now + 1) seat.old.view seat.new.view result }
     {
+        // Tells the proof what holds of every seat.
+        seat.is_one();
         if self.is_halted(seat) {
             return Batch::refused(alloc, Refusal::Stopped);
         }
@@ -222,6 +188,7 @@ impl<D: Disk + Send> Node<D> {
         let mut keeper = self.split(seat, 1);
         let batch = self.serve_by_two(rt, alloc, items, workers, pace, &mut keeper, seat);
         self.join(seat, keeper);
+        // The seat knows of a halt of the keeper's then.
         let _halted = self.is_halted(seat);
         batch
     }

@@ -5,6 +5,7 @@ ghost use Rattle.rep_types.specs.declared.judged.Judged.{Judged as Entry};
 ghost use Rattle.rep_ordered.specs.declared.view.Joined.{Joined};
 ghost use Rattle.rep_ordered.specs.Views.{Later, OwnEntry, reached_at};
 ghost use Rattle.rep_ordered.specs.Going.{Went};
+ghost use Rattle.rep_node.specs.Batches.{LetsOn};
 ghost use Rattle.rep_node.specs.Seats.{Drew, DrewOne, IsSeat, PassedOrStopped, Joins, SeesLegal, IsGiven, own_entry};
 
 use crate::home::Home;
@@ -32,7 +33,7 @@ impl<D: Disk> Node<D> {
         requires room { ticket ≤ seat.old.view.durable + MAX_AHEAD }
         ensures lock { seat.new.lock ≡ seat.old.lock }
         ensures went { Went seat.old.view seat.new.view }
-        ensures own { seat.new.view.own ≡ seat.old.view.own }
+        ensures own { (seat.new.view.own ≡ seat.old.view.own) × (seat.new.view.given_up ≡ seat.old.view.given_up) }
         ensures joined { IfOk result (λ judged. (judged.item ≡ item) × (judged.seqno ≡ ticket) × (seat.new.view.joined ≡ own_entry judged ∷ seat.old.view.joined)) }
         ensures none { IfErr result (λ refusal. seat.new.view.joined ≡ seat.old.view.joined) }
         ensures stopped { IfErr result (λ refusal. (refusal ≡ Refusal.Stopped) × (seat.new.view.halted ≡ 1) × SeesLegal seat.old.view seat.new.view) }
@@ -58,7 +59,7 @@ impl<D: Disk> Node<D> {
         requires judged { (others : List (Joined Entry)) × (seat.old.view.joined ≡ own_entry judged ∷ others) }
         ensures lock { seat.new.lock ≡ seat.old.lock }
         ensures went { Went seat.old.view seat.new.view }
-        ensures own { (seat.new.view.own ≡ seat.old.view.own) × (seat.new.view.joined ≡ seat.old.view.joined) }
+        ensures own { (seat.new.view.own ≡ seat.old.view.own) × (seat.new.view.joined ≡ seat.old.view.joined) × (seat.new.view.given_up ≡ seat.old.view.given_up) }
         ensures passed { OnOk result (judged.seqno < reached_at 2 seat.new.view.reached) }
         ensures stopped { IfErr result (λ refusal. (refusal ≡ Refusal.Stopped) × (seat.new.view.halted ≡ 1) × SeesLegal seat.old.view seat.new.view) }
     {
@@ -84,6 +85,7 @@ impl<D: Disk> Node<D> {
         ensures lock { seat.new.lock ≡ seat.old.lock }
         ensures later { Later seat.old.view seat.new.view }
         ensures same { OnOk result (seat.new ≡ seat.old) }
+        ensures lets { OnOk result (P.lets pace.now point seqno) }
         ensures stopped { IfErr result (λ refusal. (refusal ≡ Refusal.Stopped) × (seat.new.view.halted ≡ 1) × SeesLegal seat.old.view seat.new.view) }
     {
         if pace.at(point, seqno) {
@@ -117,6 +119,9 @@ impl<D: Disk> Node<D> {
         ensures sees { SeesLegal seat.old.view seat.new.view }
         ensures receipt { IfOk result (λ given. IsGiven item.now given.0 given.1 seat.old.view seat.new.view) }
         ensures passed { PassedOrStopped seat.old.view → PassedOrStopped seat.new.view }
+        ensures goes { seat.new.view.given_up ≡ seat.old.view.given_up }
+        ensures runs { IfOk result (λ _. seat.new.view.halted ≡ 0) }
+        ensures paced { IfOk result (λ given. LetsOn (P.lets pace.now) given.0) }
         ensures stopped { IfErr result (λ refusal. (refusal ≡ Refusal.Stopped) × (seat.new.view.halted ≡ 1)) }
     {
         let ticket = self.lock.claim(seat);

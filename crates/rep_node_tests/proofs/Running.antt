@@ -12,11 +12,10 @@ use Rattle.rep_session.specs.Sessions.{Progress, after_read}
 use Rattle.rep_snap.specs.declared.change.Change.{Change}
 use Rattle.rep_snap.specs.Views.{Watching, watching}
 use Rattle.rep_ordered.specs.declared.view.View.{View}
-use Rattle.rep_ordered.specs.Counts.{times}
 use Rattle.rep_ordered.specs.Going.{Goes, Went}
 use Rattle.rep_ordered.specs.GoingLaws.{goes_later}
 use Rattle.rep_ordered.specs.Seats.{Place}
-use Rattle.rep_ordered.specs.Views.{HasAll, Later, opened, reached_at}
+use Rattle.rep_ordered.specs.Views.{HasAll, Later, opened}
 use Rattle.rep_node.specs.declared.home.Desk.{Desk}
 use Rattle.rep_node.specs.declared.home.Home.{Home}
 use Rattle.rep_node.specs.declared.home.Home.TheVariants.{Certifier as AtFirst, Desk as AtSecond}
@@ -25,7 +24,7 @@ use Rattle.rep_node.specs.Ending.{StartsFrom}
 use Rattle.rep_node.specs.Homes.{Start, common_in, durable_in, position_of, values_of}
 use Rattle.rep_node.specs.Reading.{IsReaderOf}
 use Rattle.rep_node.specs.Rows.{Beside, ReadsBeside}
-use Rattle.rep_node.specs.Seats.{PassedOrStopped, WentIdle}
+use Rattle.rep_node.specs.Seats.{WentIdle}
 use Rattle.rep_node_tests.specs.Running.{Runs}
 
 -- ---- a node was started with one thing
@@ -73,32 +72,20 @@ module _ {D : Type 0} where
   all_on : (v w : View (Home D) Judged) → Goes v w → HasAll v → HasAll w
   all_on v w goes all = goes.kept ∙ (all ∙ sym goes.whole)
 
-  pub passed_idle : (v w : View (Home D) Judged) → WentIdle v w → PassedOrStopped v → PassedOrStopped w
-  passed_idle v w idle passed works x drawn =
-      let low = idle.0.goes.halted in
-      let up = idle.0.goes.reached 2 in
-      let worked : v.halted ≡ 0 = omega arith in
-      let drew : 0 < times x v.own = subst (λ (own : List ℕ). 0 < times x own) idle.1 drawn in
-      let before : x < reached_at 2 v.reached = passed worked x drew in
-      let goal : x < reached_at 2 w.reached = omega arith in goal
-
-  passed_halted : (v : View (Home D) Judged) → v.halted ≡ 1 → PassedOrStopped v
-  passed_halted v halted works = absurd (let never : 1 ≡ 0 = sym halted ∙ works in cc)
-
   -- ---- all three
 
-  pub goes_on : (node : TableId) (a b : Place (Home D) Judged) (r q : Watching Origin) → Runs node a r → b.lock ≡ a.lock → Goes a.view b.view → PassedOrStopped b.view → IsReaderOf b.view q → Runs node b q
-  goes_on node a b r q runs lock goes passed own = record { lock = lock ∙ runs.lock; all = all_on a.view b.view goes runs.all; passed = passed; own = own; start = runs.start; first = goes.first ∙ runs.first }
+  pub goes_on : (node : TableId) (a b : Place (Home D) Judged) (r q : Watching Origin) → Runs node a r → b.lock ≡ a.lock → Goes a.view b.view → IsReaderOf b.view q → Runs node b q
+  goes_on node a b r q runs lock goes own = record { lock = lock ∙ runs.lock; all = all_on a.view b.view goes runs.all; own = own; start = runs.start; first = goes.first ∙ runs.first }
 
   idles : (node : TableId) (a b : Place (Home D) Judged) (r q : Watching Origin) → Runs node a r → b.lock ≡ a.lock → WentIdle a.view b.view → q.book ≡ r.book → q.basis ≡ r.basis → q.start ≡ r.start → Runs node b q
-  idles node a b r q runs lock idle book basis start = goes_on node a b r q runs lock idle.0.goes (passed_idle a.view b.view idle runs.passed) (own_on a.view b.view r q runs.own idle.0.goes.first book basis start)
+  idles node a b r q runs lock idle book basis start = goes_on node a b r q runs lock idle.0.goes (own_on a.view b.view r q runs.own idle.0.goes.first book basis start)
 
-  pub halts : (node : TableId) (a b : Place (Home D) Judged) (r : Watching Origin) → Runs node a r → b.lock ≡ a.lock → Later a.view b.view → b.view.halted ≡ 1 → Runs node b r
-  halts node a b r runs lock later halted = let goes = goes_later a.view b.view later in
-      goes_on node a b r r runs lock goes (passed_halted b.view halted) (own_on a.view b.view r r runs.own goes.first refl refl refl)
+  pub halts : (node : TableId) (a b : Place (Home D) Judged) (r : Watching Origin) → Runs node a r → b.lock ≡ a.lock → Later a.view b.view → Runs node b r
+  halts node a b r runs lock later = let goes = goes_later a.view b.view later in
+      goes_on node a b r r runs lock goes (own_on a.view b.view r r runs.own goes.first refl refl refl)
 
-  pub serves : (node : TableId) (a b : Place (Home D) Judged) (r : Watching Origin) → Runs node a r → b.lock ≡ a.lock → Went a.view b.view → PassedOrStopped b.view → Runs node b r
-  serves node a b r runs lock went passed = goes_on node a b r r runs lock went.goes passed (own_on a.view b.view r r runs.own went.goes.first refl refl refl)
+  pub serves : (node : TableId) (a b : Place (Home D) Judged) (r : Watching Origin) → Runs node a r → b.lock ≡ a.lock → Went a.view b.view → Runs node b r
+  serves node a b r runs lock went = goes_on node a b r r runs lock went.goes (own_on a.view b.view r r runs.own went.goes.first refl refl refl)
 
   -- the reader learnt of something, or of nothing
   pub learns : (node : TableId) (a b : Place (Home D) Judged) (r w q : Watching Origin) (told : List Change) → Runs node a r → b.lock ≡ a.lock → WentIdle a.view b.view → w ≡ record r { told = told } → q ≡ w → Runs node b q
@@ -113,10 +100,10 @@ module _ {D : Type 0} where
 
   -- the seat stays as it is
   pub looks : (node : TableId) (a : Place (Home D) Judged) (r q : Watching Origin) → Runs node a r → q.book ≡ r.book → q.basis ≡ r.basis → q.start ≡ r.start → Runs node a q
-  looks node a r q runs book basis start = record { lock = runs.lock; all = runs.all; passed = runs.passed; own = own_on a.view a.view r q runs.own refl book basis start; start = runs.start; first = runs.first }
+  looks node a r q runs book basis start = record { lock = runs.lock; all = runs.all; own = own_on a.view a.view r q runs.own refl book basis start; start = runs.start; first = runs.first }
 
   pub same_seat : (node : TableId) (a b : Place (Home D) Judged) (r q : Watching Origin) → Runs node a r → b ≡ a → IsReaderOf b.view q → Runs node b q
-  same_seat node a b r q runs same own = record { lock = ap (λ (z : Place (Home D) Judged). z.lock) same ∙ runs.lock; all = subst (λ (z : Place (Home D) Judged). HasAll z.view) (sym same) runs.all; passed = subst (λ (z : Place (Home D) Judged). PassedOrStopped z.view) (sym same) runs.passed; own = own; start = runs.start; first = ap (λ (z : Place (Home D) Judged). z.view.first) same ∙ runs.first }
+  same_seat node a b r q runs same own = record { lock = ap (λ (z : Place (Home D) Judged). z.lock) same ∙ runs.lock; all = subst (λ (z : Place (Home D) Judged). HasAll z.view) (sym same) runs.all; own = own; start = runs.start; first = ap (λ (z : Place (Home D) Judged). z.view.first) same ∙ runs.first }
 
   -- ---- the start
 
@@ -125,7 +112,6 @@ module _ {D : Type 0} where
   starts honest history failures node seat replica watch more r from whole durable lock view begun is = record {
     lock = lock;
     all = let allowance : seat.view.allowance ≡ whole = ap (λ (v : View (Home D) Judged). v.allowance) view in let all : seat.view.whole ≡ whole = ap (λ (v : View (Home D) Judged). v.whole) view in let none : length seat.view.own ≡ 0 = ap (λ (v : View (Home D) Judged). length v.own) view in omega arith;
-    passed = λ works x drawn. let none : times x seat.view.own ≡ 0 = ap (λ (v : View (Home D) Judged). times x v.own) view in absurd (omega arith);
     own = own_at_first seat.view begun.start r begun.first begun.begins.start (last_too (λ (w : Watching Origin). w ≡ watching begun.start.desk.publisher) watch more r is begun.readers);
     start = begun.start;
     first = begun.first;
@@ -135,5 +121,5 @@ module _ {D : Type 0} where
 
   pub gets : (honest : D → Type 0) (history : D → History) (failures : D → ℕ) (shut : Watching Origin → Type 0) (node : TableId) (a b : Beside D) (r q : Watching Origin) (t u : Progress) (key : Key) (answer : Result (Option (List ℕ)) Refusal)
       (o : Option (Result (Option (List ℕ)) Refusal)) → MatchOption o (ReadsBeside honest history failures shut a key t.snapshot answer b × (u ≡ after_read t key answer)) (λ x. (answer ≡ x) × (u ≡ t) × (b ≡ a)) → Runs node a.seat r → IsReaderOf b.seat.view q → Runs node b.seat q
-  gets honest history failures shut node a b r q t u key answer None given runs own = goes_on node a.seat b.seat r q runs given.0.lock given.0.idle.0.goes (passed_idle a.seat.view b.seat.view given.0.idle runs.passed) own
+  gets honest history failures shut node a b r q t u key answer None given runs own = goes_on node a.seat b.seat r q runs given.0.lock given.0.idle.0.goes own
   gets honest history failures shut node a b r q t u key answer (Some x) given runs own = same_seat node a.seat b.seat r q runs (ap (λ (z : Beside D). z.seat) given.2) own

@@ -9,13 +9,11 @@ use Rattle.rep_node.specs.declared.home.Home.{Home}
 use Rattle.rep_node.specs.declared.origin.Origin.{Origin}
 use Rattle.rep_node.specs.Homes.{Start, values_of}
 use Rattle.rep_node.specs.Reading.{IsReaderOf}
-use Rattle.rep_node.specs.Seats.{PassedOrStopped}
 
 -- The seat is the only one of the node, which may be closed by it, and the reader was handed out with the node.
 pub record Runs {D : Type 0} (node : TableId) (seat : Place (Home D) Judged) (reader : Watching Origin) : Type 0 where
   pub lock : seat.lock ≡ node
   pub all : HasAll seat.view
-  pub passed : PassedOrStopped seat.view
   pub own : IsReaderOf seat.view reader
   pub start : Start D
   pub first : seat.view.first ≡ values_of start

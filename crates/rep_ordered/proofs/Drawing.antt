@@ -85,11 +85,12 @@ module _ {V E : Type 0} (law : List E → Type 0) (at_home : ℕ → ℕ → ℕ
         ),
       )
 
-  -- a step after which the seat knows the history and the second word as they are now
-  learning : (k : Opening V) (s : Moment V E) (r : Rule k s) (id : ℕ) (m : Mind V E) (words' : List ℕ) (durable stop : ℕ) → get_elem? s.views id ≡ some m → r.figures.durable ≤ durable → r.figures.stop ≤ stop → (0 < r.figures.stop → durable ≤ r.figures.durable)
+  -- a step after which the seat knows the history and the durable number as they are now, and perhaps of a halt
+  learning : (k : Opening V) (s : Moment V E) (r : Rule k s) (id : ℕ) (m : Mind V E) (words' : List ℕ) (durable stop halted : ℕ) → get_elem? s.views id ≡ some m → r.figures.durable ≤ durable → r.figures.stop ≤ stop → (0 < r.figures.stop → durable ≤ r.figures.durable)
       → ((j : ℕ) → get_elem? words' (j + 2) ≡ get_elem? s.words (j + 2)) → Spelled k (record r.figures { next = r.figures.next; durable = durable; stop = stop }) words' (length s.homes) → Lives m.view
-      → Rule k record { words = words'; homes = s.homes; views = set s.views id (untold (knowing r.figures.history durable stop m.view)) } × Learns law m.told m.view (knowing r.figures.history durable stop m.view)
-  learning k s r id m words' durable stop at up halts over same spelled lives = let f : Figures E = r.figures in let v : View V E = m.view in let known = r.each_seat id m at in let w : View V E = knowing f.history durable stop v in
+      → m.view.halted ≤ halted → halted ≤ stop → stop + m.view.halted ≤ r.figures.stop + halted
+      → Rule k record { words = words'; homes = s.homes; views = set s.views id (untold (knowing r.figures.history durable halted m.view)) } × Learns law m.told m.view (knowing r.figures.history durable halted m.view)
+  learning k s r id m words' durable stop halted at up halts over same spelled lives more less some_know = let f : Figures E = r.figures in let v : View V E = m.view in let known = r.each_seat id m at in let w : View V E = knowing f.history durable halted v in
       let f' : Figures E = record f { next = f.next; durable = durable; stop = stop } in
       let still : Knows k f' words' s.homes m = knows_on k f f.next durable stop s.words words' s.homes m up halts over same known in let a = known.lasts in let b = known.stops in let whole = known.wholes in (
         quiet law at_home durable_of common_of grows k s r id m (untold w) words' f.next durable stop at (omega arith) up halts over same spelled refl refl (λ x. refl) refl
@@ -100,7 +101,7 @@ module _ {V E : Type 0} (law : List E → Type 0) (at_home : ℕ → ℕ → ℕ
               begins = ([], sym (append_nil f.history));
               told = (f.history, refl);
               lasts = omega arith;
-              stops = omega arith;
+              stops = less;
               stays = λ _. omega arith;
               below = still.below;
               named = still.named;
@@ -113,7 +114,7 @@ module _ {V E : Type 0} (law : List E → Type 0) (at_home : ℕ → ℕ → ℕ
               idle = λ some none_left. let l = lives (omega arith) in absurd (omega arith);
             }
             (knows_me k f' s.views id (untold w) (below_length s.views id m at) (λ some. lives (omega arith)) refl)
-            (omega arith),
+            some_know,
         record {
           same = refl;
           seen = known.begins;
@@ -121,7 +122,7 @@ module _ {V E : Type 0} (law : List E → Type 0) (at_home : ℕ → ℕ → ℕ
           sees = record { legal = r.lawful; placed = subst (λ (n : ℕ). Rattle.rep_ordered.specs.Views.Placed n f.history v.own v.joined) (sym known.starts) known.placed };
           still = λ some_hold. sym (seen_whole f s.words v.own v.seen v.held known.holds some_hold);
           durable = omega arith;
-          halted = omega arith;
+          halted = more;
           stays = λ halted. let c = known.stays halted in let d = over (omega arith) in omega arith;
           once = once_each k s r id m at;
           within = let d = r.dealt in let tickets = d.tickets in let many = d.many in let left = total_at allowance_of s.views id m at in omega arith;
@@ -130,13 +131,13 @@ module _ {V E : Type 0} (law : List E → Type 0) (at_home : ℕ → ℕ → ℕ
       )
 
   loads_by : (k : Opening V) (slots id : ℕ) (me : Mine V E) (i : ℕ) → Lives me.0.view → Allows (Rule k) slots id me i (λ n. n) (looked law (step slots i 0 0 none) me)
-  loads_by k slots id me i lives s r _ at _ = let f : Figures E = r.figures in let m' : Mind V E = untold (knowing f.history f.durable f.stop me.0.view) in
-      let t = learning k s r id me.0 s.words f.durable f.stop at (omega arith) (omega arith) (λ _. omega arith) (λ j. refl) r.spelled lives in
-      (m', keeps, tt, subst (λ (ws : List ℕ). Rule k record { words = ws; homes = s.homes; views = set s.views id m' }) (sym (set-get_or s.words i 0)) t.0, ((t.1, (refl, refl)), λ all. knows_halt law at_home durable_of common_of k s r id me.0 at all))
+  loads_by k slots id me i lives s r _ at _ = let f : Figures E = r.figures in let m' : Mind V E = untold (knowing f.history f.durable me.0.view.halted me.0.view) in let known = r.each_seat id me.0 at in
+      let t = learning k s r id me.0 s.words f.durable f.stop me.0.view.halted at (omega arith) (omega arith) (λ _. omega arith) (λ j. refl) r.spelled lives (omega arith) known.stops (omega arith) in
+      (m', keeps, tt, subst (λ (ws : List ℕ). Rule k record { words = ws; homes = s.homes; views = set s.views id m' }) (sym (set-get_or s.words i 0)) t.0, ((t.1, (refl, refl)), refl))
 
   fronts_by : (k : Opening V) (slots id : ℕ) (me : Mine V E) → Lives me.0.view → Allows (Rule k) slots id me 1 (λ n. n) (fronted law (step slots 1 0 0 none) me)
   fronts_by k slots id me lives s r deep at little = let f : Figures E = r.figures in let sp = r.spelled in let m' : Mind V E = untold (knowing f.history f.durable f.stop me.0.view) in
-      let t = learning k s r id me.0 s.words f.durable f.stop at (omega arith) (omega arith) (λ _. omega arith) (λ j. refl) sp lives in
+      let known = r.each_seat id me.0 at in let knew = known.stops in let t = learning k s r id me.0 s.words f.durable f.stop f.stop at (omega arith) (omega arith) (λ _. omega arith) (λ j. refl) sp lives knew (omega arith) (omega arith) in
       let n : ℕ = get_or s.words 1 0 in let is : n ≡ f.durable + 2 ^ 63 * f.stop = get_or_is s.words 1 _ sp.durable_is in let low = sp.low in let bit = sp.stop_bit in (
         m',
         keeps,
@@ -149,8 +150,8 @@ module _ {V E : Type 0} (law : List E → Type 0) (at_home : ℕ → ℕ → ℕ
   front_set : (k : Opening V) (s : Moment V E) (r : Rule k s) (id : ℕ) (m : Mind V E) (y durable stop : ℕ) → get_elem? s.views id ≡ some m → r.figures.durable ≤ durable → r.figures.stop ≤ stop → (0 < r.figures.stop → durable ≤ r.figures.durable)
       → y ≡ durable + 2 ^ 63 * stop → durable ≤ 2 ^ 60 → stop ≤ 1 → durable ≤ r.figures.backed → Lives m.view
       → Rule k record { words = set s.words 1 y; homes = s.homes; views = set s.views id (untold (knowing r.figures.history durable stop m.view)) } × Learns law m.told m.view (knowing r.figures.history durable stop m.view)
-  front_set k s r id m y durable stop at up halts over is low bit risen lives = let sp = r.spelled in let wide = sp.wide in
-      learning k s r id m (set s.words 1 y) durable stop at up halts over (λ j. set_else s.words 1 (j + 2) y (λ e. omega arith)) record {
+  front_set k s r id m y durable stop at up halts over is low bit risen lives = let sp = r.spelled in let wide = sp.wide in let known = r.each_seat id m at in let knew = known.stops in
+      learning k s r id m (set s.words 1 y) durable stop stop at up halts over (λ j. set_else s.words 1 (j + 2) y (λ e. omega arith)) record {
         wide = length-set s.words 1 y ∙ wide;
         next_is = set_else s.words 1 0 y (λ e. omega arith) ∙ sp.next_is;
         durable_is = set_here s.words 1 y (omega arith) ∙ ap some is;
@@ -160,16 +161,16 @@ module _ {V E : Type 0} (law : List E → Type 0) (at_home : ℕ → ℕ → ℕ
         covered = sp.covered;
         short = sp.short;
         small = sp.small;
-      } lives
+      } lives (omega arith) (omega arith) (omega arith)
 
   raises_by : (k : Opening V) (slots id : ℕ) (me : Mine V E) (a : ℕ) → a ≤ 2 ^ 60 → a ≤ me.0.view.backed → Lives me.0.view → Allows (Rule k) slots id me 1 (λ n. max n a) (raised law (step slots 1 a 0 none) me)
   raises_by k slots id me a low saw lives s r _ at _ = let f : Figures E = r.figures in let sp = r.spelled in let v : View V E = me.0.view in let known = r.each_seat id me.0 at in let below = known.below in
       let n : ℕ = get_or s.words 1 0 in let is : n ≡ f.durable + 2 ^ 63 * f.stop = get_or_is s.words 1 _ sp.durable_is in let under = sp.low in let bit = sp.stop_bit in let backed = sp.backed_up in
       dite (ℕ_discrete f.stop 0)
       (λ run. let b : ℕ = max f.durable a in let t = front_set k s r id me.0 (max n a) b 0 at (omega arith) (omega arith) (λ stop. absurd (omega arith)) (omega arith) (omega arith) (omega arith) (omega arith) lives in
-      (untold (knowing f.history b 0 v), keeps, tt, t.0, ((t.1, (refl, refl)), (λ _. omega arith), (λ all. let h = knows_halt law at_home durable_of common_of k s r id me.0 at all in omega arith))))
+      (untold (knowing f.history b 0 v), keeps, tt, t.0, ((t.1, (refl, refl)), record { durable = omega arith; halted = omega arith; stop_bit = omega arith }, (λ _. omega arith), (λ all. let h = knows_halt law at_home durable_of common_of k s r id me.0 at all in omega arith))))
       (λ stop. let t = front_set k s r id me.0 (max n a) f.durable 1 at (omega arith) (omega arith) (λ _. omega arith) (omega arith) under (omega arith) backed lives in
-      (untold (knowing f.history f.durable 1 v), keeps, tt, t.0, ((t.1, (refl, refl)), (λ none. absurd (omega arith)), (λ all. let h = knows_halt law at_home durable_of common_of k s r id me.0 at all in omega arith))))
+      (untold (knowing f.history f.durable 1 v), keeps, tt, t.0, ((t.1, (refl, refl)), record { durable = omega arith; halted = omega arith; stop_bit = omega arith }, (λ none. absurd (omega arith)), (λ all. let h = knows_halt law at_home durable_of common_of k s r id me.0 at all in omega arith))))
 
   halts_by : (k : Opening V) (slots id : ℕ) (me : Mine V E) (bit : ℕ) → bit ≡ 2 ^ 63 → Lives me.0.view → Allows (Rule k) slots id me 1 (λ n. bit_or n bit) (stopped law (step slots 1 bit 0 none) me)
   halts_by k slots id me top is_top lives s r _ at _ = let f : Figures E = r.figures in let sp = r.spelled in let v : View V E = me.0.view in

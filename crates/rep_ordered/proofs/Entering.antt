@@ -20,7 +20,7 @@ use Rattle.rep_ordered.specs.Steps.{Entered, tried}
 use Rattle.rep_ordered.proofs.Shapes.{Moment, Mine}
 use Rattle.rep_ordered.proofs.Sums.{total_at, every_away, get_or_there, below_length, reached_more, backed_here, backed_else, covered_after, common_here, common_else}
 use Rattle.rep_ordered.proofs.Owning.{append_nil}
-use Rattle.rep_ordered.proofs.Keeping.{seen_whole, knows_me, knows_halt}
+use Rattle.rep_ordered.proofs.Keeping.{seen_whole, knows_me}
 use Rattle.rep_ordered.proofs.Moving.{after, gone_on, moved}
 use Rattle.rep_ordered.proofs.Drawing.{RuleOf, as_first}
 
@@ -54,7 +54,7 @@ module _ {V E : Type 0} (law : List E → Type 0) (at_home : ℕ → ℕ → ℕ
   Rule = Kept law at_home durable_of common_of
 
   abbrev entering : Figures E → ℕ → ℕ → ℕ → V → View V E → View V E
-  entering f j n y x v = record (knowing f.history f.durable f.stop v) { backed = backed_after j (durable_of x) v.backed; common = common_after j (common_of x) v.common; reached = reach j n ∷ v.reached; held = hold j y (durable_of x) ∷ v.held }
+  entering f j n y x v = record (knowing f.history f.durable v.halted v) { backed = backed_after j (durable_of x) v.backed; common = common_after j (common_of x) v.common; reached = reach j n ∷ v.reached; held = hold j y (durable_of x) ∷ v.held }
 
   -- what a seat knows that has just entered the station j at the number n
   knows_entered : (k : Opening V) (f : Figures E) (words : List ℕ) (homes : List (maybe.Option (Option V))) (m : Mind V E) (j n y : ℕ) (x : V) → get_elem? words (j + 2) ≡ some (4 * n) → y / 4 ≡ n → y % 4 ≡ 1 ⊎ y % 4 ≡ 2 → (y % 4 ≡ 1 → 0 < times n m.view.own)
@@ -68,7 +68,7 @@ module _ {V E : Type 0} (law : List E → Type 0) (at_home : ℕ → ℕ → ℕ
     begins = ([], refl);
     told = (f.history ++ [], refl);
     lasts = omega arith;
-    stops = omega arith;
+    stops = known.stops;
     stays = λ _. omega arith;
     below = risen_up j d v.backed f.backed known.below;
     named = common_found j (common_of x) v.common f.common same known.named;
@@ -117,18 +117,17 @@ module _ {V E : Type 0} (law : List E → Type 0) (at_home : ℕ → ℕ → ℕ
   told_entered k s r id m j n new kind x at was shape kinds alone keeps_it backed_up same = let f : Figures E = r.figures in let v : View V E = m.view in let known = r.each_seat id m at in let sp = r.spelled in let here = r.each_station j (4 * n) was in let d : ℕ = durable_of x in
       let word_is : word_at j (hold j new d ∷ v.held) ≡ 4 * n + kind = word_on_top j new d v.held ∙ shape in
       let within = here.within in let dealt = r.dealt in let tickets = dealt.tickets in let small = sp.small in let first = here.begun in let starts = known.starts in record {
-        view = ap (λ (z : ℕ). record (knowing f.history f.durable f.stop v) { backed = backed_after j d v.backed; common = common_after j (common_of x) v.common; reached = reach j n ∷ v.reached; held = hold j z d ∷ v.held }) shape;
+        view = ap (λ (z : ℕ). record (knowing f.history f.durable v.halted v) { backed = backed_after j d v.backed; common = common_after j (common_of x) v.common; reached = reach j n ∷ v.reached; held = hold j z d ∷ v.held }) shape;
         seen = known.begins;
         sees = record { legal = r.lawful; placed = subst (λ (i : ℕ). Placed i f.history v.own v.joined) (sym known.starts) known.placed };
         still = λ some_hold. sym (seen_whole f s.words v.own v.seen v.held known.holds some_hold);
         durable = known.lasts;
-        halted = known.stops;
+        halted = refl;
         stays = λ halted. let a = known.stays halted in let b = known.lasts in omega arith;
         keeps = keeps_it;
         backed = λ one. let a = backed_up one in let b = known.below in let c = sp.backed_up in (omega arith, omega arith);
         common = λ some_name. let a = same some_name in let b = known.named in (omega arith, λ holds. let c = known.exact holds in omega arith);
         covers = λ some_name. let a = same some_name in let b = sp.covered in let c = sp.backed_up in let e = sp.low in omega arith;
-        last = λ all. knows_halt law at_home durable_of common_of k s r id m at all;
         begun = omega arith;
         limit = omega arith;
         turn = let a = known.reached j (4 * n) was in omega arith;
@@ -160,7 +159,7 @@ module _ {V E : Type 0} (law : List E → Type 0) (at_home : ℕ → ℕ → ℕ
       (risen_above j d f.backed h.backed) (backed_else j d f.backed)
       (covered_after j d f.backed f.common (λ one. let a = h.covers one in let b = h.common (omega arith) in omega arith) sp.covered)
       (omega arith) (inl refl)
-      (λ i apart. set_else s.homes j i none apart) (length-set s.homes j none) refl refl (λ i apart. omega arith) (omega arith) (omega arith) (omega arith) known.stops (λ none_held. absurd (omega arith))
+      (λ i apart. set_else s.homes j i none apart) (length-set s.homes j none) refl refl (λ i apart. omega arith) (omega arith) (omega arith) (omega arith) (omega arith) (λ none_held. absurd (omega arith))
       (knows_entered k f s.words s.homes m j n new x was turn new_kinds (λ ticket. drawn (⊎_elim (λ (e : kind ≡ 1). e) (λ (e : kind ≡ 2). absurd {A = kind ≡ 1} (omega arith)) kinds)) h.backed h.common alone lives known)
       (knows_me k (after f [] e' f.common) s.views id m' (below_length s.views id m at) (λ some_number. lives (omega arith)) (sym (append_nil f.history))) in (
         m',

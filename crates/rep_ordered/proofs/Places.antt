@@ -42,10 +42,6 @@ later_still u v w a b = let d = a.durable in let e = b.durable in let f = a.halt
   stays = stays_on u.durable v.durable w.durable u.halted v.halted a.halted a.stays b.stays;
 }
 
--- a seat that has all the numbers, and learns of no halt, still knows of none that it did not know
-pub no_halt : {V E : Type 0} (u v w : View V E) → Later u v → (HasAll u → v.halted ≡ u.halted) → (HasAll v → w.halted ≡ v.halted) → HasAll u → w.halted ≡ u.halted
-no_halt u v w l first second all = second (subst (λ (z : View _ _). HasAll z) (sym l.same) all) ∙ first all
-
 inside_of : (n m : ℕ) (a b : List Hold) → m ≡ n → b ≡ a → Every (λ (h : Hold). h.station < n) a → Every (λ (h : Hold). h.station < m) b
 inside_of n m a b e d = subst (λ (z : ℕ × List Hold). Every (λ (h : Hold). h.station < z.0) z.1) (λ i. (sym e i, sym d i))
 
@@ -149,9 +145,9 @@ module _ {V E : Type 0} (law : List E → Type 0) (at_home : ℕ → ℕ → ℕ
         now,
       )
 
-  -- a seat that has learnt something, and then entered a station, has entered it
-  pub later_entered : (u v w : View V E) (station number kind : ℕ) (x : V) → Later u v → (HasAll u → v.halted ≡ u.halted) → Entered law at_home durable_of common_of station number kind v w x → Entered law at_home durable_of common_of station number kind u w x
-  later_entered u v w station number kind x l known e = let is = l.same in let a = l.durable in let b = e.durable in let c = l.halted in let d = e.halted in
+  -- a seat that has learnt something, of no halt, and then entered a station, has entered it
+  pub later_entered : (u v w : View V E) (station number kind : ℕ) (x : V) → Later u v → v.halted ≡ 0 → Entered law at_home durable_of common_of station number kind v w x → Entered law at_home durable_of common_of station number kind u w x
+  later_entered u v w station number kind x l runs e = let is = l.same in let a = l.durable in let b = e.durable in let c = l.halted in let d = e.halted in
       let backed : v.backed ≡ u.backed = ap (λ (z : View V E). z.backed) is in let common : v.common ≡ u.common = ap (λ (z : View V E). z.common) is in let start : v.start ≡ u.start = ap (λ (z : View V E). z.start) is in let held : v.held ≡ u.held = ap (λ (z : View V E). z.held) is in record {
         view = e.view ∙ ap (λ (z : View V E). record (knowing w.seen w.durable w.halted z) { backed = backed_after station (durable_of x) z.backed; common = common_after station (common_of x) z.common; reached = reach station number ∷ z.reached; held = hold station (4 * number + kind) (durable_of x) ∷ z.held }) is;
         seen = begins_on u.seen v.seen w.seen l.seen e.seen;
@@ -159,12 +155,11 @@ module _ {V E : Type 0} (law : List E → Type 0) (at_home : ℕ → ℕ → ℕ
         still = λ some_hold. e.still (subst (λ (z : View V E). 0 < held_at 0 z.held) (sym is) some_hold) ∙ l.still some_hold;
         durable = omega arith;
         halted = omega arith;
-        stays = stays_on u.durable v.durable w.durable u.halted v.halted l.halted l.stays e.stays;
+        stays = stays_on u.durable v.durable w.durable u.halted v.halted c l.stays e.stays;
         keeps = e.keeps;
         backed = λ one. let q = e.backed one in let q0 = q.0 in let q1 = q.1 in (omega arith, q1);
         common = λ some_name. let q = e.common some_name in let q0 = q.0 in (omega arith, λ holds. let t = q.1 (subst (λ (h : List Hold). 0 < held_at 1 h + held_at 2 h) (sym held) holds) in omega arith);
         covers = e.covers;
-        last = no_halt u v w l known e.last;
         begun = let q = e.begun in omega arith;
         limit = e.limit;
         turn = subst (λ (z : View V E). reached_at station z.reached ≤ number) is e.turn;

@@ -151,7 +151,7 @@ module _ {V E : Type 0} (law : List E → Type 0) where
 
 module _ {V E : Type 0} (law : List E → Type 0) (at_home : ℕ → ℕ → ℕ → List E → ℕ → V → Type 0) (durable_of common_of : V → ℕ) where
   pub goes_entered : (j number kind : ℕ) (v w : View V E) (x : V) → Entered law at_home durable_of common_of j number kind v w x → Goes v w
-  goes_entered j number kind v w x e = goes_by v w _ e.view (refl, refl, refl, refl) e.seen e.durable e.halted (λ i. reached_up i j number v.reached _ refl)
+  goes_entered j number kind v w x e = goes_by v w _ e.view (refl, refl, refl, refl) e.seen e.durable (let h = e.halted in omega arith) (λ i. reached_up i j number v.reached _ refl)
 
   held_through : (j number kind : ℕ) (v w l : View V E) (x : V) → Entered law at_home durable_of common_of j number kind v w x → Later w l → except j l.held ≡ v.held
   held_through j number kind v w l x e later = ap (λ (z : View V E). except j z.held) later.same ∙ (ap (λ (z : View V E). except j z.held) e.view ∙ except_top j (4 * number + kind) (durable_of x) v.held)

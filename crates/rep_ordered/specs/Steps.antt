@@ -23,6 +23,12 @@ module _ {V E : Type 0} where
     pub low : w.durable ≤ 2 ^ 60
     pub stop_bit : w.halted ≤ 1
 
+  -- word 1 as it was found, before the number was raised: at most what is then known, and a halt that was there is known
+  pub record Found (w : View V E) (word : ℕ) : Type 0 where
+    pub durable : word % 2 ^ 63 ≤ w.durable
+    pub halted : word / 2 ^ 63 ≡ w.halted
+    pub stop_bit : w.halted ≤ 1
+
 module _ {V E : Type 0} (law : List E → Type 0) where
   -- after a load, where v is what was known before, and this history was heard of: the whole history is known, and no number was drawn twice
   pub record Learns (heard : List E) (v w : View V E) : Type 0 where
@@ -43,7 +49,7 @@ module _ {V E : Type 0} (law : List E → Type 0) where
     pub inside : Every (λ (h : Hold). reached_at h.station v.reached ≤ h.word / 4) v.held
 
 module _ {V E : Type 0} (law : List E → Type 0) (at_home : ℕ → ℕ → ℕ → List E → ℕ → V → Type 0) (durable_of common_of : V → ℕ) where
-  -- The seat has entered the station, by the ticket of this number (kind 1) or from the side at it (kind 2), and found the value x. All that it knows of the history, the durable number and the halt is as it was then.
+  -- The seat has entered the station, by the ticket of this number (kind 1) or from the side at it (kind 2), and found the value x. All that it knows of the history and of the durable number is as it was then; it learns of no halt.
   pub record Entered (station number kind : ℕ) (v w : View V E) (x : V) : Type 0 where
     pub view : w ≡ record (knowing w.seen w.durable w.halted v) { backed = backed_after station (durable_of x) v.backed; common = common_after station (common_of x) v.common; reached = reach station number ∷ v.reached; held = hold station (4 * number + kind) (durable_of x) ∷ v.held }
     pub seen : StartsWith w.seen v.seen
@@ -51,7 +57,7 @@ module _ {V E : Type 0} (law : List E → Type 0) (at_home : ℕ → ℕ → ℕ
     -- while it holds station 0, nothing joins the history
     pub still : 0 < held_at 0 v.held → w.seen ≡ v.seen
     pub durable : v.durable ≤ w.durable
-    pub halted : v.halted ≤ w.halted
+    pub halted : w.halted ≡ v.halted
     -- after a halt the durable number stays
     pub stays : 0 < v.halted → w.durable ≡ v.durable
     -- the value meets what may lie at home there
@@ -61,8 +67,6 @@ module _ {V E : Type 0} (law : List E → Type 0) (at_home : ℕ → ℕ → ℕ
     pub common : 0 < names station → (v.common ≤ common_of x) × (0 < held_at 1 v.held + held_at 2 v.held → v.common ≡ common_of x)
     -- that number covers what is durable
     pub covers : 0 < names station → w.durable ≤ common_of x
-    -- a seat that has all the numbers knew of every halt
-    pub last : HasAll v → w.halted ≡ v.halted
     -- the turns begin at the first number, and end behind the last
     pub begun : v.start ≤ number
     pub limit : number ≤ 2 ^ 60 + 1
@@ -91,16 +95,16 @@ module _ {V E : Type 0} where
   abbrev pub loaded : (List E → Type 0) → Step (Option V) → Me (Option V) (Mind V E) → ℕ → Me (Option V) (Mind V E) → Type 0
   loaded law st m r m' = Learns law m.0.told m.0.view m'.0.view × Plain m m'
 
-  -- a load by which a seat that has all the numbers learns of no halt
+  -- a load by which a seat learns of no halt
   abbrev pub looked : (List E → Type 0) → Step (Option V) → Me (Option V) (Mind V E) → ℕ → Me (Option V) (Mind V E) → Type 0
-  looked law st m r m' = loaded law st m r m' × (HasAll m.0.view → m'.0.view.halted ≡ m.0.view.halted)
+  looked law st m r m' = loaded law st m r m' × (m'.0.view.halted ≡ m.0.view.halted)
 
   -- a load of word 1. A seat that has all the numbers knows the whole history, and of every halt
   abbrev pub fronted : (List E → Type 0) → Step (Option V) → Me (Option V) (Mind V E) → ℕ → Me (Option V) (Mind V E) → Type 0
   fronted law st m r m' = loaded law st m r m' × Reads m'.0.view r × (m.0.told ≡ [] → HasAll m.0.view → (m'.0.view.halted ≡ m.0.view.halted) × (m'.0.view.seen ≡ m.0.view.seen))
 
   abbrev pub raised : (List E → Type 0) → Step (Option V) → Me (Option V) (Mind V E) → ℕ → Me (Option V) (Mind V E) → Type 0
-  raised law st m r m' = loaded law st m r m' × (m'.0.view.halted ≡ 0 → st.first ≤ m'.0.view.durable) × (HasAll m.0.view → m'.0.view.halted ≡ m.0.view.halted)
+  raised law st m r m' = loaded law st m r m' × Found m'.0.view r × (m'.0.view.halted ≡ 0 → st.first ≤ m'.0.view.durable) × (HasAll m.0.view → m'.0.view.halted ≡ m.0.view.halted)
 
   abbrev pub stopped : (List E → Type 0) → Step (Option V) → Me (Option V) (Mind V E) → ℕ → Me (Option V) (Mind V E) → Type 0
   stopped law st m r m' = loaded law st m r m' × (m'.0.view.halted ≡ 1)

@@ -2,7 +2,7 @@
 
 ghost use Rattle.std.specs.Prelude.{◌≡◌, ℕ, ◌+◌, ◌<◌, ◌≤◌, [], length, max};
 ghost use Rattle.rep_ordered.specs.Counts.{times};
-ghost use Rattle.rep_ordered.specs.Views.{HasAll, with_number, giving, given, both};
+ghost use Rattle.rep_ordered.specs.Views.{with_number, giving, given, both};
 ghost use Rattle.rep_ordered.specs.Steps.{Learns};
 ghost use Rattle.rep_ordered.specs.Seats.{seat_of};
 
@@ -60,8 +60,8 @@ impl<V: Keeps<E>, E> OrderedLock<V, E> {
 
     /// Takes in another seat of the lock, which holds no station. The seat then may draw what both
     /// might, has drawn what both had, no number twice, and has seen at least what both had: the
-    /// whole history, which is lawful. It may draw no more numbers than the lock has. Where it then has
-    /// all the numbers, it learns of no halt that neither of the two knew.
+    /// whole history, which is lawful. It may draw no more numbers than the lock has. It learns of no
+    /// halt that neither of the two knew.
     ///
     /// It takes no memory and does not wait.
     pub fn join(&self, seat: &mut Seat<V, E>, other: Seat<V, E>)
@@ -69,7 +69,7 @@ impl<V: Keeps<E>, E> OrderedLock<V, E> {
         requires free { other.view.held ≡ [] }
         ensures lock { seat.new.lock ≡ seat.old.lock }
         ensures joined { Learns (V.legal seat.old.view.first) other.view.seen (both seat.old.view other.view) seat.new.view }
-        ensures last { HasAll (both seat.old.view other.view) → seat.new.view.halted ≡ max seat.old.view.halted other.view.halted }
+        ensures halted { seat.new.view.halted ≡ max seat.old.view.halted other.view.halted }
     {
         self.join_as::<Brand>(seat, other);
     }
@@ -80,7 +80,7 @@ impl<V: Keeps<E>, E> OrderedLock<V, E> {
         requires pick { (seat.old.view.start ≡ N.start) × (seat.old.view.whole ≡ N.whole) × (seat.old.view.first ≡ N.first) }
         ensures lock { seat.new.lock ≡ seat.old.lock }
         ensures joined { Learns (V.legal seat.old.view.first) other.view.seen (both seat.old.view other.view) seat.new.view }
-        ensures last { HasAll (both seat.old.view other.view) → seat.new.view.halted ≡ max seat.old.view.halted other.view.halted }
+        ensures halted { seat.new.view.halted ≡ max seat.old.view.halted other.view.halted }
     {
         let Seat { seat: other } = other;
         self.table

@@ -83,6 +83,7 @@ impl<V: Keeps<E>, E> OrderedLock<V, E> {
         ensures entered { IfOk result (Entered (V.legal seat.old.view.first) (V.at_home seat.old.view.first) V.durable_of V.common_of station ticket 1 seat.old.view seat.new.view) }
         ensures stopped { IfErr result (λ refusal. (refusal ≡ Refusal.Stopped) × Later seat.old.view seat.new.view × Sees (V.legal seat.old.view.first) seat.new.view × (seat.new.view.halted ≡ 1)) }
         ensures halted { seat.old.view.halted ≡ 1 → IsErr result }
+        ensures runs { IfOk result (λ _. seat.new.view.halted ≡ 0) }
         ensures last { seat.old.view.allowance + length seat.old.view.own ≡ seat.old.view.whole → IfErr result (λ _. seat.old.view.halted ≡ 1) }
     {
         let backoff = Backoff::new();
@@ -111,6 +112,9 @@ impl<V: Keeps<E>, E> OrderedLock<V, E> {
         // Tells the proof that the seat's numbers are small.
         let _place = &seat.seat;
         let free = 4 * ticket;
+        if self.table.shared.peek(station + 2) != free {
+            return None;
+        }
         let found = self
             .table
             .shared
@@ -142,6 +146,7 @@ impl<V: Keeps<E>, E> OrderedLock<V, E> {
         ensures entered { IfOk result (λ value. (number : ℕ) × Entered (V.legal seat.old.view.first) (V.at_home seat.old.view.first) V.durable_of V.common_of station number 2 seat.old.view seat.new.view value) }
         ensures stopped { IfErr result (λ refusal. (refusal ≡ Refusal.Stopped) × Later seat.old.view seat.new.view × Sees (V.legal seat.old.view.first) seat.new.view × (seat.new.view.halted ≡ 1)) }
         ensures halted { seat.old.view.halted ≡ 1 → IsErr result }
+        ensures runs { IfOk result (λ _. seat.new.view.halted ≡ 0) }
         ensures last { seat.old.view.allowance + length seat.old.view.own ≡ seat.old.view.whole → IfErr result (λ _. seat.old.view.halted ≡ 1) }
     {
         let backoff = Backoff::new();

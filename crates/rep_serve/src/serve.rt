@@ -31,6 +31,8 @@ use std::thread::Threads;
 struct AtOnce;
 
 impl Pace for AtOnce {
+    ghost lets = { λ pace point seqno. Unit {0} };
+
     fn at(&self, _point: Point, _seqno: u64) -> bool {
         true
     }

@@ -38,6 +38,8 @@ impl Held {
 }
 
 impl Pace for Held {
+    ghost lets = { λ pace point seqno. Unit {0} };
+
     fn at(&self, point: Point, seqno: u64) -> bool {
         if self.stop == Some((point, seqno)) {
             return false;
@@ -56,8 +58,21 @@ impl Pace for Held {
 pub(crate) struct AtOnce;
 
 impl Pace for AtOnce {
+    ghost lets = { λ pace point seqno. Unit {0} };
+
     fn at(&self, _point: Point, _seqno: u64) -> bool {
         true
+    }
+}
+
+/// None may go on.
+pub(crate) struct Never;
+
+impl Pace for Never {
+    ghost lets = { λ pace point seqno. Unit {0} };
+
+    fn at(&self, _point: Point, _seqno: u64) -> bool {
+        false
     }
 }
 
@@ -79,6 +94,8 @@ impl Crossing {
 }
 
 impl Pace for Crossing {
+    ghost lets = { λ pace point seqno. Unit {0} };
+
     fn at(&self, point: Point, seqno: u64) -> bool {
         if seqno != 2 {
             return true;

@@ -227,3 +227,30 @@ fn rows_are_read_and_written_beside_a_node(rt: HostRuntime) {
         assert!(rt; is_left(&rt, rt.alloc(), steps, *left) == Ok(true));
     }
 }
+
+/// 300 items, of which the log has room for few: a checkpoint to the last of them, which the reader then finds.
+const CHECKED: &[Step] = &[
+    (Call::Batch(100, true), Answer::Stands(100)),
+    (Call::Batch(100, true), Answer::Stands(100)),
+    (Call::Batch(100, true), Answer::Stands(100)),
+    (Call::Check, Answer::Stands(300)),
+    (Call::Front, Answer::Stands(300)),
+    (Call::Check, Answer::Refused(Refusal::NotDue)),
+];
+
+#[test]
+fn checks_answer_the_base(rt: HostRuntime) {
+    assert!(rt; is_left(&rt, rt.alloc(), CHECKED, (300, 300, false)) == Ok(true));
+}
+
+/// A pace that lets no worker go on, behind which the node is halted.
+const HELD: &[Step] = &[
+    (Call::Batch(2, false), Answer::Stands(0)),
+    (Call::Keep, Answer::Refused(Refusal::Stopped)),
+    (Call::Check, Answer::Refused(Refusal::Stopped)),
+];
+
+#[test]
+fn a_pace_that_says_no_stops_keep(rt: HostRuntime) {
+    assert!(rt; is_left(&rt, rt.alloc(), HELD, (0, 0, true)) == Ok(true));
+}

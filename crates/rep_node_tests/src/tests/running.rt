@@ -4,7 +4,7 @@
 use super::paces::AtOnce;
 use super::replicas::{Found, found_by_read, put};
 use rep_disk::Disk;
-use rep_node::{Batch, Node, NodeReader, NodeRows, Seat};
+use rep_node::{Batch, Node, NodeReader, NodeRows, Pace, Seat};
 use rep_replica::Replica;
 use rep_session::Session;
 use rep_snap::Peek;
@@ -118,6 +118,13 @@ impl<D: Disk> Running<D> {
         (Running { node, seat, reader }, found_by_peek(peek))
     }
 
+    /// The front of the list that the reader finds.
+    pub(crate) fn front(self) -> (Running<D>, u64) {
+        let Running { node, seat, reader } = self;
+        let (reader, front) = reader.front();
+        (Running { node, seat, reader }, front)
+    }
+
     /// What is read under the key.
     pub(crate) fn read<R: Wait>(self, rt: &R, key: Key, at: u64) -> (Running<D>, Found) {
         let Running {
@@ -171,6 +178,23 @@ impl<D: Disk> Running<D> {
 }
 
 impl<D: Disk + Send> Running<D> {
+    /// Hands items in by two workers of this pace, with a keeper beside. It says how many receipts came.
+    pub(crate) fn hand_in_all<R: Threads + Wait + Sync, P: Pace + Sync>(
+        self,
+        rt: &R,
+        alloc: Global,
+        items: &[Item],
+        pace: &P,
+    ) -> (Running<D>, usize) {
+        let Running {
+            node,
+            mut seat,
+            reader,
+        } = self;
+        let batch = node.serve(rt, alloc, &mut seat, items, 2, pace);
+        (Running { node, seat, reader }, batch.receipts.len())
+    }
+
     /// Hands in one item, with a keeper beside. It says what verdict it has.
     pub(crate) fn hand_in<R: Threads + Wait + Sync>(
         self,

@@ -1,6 +1,7 @@
 //! What is done to a node with one seat and one reader, step by step, and what each step answers.
 
-use super::replicas::{Found, new_disk, opened, put, writing};
+use super::paces::{AtOnce, Never};
+use super::replicas::{Found, new_disk, opened, put, putting_each, writing};
 use super::running::Running;
 use rep_disk::MemDisk;
 use rep_session::{Finished, Session};
@@ -18,12 +19,16 @@ pub(crate) type Node = Running<MemDisk>;
 pub(crate) enum Call {
     /// An item that had seen so many before it puts a byte under the row, or deletes what is there.
     Write(u64, Key, Option<u8>),
+    /// So many items that had seen nothing are handed in by two workers, which may go on or not.
+    Batch(u32, bool),
     /// What waits is made durable, which the reader learns of.
     Keep,
     /// A checkpoint runs, which the reader learns of.
     Check,
     /// The node is halted.
     Halt,
+    /// The front of the list that the reader finds.
+    Front,
     /// The reader looks for the row at a snapshot.
     Peek(Key, u64),
     /// The row at a position is read.
@@ -47,7 +52,7 @@ pub(crate) enum Answer {
     Done,
     /// An item has this verdict.
     Judged(Verdict),
-    /// So many items are durable, or the base stands there.
+    /// So many items are durable or told of, or the base or the front stands there.
     Stands(u64),
     /// This is found.
     Is(Found),
@@ -91,6 +96,26 @@ fn handed_in<R: Threads + Wait + Sync>(
         }
         Err(refusal) => (node, Answer::Refused(refusal)),
     }
+}
+
+/// Hands in so many items, which may go on or not, and says how many are told of.
+fn handed_in_all<R: Threads + Wait + Sync>(
+    rt: &R,
+    alloc: Global,
+    node: Node,
+    count: u32,
+    goes: bool,
+) -> (Node, Answer) {
+    let items = match putting_each(alloc, count) {
+        Ok(items) => items,
+        Err(refusal) => return (node, Answer::Refused(refusal)),
+    };
+    let (node, receipts) = if goes {
+        node.hand_in_all(rt, alloc, &items, &AtOnce)
+    } else {
+        node.hand_in_all(rt, alloc, &items, &Never)
+    };
+    (node, Answer::Stands(receipts as u64))
 }
 
 /// Ends the transaction, and hands in what it wrote, if there is something.
@@ -154,6 +179,7 @@ fn made<R: Threads + Wait + Sync>(
         Call::Write(last_seen, key, byte) => {
             handed_in(rt, alloc, node, writing(last_seen, key, byte))
         }
+        Call::Batch(count, goes) => handed_in_all(rt, alloc, node, count, goes),
         Call::End => ended(rt, alloc, node, session),
         Call::Begin => {
             let (node, begun) = node.begin(rt);
@@ -188,6 +214,10 @@ fn looked<R: Wait>(rt: &R, node: Node, call: Call) -> (Node, Answer) {
         Call::Read(key, at) => {
             let (node, found) = node.read(rt, key, at);
             (node, Answer::Is(found))
+        }
+        Call::Front => {
+            let (node, front) = node.front();
+            (node, Answer::Stands(front))
         }
         Call::Halt => (node.halt(), Answer::Done),
         _ => (node, Answer::Refused(Refusal::NotDue)),

@@ -5,7 +5,6 @@ ghost use Rattle.uuid.specs.Parts.{is_nil_bytes};
 ghost use Rattle.rep_replica.specs.Replicas.{facts_of};
 ghost use Rattle.rep_replica.specs.Settling.{is_quiet};
 ghost use Rattle.rep_ordered.specs.Views.{HasAll};
-ghost use Rattle.rep_node.specs.Seats.{PassedOrStopped};
 
 use crate::node::items::params;
 use crate::node::readers::{Tally, Watchers};
@@ -24,6 +23,8 @@ use uuid::Uuid;
 struct AtOnce;
 
 impl Pace for AtOnce {
+    ghost lets = { λ pace point seqno. Unit {0} };
+
     fn at(&self, _point: Point, _seqno: u64) -> bool {
         true
     }
@@ -86,7 +87,6 @@ fn started<R: Wait, D: Disk + Drop>(
     requires readers { (0 < readers) × (readers ≤ 64) }
     ensures lock { IfOk result (λ made. made.1.lock ≡ made.0) }
     ensures all { IfOk result (λ made. HasAll made.1.view) }
-    ensures passed { IfOk result (λ made. PassedOrStopped made.1.view) }
 {
     match Node::start(alloc, rt, replica, readers) {
         Ok(made) => Ok(made),
@@ -105,11 +105,9 @@ fn serve_watched<R: Clock + Threads + Wait + Sync, D: Disk + Send>(
     watchers: &mut Watchers,
 ) -> Outcome
     requires lock { seat.old.lock ≡ node.now }
-    requires passed { PassedOrStopped seat.old.view }
     requires workers { (0 < workers) × (workers ≤ 64) }
     ensures lock { seat.new.lock ≡ seat.old.lock }
     ensures all { HasAll seat.old.view → HasAll seat.new.view }
-    ensures passed { PassedOrStopped seat.new.view }
 {
     let began = Instant::now(rt).ok();
     let batch = node.serve(rt, alloc, seat, items, workers, &AtOnce);

@@ -1,7 +1,12 @@
 use Rattle.rep_steps.specs.declared.event.Event.TheVariants.{Check}
 use Rattle.rep_engine.specs.Checking.{checked}
 use Rattle.rep_node.proofs.Stepping.{base_rises}
-use Rattle.rep_node.proofs.Checks.{check_taken, check_window, check_works}
+use Rattle.std.proofs.Common.{rules, ◌≡◌, ℕ, Option, Result, Err, subst}
+use Rattle.rep_types.specs.declared.refusal.Refusal.{Refusal}
+use Rattle.rep_types.specs.declared.refusal.Refusal.TheVariants.{NotDue}
+use Rattle.rep_steps.specs.Moves.{Moves}
+use Rattle.rep_engine.specs.Engines.{facts_of}
+use Rattle.rep_node.proofs.Checks.{check_taken, check_window, check_works, none_due}
 use Rattle.rep_node.proofs.checking.check.Goals as goal
 
 pub check-requires : goal.check-requires
@@ -21,3 +26,7 @@ returns-in_err-check-clause-base g c = base_rises g.D.Disk.honest g.D.Disk.histo
 
 pub returns-clause-base : goal.returns-clause-base
 returns-clause-base g c = base_rises g.D.Disk.honest g.D.Disk.history g.D.Disk.failures c.args.engine.now c.check.new.self Check (checked c.check.result) tt c.durable-position.ensures.engine c.check.ensures.moves
+
+pub returns-in_err-check-clause-due : goal.returns-in_err-check-clause-due
+returns-in_err-check-clause-due g c = λ begins told. let was : c.check.result ≡ Err NotDue = search rules in
+    none_due g.D.Disk.failures c.args.engine.now c.check.new.self (subst (λ (r : Result (Option ℕ) Refusal). Moves (facts_of g.D.Disk.failures c.args.engine.now) Check (checked r) (facts_of g.D.Disk.failures c.check.new.self)) was c.check.ensures.moves)

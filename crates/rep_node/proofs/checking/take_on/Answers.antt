@@ -10,7 +10,7 @@ use Rattle.rep_node.proofs.checking.take_on.Goals as goal
 use Rattle.rep_node.proofs.checking.take_on.Goals.{After-publish_durable-desk}
 
 pub returns-in-Err-clause-given : goal.returns-in-Err-clause-given
-returns-in-Err-clause-given g c = λ s items w. step_failed g.D.Disk.honest g.D.Disk.history g.D.Disk.failures s items c.args.desk w c.flush_or_sync.new.engine (rw c.get_mut.ensures.value at c.in-Err.ensures.taken)
+returns-in-Err-clause-given g c = λ s items w. step_failed g.D.Disk.honest g.D.Disk.history g.D.Disk.failures s items c.args.desk w c.flush_or_sync.new.engine (rw c.get_mut.ensures.value at c.in-Err.ensures.taken) (rw c.get_mut.ensures.value at c.in-Err.ensures.rises)
 
 pub returns-in-Err-clause-common : goal.returns-in-Err-clause-common
 returns-in-Err-clause-common g c = let w = c.requires.work in same_common g.D.Disk.honest g.D.Disk.history g.D.Disk.failures w.0 w.1 c.args.desk w.2 c.flush_or_sync.new.engine (rw c.get_mut.ensures.value at c.in-Err.ensures.taken)

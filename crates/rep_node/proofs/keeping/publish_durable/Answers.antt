@@ -21,4 +21,5 @@ returns-clause-works g c = λ s items h.
     on_ok_weaker p.result.1 (λ shown. works_on g.D.Disk.honest g.D.Disk.history g.D.Disk.failures s items c.args.desk h p.result.0 p.new.waiting p.ensures.same p.ensures.whole p.ensures.oldest (shown ∙ (rw c.get.ensures at c.durable-durable.ensures.durable))) p.ensures.shown
 
 pub returns-clause-given : goal.returns-clause-given
-returns-clause-given g c = λ s items h. given_up g.D.Disk.honest g.D.Disk.history g.D.Disk.failures s items c.args.desk h c.publish_upto-publisher.result.0 c.publish_upto-publisher.new.waiting c.publish_upto-publisher.ensures.same
+returns-clause-given g c = λ s items h. given_up g.D.Disk.honest g.D.Disk.history g.D.Disk.failures s items c.args.desk h c.publish_upto-publisher.result.0 c.publish_upto-publisher.new.waiting c.publish_upto-publisher.ensures.same c.publish_upto-publisher.ensures.whole
+    (subst (λ n. c.args.desk.publisher.start + length (published c.publish_upto-publisher.result.0.list) ≤ n) (rw c.get.ensures at c.durable-durable.ensures.durable) c.publish_upto-publisher.ensures.behind)

@@ -6,7 +6,7 @@ use Rattle.rep_ordered.specs.Views.{Later, HasAll}
 use Rattle.rep_node.specs.declared.home.Home.{Home}
 use Rattle.rep_node.specs.Homes.{Start, values_of}
 use Rattle.rep_node.specs.Ending.{EndsAs}
-use Rattle.rep_node.proofs.Sharing.{Owns}
+use Rattle.rep_node.specs.Seats.{Rests}
 use Rattle.rep_node.proofs.Closing.{was_halted, not_halted, one_end, close_parts, legal_before, replica_of}
 use Rattle.rep_node.proofs.node.Node.close.Goals as goal
 use Rattle.rep_node.proofs.node.Node.close.Goals.{After-close-homes, After-closed_values_of-certifier}
@@ -21,9 +21,9 @@ last g c = subst (λ (z : Place (Home g.row.D.Denot) Judged). HasAll z.view → 
 -- what the lock was closed with, and the replica that it makes
 closed : (g : _) (c : After-close-homes g) → (t : Start g.row.D.Denot) × (c.close-homes.result.items ≡ map Some (values_of t))
     × ((stopped : Bool) → (stopped ≡ false → c.front-stopped.new.seat.view.halted ≡ 0) → EndsAs g.D.Disk.honest g.D.Disk.history g.D.Disk.failures c.args.seat.view (replica_of t stopped))
-closed g c = let owns = subst (λ (z : Place (Home g.row.D.Denot) Judged). Owns g.D.Disk.honest g.D.Disk.history g.D.Disk.failures z.view c.seat.inside.allowance) c.seat.view_is c.seat.invariant in
+closed g c = let owns = subst (λ (z : Place (Home g.row.D.Denot) Judged). Rests g.D.Disk.honest g.D.Disk.history g.D.Disk.failures z.view c.seat.inside.allowance) c.seat.view_is c.seat.invariant in
     close_parts g.D.Disk.honest g.D.Disk.history g.D.Disk.failures c.histories_go_on.ensures c.histories_lie_between_replicas.ensures c.histories_extend_the_order.ensures c.args.seat.view c.front-stopped.new.seat.view c.close-homes.result.items
-    (later g c) (last g c) owns.1 owns.0 c.requires.passed c.close-homes.ensures.values (c.close-homes.ensures.stations ∙ c.self.invariant)
+    (later g c) (last g c) owns.free owns.seat owns.passed c.close-homes.ensures.values (c.close-homes.ensures.stations ∙ c.self.invariant)
 
 abbrev taken : (g : _) → After-closed_values_of-certifier g → Start g.row.D.Denot
 taken g c = record { certifier = c.closed_values_of-certifier.result.0; desk = c.closed_values_of-certifier.result.1; queue = c.closed_values_of-certifier.result.2 }

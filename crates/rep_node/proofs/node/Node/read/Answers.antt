@@ -31,14 +31,14 @@ pub returns-in-Ok-Value-clause-row : goal.returns-in-Ok-Value-clause-row
 returns-in-Ok-Value-clause-row g c =
     let shut = FoundShut g.W.Door.knows g.W.Door.shut in
     let said : c.peek-reader.result.1 ≡ Ok (Value c.in-Ok-Value.value) = c.in-Ok-Value.is ∙ ap (λ (p : Peek). Ok p) c.in-Ok-Value.field-0-is in
-    row_shown g.D.Disk.honest g.D.Disk.history g.D.Disk.failures c.args.seat.now.view c.is_one.ensures c.args.reader c.requires.own c.peeks_follow_the_fold.ensures c.versions_follow_the_items.ensures c.history_by_items.ensures c.histories_extend_the_order.ensures c.look.new.seat.view shut c.peek-reader.result.0 c.args.key c.args.at (Value c.in-Ok-Value.value)
+    row_shown g.D.Disk.honest g.D.Disk.history g.D.Disk.failures c.args.seat.now.view c.is_one.ensures.seat c.args.reader c.requires.own c.peeks_follow_the_fold.ensures c.versions_follow_the_items.ensures c.history_by_items.ensures c.histories_extend_the_order.ensures c.args.seat.now.view shut c.peek-reader.result.0 c.args.key c.args.at (Value c.in-Ok-Value.value)
     (subst (λ (z : Result Peek Refusal). Peeked shut c.args.reader c.args.key c.args.at c.peek-reader.result.0 z) said c.peek-reader.ensures.answer) (Some c.in-Ok-Value.value) (λ below. refl)
 
 pub returns-in-Ok-Absent-clause-row : goal.returns-in-Ok-Absent-clause-row
 returns-in-Ok-Absent-clause-row g c =
     let shut = FoundShut g.W.Door.knows g.W.Door.shut in
     let said : c.peek-reader.result.1 ≡ Ok Absent = c.in-Ok-Absent.is ∙ ap (λ (p : Peek). Ok p) c.in-Ok-Absent.field-0-is in
-    row_shown g.D.Disk.honest g.D.Disk.history g.D.Disk.failures c.args.seat.now.view c.is_one.ensures c.args.reader c.requires.own c.peeks_follow_the_fold.ensures c.versions_follow_the_items.ensures c.history_by_items.ensures c.histories_extend_the_order.ensures c.look-in-Ok-Absent.new.seat.view shut c.peek-reader.result.0 c.args.key c.args.at Absent
+    row_shown g.D.Disk.honest g.D.Disk.history g.D.Disk.failures c.args.seat.now.view c.is_one.ensures.seat c.args.reader c.requires.own c.peeks_follow_the_fold.ensures c.versions_follow_the_items.ensures c.history_by_items.ensures c.histories_extend_the_order.ensures c.args.seat.now.view shut c.peek-reader.result.0 c.args.key c.args.at Absent
     (subst (λ (z : Result Peek Refusal). Peeked shut c.args.reader c.args.key c.args.at c.peek-reader.result.0 z) said c.peek-reader.ensures.answer) None (λ below. refl)
 
 pub returns-in-Err-clause-seen : goal.returns-in-Err-clause-seen

@@ -10,4 +10,4 @@ invariant_of-seat g c = owns_less g.D.Disk.honest g.D.Disk.history g.D.Disk.fail
     (ap (λ (z : Place (Home g.row.D.Denot) Judged). z.view) c.split-other.ensures.seat) c.saturating_sub-seat-inside.ensures c.seat.invariant
 
 pub invariant_of-result : goal.invariant_of-result
-invariant_of-result g c = owns_given g.D.Disk.honest g.D.Disk.history g.D.Disk.failures c.seat.inside.seat.view c.split-other.result.view c.args.give (ap (λ (z : Place (Home g.row.D.Denot) Judged). z.view) c.split-other.ensures.given) c.seat.invariant.0
+invariant_of-result g c = owns_given g.D.Disk.honest g.D.Disk.history g.D.Disk.failures c.seat.inside.seat.view c.split-other.result.view c.args.give c.seat.inside.allowance (ap (λ (z : Place (Home g.row.D.Denot) Judged). z.view) c.split-other.ensures.given) c.seat.invariant

@@ -25,7 +25,7 @@ near : (g : Over) (c : After-wait_durable g) → Came g c.claim-ticket.result c.
 near g c before = drew_later g.D.Disk.honest g.D.Disk.history g.D.Disk.failures _ c.paced.new.seat.view c.wait_durable.new.seat.view _ before c.wait_durable.ensures.later
 
 certified : (g : Over) (c : After-certify g) → Came g c.claim-ticket.result c.args.seat.now.view c.wait_durable.new.seat.view → Came g c.claim-ticket.result c.args.seat.now.view c.certify.new.seat.view
-certified g c before = drew_went g.D.Disk.honest g.D.Disk.history g.D.Disk.failures _ c.wait_durable.new.seat.view c.certify.new.seat.view _ before c.certify.ensures.went c.certify.ensures.own
+certified g c before = drew_went g.D.Disk.honest g.D.Disk.history g.D.Disk.failures _ c.wait_durable.new.seat.view c.certify.new.seat.view _ before c.certify.ensures.went c.certify.ensures.own.0
 
 judged : (g : Over) (c : After-paced-2 g) → Came g c.claim-ticket.result c.args.seat.now.view c.certify.new.seat.view → Came g c.claim-ticket.result c.args.seat.now.view c.paced-2.new.seat.view
 judged g c before = drew_later g.D.Disk.honest g.D.Disk.history g.D.Disk.failures _ c.certify.new.seat.view c.paced-2.new.seat.view _ before c.paced-2.ensures.later

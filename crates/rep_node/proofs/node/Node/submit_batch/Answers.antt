@@ -1,44 +1,48 @@
-use Rattle.std.proofs.Common.{rules, ◌≡◌, length, sym, ap, ◌∙◌, subst}
+use Rattle.std.proofs.Common.{◌≡◌, ◌<◌, ◌≤◌, inl, inr, ℕ, false, Some, length, refl, sym, ap, ◌∙◌, subst, arith}
 use Rattle.rep_types.specs.declared.judged.Judged.{Judged}
+use Rattle.rep_types.specs.declared.refusal.Refusal.TheVariants.{Exhausted, OutOfMemory, Stopped}
 use Rattle.rep_ordered.specs.declared.view.View.{View}
-use Rattle.rep_ordered.specs.GoingLaws.{went_later, went_on}
 use Rattle.rep_ordered.specs.Seats.{Place}
-use Rattle.rep_ordered.specs.Views.{Later}
 use Rattle.rep_node.specs.declared.home.Home.{Home}
-use Rattle.rep_node.specs.Batches.{IsBatch}
-use Rattle.rep_node.proofs.Batching.{batch_later, batch_none, standing_later}
+use Rattle.rep_node.specs.Serving.{HandedIn}
+use Rattle.rep_node.proofs.Together.{handed_later, not_handed}
+use Rattle.rep_node.proofs.Closing.{not_halted}
 use Rattle.rep_node.proofs.node.Node.submit_batch.Given.{Over}
 use Rattle.rep_node.proofs.node.Node.submit_batch.Goals as goal
-use Rattle.rep_node.proofs.node.Node.submit_batch.Goals.{After-front-front}
+use Rattle.rep_node.proofs.node.Node.submit_batch.Goals.{After-is_halted}
 
-pub invariant_of-seat : goal.invariant_of-seat
-invariant_of-seat g c = standing_later g.D.Disk.honest g.D.Disk.history g.D.Disk.failures c.seat.inside.allowance c.seat.inside.seat.view c.front-front.new.seat.view c.seat.invariant c.front-front.ensures.later
+pub returns-then-is_halted-clause-handed_in : goal.returns-then-is_halted-clause-handed_in
+returns-then-is_halted-clause-handed_in g c = not_handed (g.P.Pace.lets c.args.pace.now) c.args.items.now (length c.args.items.now) (length c.args.items.now) c.args.seat.now.view c.is_halted.new.seat.view c.refused.result Stopped
+    c.is_halted.ensures.later c.is_halted.ensures.idle c.is_one.ensures.passed c.refused.ensures.0 c.refused.ensures.1 (inl (refl, c.is_halted.ensures.halted.0 c.if-is_halted.true))
 
-pub invariant_of-seat-then-seat-items : goal.invariant_of-seat-then-seat-items
-invariant_of-seat-then-seat-items g c = standing_later g.D.Disk.honest g.D.Disk.history g.D.Disk.failures c.seat.inside.allowance c.seat.inside.seat.view c.front-front.new.seat.view c.seat.invariant c.front-front.ensures.later
+-- the node was not halted
+runs : (g : Over) (c : After-is_halted g) → c.is_halted.result ≡ false → c.is_halted.new.seat.view.halted ≡ 0
+runs g c goes = not_halted c.is_halted.result c.is_halted.new.seat.view.halted c.is_halted.ensures.halted c.is_halted.ensures.one_bit goes
 
--- it looked at the front first
-looked : (g : Over) (c : After-front-front g) → Later c.args.seat.now.view c.front-front.new.seat.view
-looked g c = let same : c.seat.inside.seat.view ≡ c.args.seat.now.view = search rules in subst (λ (z : View (Home g.row.D.Denot) Judged). Later z c.front-front.new.seat.view) same c.front-front.ensures.later
+pub returns-then-seat-items-clause-handed_in : goal.returns-then-seat-items-clause-handed_in
+returns-then-seat-items-clause-handed_in g c =
+    let running = runs g (goal.at.returns-then-seat-items-clause-handed_in g c).After-is_halted c.if-is_halted.false in
+    let same : c.seat.inside.seat.view ≡ c.is_halted.new.seat.view = ap (λ (z : Place (Home g.row.D.Denot) Judged). z.view) c.seat.view_is in
+    let left = c.seat.invariant.left (ap (λ (z : View (Home g.row.D.Denot) Judged). z.halted) same ∙ running) in
+    let here = ap (λ (z : View (Home g.row.D.Denot) Judged). z.allowance) same in
+    let before = ap (λ (z : View (Home g.row.D.Denot) Judged). z.allowance) c.is_halted.ensures.later.same in
+    let few = c.if-seat-items.true in
+    not_handed (g.P.Pace.lets c.args.pace.now) c.args.items.now (length c.args.items.now) (length c.args.items.now) c.args.seat.now.view c.is_halted.new.seat.view c.refused-then-seat-items.result Exhausted
+    c.is_halted.ensures.later c.is_halted.ensures.idle c.is_one.ensures.passed c.refused-then-seat-items.ensures.0 c.refused-then-seat-items.ensures.1 (inr (inl (refl, omega (arith, left, here, before, few))))
 
-pub returns-then-front-clause-batch : goal.returns-then-front-clause-batch
-returns-then-front-clause-batch g c = batch_none c.args.items.now (length c.args.items.now) c.args.seat.now.view c.front-front.new.seat.view c.refused.result.receipts.items (looked g (goal.at.returns-then-front-clause-batch g c).After-front-front) c.refused.ensures.0
+pub submit_shared-requires-clause-rests : goal.submit_shared-requires-clause-rests
+submit_shared-requires-clause-rests g c κs within = (c.seat.inside.allowance, c.seat.invariant)
 
-pub returns-then-seat-items-clause-batch : goal.returns-then-seat-items-clause-batch
-returns-then-seat-items-clause-batch g c = batch_none c.args.items.now (length c.args.items.now) c.args.seat.now.view c.front-front.new.seat.view c.refused-then-seat-items.result.receipts.items (looked g (goal.at.returns-then-seat-items-clause-batch g c).After-front-front) c.refused-then-seat-items.ensures.0
+pub submit_shared-requires-clause-allowance : goal.submit_shared-requires-clause-allowance
+submit_shared-requires-clause-allowance g c κs within = let less = c.seat.invariant.less in let enough = c.if-seat-items.false in omega (arith, less, enough)
 
-pub submit_shared-requires-clause-seat : goal.submit_shared-requires-clause-seat
-submit_shared-requires-clause-seat g c κs within = (standing_later g.D.Disk.honest g.D.Disk.history g.D.Disk.failures c.seat.inside.allowance c.seat.inside.seat.view c.front-front.new.seat.view c.seat.invariant c.front-front.ensures.later).0
+pub submit_shared-requires-clause-runs : goal.submit_shared-requires-clause-runs
+submit_shared-requires-clause-runs g c κs within = ap (λ (z : Place (Home g.row.D.Denot) Judged). z.view.halted) c.seat.view_is ∙ runs g (goal.at.submit_shared-requires-clause-runs g c).After-is_halted c.if-is_halted.false
 
-pub returns-in-Ok-clause-went : goal.returns-in-Ok-clause-went
-returns-in-Ok-clause-went g c = let free = (standing_later g.D.Disk.honest g.D.Disk.history g.D.Disk.failures c.seat.inside.allowance c.seat.inside.seat.view c.front-front.new.seat.view c.seat.invariant c.front-front.ensures.later).1 in
-    let same : c.seat.inside.seat.view ≡ c.args.seat.now.view = search rules in
-    went_on c.args.seat.now.view c.front-front.new.seat.view c.submit_shared.new.seat.view
-    (went_later c.args.seat.now.view c.front-front.new.seat.view (looked g (goal.at.returns-in-Ok-clause-went g c).After-front-front) (ap (λ (z : View (Home g.row.D.Denot) Judged). z.held) (sym same) ∙ c.seat.invariant.1)) c.submit_shared.ensures.went
+pub returns-in-Ok-clause-handed_in : goal.returns-in-Ok-clause-handed_in
+returns-in-Ok-clause-handed_in g c = handed_later (g.P.Pace.lets c.args.pace.now) c.args.items.now (length c.args.items.now) (length c.args.items.now) c.args.seat.now.view c.is_halted.new.seat.view c.submit_shared.new.seat.view c.in-Ok.batch c.is_halted.ensures.later c.is_halted.ensures.idle
+    (subst (λ (z : Place (Home g.row.D.Denot) Judged). HandedIn (g.P.Pace.lets c.args.pace.now) c.args.items.now (length c.args.items.now) (length c.args.items.now) z.view c.submit_shared.new.seat.view c.in-Ok.batch) c.seat.view_is c.in-Ok.ensures.handed_in)
 
-pub returns-in-Ok-clause-batch : goal.returns-in-Ok-clause-batch
-returns-in-Ok-clause-batch g c = batch_later c.args.items.now 0 (length c.args.items.now) c.args.seat.now.view c.front-front.new.seat.view c.submit_shared.new.seat.view c.in-Ok.batch.receipts.items (looked g (goal.at.returns-in-Ok-clause-batch g c).After-front-front) c.in-Ok.ensures.batch
-
-pub returns-in-Err-clause-batch : goal.returns-in-Err-clause-batch
-returns-in-Err-clause-batch g c = subst (λ (z : Place (Home g.row.D.Denot) Judged). IsBatch c.args.items.now 0 (length c.args.items.now) c.args.seat.now.view z.view c.refused-in-Err.result.receipts.items) (sym c.in-Err.ensures.refused.1)
-    (batch_none c.args.items.now (length c.args.items.now) c.args.seat.now.view c.front-front.new.seat.view c.refused-in-Err.result.receipts.items (looked g (goal.at.returns-in-Err-clause-batch g c).After-front-front) c.refused-in-Err.ensures.0)
+pub returns-in-Err-clause-handed_in : goal.returns-in-Err-clause-handed_in
+returns-in-Err-clause-handed_in g c = subst (λ (z : Place (Home g.row.D.Denot) Judged). HandedIn (g.P.Pace.lets c.args.pace.now) c.args.items.now (length c.args.items.now) (length c.args.items.now) c.args.seat.now.view z.view c.refused-in-Err.result) (sym (c.in-Err.ensures.refused.1 ∙ c.seat.view_is))
+    (not_handed (g.P.Pace.lets c.args.pace.now) c.args.items.now (length c.args.items.now) (length c.args.items.now) c.args.seat.now.view c.is_halted.new.seat.view c.refused-in-Err.result OutOfMemory c.is_halted.ensures.later c.is_halted.ensures.idle c.is_one.ensures.passed c.refused-in-Err.ensures.0 (c.refused-in-Err.ensures.1 ∙ ap Some c.in-Err.ensures.refused.0) (inr (inr refl)))
