@@ -104,9 +104,9 @@ fn faults_are_named_by_their_line_or_the_end(rt: HostRuntime) {
 
 /// The text that is written.
 fn written(alloc: Global, saved: &SavedState) -> Result<Vec<u8>, Refusal> {
-    let mut text: Vec<u8> = Vec::new(alloc);
-    saved.write_to(&mut WriterSink::new(&mut text))?;
-    Ok(text)
+    let mut sink = WriterSink::new(Vec::new(alloc));
+    saved.write_to(&mut sink)?;
+    Ok(sink.into_writer())
 }
 
 /// States and their texts, of 112 bytes where the seqno has one digit.
