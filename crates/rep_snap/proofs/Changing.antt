@@ -18,7 +18,7 @@ use Rattle.rep_snap.specs.declared.shelf.Shelf.{Shelf}
 use Rattle.rep_snap.specs.declared.shelf.Step.{Step}
 use Rattle.rep_snap.specs.Lists.{published, front_of, oldest_of, Ascends, written, left, Follows}
 use Rattle.rep_snap.specs.Shelves.{added, pruned, changed}
-use Rattle.rep_snap.specs.Rule.{Sound}
+use Rattle.rep_snap.specs.Rule.{Shows, Sound}
 use Rattle.rep_snap.proofs.Lists.{published-publish, published-prune, front-more, oldest-more, ascends-more, written-more, none_written}
 
 either_way : (b : Bool) (o : Option Version) → o ≡ (if b then o else o)
@@ -89,24 +89,22 @@ module _ (kept : Kept) (oldest : ℕ) (pairs : List Pair) (h : (key : Key) (s : 
 none_kept : (key : Key) (s oldest : ℕ) → version_at empty key s ≡ left oldest [] key s
 none_kept key s oldest = get-empty version_cmp (record { key = key; seqno = s }) ∙ either_way (nat_le s oldest) None
 
-module _ {A : Type 0} (allows : A → ℕ → List Pair → Type 0) where
-  sound_more : (x : Shelf A) (step : Step) (change : Change) → Sound allows x → step.seen.log ≡ x.sight.seen.log ++ change ∷ []
-      → Follows allows x.sight.basis x.sight.start x.sight.seen.log change → Sound allows (changed x (record step { change = change }))
-  sound_more x step (Publish pair) h e follows =
+module _ {A : Type 0} where
+  shows_more : (x : Shelf A) (step : Step) (change : Change) → Shows x → step.seen.log ≡ x.sight.seen.log ++ change ∷ [] → Follows x.sight.start x.sight.seen.log change
+      → Shows (changed x (record step { change = change }))
+  shows_more x step (Publish pair) h e above =
       let seen = step.seen in
       let old = x.sight.seen.log in
       let start = x.sight.start in
-      let list : published seen.log ≡ published old ++ pair ∷ [] = ap published e ∙ published-publish old pair in
-      let above : front_of start (published old) < pair.seqno = follows.0 in record {
+      let list : published seen.log ≡ published old ++ pair ∷ [] = ap published e ∙ published-publish old pair in record {
         count = ap (λ n. n + 1) h.count ∙ sym (ap length e ∙ length-append old (Publish pair ∷ []));
         front = sym (ap (front_of start) list ∙ front-more start (published old) pair);
         oldest = h.oldest ∙ sym (ap (oldest_of start) e ∙ oldest-more start old (Publish pair));
         kept = λ key s. kept_publish x.kept x.oldest (published old) h.kept pair (λ k. none_written start (published old) k pair.seqno h.ascends above) _ refl key s
             ∙ ap (λ pairs. left x.oldest pairs key s) (sym list);
         ascends = subst (Ascends start) (sym list) (ascends-more start (published old) pair h.ascends above);
-        allowed = subst (allows x.sight.basis start) (sym list) follows.1;
       }
-  sound_more x step (Prune c) h e follows =
+  shows_more x step (Prune c) h e follows =
       let seen = step.seen in
       let old = x.sight.seen.log in
       let start = x.sight.start in
@@ -116,21 +114,22 @@ module _ {A : Type 0} (allows : A → ℕ → List Pair → Type 0) where
         oldest = ap (λ o. max o c) h.oldest ∙ sym (ap (oldest_of start) e ∙ oldest-more start old (Prune c));
         kept = λ key s. kept_prune x.kept x.oldest (published old) h.kept c key s ∙ ap (λ pairs. left (max x.oldest c) pairs key s) (sym list);
         ascends = subst (Ascends start) (sym list) h.ascends;
-        allowed = subst (allows x.sight.basis start) (sym list) h.allowed;
       }
 
-  pub sound_changed : (x : Shelf A) (step : Step) → Sound allows x → step.seen.log ≡ x.sight.seen.log ++ step.change ∷ []
-      → Follows allows x.sight.basis x.sight.start x.sight.seen.log step.change → Sound allows (changed x step)
-  sound_changed x step = sound_more x step step.change
+  pub shows_changed : (x : Shelf A) (step : Step) → Shows x → step.seen.log ≡ x.sight.seen.log ++ step.change ∷ [] → Follows x.sight.start x.sight.seen.log step.change → Shows (changed x step)
+  shows_changed x step = shows_more x step step.change
 
+module _ {A : Type 0} (allows : A → ℕ → List Pair → Type 0) where
   -- an empty list
   pub sound_first : (x : Shelf A) → x.sight.seen.log ≡ [] → x.front ≡ x.sight.start → x.oldest ≡ x.sight.start → x.count ≡ 0 → x.kept ≡ empty
       → allows x.sight.basis x.sight.start [] → Sound allows x
   sound_first x none front oldest count kept allowed = let list : published x.sight.seen.log ≡ [] = ap published none in record {
-    count = count ∙ sym (ap length none);
-    front = front ∙ sym (ap (front_of x.sight.start) list);
-    oldest = oldest ∙ sym (ap (oldest_of x.sight.start) none);
-    kept = λ key s. ap (λ k. version_at k key s) kept ∙ none_kept key s x.oldest ∙ ap (λ pairs. left x.oldest pairs key s) (sym list);
-    ascends = subst (Ascends x.sight.start) (sym list) tt;
+    shows = record {
+      count = count ∙ sym (ap length none);
+      front = front ∙ sym (ap (front_of x.sight.start) list);
+      oldest = oldest ∙ sym (ap (oldest_of x.sight.start) none);
+      kept = λ key s. ap (λ k. version_at k key s) kept ∙ none_kept key s x.oldest ∙ ap (λ pairs. left x.oldest pairs key s) (sym list);
+      ascends = subst (Ascends x.sight.start) (sym list) tt;
+    };
     allowed = subst (allows x.sight.basis x.sight.start) (sym list) allowed;
   }

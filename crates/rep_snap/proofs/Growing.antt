@@ -8,17 +8,11 @@ use Rattle.rep_types.specs.declared.refusal.Refusal.{Refusal}
 use Rattle.rep_versions.specs.Versions.{Version}
 use Rattle.rep_snap.specs.declared.change.Pair.{Pair}
 use Rattle.rep_snap.specs.declared.change.Change.{Change}
-use Rattle.rep_snap.specs.declared.change.Change.TheVariants.{Publish, Prune}
 use Rattle.rep_snap.specs.declared.peek.Peek.{Peek}
 use Rattle.rep_snap.specs.declared.peek.Peek.TheVariants.{Value, Absent, Cold}
 use Rattle.rep_snap.specs.Lists.{published, front_of, Ascends, IsNewestWrite, IsFound, Answers}
 use Rattle.rep_snap.specs.Laws.{HistoriesGrow, PeeksHaveOneAnswer}
-use Rattle.rep_snap.proofs.Lists.{published-publish, published-prune, front-more, oldest-more, written-more, front_above}
-
-published-append : (xs ys : List Change) → published (xs ++ ys) ≡ published xs ++ published ys
-published-append [] ys = refl
-published-append (Publish pair ∷ xs) ys = ap (λ ps. pair ∷ ps) (published-append xs ys)
-published-append (Prune c ∷ xs) ys = published-append xs ys
+use Rattle.rep_snap.proofs.Lists.{oldest-all, published-all, published-append, published-publish, published-prune, front-more, oldest-more, written-more, front_above}
 
 beginning : (xs ys : List Change) → IsPrefix xs ys → IsPrefix (published xs) (published ys)
 beginning xs ys p = (published p.0, sym (published-append xs p.0) ∙ ap published p.1)
@@ -28,7 +22,7 @@ higher start [] more h = front_above start more h
 higher start (p ∷ pairs) more h = higher p.seqno pairs more h.1
 
 pub grow : HistoriesGrow
-grow = record { publish = published-publish; prune = published-prune; front = front-more; oldest = oldest-more; beginning = beginning; higher = higher; row = written-more }
+grow = record { publish = published-publish; several = published-all; prune = published-prune; front = front-more; oldest = oldest-more; stays = oldest-all; beginning = beginning; higher = higher; row = written-more }
 
 module _ (f : ℕ → Option Version) (s : ℕ) where
   clash : (m n : ℕ) (v u : Version) → IsNewestWrite f s m v → IsNewestWrite f s n u → m < n → ⊥

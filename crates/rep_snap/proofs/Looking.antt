@@ -48,7 +48,7 @@ module _ {A : Type 0} (allows : A → ℕ → List Pair → Type 0) where
     same = λ i. record { book = later.book i; basis = later.basis i; start = later.start i; seen = x.sight.seen.log; told = told.list };
     seen = later.seen;
     told = prefix;
-    ascends = sound.ascends;
+    ascends = sound.shows.ascends;
     allowed = sound.allowed;
   }
 
@@ -56,9 +56,9 @@ module _ {A : Type 0} (allows : A → ℕ → List Pair → Type 0) where
       → Answers (front_of x.sight.start (published x.sight.seen.log)) (oldest_of x.sight.start x.sight.seen.log) (left (oldest_of x.sight.start x.sight.seen.log) (published x.sight.seen.log) key) snapshot answer
   answered x key snapshot answer sound h =
       let list = published x.sight.seen.log in
-      let alike = answers_alike (version_at x.kept key) (left x.oldest list key) (sound.kept key) snapshot x.front x.oldest answer h in
-      let at_front = subst (λ n. Answers n x.oldest (left x.oldest list key) snapshot answer) sound.front alike in
-      subst (λ n. Answers (front_of x.sight.start list) n (left n list key) snapshot answer) sound.oldest at_front
+      let alike = answers_alike (version_at x.kept key) (left x.oldest list key) (sound.shows.kept key) snapshot x.front x.oldest answer h in
+      let at_front = subst (λ n. Answers n x.oldest (left x.oldest list key) snapshot answer) sound.shows.front alike in
+      subst (λ n. Answers (front_of x.sight.start list) n (left n list key) snapshot answer) sound.shows.oldest at_front
 
   pub peeks : (shut : Watching A → Type 0) (s new : Sight A) (told : Telling) (x : Shelf A) (v : Watching A) (key : Key) (snapshot : ℕ) (answer : Result Peek Refusal) → watched s told ≡ v → Sound allows x → Later s x.sight
       → IsPrefix told.list x.sight.seen.log → new ≡ x.sight → Answers x.front x.oldest (version_at x.kept key) snapshot answer → IsPeek allows shut v key snapshot (watched new told) answer

@@ -1,21 +1,21 @@
 -- The steps keep the rule of the two copies.
-use Rattle.std.proofs.Common.{◌≡◌, ◌≢◌, ◌∙◌, refl, sym, subst, ℕ, List, [], ◌∷◌, ◌++◌, Option, None, Some, set, ⊎_elim}
+use Rattle.std.proofs.Common.{ap, fold, ◌≡◌, ◌≢◌, ◌∙◌, refl, sym, subst, ℕ, List, [], ◌∷◌, ◌++◌, Option, None, Some, set, ⊎_elim}
+use Rattle.std.proofs.lemmas.List.Sums.{fold-append}
 use mathlib.Core.Option.{some}
 use lib.ListN.{get_elem?}
 use Rattle.crossbeam_utils.specs.Register.{Admits, TurnsAt, Forks, Merges}
 use Rattle.atomic_table.proofs.Lists.{at_set, at_snoc}
 use Rattle.rep_snap.specs.declared.change.Pair.{Pair}
 use Rattle.rep_snap.specs.declared.change.Change.{Change}
-use Rattle.rep_snap.specs.declared.change.Change.TheVariants.{Publish, Prune}
 use Rattle.rep_snap.specs.declared.shelf.Sight.{Sight}
 use Rattle.rep_snap.specs.declared.shelf.Shelf.{Shelf}
-use Rattle.rep_snap.specs.Views.{Later}
-use Rattle.rep_snap.specs.Rule.{Sound, Precedes, Keeps, Shown}
+use Rattle.rep_snap.specs.Views.{Later, Telling}
+use Rattle.rep_snap.specs.Rule.{Shows, Leads, Sound, Precedes, Keeps, Shown}
 use Rattle.rep_snap.specs.declared.shelf.Step.{Step}
-use Rattle.rep_snap.specs.Lists.{Follows}
+use Rattle.rep_snap.specs.Lists.{published, Follows}
 use Rattle.rep_snap.specs.Shelves.{changed}
 use Rattle.rep_snap.proofs.Prefixes.{prefix_self, prefix_trans}
-use Rattle.rep_snap.proofs.Changing.{sound_changed}
+use Rattle.rep_snap.proofs.Changing.{shows_changed}
 
 module _ {A : Type 0} where
   pub later_self : (s : Sight A) → Later s s
@@ -23,6 +23,25 @@ module _ {A : Type 0} where
 
   pub later_trans : (s t u : Sight A) → Later s t → Later t u → Later s u
   later_trans s t u h k = record { book = k.book ∙ h.book; basis = k.basis ∙ h.basis; start = k.start ∙ h.start; seen = prefix_trans s.seen.log t.seen.log u.seen.log h.seen k.seen }
+
+  -- nothing is added yet
+  pub leads_none : (x : Shelf A) (added : List Step) (t : Telling) → added ≡ [] → Shows x → t ≡ record { book = x.sight.seen.book; list = x.sight.seen.log } → Leads x (fold changed x added) t
+  leads_none x added t none shows told = subst (λ y. Leads x y t) (ap (fold changed x) (sym none))
+      (record { shows = shows; later = later_self x.sight; book = ap (λ u. u.book) told; list = ap (λ u. u.list) told })
+
+  -- one more change is added
+  pub leads_more : (x : Shelf A) (added more : List Step) (t u : Telling) (step : Step) → more ≡ added ++ step ∷ [] → u ≡ record { book = step.seen.book; list = step.seen.log }
+      → Leads x (fold changed x added) t → step.seen.book ≡ t.book → step.seen.log ≡ t.list ++ step.change ∷ [] → Follows x.sight.start t.list step.change → Leads x (fold changed x more) u
+  leads_more x added more t u step is told h book log follows =
+      let y : Shelf A = fold changed x added in
+      let list : step.seen.log ≡ y.sight.seen.log ++ step.change ∷ [] = log ∙ ap (λ l. l ++ step.change ∷ []) h.list in
+      let next : Later y.sight (changed y step).sight = record { book = book ∙ h.book; basis = refl; start = refl; seen = (step.change ∷ [], sym list) } in
+      subst (λ z. Leads x z u) (sym (ap (fold changed x) is ∙ fold-append changed x added (step ∷ []))) (record {
+        shows = shows_changed y step h.shows list (subst (λ (z : ℕ × List Change). Follows z.0 z.1 step.change) (λ i. (sym h.later.start i, h.list i)) follows);
+        later = later_trans x.sight y.sight (changed y step).sight h.later next;
+        book = ap (λ v. v.book) told;
+        list = ap (λ v. v.list) told;
+      })
 
 module _ {A : Type 0} (allows : A → ℕ → List Pair → Type 0) where
   abbrev Rule : Shelf A → List (Option (Sight A)) → Type 0
@@ -76,15 +95,10 @@ module _ {A : Type 0} (allows : A → ℕ → List Pair → Type 0) where
   pub begins : (x : Shelf A) → Sound allows x → Rule x (None ∷ [])
   begins x sound = record { sound = sound; each = one x.sight }
 
-  -- a shelf with one more change
-  later_more : (x : Shelf A) (step : Step) (change : Change) → step.seen.book ≡ x.sight.seen.book → step.seen.log ≡ x.sight.seen.log ++ change ∷ [] → Later x.sight (changed x (record step { change = change })).sight
-  later_more x step (Publish pair) book log = record { book = book; basis = refl; start = refl; seen = (Publish pair ∷ [], sym log) }
-  later_more x step (Prune c) book log = record { book = book; basis = refl; start = refl; seen = (Prune c ∷ [], sym log) }
-
-  pub later_changed : (x : Shelf A) (step : Step) → step.seen.book ≡ x.sight.seen.book → step.seen.log ≡ x.sight.seen.log ++ step.change ∷ [] → Later x.sight (changed x step).sight
-  later_changed x step book log = later_more x step step.change book log
-
-  pub shows : (seat : ℕ) (v : Option (Sight A)) (x next : Shelf A) (step : Step) → step.seen.book ≡ x.sight.seen.book → step.seen.log ≡ x.sight.seen.log ++ step.change ∷ []
-      → Follows allows x.sight.basis x.sight.start x.sight.seen.log step.change → next ≡ changed x step → TurnsAt Rule seat v x next (Shown allows)
-  shows seat v x next step book log follows is = subst (λ y. TurnsAt Rule seat v x y (Shown allows)) (sym is)
-      (steps seat v x (changed x step) (λ sound. (sound_changed allows x step sound log follows, later_changed x step book log)))
+  -- what was added is sound, if its list is allowed
+  pub sound_next : (before x y : Shelf A) (t : Telling) (pairs : List Pair) → x ≡ before → Leads x y t → published t.list ≡ pairs → allows before.sight.basis before.sight.start pairs → Sound allows y
+  sound_next before x y t pairs same h list ok =
+      let basis : before.sight.basis ≡ y.sight.basis = ap (λ z. z.sight.basis) (sym same) ∙ sym h.later.basis in
+      let start : before.sight.start ≡ y.sight.start = ap (λ z. z.sight.start) (sym same) ∙ sym h.later.start in
+      let shown : pairs ≡ published y.sight.seen.log = sym list ∙ ap published h.list in
+      record { shows = h.shows; allowed = subst (λ (z : A × ℕ × List Pair). allows z.0 z.1 z.2) (λ i. (basis i, start i, shown i)) ok }

@@ -1,5 +1,5 @@
 -- What is known of histories, of their lists and of peeks.
-use Rattle.std.specs.Prelude.{◌≡◌, ℕ, ◌≤◌, nat_le, ◌==◌, if◌then◌else◌, List, [], ◌∷◌, ◌++◌, fold, Option, None, Some, Result}
+use Rattle.std.specs.Prelude.{◌≡◌, ℕ, ◌≤◌, nat_le, ◌==◌, if◌then◌else◌, List, [], ◌∷◌, ◌++◌, map, fold, Option, None, Some, Result}
 use mathlib.Core.List.{IsPrefix}
 use Rattle.rep_types.specs.declared.key.Key.{Key}
 use Rattle.rep_types.specs.declared.refusal.Refusal.{Refusal}
@@ -13,13 +13,15 @@ use Rattle.rep_snap.specs.declared.peek.Peek.{Peek}
 use Rattle.rep_snap.specs.declared.peek.Peek.TheVariants.{Value, Absent, Cold}
 use Rattle.rep_snap.specs.Lists.{published, front_of, oldest_of, oldest_after, Ascends, written, left, IsFound, Answers}
 
--- A pair that is published comes behind the list, and its seqno is the front; a prune leaves the list, and moves the oldest snapshot. What begins a history has a list
+-- A pair that is published comes behind the list, and its seqno is the front, and so do several; a prune leaves the list, and moves the oldest snapshot. What begins a history has a list
 -- that begins its list, and no higher front. At its own seqno a pair says what the row is, and elsewhere nothing.
 pub record HistoriesGrow : Type 0 where
   pub publish : (changes : List Change) (pair : Pair) → published (changes ++ Publish pair ∷ []) ≡ published changes ++ pair ∷ []
+  pub several : (changes : List Change) (pairs : List Pair) → published (changes ++ map Publish pairs) ≡ published changes ++ pairs
   pub prune : (changes : List Change) (c : ℕ) → published (changes ++ Prune c ∷ []) ≡ published changes
   pub front : (start : ℕ) (pairs : List Pair) (pair : Pair) → front_of start (pairs ++ pair ∷ []) ≡ pair.seqno
   pub oldest : (start : ℕ) (changes : List Change) (change : Change) → oldest_of start (changes ++ change ∷ []) ≡ oldest_after (oldest_of start changes) change
+  pub stays : (start : ℕ) (changes : List Change) (pairs : List Pair) → oldest_of start (changes ++ map Publish pairs) ≡ oldest_of start changes
   pub beginning : (xs ys : List Change) → IsPrefix xs ys → IsPrefix (published xs) (published ys)
   pub higher : (start : ℕ) (pairs more : List Pair) → Ascends start (pairs ++ more) → front_of start pairs ≤ front_of start (pairs ++ more)
   pub row : (pairs : List Pair) (pair : Pair) (key : Key) (s : ℕ) → written (pairs ++ pair ∷ []) key s ≡ (if pair.seqno == s then made_by pair.writes.items key else written pairs key s)

@@ -1,5 +1,5 @@
 -- Published lists, and what a row is at a snapshot of one.
-use Rattle.std.specs.Prelude.{◌≡◌, ℕ, ◌<◌, ◌≤◌, nat_lt, nat_le, ◌==◌, max, if◌then◌else◌, List, [], ◌∷◌, ◌++◌, fold, Option, None, Some, Result, MatchResult}
+use Rattle.std.specs.Prelude.{◌≡◌, ℕ, ◌<◌, ◌≤◌, nat_lt, nat_le, ◌==◌, max, if◌then◌else◌, List, [], ◌∷◌, fold, Option, None, Some, Result, MatchResult}
 use Rattle.rep_types.specs.declared.key.Key.{Key}
 use Rattle.rep_types.specs.declared.value.Write.{Write}
 use Rattle.rep_types.specs.declared.refusal.Refusal.{Refusal}
@@ -44,10 +44,10 @@ abbrev pub written_by : Key → Option Pair → Option Version
 written_by key None = None
 written_by key (Some pair) = made_by pair.writes.items key
 
--- The change may come next: the seqno of a pair is above the front, and the longer list is allowed.
-abbrev pub Follows : {A : Type 0} → (A → ℕ → List Pair → Type 0) → A → ℕ → List Change → Change → Type 0
-Follows allows basis start changes (Publish pair) = (front_of start (published changes) < pair.seqno) × allows basis start (published changes ++ pair ∷ [])
-Follows allows basis start changes (Prune c) = Unit {0}
+-- The change may come next: the seqno of a pair is above the front.
+abbrev pub Follows : ℕ → List Change → Change → Type 0
+Follows start changes (Publish pair) = front_of start (published changes) < pair.seqno
+Follows start changes (Prune c) = Unit {0}
 
 -- what the pair of a seqno made of the row, if it wrote it
 abbrev pub written : List Pair → Key → ℕ → Option Version

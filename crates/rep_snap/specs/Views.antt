@@ -51,20 +51,24 @@ module _ {A : Type 0} where
   abbrev pub opened : Book → A → ℕ → ℕ → Listing A
   opened book basis start ready = record { book = book; basis = basis; start = start; list = []; ready = ready; failed = false }
 
-  abbrev pub with_change : Change → Listing A → Listing A
-  with_change change p = record p { list = p.list ++ change ∷ [] }
+  abbrev pub with_changes : List Change → Listing A → Listing A
+  with_changes changes p = record p { list = p.list ++ changes }
 
   -- the same, having failed
   abbrev pub failing : Listing A → Listing A
   failing p = record p { failed = true }
 
-  -- A change is made, where the publisher has not failed before; or it is refused, and the publisher shows what it showed, and has failed.
+  -- The changes are made, where the publisher has not failed before; or all are refused, and the publisher shows what it showed, and has failed.
+  abbrev pub AreChanges : List Change → Listing A → Listing A → Result (Unit {0}) Refusal → Type 0
+  AreChanges changes p q answer = MatchResult answer (λ _. (p.failed ≡ false) × (q ≡ with_changes changes p)) (λ e. (e ≡ OutOfMemory) × (q ≡ failing p))
+
+  -- the same of one change
   abbrev pub IsChange : Change → Listing A → Listing A → Result (Unit {0}) Refusal → Type 0
-  IsChange change p q answer = MatchResult answer (λ _. (p.failed ≡ false) × (q ≡ with_change change p)) (λ e. (e ≡ OutOfMemory) × (q ≡ failing p))
+  IsChange change = AreChanges (change ∷ [])
 
   -- A pair of these writes is published, as a change; or they are more than a pair has, and the publisher is as it was.
   abbrev pub IsPublish : ℕ → List Write → Listing A → Listing A → Result (Unit {0}) Refusal → Type 0
-  IsPublish seqno writes p q answer = MatchResult answer (λ _. (length writes ≤ MAX_WRITES) × (p.failed ≡ false) × (q ≡ with_change (Publish (pair_of seqno writes)) p))
+  IsPublish seqno writes p q answer = MatchResult answer (λ _. (length writes ≤ MAX_WRITES) × (p.failed ≡ false) × (q ≡ with_changes (Publish (pair_of seqno writes) ∷ []) p))
       (λ e. ((e ≡ TooManyWrites) × (MAX_WRITES < length writes) × (q ≡ p)) ⊎ ((e ≡ OutOfMemory) × (length writes ≤ MAX_WRITES) × (q ≡ failing p)))
 
   -- the same, with one reader less ready, if there was one

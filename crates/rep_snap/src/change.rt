@@ -34,6 +34,16 @@ impl Pair {
             writes: copies,
         })
     }
+
+    /// A copy, which takes no memory.
+    pub(crate) fn copied(&self) -> Pair
+        ensures { result ≡ self.now }
+    {
+        match Pair::new(self.seqno, self.writes.as_slice()) {
+            Ok(pair) => pair,
+            Err(_) => unreachable!(),
+        }
+    }
 }
 
 /// What a publisher does: it makes the list one pair longer, or lets what is at and below a position go.

@@ -9,6 +9,7 @@ mod fixed;
 mod history;
 mod laws;
 mod peek;
+mod pending;
 mod publisher;
 mod reader;
 mod rule;

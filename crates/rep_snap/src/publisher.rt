@@ -1,15 +1,16 @@
 //! The publisher.
 
-ghost use Rattle.std.specs.Prelude.{◌≡◌, ◌<◌, ◌^◌, [], ◌∷◌, ◌++◌, length, All, Err, IfOk, IfErr};
+ghost use Rattle.std.specs.Prelude.{◌≡◌, ◌<◌, ◌^◌, [], ◌∷◌, ◌++◌, length, map, All, Err, IfOk, IfErr};
 ghost use Rattle.rep_types.specs.declared.refusal.Refusal.TheVariants.{OutOfMemory};
-ghost use Rattle.rep_snap.specs.declared.change.Change.TheVariants.{Prune};
+ghost use Rattle.rep_snap.specs.declared.change.Change.TheVariants.{Publish, Prune};
 ghost use Rattle.std.specs.FinMap as map;
-ghost use Rattle.rep_snap.specs.Lists.{published, front_of, pair_of, Follows};
-ghost use Rattle.rep_snap.specs.Views.{opened, IsChange, IsPublish, one_less, telling, unaware, watching};
+ghost use Rattle.rep_snap.specs.Lists.{published, front_of, pair_of, Ascends};
+ghost use Rattle.rep_snap.specs.Views.{opened, AreChanges, IsChange, IsPublish, one_less, telling, unaware, watching};
 
 use crate::change::{Change, Pair};
 use crate::copies::TwoCopies;
-use crate::history::{Law, Told, extend};
+use crate::history::{Law, Told};
+use crate::pending::{add, add_all, show};
 use crate::reader::Reader;
 use crate::rule::{Admits, Again, Copied, Published, Sees, Taken};
 use crate::shelf::{Shelf, Sight, Step};
@@ -168,29 +169,6 @@ impl<A: Admits + Again + Drop> Publisher<A> {
         publisher.with_ready(alloc, rt, readers)
     }
 
-    fn change<R: Wait>(mut self, rt: &R, change: Change) -> (Publisher<A>, Result<(), Refusal>)
-        requires { Follows A.allows self.basis self.start self.list change }
-        ensures { IsChange change self result.0 result.1 }
-    {
-        let mut seen = self.writer.published().sight.seen.again();
-        let count = self.writer.published().count;
-        if self.failed || count == u64::MAX || !extend(&self.head, &mut seen, count, &change) {
-            self.failed = true;
-            return (self, Err(Refusal::OutOfMemory));
-        }
-        if let Err(_) = self.writer.append(Step { change, seen }) {
-            self.failed = true;
-            return (self, Err(Refusal::OutOfMemory));
-        }
-        let (writer, shown) = self.writer.publish_as::<Sees<A>, R>(rt);
-        self.writer = writer;
-        self.failed = shown.is_err();
-        match shown {
-            Ok(()) => (self, Ok(())),
-            Err(_) => (self, Err(Refusal::OutOfMemory)),
-        }
-    }
-
     /// Makes the list one pair longer, and shows it to the readers. The seqno is above the front, and the
     /// longer list is allowed. The writes are copied. It may wait for readers that are just looking.
     ///
@@ -209,9 +187,42 @@ impl<A: Admits + Again + Drop> Publisher<A> {
         ensures change { IsPublish seqno writes.now self result.0 result.1 }
     {
         match Pair::new(seqno, writes) {
-            Ok(pair) => self.change(rt, Change::Publish(pair)),
+            Ok(pair) => self.publish_all(rt, &[pair]),
             Err(refusal) => (self, Err(refusal)),
         }
+    }
+
+    /// Makes the list longer by these pairs, in their order, and shows all of them to the readers at once. Their seqnos ascend from above
+    /// the front, and the longer list is allowed. The pairs are copied. It may wait, once, for readers that are just looking.
+    ///
+    /// Refuses with `OutOfMemory` where a growth was refused. Then readers see what they saw, and each later call that changes the list is
+    /// refused too.
+    #[tactic(auto, using(crate::proofs::Ruling::leads_none, crate::proofs::Lists::none_published))]
+    pub fn publish_all<R: Wait>(
+        mut self,
+        rt: &R,
+        pairs: &[Pair],
+    ) -> (Publisher<A>, Result<(), Refusal>)
+        requires above { Ascends (front_of self.start (published self.list)) pairs.now }
+        requires allowed { A.allows self.basis self.start (published self.list ++ pairs.now) }
+        ensures same { (result.0.book ≡ self.book) × (result.0.basis ≡ self.basis) × (result.0.start ≡ self.start) }
+        ensures change { AreChanges (map Publish pairs.now) self result.0 result.1 }
+    {
+        if self.failed {
+            return (self, Err(Refusal::OutOfMemory));
+        }
+        if pairs.is_empty() {
+            return (self, Ok(()));
+        }
+        let told = self.tell();
+        let Ok(_) = add_all(&mut self.writer, &self.head, told, pairs) else {
+            self.failed = true;
+            return (self, Err(Refusal::OutOfMemory));
+        };
+        let (writer, shown) = show(self.writer, rt);
+        self.writer = writer;
+        self.failed = shown.is_err();
+        (self, shown)
     }
 
     /// Lets the pairs at and below this position go: no peek is below it any more. It may wait for readers
@@ -219,11 +230,24 @@ impl<A: Admits + Again + Drop> Publisher<A> {
     ///
     /// Refuses with `OutOfMemory` where a growth was refused. Then readers see what they saw, and each
     /// later call that changes the list is refused too.
-    pub fn prune<R: Wait>(self, rt: &R, position: u64) -> (Publisher<A>, Result<(), Refusal>)
+    #[tactic(auto, using(crate::proofs::Ruling::leads_none))]
+    pub fn prune<R: Wait>(mut self, rt: &R, position: u64) -> (Publisher<A>, Result<(), Refusal>)
         ensures same { (result.0.book ≡ self.book) × (result.0.basis ≡ self.basis) × (result.0.start ≡ self.start) }
         ensures change { IsChange (Prune position) self result.0 result.1 }
     {
-        self.change(rt, Change::Prune(position))
+        let change = Change::Prune(position);
+        if self.failed {
+            return (self, Err(Refusal::OutOfMemory));
+        }
+        let told = self.tell();
+        let Ok(_) = add(&mut self.writer, &self.head, told, change) else {
+            self.failed = true;
+            return (self, Err(Refusal::OutOfMemory));
+        };
+        let (writer, pruned) = show(self.writer, rt);
+        self.writer = writer;
+        self.failed = pruned.is_err();
+        (self, pruned)
     }
 
     /// What readers may be told: the history so far. It takes no memory and does not wait.

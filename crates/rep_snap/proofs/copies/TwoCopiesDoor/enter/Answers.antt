@@ -18,7 +18,7 @@ begins_with-requires g c =
     let s : Sight g.row.A.Denot = c.requires.0 in
     let later = knew allows _ s _ (subst (λ v. Knows allows v s) (sym c.self.view_is) c.requires.1) shown.later in record {
       book = c.requires.2 ∙ sym later.book ∙ ap (λ (z : Shelf g.row.A.Denot). z.sight.seen.book) here;
-      count = (subst (Sound allows) here shown.sound).count;
+      count = (subst (Sound allows) here shown.sound).shows.count;
     }
 
 pub returns-in-Err : goal.returns-in-Err

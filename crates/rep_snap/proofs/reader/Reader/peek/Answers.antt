@@ -35,7 +35,7 @@ invariant_of-reader-2 g c =
     let here : c.look-shelf.result.now ≡ y = c.look-shelf.ensures in
     let new : c.up_to-sight.result ≡ y.sight = onto allows s y.sight c.up_to-sight.result later (c.up_to-sight.ensures ∙ ap (λ (z : Shelf g.row.A.Denot). record s { seen = z.sight.seen }) here) in (
       at_itself (g.D.Door.knows c.leave.result) c.up_to-sight.result c.self.inside.told (subst (g.D.Door.knows c.leave.result) (sym new) c.leave.ensures),
-      ap (λ (z : Shelf g.row.A.Denot). z.front) here ∙ opens.sound.front ∙ ap (λ (t : Sight g.row.A.Denot). front_of t.start (published t.seen.log)) (sym new),
+      ap (λ (z : Shelf g.row.A.Denot). z.front) here ∙ opens.sound.shows.front ∙ ap (λ (t : Sight g.row.A.Denot). front_of t.start (published t.seen.log)) (sym new),
       c.self.invariant.2 ∙ sym later.book ∙ ap (λ (t : Sight g.row.A.Denot). t.seen.book) (sym new),
     )
 
