@@ -8,7 +8,7 @@ use Rattle.rep_ordered.specs.declared.view.View.{View}
 use Rattle.rep_ordered.specs.Seats.{Place, seat_of}
 use Rattle.rep_ordered.specs.Views.{Later, Sees, HoldsSide, Holds, Names, abandoned, except, floor_of, held_at, floor_at, hold, without, word_at}
 use Rattle.rep_ordered.specs.Steps.{Entered}
-use Rattle.rep_ordered.specs.Going.{Goes, Went}
+use Rattle.rep_ordered.specs.Going.{Went}
 use Rattle.rep_ordered.specs.GoingLaws.{goes_on, goes_entered, goes_later, goes_left, goes_gave_up, goes_through, later_same, sees_left, went_on}
 use Rattle.rep_node.specs.declared.home.Home.{Home}
 use Rattle.rep_node.specs.Homes.{AtHome, IsLegal, common_in, durable_in}

@@ -38,7 +38,7 @@ use Rattle.rep_node.specs.Homes.{IsLegal}
 use Rattle.rep_node.specs.Seats.{DrewOne, IsGiven, IsSeat, Joins, PassedOrStopped, SeesLegal, own_entry}
 use Rattle.rep_ordered.specs.Beginnings.{shorter}
 use Rattle.rep_node.specs.Serving.{HandedIn, IsRefusal}
-use Rattle.rep_node.specs.Batches.{AreLetOn, LetsOn, Ascends, ComeFrom, IsBatch, IsReceipt, IsWhole, carried, entry_of, index_of, seqno_of}
+use Rattle.rep_node.specs.Batches.{AreLetOn, LetsOn, Ascends, ComeFrom, IsBatch, IsReceipt, carried, entry_of, index_of, seqno_of}
 use Rattle.rep_node.specs.Jobs.{Adjoin, Among, Gathered, IsAll, IsDone, IsJob, IsNoted, IsPart, IsReady, IsShare, Worked, regaining}
 
 -- ---- lists

@@ -1,5 +1,5 @@
 -- What a checkpoint's step leaves of the engine.
-use Rattle.std.proofs.Common.{◌≡◌, ℕ, ◌≤◌, Bool, true, false, nat_le, if◌then◌else◌, ap, ◌∙◌, Option, None, Some, Result, Ok, Err, List, refl, sym, subst}
+use Rattle.std.proofs.Common.{◌≡◌, ℕ, Bool, true, false, nat_le, if◌then◌else◌, ap, Option, None, Some, Result, Ok, List, refl, subst}
 use Rattle.std.specs.Prelude.{is_some}
 use Rattle.std.proofs.lemmas.Bool.{leb-true}
 use Rattle.rep_types.specs.declared.refusal.Part.TheVariants.{Pages}

@@ -1,17 +1,16 @@
 -- What a seat of the node is as it goes on, and what it drew.
-use Rattle.std.proofs.Common.{◌≡◌, ℕ, None, ◌<◌, ◌≤◌, [], ◌∷◌, ◌++◌, ap, sym, subst, ◌∙◌, arith}
+use Rattle.std.proofs.Common.{◌≡◌, ℕ, ◌<◌, ◌≤◌, [], ◌∷◌, ◌++◌, ap, sym, subst, ◌∙◌, arith}
 use mathlib.Core.Logic.{dite}
 use native.Mathlib.Decide.{ℕ_discrete}
 use Rattle.rep_types.specs.declared.judged.Judged.{Judged}
 use Rattle.rep_disk.specs.History.{History}
 use Rattle.rep_ordered.specs.declared.view.View.{View}
 use Rattle.rep_ordered.specs.Counts.{times}
-use Rattle.rep_ordered.specs.Views.{Later, Sees, abandoned, except, reached_at, with_number, without}
+use Rattle.rep_ordered.specs.Views.{Later, reached_at, with_number}
 use Rattle.rep_ordered.specs.Going.{Goes, Went}
-use Rattle.rep_ordered.specs.GoingLaws.{goes_gave_up, goes_later, goes_left, goes_on, passed_still, passed_more, sees_left, times_append, went_claimed, went_later, went_on}
+use Rattle.rep_ordered.specs.GoingLaws.{passed_still, passed_more, times_append, went_claimed, went_later, went_on}
 use Rattle.rep_node.specs.declared.home.Home.{Home}
-use Rattle.rep_node.specs.Homes.{IsLegal}
-use Rattle.rep_node.specs.Seats.{DrewOne, IsSeat, PassedOrStopped, WentIdle}
+use Rattle.rep_node.specs.Seats.{DrewOne, IsSeat, PassedOrStopped}
 
 module _ {D : Type 0} (honest : D → Type 0) (history : D → History) (failures : D → ℕ) where
   -- it is a seat of the same node

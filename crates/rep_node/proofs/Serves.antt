@@ -26,7 +26,6 @@ use Rattle.rep_stations.specs.Orders.{HistoriesExtendTheOrder}
 use Rattle.rep_stations.specs.Ending.{HistoriesLieBetweenReplicas}
 use Rattle.rep_snap.specs.Views.{Watching}
 use Rattle.rep_ordered.specs.declared.view.View.{View}
-use Rattle.rep_ordered.specs.Counts.{times}
 use Rattle.rep_ordered.specs.Going.{Went}
 use Rattle.rep_ordered.specs.GoingLaws.{append_nil}
 use Rattle.rep_ordered.specs.Views.{Every, HasAll}

@@ -1,5 +1,5 @@
 -- A seat and its allowance, as seats are split and joined, and as the node is halted.
-use Rattle.std.proofs.Common.{◌≡◌, ℕ, ◌+◌, ◌-◌, ◌^◌, ◌≤◌, min, List, [], ◌++◌, ap, refl, sym, ◌∙◌, subst, arith}
+use Rattle.std.proofs.Common.{◌≡◌, ℕ, ◌+◌, ◌-◌, ◌^◌, ◌≤◌, min, List, ◌++◌, ap, refl, sym, ◌∙◌, subst, arith}
 use Rattle.rep_types.specs.declared.judged.Judged.{Judged}
 use Rattle.rep_disk.specs.History.{History}
 use Rattle.rep_ordered.specs.declared.view.View.{View}
@@ -9,7 +9,7 @@ use Rattle.rep_ordered.specs.Views.{Later, Sees, both, given, giving}
 use Rattle.rep_ordered.specs.GoingLaws.{passed_joined}
 use Rattle.rep_node.specs.declared.home.Home.{Home}
 use Rattle.rep_node.specs.Homes.{IsLegal}
-use Rattle.rep_node.specs.Seats.{IsSeat, PassedOrStopped, Rests, SeesLegal}
+use Rattle.rep_node.specs.Seats.{IsSeat, Rests, SeesLegal}
 
 -- what a seat sees that drew nothing of what it may draw
 pub sees_given : {D : Type 0} (v : View (Home D) Judged) (give : ℕ) → SeesLegal v v → SeesLegal (given give v) (given give v)

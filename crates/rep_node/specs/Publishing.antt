@@ -1,5 +1,5 @@
 -- What readers are shown of a history.
-use Rattle.std.specs.Prelude.{◌≡◌, if◌then◌else◌, List, [], ◌∷◌, map, refl}
+use Rattle.std.specs.Prelude.{◌≡◌, ◌+◌, ℕ, if◌then◌else◌, List, [], ◌∷◌, map, refl}
 use Rattle.rep_types.specs.declared.judged.Judged.{Judged}
 use Rattle.rep_types.specs.declared.value.Write.{Write}
 use Rattle.rep_types.specs.Items.{writes_of}
@@ -19,6 +19,11 @@ shown_of j = pair_of j.seqno (effect_of j)
 
 abbrev pub shown : List Judged → List Pair
 shown items = map shown_of items
+
+-- the seqnos go up by one, behind this one
+abbrev pub Counts : ℕ → List Pair → Type 0
+Counts before [] = Unit {0}
+Counts before (pair ∷ pairs) = (pair.seqno ≡ before + 1) × Counts (before + 1) pairs
 
 -- The pairs are those of a legal history, in order, behind what the first certifier held.
 pub record AreShown (c : Holding) (pairs : List Pair) : Type 0 where

@@ -7,7 +7,7 @@ ghost use Rattle.rep_node.specs.Homes.{IsLegal};
 
 use crate::home::Home;
 use crate::node::LockSeat;
-use crossbeam_utils::sync::{EventCount, Key};
+use crossbeam_utils::sync::EventCount;
 use rep_disk::Disk;
 use rep_ordered::{Front, OrderedLock};
 use rep_types::Judged;
@@ -15,20 +15,25 @@ use rep_types::Judged;
 /// Wakes whoever waits until more is durable or the node is halted, once that has happened.
 #[derive(Drop)]
 pub(crate) struct Changes {
-    events: EventCount,
+    /// Who waits until more is durable.
+    pub(crate) submitters: EventCount,
+    /// Who waits for something to make durable.
+    pub(crate) keepers: EventCount,
 }
 
 impl Changes {
     /// Nobody waits.
     pub(crate) fn new() -> Changes {
         Changes {
-            events: EventCount::new(),
+            submitters: EventCount::new(),
+            keepers: EventCount::new(),
         }
     }
 
-    /// Announces a wait: no change is missed behind that, where the node is looked at before the sleep.
-    pub(crate) fn announce(&self) -> Key<'_> {
-        self.events.prepare_wait()
+    /// Wakes all who wait.
+    fn wake_all(&self) {
+        self.submitters.notify_all();
+        self.keepers.notify_all();
     }
 
     /// Raises the durable number of the lock, as the lock does it, and wakes whoever waits for that. Who finds as much told already wakes
@@ -51,7 +56,7 @@ impl Changes {
     {
         let found = lock.raise(seat, durable);
         if found.durable < durable {
-            self.events.notify_all();
+            self.wake_all();
         }
         found
     }
@@ -65,6 +70,6 @@ impl Changes {
         ensures halted { seat.new.view.halted ≡ 1 }
     {
         lock.halt(seat);
-        self.events.notify_all();
+        self.wake_all();
     }
 }

@@ -19,11 +19,13 @@ use crossbeam_utils::Backoff;
 use rep_disk::Disk;
 use rep_engine::Engine;
 use rep_log::Step;
+use rep_ordered::{announced, pass};
 use rep_record::fronts_are_determined;
 use rep_snap::Told;
 use rep_stations::{histories_go_on, take_next, taken_items_stay};
 use rep_types::Refusal;
 use std::sync::Wait;
+use std::thread;
 
 /// What is durable, and what readers may be told: up to there.
 #[derive(Drop)]
@@ -32,6 +34,14 @@ pub struct Kept {
     pub durable: u64,
     /// The list that is published so far: its readers find no shorter one once they learn it.
     pub told: Told,
+}
+
+/// What a keeper's round came to.
+#[derive(Drop)]
+pub(crate) struct Round {
+    pub kept: Kept,
+    /// Whether it looked at the queue, and all that the engine has accepted is durable: then there is nothing to do before more is queued.
+    pub rests: bool,
 }
 
 /// Has the engine accept what comes next of the items that wait, and these wait to be published.
@@ -137,6 +147,11 @@ fn gathers<D: Disk>(engine: &Engine<D>) -> bool {
     }
 }
 
+/// Whether all that the engine has accepted is durable, and the queue was looked at.
+fn rests<D: Disk>(has_looked: bool, engine: &Engine<D>) -> bool {
+    has_looked && engine.delivered() == engine.durable()
+}
+
 impl<D: Disk> Node<D> {
     /// Has the engine, whose station the seat is in, accept what comes next of the items that wait.
     ///
@@ -166,6 +181,35 @@ impl<D: Disk> Node<D> {
         (desk, done)
     }
 
+    /// The same again and again, as long as more has come: those who hand items in run in between, so that a block has the items of all who
+    /// are about to hand one in.
+    fn gather<R: Wait>(
+        &self,
+        rt: &R,
+        seat: &mut LockSeat<D>,
+        desk: Desk<D>,
+    ) -> (Desk<D>, Result<(), Refusal>)
+        requires lock { seat.old.lock ≡ self.now }
+        requires at { (v : _) × IsSeat D.honest D.history D.failures v × AtDesk D.honest D.history D.failures 0 v seat.old.view desk }
+        ensures lock { seat.new.lock ≡ seat.old.lock }
+        ensures at { (v : _) → IsSeat D.honest D.history D.failures v → AtDesk D.honest D.history D.failures 0 v seat.old.view desk → OnOk result.1 (AtDesk D.honest D.history D.failures 0 v seat.new.view result.0) }
+        ensures given { (v : _) → IsSeat D.honest D.history D.failures v → AtDesk D.honest D.history D.failures 0 v seat.old.view desk → AtDesk D.honest D.history D.failures 1 v seat.new.view result.0 }
+        ensures runs { OnOk result.1 (seat.new.view.halted ≡ seat.old.view.halted) }
+        ensures refused { IfErr result.1 (λ refusal. refusal ≢ LogFull) }
+    {
+        let mut desk = desk;
+        for _ in rt.forever() {
+            let before = desk.engine.get().delivered();
+            let (longer, accepted) = self.accept_next(rt, seat, desk);
+            if accepted.is_err() || longer.engine.get().delivered() == before {
+                return (longer, accepted);
+            }
+            desk = longer;
+            thread::yield_now();
+        }
+        unreachable!()
+    }
+
     /// A round at the engine, whose station the seat is in: it accepts what comes next, where it gathers, and the log makes its next step,
     /// a write or a sync, after which what is durable is published.
     ///
@@ -187,7 +231,7 @@ impl<D: Disk> Node<D> {
         if !gathers(desk.engine.get()) {
             return advance(rt, desk);
         }
-        let (desk, accepted) = self.accept_next(rt, seat, desk);
+        let (desk, accepted) = self.gather(rt, seat, desk);
         match accepted {
             Ok(()) => advance(rt, desk),
             Err(refusal) => (desk, Err(refusal)),
@@ -198,26 +242,31 @@ impl<D: Disk> Node<D> {
     ///
     /// Refuses with `LogFull` where a checkpoint has to free the log's next cell: nothing was given up. Refuses with `Stopped` where the node
     /// was halted, which it does itself where the device fails, or where there is no memory.
-    fn keep_once<R: Wait>(&self, rt: &R, seat: &mut LockSeat<D>) -> Result<Kept, Refusal>
+    fn keep_once<R: Wait>(&self, rt: &R, seat: &mut LockSeat<D>) -> Result<Round, Refusal>
         requires lock { seat.old.lock ≡ self.now }
         requires seat { IsSeat D.honest D.history D.failures seat.old.view }
         requires free { seat.old.view.held ≡ [] }
         ensures lock { seat.new.lock ≡ seat.old.lock }
         ensures idle { WentIdle seat.old.view seat.new.view }
-        ensures kept { IfOk result (IsKept seat.old.view seat.new.view) }
+        ensures kept { IfOk result (λ round. IsKept seat.old.view seat.new.view round.kept) }
         ensures goes { result ≢ Err is_stopped → (seat.new.view.halted ≡ 0) × (seat.new.view.given_up ≡ seat.old.view.given_up) }
         ensures full { result ≡ Err LogFull → (s : Start D) → seat.old.view.first ≡ values_of s → FoundFull D.honest D.history D.failures s seat.new.view }
         ensures refused { IfErr result (λ refusal. (refusal ≡ LogFull) ⊎ ((refusal ≡ is_stopped) × (seat.new.view.halted ≡ 1))) }
     {
         let desk = self.enter_desk(rt, seat)?;
+        let has_looked = gathers(desk.engine.get());
         let (desk, done) = self.work_on(rt, seat, desk);
         let durable = desk.engine.get().durable();
+        let rests = rests(has_looked, desk.engine.get());
         let told = desk.publisher.tell();
         match done {
             Ok(()) => {
                 self.leave_desk(seat, desk);
                 self.tell_durable(seat, durable)?;
-                Ok(Kept { durable, told })
+                Ok(Round {
+                    kept: Kept { durable, told },
+                    rests,
+                })
             }
             Err(Refusal::LogFull) => {
                 self.leave_desk(seat, desk);
@@ -230,27 +279,17 @@ impl<D: Disk> Node<D> {
         }
     }
 
-    /// Makes items durable until the seqno `upto` is.
-    fn keep_upto<R: Wait>(&self, rt: &R, seat: &mut LockSeat<D>, upto: u64) -> Result<Kept, Refusal>
-        requires lock { seat.old.lock ≡ self.now }
-        requires seat { IsSeat D.honest D.history D.failures seat.old.view }
-        requires free { seat.old.view.held ≡ [] }
+    /// The same round, by a seat of the node.
+    pub(crate) fn round<R: Wait>(&self, rt: &R, seat: &mut Seat<D>) -> Result<Round, Refusal>
+        requires { seat.old.lock ≡ self.now }
         ensures lock { seat.new.lock ≡ seat.old.lock }
         ensures idle { WentIdle seat.old.view seat.new.view }
-        ensures kept { IfOk result (λ kept. (upto ≤ kept.durable) × IsKept seat.old.view seat.new.view kept) }
+        ensures kept { IfOk result (λ round. IsKept seat.old.view seat.new.view round.kept) }
         ensures goes { result ≢ Err is_stopped → (seat.new.view.halted ≡ 0) × (seat.new.view.given_up ≡ seat.old.view.given_up) }
         ensures full { result ≡ Err LogFull → (s : Start D) → seat.old.view.first ≡ values_of s → FoundFull D.honest D.history D.failures s seat.new.view }
         ensures refused { IfErr result (λ refusal. (refusal ≡ LogFull) ⊎ ((refusal ≡ is_stopped) × (seat.new.view.halted ≡ 1))) }
     {
-        let backoff = Backoff::new();
-        for _ in rt.forever() {
-            let kept = self.keep_once(rt, seat)?;
-            if kept.durable >= upto {
-                return Ok(kept);
-            }
-            backoff.snooze();
-        }
-        unreachable!()
+        self.keep_once(rt, &mut seat.seat)
     }
 
     /// Makes items durable until the seqno `upto` is, and shows them to readers: it says what is durable, and what readers may be told.
@@ -271,6 +310,21 @@ impl<D: Disk> Node<D> {
         ensures full { result ≡ Err LogFull → (s : Start D) → seat.old.view.first ≡ values_of s → FoundFull D.honest D.history D.failures s seat.new.view }
         ensures refused { IfErr result (λ refusal. (refusal ≡ LogFull) ⊎ ((refusal ≡ is_stopped) × (seat.new.view.halted ≡ 1))) }
     {
-        self.keep_upto(rt, &mut seat.seat, upto)
+        // Tells the proof what holds of every seat.
+        seat.is_one();
+        let backoff = Backoff::new();
+        for _ in rt.forever() {
+            let sleep = announced(&self.changes.keepers, backoff.is_completed());
+            let Round { kept, rests } = self.round(rt, seat)?;
+            if kept.durable >= upto {
+                return Ok(kept);
+            }
+            if rests {
+                pass(rt, &backoff, sleep);
+            } else {
+                backoff.reset();
+            }
+        }
+        unreachable!()
     }
 }

@@ -9,7 +9,7 @@ use crate::changes::Changes;
 use crate::home::Home;
 use crossbeam_utils::Backoff;
 use rep_disk::Disk;
-use rep_ordered::{OrderedLock, Seat};
+use rep_ordered::{OrderedLock, Seat, announced, pass};
 use rep_types::{Judged, Refusal};
 use std::marker::Model;
 use std::sync::Wait;
@@ -31,6 +31,9 @@ pub struct Node<D: Disk> {
     /// Where those sleep who wait until more is durable, or the node is halted.
     pub(crate) changes: Changes,
 }
+
+/// Who waits until an item is durable, behind more than so many that are not, sleeps at once; who is nearer looks again first.
+const FEW: u64 = 2;
 
 /// A seat of a node's lock.
 pub(crate) type LockSeat<D> = Seat<Home<D>, Judged>;
@@ -88,8 +91,9 @@ impl<D: Disk> Node<D> {
         ensures stopped { IfErr result (λ refusal. (refusal ≡ Refusal.Stopped) × (seat.new.view.halted ≡ 1)) }
     {
         let backoff = Backoff::new();
+        let mut is_far = false;
         for _ in rt.forever() {
-            let sleep = self.changes.announce();
+            let sleep = announced(&self.changes.submitters, is_far || backoff.is_completed());
             let front = self.lock.front(seat);
             if front.halted {
                 return Err(Refusal::Stopped);
@@ -97,11 +101,8 @@ impl<D: Disk> Node<D> {
             if front.durable >= least {
                 return Ok(front.durable);
             }
-            if backoff.is_completed() {
-                sleep.wait(rt);
-            } else {
-                backoff.snooze();
-            }
+            is_far = least - front.durable > FEW;
+            pass(rt, &backoff, sleep);
         }
         unreachable!()
     }

@@ -1,6 +1,6 @@
 //! What is accepted waits to be published, and what is durable is published.
 
-ghost use Rattle.std.specs.Prelude.{◌≡◌, ◌+◌, ◌≤◌, ◌++◌, ◌∷◌, [], length, take, IfErr, OnOk};
+ghost use Rattle.std.specs.Prelude.{◌≡◌, ◌+◌, ◌≤◌, ◌++◌, ◌∷◌, [], length, take, IfErr, OnOk, OnErr};
 ghost use Rattle.rep_types.specs.declared.refusal.Refusal.TheVariants.{OutOfMemory};
 ghost use Rattle.rep_cert.specs.Holdings.{Holdings};
 ghost use Rattle.rep_snap.specs.Lists.{oldest_of, published};
@@ -46,7 +46,7 @@ pub(crate) fn wait_for(waiting: &mut Waiting, backlog: &Backlog, count: u16)
 
 /// Publishes what waits up to a seqno.
 ///
-/// Refuses with `OutOfMemory` where a growth was refused. Then some of it may have been published, and the rest waits.
+/// Refuses with `OutOfMemory` where a growth was refused. Then nothing of it was published, and all of it waits.
 pub(crate) fn publish_upto<R: Wait>(
     rt: &R,
     publisher: Publisher<Origin>,
@@ -61,20 +61,18 @@ pub(crate) fn publish_upto<R: Wait>(
     ensures behind { publisher.start + length (published result.0.list) ≤ upto }
     ensures oldest { oldest_of publisher.start result.0.list ≡ oldest_of publisher.start publisher.list }
     ensures shown { OnOk result.1 (publisher.start + length (published result.0.list) ≡ upto) }
+    ensures unchanged { OnErr result.1 ((published result.0.list ≡ published publisher.list) × (waiting.new ≡ waiting.old)) }
     ensures refused { IfErr result.1 (λ refusal. refusal ≡ OutOfMemory) }
 {
     histories_grow();
-    let mut publisher = publisher;
-    while let Some(pair) = waiting.first() {
-        if pair.seqno > upto {
-            break;
+    let due = waiting.upto(upto);
+    let count = due.len();
+    let (publisher, done) = publisher.publish_all(rt, due);
+    match done {
+        Ok(()) => {
+            waiting.drop_front(count);
+            (publisher, Ok(()))
         }
-        let (longer, done) = publisher.publish(rt, pair.seqno, pair.writes.as_slice());
-        publisher = longer;
-        if done.is_err() {
-            return (publisher, Err(Refusal::OutOfMemory));
-        }
-        waiting.drop_first();
+        Err(refusal) => (publisher, Err(refusal)),
     }
-    (publisher, Ok(()))
 }

@@ -14,6 +14,7 @@ use crate::seat::Seat;
 use crossbeam_utils::Backoff;
 use crossbeam_utils::atomic::AtomicCell;
 use rep_disk::Disk;
+use rep_ordered::{announced, pass};
 use rep_types::{Item, Refusal};
 use std::alloc::Global;
 use std::sync::Wait;
@@ -30,23 +31,23 @@ impl<D: Disk> Seat<D> {
 
 impl<D: Disk> Node<D> {
     /// A keeper's round: the engine accepts what comes next and the log makes its next step, or a checkpoint runs where the log is full. It
-    /// says what is durable, or nothing where the log was full.
+    /// says whether there is nothing to do before more is queued.
     ///
     /// Refuses with `Stopped` where the node was halted, which it does itself where the device fails, where a page of the base is not of its
     /// form, or where there is no memory.
-    fn keep_round<R: Wait>(&self, rt: &R, seat: &mut Seat<D>) -> Result<Option<u64>, Refusal>
+    fn keep_round<R: Wait>(&self, rt: &R, seat: &mut Seat<D>) -> Result<bool, Refusal>
         requires { seat.old.lock ≡ self.now }
         ensures lock { seat.new.lock ≡ seat.old.lock }
         ensures idle { WentIdle seat.old.view seat.new.view }
         ensures stopped { IfErr result (λ refusal. (refusal ≡ is_stopped) × (seat.new.view.halted ≡ 1)) }
     {
-        match self.keep(rt, seat, 0) {
-            Ok(kept) => return Ok(Some(kept.durable)),
+        match self.round(rt, seat) {
+            Ok(round) => return Ok(round.rests),
             Err(Refusal::LogFull) => (),
             Err(refusal) => return Err(refusal),
         }
         match self.check_run(rt, seat) {
-            Ok(_) | Err(Refusal::NotDue) => Ok(None),
+            Ok(_) | Err(Refusal::NotDue) => Ok(false),
             Err(refusal) => Err(refusal),
         }
     }
@@ -71,19 +72,18 @@ impl<D: Disk> Node<D> {
             return Err(Refusal::Stopped);
         }
         let backoff = Backoff::new();
-        let mut last = None;
         for _ in rt.forever() {
+            let sleep = announced(&self.changes.keepers, backoff.is_completed());
             let goes_on = goes.load();
-            let durable = self.keep_round(rt, seat)?;
+            let rests = self.keep_round(rt, seat)?;
             if !goes_on {
                 return Ok(());
             }
-            if durable == last {
-                backoff.snooze();
+            if rests {
+                pass(rt, &backoff, sleep);
             } else {
                 backoff.reset();
             }
-            last = durable;
         }
         unreachable!()
     }
@@ -117,6 +117,7 @@ impl<D: Disk + Send> Node<D> {
         }
         let batch = self.submit_batch(rt, alloc, seat, items, workers, pace);
         goes.store(false);
+        self.changes.keepers.notify_all();
         batch
     }
 

@@ -70,6 +70,7 @@ impl<D: Disk> Node<D> {
             unreachable!();
         }
         self.lock.leave(seat, 2, Home::Queue(queue), &None);
+        self.changes.keepers.notify_all();
         Ok(())
     }
 

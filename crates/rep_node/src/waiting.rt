@@ -1,10 +1,9 @@
 //! What was accepted and is not published yet.
 
-ghost use Rattle.std.specs.Prelude.{◌≡◌, ◌<◌, ◌++◌, ◌∷◌, [], length, drop, slice_get, IfOk, IfErr};
-ghost use Rattle.std.specs.Option.{option_copied};
+ghost use Rattle.std.specs.Prelude.{◌≡◌, ◌-◌, ◌<◌, ◌≤◌, ◌++◌, ◌∷◌, ℕ, [], length, min, drop, IfOk, IfErr};
 ghost use Rattle.rep_types.specs.declared.refusal.Refusal.TheVariants.{OutOfMemory};
+ghost use Rattle.rep_node.specs.Publishing.{Counts};
 
-use circular_buffer::HeapCircularBuffer;
 use rep_record::MAX_RECORDS;
 use rep_snap::Pair;
 use rep_types::Refusal;
@@ -15,11 +14,11 @@ use std::marker::Model;
 /// as a block of the log has.
 #[derive(Drop)]
 pub struct Waiting {
-    pairs: HeapCircularBuffer<Pair>,
+    pairs: Vec<Pair>,
 }
 
 impl Model for Waiting {
-    ghost use Rattle.std.specs.Prelude.{◌≡◌, ◌≤◌, List, length};
+    ghost use Rattle.std.specs.Prelude.{◌≤◌, List, vec_capacity};
     ghost use Rattle.rep_snap.specs.declared.change.Pair.{Pair};
     ghost use Rattle.rep_record.specs.declared.limits.TheConstants.{MAX_RECORDS};
 
@@ -27,7 +26,7 @@ impl Model for Waiting {
 
     ghost view = { λ w. w.pairs.items };
 
-    ghost invariant = { λ w. (w.pairs.capacity ≡ MAX_RECORDS) × (length w.pairs.items ≤ MAX_RECORDS) };
+    ghost invariant = { λ w. MAX_RECORDS ≤ vec_capacity w.pairs };
 }
 
 impl Waiting {
@@ -37,7 +36,7 @@ impl Waiting {
         ensures refused { IfErr result (λ refusal. refusal ≡ OutOfMemory) }
     {
         Ok(Waiting {
-            pairs: HeapCircularBuffer::with_capacity(alloc, usize::from(MAX_RECORDS))?,
+            pairs: Vec::with_capacity(alloc, usize::from(MAX_RECORDS))?,
         })
     }
 
@@ -46,22 +45,26 @@ impl Waiting {
         requires room { length self.old < MAX_RECORDS }
         ensures { self.new ≡ self.old ++ pair ∷ [] }
     {
-        if self.pairs.try_push_back(pair).is_err() {
-            unreachable!();
-        }
+        self.pairs.push_reserved(pair);
     }
 
-    /// The first that waits, or `None` where none does.
-    pub(crate) fn first(&self) -> Option<&Pair>
-        ensures { option_copied result ≡ slice_get self.now 0 }
+    /// Those that wait up to this seqno, where the seqnos go up by one.
+    pub(crate) fn upto(&self, seqno: u64) -> &[Pair]
+        ensures first { result.now ++ drop (length result.now) self.now ≡ self.now }
+        ensures upto { (before : ℕ) → Counts before self.now → length result.now ≡ min (seqno - before) (length self.now) }
     {
-        self.pairs.front()
+        let Some(first) = self.pairs.first() else {
+            return &[];
+        };
+        let count = seqno.saturating_sub(first.seqno.saturating_sub(1));
+        &self.pairs[..self.pairs.len().min(count as usize)]
     }
 
-    /// The first, where there is one, waits no more.
-    pub(crate) fn drop_first(&mut self)
-        ensures { self.new ≡ drop 1 self.old }
+    /// So many at the front wait no more.
+    pub(crate) fn drop_front(&mut self, count: usize)
+        requires within { count ≤ length self.old }
+        ensures { self.new ≡ drop count self.old }
     {
-        self.pairs.pop_front();
+        self.pairs.drain(..count);
     }
 }

@@ -11,6 +11,7 @@ use crate::room::Room;
 use crate::rule::{Keeps, Opening};
 use crate::seat::Seat;
 use atomic_table::Table;
+use crossbeam_utils::sync::EventCount;
 use rep_types::MAX_SEQNO;
 use std::alloc::Global;
 use std::snapshot::Snapshot;
@@ -184,7 +185,12 @@ impl<V: Keeps<E>, E> OrderedLock<V, E> {
         match Table::new(alloc, words.as_slice(), slots, opening) {
             Ok((table, seat)) => {
                 values.destroy_empty();
-                Ok((OrderedLock { table, room }, Seat { seat }))
+                let lock = OrderedLock {
+                    table,
+                    room,
+                    changes: EventCount::new(),
+                };
+                Ok((lock, Seat { seat }))
             }
             Err(refused) => Err(handed_back(room, refused.slots, values)),
         }
@@ -207,7 +213,11 @@ impl<V: Keeps<E>, E> OrderedLock<V, E> {
         ensures stations { length result.items ≡ stations_of self }
         ensures values { Closed (V.legal seat.view.first) (V.at_home seat.view.first) V.durable_of V.common_of seat.view result.items }
     {
-        let OrderedLock { table, room } = self;
+        let OrderedLock {
+            table,
+            room,
+            changes: _,
+        } = self;
         let Seat { seat } = seat;
         let mut values = room.into_list();
         let mut closed = table.close_with(seat);

@@ -98,6 +98,7 @@ impl<V: Keeps<E>, E> OrderedLock<V, E> {
         ensures halted { seat.new.view.halted ≡ 1 }
     {
         self.add_bit(seat, HALT);
+        self.changes.notify_all();
     }
 
     /// Puts the bit of the halt into the word.

@@ -13,6 +13,7 @@ mod rule;
 mod seat;
 mod turns;
 mod view;
+mod waiting;
 
 pub use ends::Refused;
 pub use front::Front;
@@ -21,3 +22,4 @@ pub use lock::OrderedLock;
 pub use rule::{Keeps, Opening};
 pub use seat::Seat;
 pub use view::{GivenUp, Hold, Joined, Reached, View};
+pub use waiting::{announced, pass};

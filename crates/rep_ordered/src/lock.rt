@@ -4,6 +4,7 @@ use crate::room::Room;
 use crate::rule::{Keeps, Opening, Ordered};
 use crate::view::Mind;
 use atomic_table::Table;
+use crossbeam_utils::sync::EventCount;
 use std::alloc::Global;
 use std::marker::Model;
 
@@ -37,6 +38,8 @@ pub struct OrderedLock<V: Keeps<E>, E> {
     pub(crate) table: Table<Option<V>, Mind<V, E>, Opening<V>, Ordered, Global>,
     /// Room for the values as `close` gives them.
     pub(crate) room: Room<Option<V>>,
+    /// What tells those who sleep that a station was left, or the lock halted.
+    pub(crate) changes: EventCount,
 }
 
 impl<V: Keeps<E>, E> Model for OrderedLock<V, E> {

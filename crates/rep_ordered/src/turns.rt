@@ -11,10 +11,12 @@ use crate::plays::{Abandon, Abandoning, Bring, ByTicket, FromSide, Leave, Leavin
 use crate::rule::Keeps;
 use crate::seat::Seat;
 use crate::view::Mind;
+use crate::waiting::{announced, pass};
 use crossbeam_utils::Backoff;
 use rep_types::{MAX_SEQNO, Refusal};
 use std::marker::Brand;
 use std::sync::Wait;
+use std::thread;
 
 /// A station's word is four times the number of its turn, and one of the next three where it is not
 /// free.
@@ -32,20 +34,6 @@ const TO_SIDE: u64 = FROM_SIDE;
 
 /// From held from the side down to free at the same number.
 const TO_FREE: u64 = FROM_SIDE;
-
-/// How often who waits for a station looks again before it lets other threads run. A station is held for less than that; and those
-/// who let others run find their turns late, one behind the other.
-const LOOKS: u32 = 64;
-
-/// Passes the time till the next look.
-fn pause(backoff: &Backoff, looks: &mut u32) {
-    if *looks < LOOKS {
-        *looks += 1;
-        backoff.spin();
-    } else {
-        backoff.snooze();
-    }
-}
 
 impl<V: Keeps<E>, E> OrderedLock<V, E> {
     /// Enters the station by a ticket, as soon as the station's turn is at its number and it is free,
@@ -86,8 +74,6 @@ impl<V: Keeps<E>, E> OrderedLock<V, E> {
         ensures runs { IfOk result (λ _. seat.new.view.halted ≡ 0) }
         ensures last { seat.old.view.allowance + length seat.old.view.own ≡ seat.old.view.whole → IfErr result (λ _. seat.old.view.halted ≡ 1) }
     {
-        let backoff = Backoff::new();
-        let mut looks = 0;
         for _ in rt.forever() {
             if self.front(seat).halted {
                 return Err(Refusal::Stopped);
@@ -95,7 +81,7 @@ impl<V: Keeps<E>, E> OrderedLock<V, E> {
             if let Some(value) = self.try_enter(seat, station, ticket) {
                 return Ok(value);
             }
-            pause(&backoff, &mut looks);
+            thread::yield_now();
         }
         unreachable!()
     }
@@ -150,15 +136,15 @@ impl<V: Keeps<E>, E> OrderedLock<V, E> {
         ensures last { seat.old.view.allowance + length seat.old.view.own ≡ seat.old.view.whole → IfErr result (λ _. seat.old.view.halted ≡ 1) }
     {
         let backoff = Backoff::new();
-        let mut looks = 0;
         for _ in rt.forever() {
+            let sleep = announced(&self.changes, backoff.is_completed());
             if self.front(seat).halted {
                 return Err(Refusal::Stopped);
             }
             if let Some(value) = self.try_side_enter(seat, station) {
                 return Ok(value);
             }
-            pause(&backoff, &mut looks);
+            pass(rt, &backoff, sleep);
         }
         unreachable!()
     }
@@ -252,6 +238,7 @@ impl<V: Keeps<E>, E> OrderedLock<V, E> {
         self.table
             .shared
             .fetch_add::<Leave<L>>(&mut seat.seat, station + 2, TO_NEXT);
+        self.changes.notify_all();
     }
 
     /// Leaves a station that was entered from the side, whatever else the seat holds, and gives its
@@ -286,6 +273,7 @@ impl<V: Keeps<E>, E> OrderedLock<V, E> {
         self.table
             .shared
             .fetch_sub::<Leave<L>>(&mut seat.seat, station + 2, TO_FREE);
+        self.changes.notify_all();
     }
 
     /// Gives up a station, however it was entered and whatever else the seat holds, once the seat saw

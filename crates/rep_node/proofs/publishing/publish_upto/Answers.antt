@@ -1,52 +1,33 @@
-use Rattle.std.proofs.Common.{false, ◌≡◌, ◌∙◌, ◌<◌, ◌++◌, [], ◌∷◌, sym, ap, subst}
-use Rattle.std.specs.Prelude.{is_err}
+use Rattle.std.proofs.Common.{◌∙◌, ◌++◌, sym, ap, subst, append_assoc, arith, List}
 use Rattle.rep_snap.specs.declared.change.Pair.{Pair}
-use Rattle.rep_snap.specs.Lists.{front_of, pair_of, published}
-use Rattle.rep_node.specs.Publishing.{AreAllowed}
-use Rattle.rep_node.proofs.Publishes.{round_above, round_allowed, round_whole, round_most, all_shown, next_is_above, after_publish, publish_oldest, same_pair}
+use Rattle.rep_snap.specs.Lists.{published}
+use Rattle.rep_cert.specs.Holdings.{Holdings}
+use Rattle.rep_node.specs.Publishing.{AreShown}
+use Rattle.rep_node.proofs.Publishes.{due_above, due_shown, due_reaches, one_certifier, after_publish}
 use Rattle.rep_node.proofs.publishing.publish_upto.Goals as goal
-use Rattle.rep_node.proofs.publishing.publish_upto.Goals.{in-Some+then-pair-upto, in_default}
 
-pub publish-longer-requires-clause-above : goal.publish-longer-requires-clause-above
-publish-longer-requires-clause-above g c =
-    let l = c.loop-pair in
-    let a = c.requires.allowed in
-    subst (λ s. front_of s (published l.publisher.list) < c.in-Some.pair.now.seqno) (sym l.invariant.2)
-    (round_above c.args.publisher.basis.certifier.log a.0 a.1 c.args.publisher.start a.2 (published c.args.publisher.list) c.args.waiting.now (published l.publisher.list) l.waiting a.3 l.invariant.3 c.in-Some.pair.now c.in-Some.ensures)
+pub publish_all-publisher-requires-clause-above : goal.publish_all-publisher-requires-clause-above
+publish_all-publisher-requires-clause-above g c = let a = c.requires.allowed in due_above a.0.current c.args.publisher.start a.2 _ c.upto-due.result.now _ c.args.waiting.now a.3 c.upto-due.ensures.first
 
-pub publish-longer-requires-clause-allowed : goal.publish-longer-requires-clause-allowed
-publish-longer-requires-clause-allowed g c =
-    let l = c.loop-pair in
+pub publish_all-publisher-requires-clause-allowed : goal.publish_all-publisher-requires-clause-allowed
+publish_all-publisher-requires-clause-allowed g c d also =
     let a = c.requires.allowed in
-    subst (λ (b : Rattle.rep_node.specs.declared.origin.Origin.Origin). AreAllowed b.certifier.log (published l.publisher.list ++ pair_of c.in-Some.pair.now.seqno c.as_slice.result.now ∷ [])) (sym l.invariant.1)
-    (round_allowed c.args.publisher.basis.certifier.log a.0 a.1 c.args.publisher.start a.2 (published c.args.publisher.list) c.args.waiting.now (published l.publisher.list) l.waiting a.3 l.invariant.3 c.in-Some.pair.now c.in-Some.ensures (pair_of c.in-Some.pair.now.seqno c.as_slice.result.now) (same_pair c.in-Some.pair.now c.as_slice.result.now c.as_slice.ensures.value))
+    subst (λ (h : Holdings). AreShown h.current (published c.args.publisher.list ++ c.upto-due.result.now)) (sym (one_certifier c.args.publisher.basis.certifier.log a.0 d a.1 also))
+    (due_shown a.0.current c.args.publisher.start a.2 _ c.upto-due.result.now _ c.args.waiting.now a.3 c.upto-due.ensures.first)
 
-pub loop-pair-preserved : goal.loop-pair-preserved
-loop-pair-preserved g c =
-    let l = c.loop-pair in
-    let a = c.requires.allowed in
+pub returns-in-Ok-clause-whole : goal.returns-in-Ok-clause-whole
+returns-in-Ok-clause-whole g c =
     let before = published c.args.publisher.list in
-    let now = published l.publisher.list in
-    let x = c.in-Some.pair.now in
-    let same = c.publish-longer.ensures.same in
-    let told : false ≡ is_err c.publish-longer.result.1 = sym c.if-is_err.false ∙ c.is_err.ensures.value in
-    let more : published c.publish-longer.result.0.list ≡ now ++ x ∷ [] = after_publish c.histories_grow.ensures l.publisher c.publish-longer.result.0 c.publish-longer.result.1 x.seqno c.as_slice.result.now told c.publish-longer.ensures.change
-    ∙ ap (λ (p : Pair). now ++ p ∷ []) (same_pair x c.as_slice.result.now c.as_slice.ensures.value) in (
-      same.0 ∙ l.invariant.0,
-      same.1 ∙ l.invariant.1,
-      same.2 ∙ l.invariant.2,
-      round_whole c.args.publisher.basis.certifier.log a.0 a.1 c.args.publisher.start a.2 before c.args.waiting.now now l.waiting a.3 l.invariant.3 x c.in-Some.ensures (published c.publish-longer.result.0.list) c.drop_first.new.self more c.drop_first.ensures,
-      round_most c.args.publisher.basis.certifier.log a.0 a.1 c.args.publisher.start a.2 before c.args.waiting.now now l.waiting a.3 l.invariant.3 x c.in-Some.ensures (published c.publish-longer.result.0.list) c.args.upto more c.if-pair-upto.false,
-      publish_oldest c.histories_grow.ensures c.args.publisher.start l.publisher c.publish-longer.result.0 c.publish-longer.result.1 x.seqno c.as_slice.result.now c.publish-longer.ensures.change ∙ l.invariant.5,
-    )
+    let due = c.upto-due.result.now in
+    let after = after_publish c.histories_grow.ensures c.args.publisher c.publish_all-publisher.result.0 c.publish_all-publisher.result.1 c.in-Ok.field-0 due c.in-Ok.is c.publish_all-publisher.ensures.change in
+    ap (λ (pairs : List Pair). pairs ++ c.drop_front.new.self) after ∙ append_assoc before due c.drop_front.new.self ∙ ap (λ (left : List Pair). before ++ (due ++ left)) c.drop_front.ensures ∙ ap (λ (pairs : List Pair). before ++ pairs) c.upto-due.ensures.first
 
-pub returns-clause-shown : goal.returns-clause-shown
-returns-clause-shown g c =
-    let l = c.loop-pair in
+pub returns-in-Ok-clause-shown : goal.returns-in-Ok-clause-shown
+returns-in-Ok-clause-shown g c =
     let a = c.requires.allowed in
-    let before = published c.args.publisher.list in
-    let now = published l.publisher.list in
-    elim c.match-first.branch [
-      | in-Some+then-pair-upto w ↦ next_is_above c.args.publisher.basis.certifier.log a.0 a.1 c.args.publisher.start a.2 before c.args.waiting.now now l.waiting a.3 l.invariant.3 w.in-Some.pair.now w.in-Some.ensures c.args.upto w.if-pair-upto.true l.invariant.4
-      | in_default w ↦ all_shown c.args.publisher.start before c.args.waiting.now now l.waiting c.args.upto l.invariant.3 w.in_default.ensures l.invariant.4 c.requires.within
-    ]
+    due_reaches a.0.current c.args.publisher.start a.2 (published c.args.publisher.list) c.upto-due.result.now _ c.args.waiting.now a.3 c.upto-due.ensures.first c.args.upto (published c.publish_all-publisher.result.0.list)
+    (after_publish c.histories_grow.ensures c.args.publisher c.publish_all-publisher.result.0 c.publish_all-publisher.result.1 c.in-Ok.field-0 c.upto-due.result.now c.in-Ok.is c.publish_all-publisher.ensures.change)
+    c.requires.behind c.requires.within c.upto-due.ensures.upto
+
+pub returns-in-Ok-clause-behind : goal.returns-in-Ok-clause-behind
+returns-in-Ok-clause-behind g c = let reached = returns-in-Ok-clause-shown g c in omega (arith, reached)

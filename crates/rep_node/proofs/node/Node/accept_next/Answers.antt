@@ -1,8 +1,5 @@
 use Rattle.std.proofs.Common.{◌≡◌, None, refl}
-use Rattle.rep_types.specs.declared.judged.Judged.{Judged}
-use Rattle.rep_ordered.specs.declared.view.View.{View}
 use Rattle.rep_ordered.specs.Views.{turn_of, without}
-use Rattle.rep_node.specs.declared.home.Home.{Home}
 use Rattle.rep_node.proofs.Standing.{queue_found}
 use Rattle.rep_node.proofs.AtEngine.{view_is}
 use Rattle.rep_node.proofs.Accepts.{accepted_at, accepted_given, both_at, queue_back}

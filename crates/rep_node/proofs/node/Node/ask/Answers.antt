@@ -1,18 +1,13 @@
 use Rattle.std.proofs.Common.{◌≡◌, ℕ, ◌≤◌, true, false, None, Err, inl, inr, refl, sym, ap, subst, ◌∙◌, arith}
 use Rattle.std.specs.Prelude.{is_some}
-use Rattle.rep_types.specs.declared.judged.Judged.{Judged}
 use Rattle.rep_types.specs.declared.refusal.Refusal.TheVariants.{DiskFault}
 use Rattle.rep_engine.specs.Engines.{durable_of}
 use Rattle.rep_stations.specs.Judging.{Legal}
-use Rattle.rep_ordered.specs.declared.view.View.{View}
-use Rattle.rep_ordered.specs.Views.{StartsWith}
-use Rattle.rep_node.specs.declared.home.Home.{Home}
-use Rattle.rep_node.specs.declared.home.Desk.{Desk}
 use Rattle.rep_node.specs.Homes.{Start, DeskAt, values_of}
 use Rattle.rep_node.specs.Keeping.{AtDesk}
 use Rattle.rep_node.specs.Reading.{RefusesAsked}
 use Rattle.rep_node.proofs.Keeps.{desk_grown}
-use Rattle.rep_node.proofs.Asks.{at_read, desk_read, none_of, only_err, refusals_asked, rows_asked, this_err}
+use Rattle.rep_node.proofs.Asks.{at_read, none_of, only_err, refusals_asked, rows_asked, this_err}
 use Rattle.rep_node.proofs.node.Node.ask.Given.{Over}
 use Rattle.rep_node.proofs.node.Node.ask.Goals as goal
 use Rattle.rep_node.proofs.node.Node.ask.Goals.{After-look_up-row, After-is_stopped, After-leave_desk}

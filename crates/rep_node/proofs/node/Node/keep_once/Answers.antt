@@ -1,8 +1,7 @@
-use Rattle.std.proofs.Common.{◌≡◌, ◌-◌, ◌≤◌, take, refl, sym, ap, subst, ◌∙◌, arith}
+use Rattle.std.proofs.Common.{◌≡◌, ◌-◌, take, sym, ap, subst, ◌∙◌, arith}
 use Rattle.rep_types.specs.declared.judged.Judged.{Judged}
 use Rattle.rep_types.specs.declared.refusal.Refusal.{Refusal}
 use Rattle.rep_types.specs.declared.refusal.Refusal.TheVariants.{LogFull}
-use Rattle.rep_engine.specs.Engines.{durable_of}
 use Rattle.rep_snap.specs.Lists.{published}
 use Rattle.rep_snap.specs.Views.{Telling}
 use Rattle.rep_ordered.specs.declared.view.View.{View}
@@ -11,7 +10,6 @@ use Rattle.rep_node.specs.declared.home.Home.{Home}
 use Rattle.rep_node.specs.declared.home.Desk.{Desk}
 use Rattle.rep_node.specs.Homes.{Start, DeskAt, position_of, values_of}
 use Rattle.rep_node.specs.Publishing.{shown}
-use Rattle.rep_node.specs.Seats.{WentIdle}
 use Rattle.rep_node.specs.Keeping.{AtDesk, AtWork, HasWorked, IsFull}
 use Rattle.rep_node.proofs.AtEngine.{idle_later}
 use Rattle.rep_node.proofs.Keeps.{is_least, list_is, told_err, told_ok}
@@ -29,9 +27,9 @@ leave_desk-requires-clause-at g c = let v = c.args.seat.now.view in let worked =
 
 pub tell_durable-requires-clause-saw : goal.tell_durable-requires-clause-saw
 tell_durable-requires-clause-saw g c =
-    let durable = (rw c.get.ensures at c.durable-durable.ensures.durable) in
+    let durable = (rw c.get-2.ensures at c.durable-durable.ensures.durable) in
     let backed = c.leave_desk.ensures.backed in
-    let limit = (rw c.get.ensures at c.durable-durable.ensures.engine).limit in
+    let limit = (rw c.get-2.ensures at c.durable-durable.ensures.engine).limit in
     (omega (arith, durable, backed), omega (arith, durable, limit))
 
 pub returns-in_err-tell_durable-in-Ok-clause-idle : goal.returns-in_err-tell_durable-in-Ok-clause-idle
@@ -54,7 +52,7 @@ returns-in-Ok-clause-kept g c =
     let at : AtDesk g.D.Disk.honest g.D.Disk.history g.D.Disk.failures 0 v u d = told_ok (AtDesk g.D.Disk.honest g.D.Disk.history g.D.Disk.failures 0 v u d) c.work_on-desk.result.1 c.in-Ok.field-0 c.in-Ok.is worked.works in
     let more : StartsWith t.seen u.seen = subst (λ l. StartsWith t.seen l) c.leave_desk.ensures.same.0 c.tell_durable.ensures.later.seen in
     let work : (s : Start g.row.D.Denot) → v.first ≡ values_of s → AtWork g.D.Disk.honest g.D.Disk.history g.D.Disk.failures s u.seen d = desk_work g.D.Disk.honest g.D.Disk.history g.D.Disk.failures v u d c.requires.seat at in
-    let durable = (rw c.get.ensures at c.durable-durable.ensures.durable) in
+    let durable = (rw c.get-2.ensures at c.durable-durable.ensures.durable) in
     record {
       durable = c.in_ok-tell_durable-in-Ok.ensures.durable;
       told = λ s is. ap (λ (z : Telling). z.book) c.tell-told.ensures ∙ (work s is).desk.publisher.0;
@@ -88,3 +86,17 @@ give_desk_up-requires-clause-at g c = let v = c.args.seat.now.view in (v, (c.wor
 
 pub returns-clause-idle : goal.returns-clause-idle
 returns-clause-idle g c = let v = c.args.seat.now.view in c.give_desk_up.ensures.idle v (c.work_on-desk.ensures.at v c.requires.seat c.in_ok-desk.ensures.at).given
+
+-- ---- it goes on
+
+pub returns-in-Ok-clause-goes : goal.returns-in-Ok-clause-goes
+returns-in-Ok-clause-goes g c = λ not. let v = c.args.seat.now.view in let worked = c.work_on-desk.ensures.at v c.requires.seat c.in_ok-desk.ensures.at in
+    let at = told_ok (AtDesk g.D.Disk.honest g.D.Disk.history g.D.Disk.failures 0 v c.work_on-desk.new.seat.view c.work_on-desk.result.0) c.work_on-desk.result.1 c.in-Ok.field-0 c.in-Ok.is worked.works in
+    (c.in_ok-tell_durable-in-Ok.ensures.runs, ap (λ (z : View (Home g.row.D.Denot) Judged). z.given_up) c.tell_durable.ensures.later.same ∙ (c.leave_desk.ensures.runs.1 ∙ at.at.kept))
+
+pub returns-in-Err-LogFull-clause-goes : goal.returns-in-Err-LogFull-clause-goes
+returns-in-Err-LogFull-clause-goes g c = λ not. let v = c.args.seat.now.view in
+    let f = full g (goal.at.returns-in-Err-LogFull-clause-goes g c).In-Err-LogFull (c.work_on-desk.ensures.at v c.requires.seat c.in_ok-desk.ensures.at) in
+    let told = rw c.in-Err-LogFull.is at c.in-Err-LogFull.field-0-is in
+    let still = told_err (λ (r : Refusal). r ≡ LogFull → c.work_on-desk.new.seat.view.halted ≡ c.enter_desk.new.seat.view.halted) c.work_on-desk.result.1 c.in-Err-LogFull.field-0 c.in-Err-LogFull.is c.work_on-desk.ensures.stays told in
+    (c.leave_desk-in-Err-LogFull.ensures.runs.0 ∙ (still ∙ c.in_ok-desk.ensures.runs.0), c.leave_desk-in-Err-LogFull.ensures.runs.1 ∙ f.0.at.kept)

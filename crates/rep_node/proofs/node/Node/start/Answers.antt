@@ -24,6 +24,9 @@ start_from-requires-clause-parts g c = (c.args.replica, apart g c)
 pub returns-in-Ok-clause-starts : goal.returns-in-Ok-clause-starts
 returns-in-Ok-clause-starts g c = c.in-Ok.ensures.starts c.args.replica (apart g (goal.at.returns-in-Ok-clause-starts g c).After-into_parts-certifier)
 
+pub returns-in-Ok-clause-running : goal.returns-in-Ok-clause-running
+returns-in-Ok-clause-running g c = runs g (goal.at.returns-in-Ok-clause-running g c).After-into_parts-certifier
+
 pub from_parts-replica-requires : goal.from_parts-replica-requires
 from_parts-replica-requires g c = let at = (goal.at.from_parts-replica-requires g c).After-into_parts-certifier in let parts = c.into_parts-certifier.ensures.parts in let back = c.in-Err.ensures.refused in
     again g.D.Disk.honest g.D.Disk.history g.D.Disk.failures c.args.replica _ _ _ (back.0 ∙ parts.0) (back.1 ∙ parts.1) (back.2 ∙ parts.2) (runs g at).inside c.into_parts-certifier.ensures.replica

@@ -13,18 +13,18 @@ pub returns-then-not-gathers-clause-at : goal.returns-then-not-gathers-clause-at
 returns-then-not-gathers-clause-at g c = λ v seat a. let e = c.advance.ensures in desk_worked g.D.Disk.honest g.D.Disk.history g.D.Disk.failures v c.args.seat.now.view c.args.desk seat a c.advance.result.0 c.advance.result.1 e.works e.given e.rises e.common e.full
 
 pub advance-requires-in-Ok : goal.advance-requires-in-Ok
-advance-requires-in-Ok g c = let at = c.requires.at in let t = c.accept_next-desk.new.seat.view in
-    let b = told_ok (AtDesk g.D.Disk.honest g.D.Disk.history g.D.Disk.failures 0 at.0 t c.accept_next-desk.result.0) c.accept_next-desk.result.1 c.in-Ok.field-0 c.in-Ok.is (c.accept_next-desk.ensures.at at.0 at.1 at.2) in
-    record { work = (at.1.start, t.seen, desk_work g.D.Disk.honest g.D.Disk.history g.D.Disk.failures at.0 t c.accept_next-desk.result.0 at.1 b at.1.start at.1.first) }
+advance-requires-in-Ok g c = let at = c.requires.at in let t = c.gather-desk.new.seat.view in
+    let b = told_ok (AtDesk g.D.Disk.honest g.D.Disk.history g.D.Disk.failures 0 at.0 t c.gather-desk.result.0) c.gather-desk.result.1 c.in-Ok.field-0 c.in-Ok.is (c.gather-desk.ensures.at at.0 at.1 at.2) in
+    record { work = (at.1.start, t.seen, desk_work g.D.Disk.honest g.D.Disk.history g.D.Disk.failures at.0 t c.gather-desk.result.0 at.1 b at.1.start at.1.first) }
 
 pub returns-in-Ok-clause-at : goal.returns-in-Ok-clause-at
-returns-in-Ok-clause-at g c = λ v seat a. let t = c.accept_next-desk.new.seat.view in
-    let b = told_ok (AtDesk g.D.Disk.honest g.D.Disk.history g.D.Disk.failures 0 v t c.accept_next-desk.result.0) c.accept_next-desk.result.1 c.in-Ok.field-0 c.in-Ok.is (c.accept_next-desk.ensures.at v seat a) in
-    let e = c.advance-in-Ok.ensures in desk_worked g.D.Disk.honest g.D.Disk.history g.D.Disk.failures v t c.accept_next-desk.result.0 seat b c.advance-in-Ok.result.0 c.advance-in-Ok.result.1 e.works e.given e.rises e.common e.full
+returns-in-Ok-clause-at g c = λ v seat a. let t = c.gather-desk.new.seat.view in
+    let b = told_ok (AtDesk g.D.Disk.honest g.D.Disk.history g.D.Disk.failures 0 v t c.gather-desk.result.0) c.gather-desk.result.1 c.in-Ok.field-0 c.in-Ok.is (c.gather-desk.ensures.at v seat a) in
+    let e = c.advance-in-Ok.ensures in desk_worked g.D.Disk.honest g.D.Disk.history g.D.Disk.failures v t c.gather-desk.result.0 seat b c.advance-in-Ok.result.0 c.advance-in-Ok.result.1 e.works e.given e.rises e.common e.full
 
 pub returns-in-Err-clause-at : goal.returns-in-Err-clause-at
 returns-in-Err-clause-at g c = λ v seat a. record {
   works = tt;
-  full = λ is. absurd (told_err (λ (r : Refusal). r ≢ LogFull) c.accept_next-desk.result.1 c.in-Err.refusal c.in-Err.is c.accept_next-desk.ensures.refused is);
-  given = c.accept_next-desk.ensures.given v seat a;
+  full = λ is. absurd (told_err (λ (r : Refusal). r ≢ LogFull) c.gather-desk.result.1 c.in-Err.refusal c.in-Err.is c.gather-desk.ensures.refused is);
+  given = c.gather-desk.ensures.given v seat a;
 }
