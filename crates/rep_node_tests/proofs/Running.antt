@@ -1,5 +1,5 @@
 -- What calls leave of a node, its one seat and its one reader.
-use Rattle.std.proofs.Common.{◌≡◌, ℕ, ◌<◌, Option, Some, None, List, [], ◌∷◌, ◌++◌, length, ap, sym, refl, ◌∙◌, subst, arith, length-append}
+use Rattle.std.proofs.Common.{◌≡◌, ℕ, ◌<◌, ◌≤◌, Option, Some, None, List, [], ◌∷◌, ◌++◌, length, ap, sym, refl, ◌∙◌, subst, arith, length-append}
 use Rattle.std.specs.Prelude.{All, MatchOption, Result, slice_index_or}
 use Rattle.atomic_table.specs.Seated.{TableId}
 use Rattle.rep_types.specs.declared.judged.Judged.{Judged}
@@ -13,9 +13,10 @@ use Rattle.rep_snap.specs.declared.change.Change.{Change}
 use Rattle.rep_snap.specs.Views.{Watching, watching}
 use Rattle.rep_ordered.specs.declared.view.View.{View}
 use Rattle.rep_ordered.specs.Going.{Goes, Went}
-use Rattle.rep_ordered.specs.GoingLaws.{goes_later}
-use Rattle.rep_ordered.specs.Seats.{Place}
-use Rattle.rep_ordered.specs.Views.{HasAll, Later, opened}
+use Rattle.rep_ordered.specs.GoingLaws.{goes_later, goes_shared}
+use Rattle.rep_ordered.specs.Seats.{Place, seat_of}
+use Rattle.rep_ordered.specs.Steps.{Learns}
+use Rattle.rep_ordered.specs.Views.{HasAll, Later, both, given, giving, opened}
 use Rattle.rep_node.specs.declared.home.Desk.{Desk}
 use Rattle.rep_node.specs.declared.home.Home.{Home}
 use Rattle.rep_node.specs.declared.home.Home.TheVariants.{Certifier as AtFirst, Desk as AtSecond}
@@ -25,7 +26,7 @@ use Rattle.rep_node.specs.Homes.{Start, common_in, durable_in, position_of, valu
 use Rattle.rep_node.specs.Reading.{IsReaderOf}
 use Rattle.rep_node.specs.Rows.{Beside, ReadsBeside}
 use Rattle.rep_node.specs.Seats.{WentIdle}
-use Rattle.rep_node_tests.specs.Running.{Runs}
+use Rattle.rep_node_tests.specs.Running.{HasReader, Runs}
 
 -- ---- a node was started with one thing
 
@@ -116,6 +117,16 @@ module _ {D : Type 0} where
     start = begun.start;
     first = begun.first;
   }
+
+  -- ---- a seat that was split off, and taken in again
+
+  pub split_off : (node lock : TableId) (a b : Place (Home D) Judged) (r : Watching Origin) (give : ℕ) → Runs node a r → b ≡ seat_of lock (given give a.view) → HasReader b.view r
+  split_off node lock a b r give runs is = let first : b.view.first ≡ a.view.first = ap (λ (z : Place (Home D) Judged). z.view.first) is in record { own = own_on a.view b.view r r runs.own first refl refl refl; start = runs.start; first = first ∙ runs.first }
+
+  pub taken_in : (law : List Judged → Type 0) (lock : TableId) (v a b u : View (Home D) Judged) (s o : Place (Home D) Judged) (give : ℕ) → HasAll v → give ≤ v.allowance → s ≡ seat_of lock (giving give v) → o ≡ seat_of lock (given give v)
+      → Goes s.view a → Goes o.view b → Learns law b.seen (both a b) u → HasAll u
+  taken_in law lock v a b u s o give all less split gave first second joined = let view : Place (Home D) Judged → View (Home D) Judged = λ z. z.view in
+      all_on v u (goes_shared law give v s.view o.view a b u less (ap view split) (ap view gave) first second joined).0 all
 
   -- ---- what a session's get leaves
 

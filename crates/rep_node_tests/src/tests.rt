@@ -2,6 +2,7 @@
 //! are read between them; or a replica alone is read and written by sessions.
 
 mod batches;
+mod beside;
 mod devices;
 mod limits;
 mod paces;

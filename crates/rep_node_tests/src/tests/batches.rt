@@ -190,7 +190,7 @@ fn batches_end_as_they_are_held(rt: HostRuntime) -> Result<(), Fail> {
 }
 
 /// How many items a batch of two tells of, where it ended right: what it tells of is durable, and it was stopped unless it tells of both.
-fn told_of(batch: &Batch, durable: u64) -> Result<usize, Refusal> {
+pub(crate) fn told_of(batch: &Batch, durable: u64) -> Result<usize, Refusal> {
     let told = batch.receipts.len();
     let last = match batch.receipts.last() {
         Some(receipt) => receipt.seqno,
@@ -238,7 +238,7 @@ fn told_at<R: Threads + Wait + Sync>(
 }
 
 /// More calls than the opening and a batch of two make.
-const CALLS: u64 = 60;
+pub(crate) const CALLS: u64 = 60;
 
 #[test]
 fn what_is_told_of_is_there_where_a_call_fails(rt: HostRuntime) -> Result<(), Fail> {

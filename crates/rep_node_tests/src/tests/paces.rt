@@ -4,6 +4,8 @@ use crossbeam_utils::Backoff;
 use crossbeam_utils::atomic::AtomicCell;
 use rep_disk::Hold;
 use rep_node::{Pace, Point};
+use std::thread::sleep;
+use std::time::{Clock, Duration};
 
 /// Whether it comes true within 1,000,000 turns.
 fn comes_true(told: &AtomicCell<bool>) -> bool {
@@ -73,6 +75,42 @@ impl Pace for Never {
 
     fn at(&self, _point: Point, _seqno: u64) -> bool {
         false
+    }
+}
+
+/// The worker of the first seqno is held behind its verdict until that of the second has its own; and it is told once the second was queued,
+/// and so the first too.
+#[derive(Drop)]
+pub(crate) struct Queueing {
+    held: Held,
+    are_queued: AtomicCell<bool>,
+}
+
+impl Queueing {
+    /// None was queued.
+    pub(crate) fn new() -> Queueing {
+        Queueing {
+            held: Held::new(None, Some(2)),
+            are_queued: AtomicCell::new(false),
+        }
+    }
+
+    /// Waits until both were queued, and 2 ms more, within which their workers go to sleep. It says whether both were.
+    pub(crate) fn waits_for_sleepers<R: Clock>(&self, rt: &R) -> bool {
+        let are_queued = comes_true(&self.are_queued);
+        sleep(rt, Duration::from_millis(2));
+        are_queued
+    }
+}
+
+impl Pace for Queueing {
+    ghost lets = { λ pace point seqno. Unit {0} };
+
+    fn at(&self, point: Point, seqno: u64) -> bool {
+        if point == Point::Queued && seqno == 2 {
+            self.are_queued.store(true);
+        }
+        self.held.at(point, seqno)
     }
 }
 
