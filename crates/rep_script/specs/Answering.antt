@@ -1,9 +1,12 @@
 -- Answers that wait until they are written together, and lines that are written at once.
 use Rattle.std.specs.Prelude.{◌≡◌, ◌≢◌, ◌⊎◌, ℕ, Bool, true, List, [], ◌++◌, take, codes, Option, Result, Ok, Err}
 use Rattle.std.specs.Fmt.{decimal}
+use Rattle.std.specs.List.{flat_map}
 use Rattle.std.specs.Io.KnownBytes.{Appends}
 use Rattle.rep_types.specs.declared.refusal.Refusal.{Refusal}
 use Rattle.rep_types.specs.declared.refusal.Refusal.TheVariants.{StreamFault}
+use Rattle.rep_types.specs.Gtids.{Gtid, gtid_text}
+use Rattle.rep_types.specs.Entries.{Entry}
 use Rattle.rep_types.specs.Windows.{Window}
 
 -- Of these bytes, which are answered, all but those that wait were written.
@@ -26,3 +29,7 @@ Tells line old new (Err refusal) = Appends old new []
 -- the line that is said of a window's limits: how many seqnos it spans, and the least seqno that it can hold
 abbrev pub limits_line : Window → List ℕ
 limits_line v = codes "size " ++ decimal v.size ++ codes " floor " ++ decimal v.floor ++ codes "\n"
+
+-- the line that is said of a state: its GTID, the position of its base, and the seqnos of its window
+abbrev pub state_line : Gtid → ℕ → List Entry → List ℕ
+state_line gtid base window = (codes "state " ++ (gtid_text gtid ++ (codes " base " ++ (decimal base ++ codes " window")))) ++ (flat_map (λ (e : Entry). codes " " ++ decimal e.seqno) window ++ codes "\n")

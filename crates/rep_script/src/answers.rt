@@ -2,7 +2,9 @@
 
 ghost use Rattle.std.specs.Prelude.{◌≡◌, ℕ, [], ◌∷◌, ◌++◌, take, IfSome, IfErr, OnOk, OnErr, MatchResult, is_ok, true};
 ghost use Rattle.std.specs.Io.KnownBytes.{Appends, Keeps};
+ghost use Rattle.rep_engine.specs.Engines.{gtid_of};
 ghost use Rattle.rep_streams.specs.Streams.{Notes};
+ghost use Rattle.rep_script.specs.Answering.{Tells, state_line};
 
 use arrayvec::ArrayVec;
 use rep_disk::Disk;
@@ -145,7 +147,10 @@ pub fn write_answer<D: Disk, W: Sink>(
 }
 
 /// Puts what is said of a state at this GTID, with this base and this window.
-fn put_state(line: &mut Line, gtid: Gtid, base: u64, window: &[Entry]) -> Result<(), NoRoom> {
+fn put_state(line: &mut Line, gtid: Gtid, base: u64, window: &[Entry]) -> Result<(), NoRoom>
+    requires empty { line.old.items ≡ [] }
+    ensures { OnOk result (line.new.items ≡ state_line gtid base window.now) }
+{
     put(line, format_args!("state {gtid} base {base} window"))?;
     for entry in window {
         let seqno = entry.seqno();
@@ -163,6 +168,7 @@ pub fn write_state<D: Disk, W: Sink>(
     replica: &Replica<D>,
     window: &[Entry],
 ) -> Result<(), Refusal>
+    ensures told { Tells (state_line (gtid_of replica.now.engine) replica.now.engine.checkpoint.base.position window.now) (W.contents writer.old) (W.contents writer.new) result }
     ensures notes { Notes (W.failed writer.old) (W.failed writer.new) result }
     ensures refused { IfErr result (λ refusal. refusal ≡ Refusal.StreamFault) }
 {

@@ -91,16 +91,16 @@ lines_unsent lines (Err e) before mid after waiting k ok cut sent =
     (front.0, subst (Appends before after) (sym front.1) some.1)
 
 -- the writer failed within the lines
-pub tells_cut : (lines : List ℕ) (end : Option Refusal) (before after : Option (List ℕ)) (e : Refusal) (k : ℕ) → e ≡ StreamFault → Appends before after (take k lines) → TellsBatch lines end before after (Err e)
-tells_cut lines None before after e k fault written = ([], inr (fault, (k, subst (λ l. Appends before after (take k l)) (sym (append-nil lines)) written)))
-tells_cut lines (Some end) before after e k fault written = inr (fault, (k, written))
+pub tells_cut : (lines state : List ℕ) (end : Option Refusal) (before after : Option (List ℕ)) (e : Refusal) (k : ℕ) → e ≡ StreamFault → Appends before after (take k lines) → TellsBatch lines state end before after (Err e)
+tells_cut lines state None before after e k fault written = let front = take_front k lines state in inr (fault, (front.0, subst (Appends before after) (sym front.1) written))
+tells_cut lines state (Some end) before after e k fault written = inr (fault, (k, written))
 
--- the lines stand, and one more behind them, as far as it was written
-pub tells_line : (lines : List ℕ) (before mid after : Option (List ℕ)) (result : Result (Unit {0}) Refusal) → Appends before mid lines → AddsLine mid after result → TellsBatch lines None before after result
-tells_line lines before mid after (Ok x) written adds = (adds.0, Appends-trans before mid after lines adds.0 written adds.1)
-tells_line lines before mid after (Err e) written adds = elim adds [
-  | inl none ↦ ([], inl (none.0, subst (Appends before after) (append-nil lines) (Appends-trans before mid after lines [] written none.1)))
-  | inr cut ↦ (cut.1.0, inr (cut.0, (length (lines ++ cut.1.0), subst (Appends before after) (sym (take_all (length (lines ++ cut.1.0)) (lines ++ cut.1.0) (omega arith))) (Appends-trans before mid after lines cut.1.0 written cut.1.1))))
+-- the lines stand, and that of the state behind them, as far as it was written
+pub tells_line : (lines state : List ℕ) (before mid after : Option (List ℕ)) (result : Result (Unit {0}) Refusal) → Appends before mid lines → AddsLine state mid after result → TellsBatch lines state None before after result
+tells_line lines state before mid after (Ok x) written adds = Appends-trans before mid after lines state written adds
+tells_line lines state before mid after (Err e) written adds = elim adds [
+  | inl none ↦ inl (none.0, subst (Appends before after) (append-nil lines) (Appends-trans before mid after lines [] written none.1))
+  | inr cut ↦ inr (cut.0, (length lines + cut.1.0, subst (Appends before after) (sym (take-append-add lines state cut.1.0)) (Appends-trans before mid after lines (take cut.1.0 state) written cut.1.1)))
 ]
 
 -- the receipts of a batch are of places of it

@@ -15,6 +15,9 @@ use Rattle.rep_replica.specs.Replicas.{Replica, facts_of}
 use Rattle.rep_replica.specs.Settling.{Works, is_quiet}
 use Rattle.rep_node.specs.declared.batch.Receipt.{Receipt}
 use Rattle.rep_node.specs.Served.{EndedFor, IsServed}
+use Rattle.rep_cert.specs.Holdings.{window_of}
+use Rattle.rep_engine.specs.Engines.{durable_of, gtid_of}
+use Rattle.rep_script.specs.Answering.{state_line}
 use Rattle.rep_script.specs.Judging.{said_by}
 
 -- the line of a receipt: the seqno, the verdict, and the labels of its item
@@ -35,17 +38,21 @@ IsFaultOf said OutOfMemory = Unit {0}
 IsFaultOf said StreamFault = Unit {0}
 IsFaultOf said refusal = said.1 ≡ Some refusal
 
--- One more line is written; or nothing for want of memory, or a front of it where the writer fails.
-abbrev pub AddsLine : Option (List ℕ) → Option (List ℕ) → Result (Unit {0}) Refusal → Type 0
-AddsLine before after (Ok x) = (line : List ℕ) × Appends before after line
-AddsLine before after (Err e) = ((e ≡ OutOfMemory) × Appends before after []) ⊎ ((e ≡ StreamFault) × ((front : List ℕ) × Appends before after front))
+-- the line of a replica's state, at what is durable
+abbrev pub line_of_state : {D : Type 0} → Replica D → List ℕ
+line_of_state r = state_line (gtid_of r.engine) r.engine.checkpoint.base.position (window_of r.certifier.current (durable_of r.engine.log)).entries
 
--- What is written of a batch: these lines, and behind them, where it has no end, a line; or a front of that where the writer failed.
-abbrev pub TellsBatch : List ℕ → Option Refusal → Option (List ℕ) → Option (List ℕ) → Result (Unit {0}) Refusal → Type 0
-TellsBatch lines None before after (Ok x) = (state : List ℕ) × Appends before after (lines ++ state)
-TellsBatch lines (Some end) before after (Ok x) = ⊥
-TellsBatch lines None before after (Err e) = (state : List ℕ) × (((e ≡ OutOfMemory) × Appends before after lines) ⊎ ((e ≡ StreamFault) × ((k : ℕ) × Appends before after (take k (lines ++ state)))))
-TellsBatch lines (Some end) before after (Err e) = ((e ≡ end) × Appends before after lines) ⊎ ((e ≡ StreamFault) × ((k : ℕ) × Appends before after (take k lines)))
+-- This line is written; or nothing for want of memory, or a front of it where the writer fails.
+abbrev pub AddsLine : List ℕ → Option (List ℕ) → Option (List ℕ) → Result (Unit {0}) Refusal → Type 0
+AddsLine line before after (Ok x) = Appends before after line
+AddsLine line before after (Err e) = ((e ≡ OutOfMemory) × Appends before after []) ⊎ ((e ≡ StreamFault) × ((k : ℕ) × Appends before after (take k line)))
+
+-- What is written of a batch: these lines, and behind them, where it has no end, that of the state; or a front of that where the writer failed.
+abbrev pub TellsBatch : List ℕ → List ℕ → Option Refusal → Option (List ℕ) → Option (List ℕ) → Result (Unit {0}) Refusal → Type 0
+TellsBatch lines state None before after (Ok x) = Appends before after (lines ++ state)
+TellsBatch lines state (Some end) before after (Ok x) = ⊥
+TellsBatch lines state None before after (Err e) = ((e ≡ OutOfMemory) × Appends before after lines) ⊎ ((e ≡ StreamFault) × ((k : ℕ) × Appends before after (take k (lines ++ state))))
+TellsBatch lines state (Some end) before after (Err e) = ((e ≡ end) × Appends before after lines) ⊎ ((e ≡ StreamFault) × ((k : ℕ) × Appends before after (take k lines)))
 
 -- what the lines of a text say, each an item of either kind
 abbrev pub items_in : List ℕ → List Item × Option Refusal
@@ -60,7 +67,7 @@ module _ {D : Type 0} (honest : D → Type 0) (history : D → History) (failure
     pub end : Option Refusal
     pub served : IsServed honest history failures old items new receipts end
     pub ended : IfSome end (EndedFor old (length items) new receipts)
-    pub told : TellsBatch (receipt_lines items receipts) end before after result
+    pub told : TellsBatch (receipt_lines items receipts) (line_of_state new) end before after result
 
   -- What comes of a text: it was refused, and nothing changed and nothing was written; or its items were served.
   abbrev pub ServesItems : Option (List ℕ) → Replica D → Replica D → Option (List ℕ) → Option (List ℕ) → Result (Unit {0}) Refusal → Type 0

@@ -12,7 +12,7 @@ ghost use Rattle.rep_ordered.specs.Views.{Every};
 ghost use Rattle.rep_node.specs.declared.batch.Receipt.{Receipt as Told};
 ghost use Rattle.rep_script.specs.Answering.{NotesBoth};
 ghost use Rattle.rep_script.specs.Judging.{said_ahead};
-ghost use Rattle.rep_serve.specs.Serving.{AddsLine, IsFaultOf, Serves, ServesItems, TellsBatch, items_in, receipt_lines};
+ghost use Rattle.rep_serve.specs.Serving.{AddsLine, IsFaultOf, Serves, ServesItems, TellsBatch, items_in, line_of_state, receipt_lines};
 
 use crate::lines::write_receipts;
 use arrayvec::ArrayVec;
@@ -83,7 +83,7 @@ fn write_state_of<D: Disk, W: Sink>(
     replica: &Replica<D>,
     writer: &mut W,
 ) -> Result<(), Refusal>
-    ensures adds { AddsLine (W.contents writer.old) (W.contents writer.new) result }
+    ensures adds { AddsLine (line_of_state replica.now) (W.contents writer.old) (W.contents writer.new) result }
     ensures notes { Notes (W.failed writer.old) (W.failed writer.new) result }
 {
     let window = replica.window(alloc)?;
@@ -107,7 +107,7 @@ fn tell<D: Disk, W: Sink>(
 ) -> Result<(), Refusal>
     requires places { Every (λ (r : Told). r.index < length items.now) batch.now.receipts.items }
     requires own { IfSome batch.now.end (λ refusal. refusal ≢ Refusal.StreamFault) }
-    ensures told { TellsBatch (receipt_lines items.now batch.now.receipts.items) batch.now.end (W.contents writer.old) (W.contents writer.new) result }
+    ensures told { TellsBatch (receipt_lines items.now batch.now.receipts.items) (line_of_state replica.now) batch.now.end (W.contents writer.old) (W.contents writer.new) result }
     ensures notes { Notes (W.failed writer.old) (W.failed writer.new) result }
 {
     write_receipts(items, &batch.receipts, writer)?;
