@@ -50,7 +50,7 @@ use Rattle.rep_checkpoint.specs.Nodes.{IsLedTo, StandsAs, LeadsTo, VersionsLeadT
 use Rattle.rep_engine.specs.Engines.{Engine, IsEngine, HasItemsBehind, facts_of, durable_of}
 use Rattle.rep_engine.specs.Holding.{Stands, Holds, wrote}
 use Rattle.rep_engine.specs.Reading.{halted_by}
-use Rattle.rep_engine.specs.Checking.{Begins, HasBegun, HoldsWindow, WentOn, checked}
+use Rattle.rep_engine.specs.Checking.{Begins, HasBegun, WentOn, checked}
 use Rattle.rep_engine.proofs.Steps.{done_moves, fault_moves, refused_moves, stopped_moves, hungry_moves, stopped_steps, refused_steps, hungry_steps, done_steps, fault_steps, halted_node}
 use Rattle.rep_engine.proofs.Asking.{none_asked}
 use Rattle.rep_engine.proofs.Refusing.{stays_stopped}
@@ -500,120 +500,141 @@ begin_refused honest history failures old n holds runs off r why =
           (hungry_steps n Check stopped_not (ap (check_refusal n.facts) stage ∙ test ∙ ap (λ b. if b then Some NotDue else None) out.1) (ap is_none_under_way stage))
     ]
 
+-- something is due that is no such write
+pub other_due : (due : Step) (stage : Stage) → due ≡ due_in stage → (due ≡ Begin) ⊎ (((page : ℕ) × (due ≡ Flush page)) ⊎ (due ≡ AwaitsSync)) → due_in stage ≢ GoOn
+other_due due stage is other going = elim other [
+  | inl begin ↦ (let never = sym begin ∙ is ∙ going in absurd cc)
+  | inr (inl flush) ↦ (let never = sym flush.1 ∙ is ∙ going in absurd cc)
+  | inr (inr sync) ↦ (let never = sym sync ∙ is ∙ going in absurd cc)
+]
+
+-- and where more than a beginning is, a checkpoint is under way
+pub under_way : (due : Step) (stage : Stage) → due ≡ due_in stage → ((page : ℕ) × (due ≡ Flush page)) ⊎ ((due ≡ GoOn) ⊎ (due ≡ AwaitsSync)) → stage ≢ Off
+under_way due stage is other off = elim other [
+  | inl flush ↦ (let never = sym flush.1 ∙ is ∙ ap due_in off in absurd cc)
+  | inr (inl next) ↦ (let never = sym next ∙ is ∙ ap due_in off in absurd cc)
+  | inr (inr sync) ↦ (let never = sym sync ∙ is ∙ ap due_in off in absurd cc)
+]
+
 -- where it waits
-waiting : (stage : Stage) → ((due_in stage ≡ Begin) → ⊥) → ((due_in stage ≡ GoOn) → ⊥) → (stage ≢ Off) × (next_refusal_at (stage_in stage) ≡ Some NotDue)
-waiting Off not_begin not_next = absurd (not_begin refl)
-waiting (Toward to Flushing) not_begin not_next = ((λ off. absurd cc), by to.left refl)
+waiting : (stage : Stage) → stage ≢ Off → due_in stage ≢ GoOn → next_refusal_at (stage_in stage) ≡ Some NotDue
+waiting Off under not_next = absurd (under refl)
+waiting (Toward to Flushing) under not_next = by to.left refl
   where
     by : (left : List ℕ) → to.left ≡ left → next_refusal_at (stage_in (Toward to Flushing)) ≡ Some NotDue
     by [] is = absurd (not_next (rw is refl))
     by (page ∷ left) is = rw is refl
-waiting (Toward to Saving) not_begin not_next = ((λ off. absurd cc), refl)
-waiting (Toward to Ready) not_begin not_next = absurd (not_next refl)
-waiting (Toward to SuperFilling) not_begin not_next = ((λ off. absurd cc), refl)
-waiting (Toward to SuperFilled) not_begin not_next = absurd (not_next refl)
-waiting (Toward to SuperOpening) not_begin not_next = ((λ off. absurd cc), refl)
-waiting (Retiring false) not_begin not_next = absurd (not_next refl)
-waiting (Retiring true) not_begin not_next = ((λ off. absurd cc), refl)
+waiting (Toward to Saving) under not_next = refl
+waiting (Toward to Ready) under not_next = absurd (not_next refl)
+waiting (Toward to SuperFilling) under not_next = refl
+waiting (Toward to SuperFilled) under not_next = absurd (not_next refl)
+waiting (Toward to SuperOpening) under not_next = refl
+waiting (Retiring false) under not_next = absurd (not_next refl)
+waiting (Retiring true) under not_next = refl
 
-waits_steps : {D : Type 0} (honest : D → Type 0) (history : D → History) (failures : D → ℕ) (laws : TheStageIsTheFacts) (old : Engine D) (n : Node) → Holds honest history failures n old → old.halted ≡ None
-    → ((due_in old.checkpoint.stage ≡ Begin) → ⊥) → ((due_in old.checkpoint.stage ≡ GoOn) → ⊥) → Steps n Check (Refused NotDue) n
-waits_steps honest history failures laws old n holds runs not_begin not_next =
-    let due = waiting old.checkpoint.stage not_begin not_next in
-    refused_steps n Check NotDue (ap (λ (t : Standing). t.stopped) holds.facts ∙ ap is_some runs)
-    (ap (λ (t : Standing). refusal_here t Check) holds.facts ∙ sym (laws.refused (facts_of failures old) old.checkpoint due.0) ∙ due.1)
+-- ---- what a step of a checkpoint comes to, as its caller reads it
 
--- ---- what a check comes to, as its caller reads it
-
-pub record IsChecked {D : Type 0} (honest : D → Type 0) (history : D → History) (size failures : D → ℕ) (h : Holding) (old new : Engine D) (result : Result (Option ℕ) Refusal) : Type 0 where
+-- With this answer, at a node of which that is known.
+pub record IsStepped {D T : Type 0} (honest : D → Type 0) (history : D → History) (size failures : D → ℕ) (known : Node → Type 0) (old new : Engine D) (result : Result T Refusal) (answer : Answer) : Type 0 where
   pub call : IsCall size failures honest old.disk new.disk (fault_of result)
   pub rest : new ≡ record old { disk = new.disk; checkpoint = new.checkpoint; halted = new.halted }
   pub params : new.checkpoint.base.params ≡ old.checkpoint.base.params
   pub unchanged : IfErr result (λ e. (e ≡ DiskFault) ⊎ (new ≡ old))
   pub fault : IfErr result (λ e. e ≡ DiskFault → new ≡ record old { disk = new.disk; halted = Some old.log.phase })
-  pub moves : Moves (facts_of failures old) Check (checked result) (facts_of failures new)
-  pub steps : (n : Node) → Holds honest history failures n old → (old.checkpoint.stage ≡ Off → window_of h (durable_of old.log) ≡ window_at n n.facts.durable) → (m : Node) × Steps n Check (checked result) m × Holds honest history failures m new
+  pub moves : Moves (facts_of failures old) Check answer (facts_of failures new)
+  pub steps : (n : Node) → Holds honest history failures n old → known n → (m : Node) × Steps n Check answer m × Holds honest history failures m new
   pub leaves : (n : Node) → Holds honest history failures n old → LeavesOnly (history old.disk) (history new.disk) (IsFrontAt Means n)
 
-module _ {D : Type 0} (honest : D → Type 0) (history : D → History) (size failures : D → ℕ) (h : Holding) where
-  -- refused, with nothing done
-  stays : (old : Engine D) (r : Refusal) → fault_of {T = Option ℕ} (Err r) ≡ Ok tt → r ≢ DiskFault → Moves (facts_of failures old) Check (Refused r) (facts_of failures old) → ((n : Node) → Holds honest history failures n old → Steps n Check (Refused r) n) → IsChecked honest history size failures h old old (Err r)
-  stays old r quiet other moves steps = record {
-    call = subst (IsCall size failures honest old.disk old.disk) (sym quiet) (none_asked size failures honest old.disk);
-    rest = refl;
-    params = refl;
-    unchanged = inr refl;
-    fault = λ e. absurd (other e);
-    moves = moves;
-    steps = λ n holds window. (n, steps n holds, holds);
-    leaves = λ n holds. leaves_none _ _ refl;
-  }
+module _ {D : Type 0} (honest : D → Type 0) (history : D → History) (size failures : D → ℕ) where
+  module _ {T : Type 0} (known : Node → Type 0) where
+    -- refused, with nothing done
+    stays : (old : Engine D) (r : Refusal) → fault_of {T = T} (Err r) ≡ Ok tt → r ≢ DiskFault → Moves (facts_of failures old) Check (Refused r) (facts_of failures old) → ((n : Node) → Holds honest history failures n old → Steps n Check (Refused r) n) → IsStepped {T = T} honest history size failures known old old (Err r) (Refused r)
+    stays old r quiet other moves steps = record {
+      call = subst (IsCall size failures honest old.disk old.disk) (sym quiet) (none_asked size failures honest old.disk);
+      rest = refl;
+      params = refl;
+      unchanged = inr refl;
+      fault = λ e. absurd (other e);
+      moves = moves;
+      steps = λ n holds more. (n, steps n holds, holds);
+      leaves = λ n holds. leaves_none _ _ refl;
+    }
 
-  -- where the device has failed before
-  pub stopped_checked : (old : Engine D) → is_some old.halted ≡ true → IsChecked honest history size failures h old old (Err Stopped)
-  stopped_checked old stopped = stays old Stopped refl (λ e. absurd cc) (stopped_moves (facts_of failures old) Check stopped) (λ n holds. stopped_steps n Check (ap (λ (t : Standing). t.stopped) holds.facts ∙ stopped))
+    -- where the device has failed before
+    pub stopped_stepped : (old : Engine D) → is_some old.halted ≡ true → IsStepped {T = T} honest history size failures known old old (Err Stopped) (Refused Stopped)
+    stopped_stepped old stopped = stays old Stopped refl (λ e. absurd cc) (stopped_moves (facts_of failures old) Check stopped) (λ n holds. stopped_steps n Check (ap (λ (t : Standing). t.stopped) holds.facts ∙ stopped))
 
   -- where it waits
-  pub waits_checked : TheStageIsTheFacts → (old : Engine D) → old.halted ≡ None → (due : Step) → due ≡ due_in old.checkpoint.stage → ((page : ℕ) × due ≡ Flush page) ⊎ (due ≡ AwaitsSync) → IsChecked honest history size failures h old old (Err NotDue)
-  waits_checked laws old runs due at wait =
-      let not_begin : (due_in old.checkpoint.stage ≡ Begin) → ⊥ = λ e. elim wait [
-        | inl flush ↦ (let never = sym flush.1 ∙ at ∙ e in absurd cc)
-        | inr sync ↦ (let never = sym sync ∙ at ∙ e in absurd cc)
-      ] in
-      let not_next : (due_in old.checkpoint.stage ≡ GoOn) → ⊥ = λ e. elim wait [
-        | inl flush ↦ (let never = sym flush.1 ∙ at ∙ e in absurd cc)
-        | inr sync ↦ (let never = sym sync ∙ at ∙ e in absurd cc)
-      ] in
-      let none = waiting old.checkpoint.stage not_begin not_next in
-      stays old NotDue refl (λ e. absurd cc) (refused_moves (facts_of failures old) Check NotDue (ap is_some runs) (sym (laws.refused (facts_of failures old) old.checkpoint none.0) ∙ none.1)) (λ n holds. waits_steps honest history failures laws old n holds runs not_begin not_next)
+  pub waits_moves : TheStageIsTheFacts → (old : Engine D) → old.halted ≡ None → due_in old.checkpoint.stage ≢ GoOn → old.checkpoint.stage ≢ Off → Moves (facts_of failures old) Check (Refused NotDue) (facts_of failures old)
+  waits_moves laws old runs not_next under = refused_moves (facts_of failures old) Check NotDue (ap is_some runs) (sym (laws.refused (facts_of failures old) old.checkpoint under) ∙ waiting old.checkpoint.stage under not_next)
 
-  -- where it begins
-  pub begins_checked : NodesStayNodes → VersionsLeadToTheState → JudgingGoesOn → (old new : Engine D) → old.halted ≡ None → old.checkpoint.stage ≡ Off → HoldsWindow old.checkpoint.base.params (durable_of old.log) h → new ≡ record old { checkpoint = new.checkpoint } → (result : Result (Option ℕ) Refusal)
-      → Begins h old.log old.kept old.checkpoint new.checkpoint result → IsChecked honest history size failures h old new result
-  begins_checked nodes lead goes old new runs off window rest (Ok answer) b = record {
-    call = subst (λ (e : Engine D). IsCall {T = Unit {0}} size failures honest old.disk e.disk (Ok tt)) (sym rest) (none_asked size failures honest old.disk);
-    rest = subst (λ (e : Engine D). e ≡ record old { disk = e.disk; checkpoint = e.checkpoint; halted = e.halted }) (sym rest) refl;
-    params = ap (λ (k : Checkpoint). k.base.params) b.begun.checkpoint;
-    unchanged = tt;
-    fault = tt;
-    moves = began_moves failures old new h answer runs off rest b.begun;
-    steps = λ n holds there. began_holds failures old new h answer runs off rest b.begun honest history nodes lead goes n holds (there off);
-    leaves = λ n holds. leaves_none _ _ (ap (λ (e : Engine D). history e.disk) rest);
-  }
-  begins_checked nodes lead goes old new runs off window rest (Err e) b =
-      subst (λ (k : Engine D). IsChecked honest history size failures h old k (Err e)) (sym (rest ∙ ap (λ (k : Checkpoint). record old { checkpoint = k }) b.refused.0)) (by b.refused.1)
-    where
-      by : ((e ≡ NotDue) × (nat_le (durable_of old.log) old.checkpoint.base.position ≡ true)) ⊎ ((e ≡ OutOfMemory) × (nat_le (durable_of old.log) old.checkpoint.base.position ≡ false)) → IsChecked honest history size failures h old old (Err e)
-      by (inl not) = subst (λ (r : Refusal). IsChecked honest history size failures h old old (Err r)) (sym not.0)
-          (stays old NotDue refl (λ e. absurd cc) (refused_moves (facts_of failures old) Check NotDue (ap is_some runs) (ap (check_refusal (facts_of failures old)) (ap stage_in off) ∙ ap (λ b. if b then Some NotDue else None) not.1))
-          (λ n holds. begin_refused honest history failures old n holds runs off NotDue (inl (refl, not.1))))
-      by (inr out) = subst (λ (r : Refusal). IsChecked honest history size failures h old old (Err r)) (sym out.0)
-          (stays old OutOfMemory refl (λ e. absurd cc) (hungry_moves (facts_of failures old) Check (ap is_some runs) (ap (check_refusal (facts_of failures old)) (ap stage_in off) ∙ ap (λ b. if b then Some NotDue else None) out.1) (ap is_none_under_way (ap stage_in off)))
-          (λ n holds. begin_refused honest history failures old n holds runs off OutOfMemory (inr (refl, out.1))))
+  pub waits_steps : TheStageIsTheFacts → (old : Engine D) → old.halted ≡ None → due_in old.checkpoint.stage ≢ GoOn → old.checkpoint.stage ≢ Off → (n : Node) → Holds honest history failures n old → (m : Node) × Steps n Check (Refused NotDue) m × Holds honest history failures m old
+  waits_steps laws old runs not_next under n holds = (
+    n,
+    refused_steps n Check NotDue (ap (λ (t : Standing). t.stopped) holds.facts ∙ ap is_some runs)
+        (ap (λ (t : Standing). refusal_here t Check) holds.facts ∙ sym (laws.refused (facts_of failures old) old.checkpoint under) ∙ waiting old.checkpoint.stage under not_next),
+    holds,
+  )
 
   -- where it goes on
-  pub goes_checked : NodesStayNodes → NodesLeaveTheirFronts → TheCheckpointIsApart → TheStageIsTheFacts → ((disk : D) → honest disk → length (stable (history disk)) ≡ size disk) → {within old new : Engine D} → within ≡ old → IsEngine within.layout within.checkpoint within.log within.kept within.block → old.halted ≡ None
-      → GoOn ≡ due_in within.checkpoint.stage → (result : Result (Unit {0}) Refusal) → WentOn size failures honest history old new result → IsChecked honest history size failures h old new (result_and result (Ok None))
-  goes_checked nodes law apart laws sized {within} {old} {new} is engine runs due (Ok x) did =
-      let w = gone is engine runs due did in record {
-        call = w.call;
-        rest = w.rest;
-        params = ap (λ (k : Checkpoint). k.base.params) (goes honest history size failures sized laws old new (Ok x) w).done;
-        unchanged = tt;
-        fault = tt;
-        moves = check_moves honest history size failures sized laws old new (Ok x) w;
-        steps = λ n holds window. check_holds honest history size failures sized laws old new (Ok x) w n holds nodes law apart;
-        leaves = λ n holds. gone_leaves honest history size failures sized laws old new (Ok x) w n holds nodes law apart;
-      }
-  goes_checked nodes law apart laws sized {within} {old} {new} is engine runs due (Err e) did =
+  pub goes_stepped : NodesStayNodes → NodesLeaveTheirFronts → TheCheckpointIsApart → TheStageIsTheFacts → ((disk : D) → honest disk → length (stable (history disk)) ≡ size disk) → {within old new : Engine D} → within ≡ old → IsEngine within.layout within.checkpoint within.log within.kept within.block → old.halted ≡ None
+      → GoOn ≡ due_in within.checkpoint.stage → (result : Result (Unit {0}) Refusal) → WentOn size failures honest history old new result → (old.checkpoint.stage ≢ Off) × IsStepped honest history size failures (λ n. Unit {0}) old new result (wrote result)
+  goes_stepped nodes law apart laws sized {within} {old} {new} is engine runs due result did =
       let w = gone is engine runs due did in
-      let fault = (goes honest history size failures sized laws old new (Err e) w).fault in record {
-        call = w.call;
-        rest = w.rest;
-        params = ap (λ (k : Checkpoint). k.base.params) fault.1;
-        unchanged = inl fault.0;
-        fault = stays_stopped {T = Option ℕ} old new (Err e) w.rest w.halted fault.1;
-        moves = check_moves honest history size failures sized laws old new (Err e) w;
-        steps = λ n holds window. check_holds honest history size failures sized laws old new (Err e) w n holds nodes law apart;
-        leaves = λ n holds. gone_leaves honest history size failures sized laws old new (Err e) w n holds nodes law apart;
-      }
+      let went = goes honest history size failures sized laws old new result w in (
+        under honest history size failures sized laws old new result w,
+        record {
+          call = w.call;
+          rest = w.rest;
+          params = params result went;
+          unchanged = unchanged result went;
+          fault = stays_stopped old new result w.rest w.halted did.unchanged;
+          moves = check_moves honest history size failures sized laws old new result w;
+          steps = λ n holds more. check_holds honest history size failures sized laws old new result w n holds nodes law apart;
+          leaves = λ n holds. gone_leaves honest history size failures sized laws old new result w n holds nodes law apart;
+        },
+      )
+    where
+      params : (result : Result (Unit {0}) Refusal) → GoesOn honest history old.layout old.checkpoint new.checkpoint old.disk new.disk result → new.checkpoint.base.params ≡ old.checkpoint.base.params
+      params (Ok x) went = ap (λ (k : Checkpoint). k.base.params) went.done
+      params (Err e) went = ap (λ (k : Checkpoint). k.base.params) went.fault.1
+
+      unchanged : (result : Result (Unit {0}) Refusal) → GoesOn honest history old.layout old.checkpoint new.checkpoint old.disk new.disk result → IfErr result (λ e. (e ≡ DiskFault) ⊎ (new ≡ old))
+      unchanged (Ok x) went = tt
+      unchanged (Err e) went = inl went.fault.0
+
+  -- ---- as a check
+
+  module _ (h : Holding) where
+    -- the certifier has the window where one may begin
+    abbrev pub HasWindow : Engine D → Node → Type 0
+    HasWindow old n = old.checkpoint.stage ≡ Off → window_of h (durable_of old.log) ≡ window_at n n.facts.durable
+
+    -- where none begins
+    pub next_checked : {old new : Engine D} (result : Result (Unit {0}) Refusal) → IsStepped honest history size failures (λ n. Unit {0}) old new result (wrote result) → IsStepped {T = Option ℕ} honest history size failures (HasWindow old) old new (result_and result (Ok None)) (checked (result_and result (Ok None)))
+    next_checked (Ok x) k = record { call = k.call; rest = k.rest; params = k.params; unchanged = tt; fault = tt; moves = k.moves; steps = λ n holds window. k.steps n holds tt; leaves = k.leaves }
+    next_checked (Err e) k = record { call = k.call; rest = k.rest; params = k.params; unchanged = k.unchanged; fault = k.fault; moves = k.moves; steps = λ n holds window. k.steps n holds tt; leaves = k.leaves }
+
+    -- where it begins
+    pub begins_checked : NodesStayNodes → VersionsLeadToTheState → JudgingGoesOn → (old new : Engine D) → old.halted ≡ None → old.checkpoint.stage ≡ Off → new ≡ record old { checkpoint = new.checkpoint } → (result : Result (Option ℕ) Refusal)
+        → Begins h old.log old.kept old.checkpoint new.checkpoint result → IsStepped honest history size failures (HasWindow old) old new result (checked result)
+    begins_checked nodes lead goes old new runs off rest (Ok answer) b = record {
+      call = subst (λ (e : Engine D). IsCall {T = Unit {0}} size failures honest old.disk e.disk (Ok tt)) (sym rest) (none_asked size failures honest old.disk);
+      rest = subst (λ (e : Engine D). e ≡ record old { disk = e.disk; checkpoint = e.checkpoint; halted = e.halted }) (sym rest) refl;
+      params = ap (λ (k : Checkpoint). k.base.params) b.begun.checkpoint;
+      unchanged = tt;
+      fault = tt;
+      moves = began_moves failures old new h answer runs off rest b.begun;
+      steps = λ n holds there. began_holds failures old new h answer runs off rest b.begun honest history nodes lead goes n holds (there off);
+      leaves = λ n holds. leaves_none _ _ (ap (λ (e : Engine D). history e.disk) rest);
+    }
+    begins_checked nodes lead goes old new runs off rest (Err e) b =
+        subst (λ (k : Engine D). IsStepped {T = Option ℕ} honest history size failures (HasWindow old) old k (Err e) (Refused e)) (sym (rest ∙ ap (λ (k : Checkpoint). record old { checkpoint = k }) b.refused.0)) (by b.refused.1)
+      where
+        by : ((e ≡ NotDue) × (nat_le (durable_of old.log) old.checkpoint.base.position ≡ true)) ⊎ ((e ≡ OutOfMemory) × (nat_le (durable_of old.log) old.checkpoint.base.position ≡ false)) → IsStepped {T = Option ℕ} honest history size failures (HasWindow old) old old (Err e) (Refused e)
+        by (inl not) = subst (λ (r : Refusal). IsStepped {T = Option ℕ} honest history size failures (HasWindow old) old old (Err r) (Refused r)) (sym not.0)
+            (stays (HasWindow old) old NotDue refl (λ e. absurd cc) (refused_moves (facts_of failures old) Check NotDue (ap is_some runs) (ap (check_refusal (facts_of failures old)) (ap stage_in off) ∙ ap (λ b. if b then Some NotDue else None) not.1))
+            (λ n holds. begin_refused honest history failures old n holds runs off NotDue (inl (refl, not.1))))
+        by (inr out) = subst (λ (r : Refusal). IsStepped {T = Option ℕ} honest history size failures (HasWindow old) old old (Err r) (Refused r)) (sym out.0)
+            (stays (HasWindow old) old OutOfMemory refl (λ e. absurd cc) (hungry_moves (facts_of failures old) Check (ap is_some runs) (ap (check_refusal (facts_of failures old)) (ap stage_in off) ∙ ap (λ b. if b then Some NotDue else None) out.1) (ap is_none_under_way (ap stage_in off)))
+            (λ n holds. begin_refused honest history failures old n holds runs off OutOfMemory (inr (refl, out.1))))

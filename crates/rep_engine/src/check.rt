@@ -1,7 +1,7 @@
 //! The steps of a checkpoint: its beginning, its pages, and the writes behind them.
 
-ghost use Rattle.std.specs.Prelude.{◌≡◌, ◌⊎◌, ◌<◌, None, Some, IfErr};
-ghost use Rattle.rep_types.specs.declared.refusal.Refusal.TheVariants.{DiskFault};
+ghost use Rattle.std.specs.Prelude.{◌≡◌, ◌≢◌, ◌⊎◌, ◌<◌, if◌then◌else◌, None, Some, Err, IfErr, is_some};
+ghost use Rattle.rep_types.specs.declared.refusal.Refusal.TheVariants.{DiskFault, NotDue, Stopped};
 ghost use Rattle.rep_cert.specs.Holdings.{IsAskable, window_of};
 ghost use Rattle.rep_disk.specs.Calls.{IsCall};
 ghost use Rattle.rep_disk.specs.Moments.{LeavesOnly};
@@ -16,7 +16,7 @@ ghost use Rattle.rep_checkpoint.specs.Moves.{CanBegin};
 ghost use Rattle.rep_checkpoint.specs.Laws.{TheCheckpointIsApart, TheStageIsTheFacts};
 ghost use Rattle.rep_checkpoint.specs.Nodes.{NodesLeaveTheirFronts, VersionsLeadToTheState};
 ghost use Rattle.rep_engine.specs.Engines.{facts_of, durable_of};
-ghost use Rattle.rep_engine.specs.Holding.{Holds};
+ghost use Rattle.rep_engine.specs.Holding.{Holds, wrote};
 ghost use Rattle.rep_engine.specs.Checking.{HoldsWindow, Begins, WentOn, checked};
 
 use crate::engine::{Engine, halted_by};
@@ -107,9 +107,35 @@ impl<D: Disk> Engine<D> {
         outcome
     }
 
+    /// Takes a checkpoint that is under way on by its next write: behind the last page the window, then the superblock, and
+    /// then its open gate; and once the base rose, the closed gate of the superblock before it. It takes no memory.
+    ///
+    /// Refuses with `Stopped` where the device has failed before; with `NotDue` where none is under way, pages are left to
+    /// be flushed, or a write awaits its sync; and with `DiskFault` where the device failed: the engine is then stopped, and
+    /// otherwise as it was.
+    pub fn check_next(&mut self) -> Result<(), Refusal>
+        ensures call { IsCall D.size D.failures D.honest self.old.disk self.new.disk (fault_of result) }
+        // Nothing else changes, and where it is refused by anything but the device, nothing does.
+        ensures rest { self.new ≡ record (self.old) { disk = self.new.disk; checkpoint = self.new.checkpoint; halted = self.new.halted } }
+        ensures params { self.new.checkpoint.base.params ≡ self.old.checkpoint.base.params }
+        ensures unchanged { IfErr result (λ e. (e ≡ DiskFault) ⊎ (self.new ≡ self.old)) }
+        ensures fault { IfErr result (λ e. e ≡ DiskFault → self.new ≡ record (self.old) { disk = self.new.disk; halted = Some self.old.log.phase }) }
+        // It begins none, and takes one that is under way on as a check does.
+        ensures none { self.old.checkpoint.stage ≡ Off → result ≡ Err (if is_some self.old.halted then Stopped else NotDue) }
+        ensures moves { self.old.checkpoint.stage ≢ Off → Moves (facts_of D.failures self.old) to_check (wrote result) (facts_of D.failures self.new) }
+        ensures steps { self.old.checkpoint.stage ≢ Off → (n : Node) → Holds D.honest D.history D.failures n self.old → (m : Node) × Steps n to_check (wrote result) m × Holds D.honest D.history D.failures m self.new }
+        ensures leaves { (n : Node) → Holds D.honest D.history D.failures n self.old → LeavesOnly (D.history self.old.disk) (D.history self.new.disk) (IsFrontAt Means n) }
+    {
+        self.running()?;
+        checkpoints_go_on();
+        match self.checkpoint.step_due() {
+            Step::Next => self.go_on(),
+            Step::Begin | Step::Flush(_) | Step::Sync => Err(Refusal::NotDue),
+        }
+    }
+
     /// Takes the checkpoint's next step: where none is under way, begins one to what is durable and says its
-    /// position; behind the last page writes the window, then the superblock, and then its open gate; and once
-    /// the base rose, the closed gate of the superblock before it. One write at most. Memory is taken where it
+    /// position; and otherwise makes its next write, as `check_next` does. One write at most. Memory is taken where it
     /// begins, and nowhere else.
     ///
     /// Refuses with `Stopped` where the device has failed before; with `NotDue` where the base stands at what
@@ -129,13 +155,14 @@ impl<D: Disk> Engine<D> {
         ensures steps { (n : Node) → Holds D.honest D.history D.failures n self.old → (self.old.checkpoint.stage ≡ Off → window_of certifier.now.current (durable_of self.old.log) ≡ window_at n n.facts.durable) → (m : Node) × Steps n to_check (checked result) m × Holds D.honest D.history D.failures m self.new }
         ensures leaves { (n : Node) → Holds D.honest D.history D.failures n self.old → LeavesOnly (D.history self.old.disk) (D.history self.new.disk) (IsFrontAt Means n) }
     {
-        self.running()?;
-        checkpoints_go_on();
-        judging_goes_on();
         match self.checkpoint.step_due() {
-            Step::Begin => self.begin(certifier),
-            Step::Next => self.go_on().and(Ok(None)),
-            Step::Flush(_) | Step::Sync => Err(Refusal::NotDue),
+            Step::Begin => {
+                self.running()?;
+                checkpoints_go_on();
+                judging_goes_on();
+                self.begin(certifier)
+            }
+            Step::Flush(_) | Step::Next | Step::Sync => self.check_next().and(Ok(None)),
         }
     }
 }
