@@ -31,6 +31,12 @@ impl<V: Keeps<E>, E> OrderedLock<V, E> {
         self.table.shared.fetch_add::<Claim>(&mut seat.seat, 0, 1)
     }
 
+    /// The number that is drawn next, as it is now. It is a hint: others draw numbers meanwhile, and no
+    /// clause speaks of it.
+    pub fn next_number(&self) -> u64 {
+        self.table.shared.peek(0)
+    }
+
     /// Cuts off a new seat, to which it gives so many of the numbers that this seat may still draw: at
     /// least one, and not all. The new seat has seen as much, has drawn nothing and holds nothing.
     ///
