@@ -1,5 +1,5 @@
 -- A keeper that is at the engine and at the queue, and lets the engine accept what comes next.
-use Rattle.std.proofs.Common.{◌≡◌, ℕ, ◌+◌, ◌≤◌, List, length, Result, Ok, Err, OnOk, sym, ap, subst, ◌∙◌, arith}
+use Rattle.std.proofs.Common.{◌≡◌, Bool, ℕ, ◌+◌, ◌≤◌, List, length, Result, Ok, Err, OnOk, sym, ap, subst, ◌∙◌, arith}
 use Rattle.std.specs.Prelude.{None, OnErr}
 use Rattle.rep_types.specs.declared.judged.Judged.{Judged}
 use Rattle.rep_types.specs.declared.refusal.Refusal.{Refusal}
@@ -40,13 +40,13 @@ module _ {D : Type 0} (honest : D → Type 0) (history : D → History) (failure
         limit = omega (arith, limit);
       }
 
-  module _ (d' : Desk D) (q' : Queue) (r : Result (Unit {0}) Refusal) (accepted : (s : Start D) (number : ℕ) (items : List Judged) → AreAtWork honest history failures s number items d q → OnOk r (AreAtWork honest history failures s number items d' q'))
+  module _ (d' : Desk D) (q' : Queue) (r : Result Bool Refusal) (accepted : (s : Start D) (number : ℕ) (items : List Judged) → AreAtWork honest history failures s number items d q → OnOk r (AreAtWork honest history failures s number items d' q'))
       (durable : OnOk r (durable_of d'.engine.log ≡ durable_of d.engine.log)) (unchanged : OnErr r ((d'.engine ≡ d.engine) × (d'.publisher ≡ d.publisher) × (q' ≡ q))) where
     first_of_u : (s : Start D) → u.first ≡ values_of s → v.first ≡ values_of s
     first_of_u s first = sym a.at.goes.first ∙ (sym (ap (λ (z : View (Home D) Judged). z.first) f.view) ∙ first)
 
     -- what the queue is, accepted or not
-    queue_then : (r : Result (Unit {0}) Refusal) (s : Start D) → AreAtWork honest history failures s m u.seen d q → OnOk r (AreAtWork honest history failures s m u.seen d' q') → OnErr r ((d'.engine ≡ d.engine) × (d'.publisher ≡ d.publisher) × (q' ≡ q)) → QueueAt s m u.seen q'
+    queue_then : (r : Result Bool Refusal) (s : Start D) → AreAtWork honest history failures s m u.seen d q → OnOk r (AreAtWork honest history failures s m u.seen d' q') → OnErr r ((d'.engine ≡ d.engine) × (d'.publisher ≡ d.publisher) × (q' ≡ q)) → QueueAt s m u.seen q'
     queue_then (Ok t) s before ok err = ok.queue
     queue_then (Err t) s before ok err = subst (λ (z : Queue). QueueAt s m u.seen z) (sym err.2) before.queue
 
@@ -63,7 +63,7 @@ module _ {D : Type 0} (honest : D → Type 0) (history : D → History) (failure
       seen_is : t.seen ≡ u.seen
       seen_is = ap (λ (z : View (Home D) Judged). z.seen) left
 
-      works_by : (r : Result (Unit {0}) Refusal) → ((s : Start D) (number : ℕ) (items : List Judged) → AreAtWork honest history failures s number items d q → OnOk r (AreAtWork honest history failures s number items d' q')) → OnOk r (durable_of d'.engine.log ≡ durable_of d.engine.log)
+      works_by : (r : Result Bool Refusal) → ((s : Start D) (number : ℕ) (items : List Judged) → AreAtWork honest history failures s number items d q → OnOk r (AreAtWork honest history failures s number items d' q')) → OnOk r (durable_of d'.engine.log ≡ durable_of d.engine.log)
           → OnOk r (AtDesk honest history failures 0 v t d')
       works_by (Ok x) ok same = record {
         number = a.number;
@@ -96,7 +96,7 @@ module _ {D : Type 0} (honest : D → Type 0) (history : D → History) (failure
         };
       }
 
-      given_by : (r : Result (Unit {0}) Refusal) → OnOk r (AtDesk honest history failures 0 v t d') → OnErr r ((d'.engine ≡ d.engine) × (d'.publisher ≡ d.publisher) × (q' ≡ q)) → AtDesk honest history failures 1 v t d'
+      given_by : (r : Result Bool Refusal) → OnOk r (AtDesk honest history failures 0 v t d') → OnErr r ((d'.engine ≡ d.engine) × (d'.publisher ≡ d.publisher) × (q' ≡ q)) → AtDesk honest history failures 1 v t d'
       given_by (Ok x) works same = desk_given honest history failures v t d' works
       given_by (Err e) works same = refused_at same
 

@@ -1,5 +1,5 @@
 -- Batches in parts: one item more, parts side by side, and what comes of all of them.
-use Rattle.std.proofs.Common.{◌≡◌, ◌⊎◌, inl, inr, ℕ, zero, suc, ◌+◌, ◌-◌, ◌*◌, ◌/◌, ◌%◌, min, max, ◌<◌, ◌≤◌, List, [], ◌∷◌, ◌++◌, map, length, get_or, take, drop, Option, Some, None, ⊎_elim, sym, refl, ap, ◌∙◌, subst, arith, length-append, append_assoc}
+use Rattle.std.proofs.Common.{◌≡◌, Bool, ◌⊎◌, inl, inr, ℕ, zero, suc, ◌+◌, ◌-◌, ◌*◌, ◌/◌, ◌%◌, min, max, ◌<◌, ◌≤◌, List, [], ◌∷◌, ◌++◌, map, length, get_or, take, drop, Option, Some, None, ⊎_elim, sym, refl, ap, ◌∙◌, subst, arith, length-append, append_assoc}
 use Rattle.std.specs.Prelude.{slice_get, IfSome, All}
 use Rattle.std.specs.Option.{option_or}
 use Rattle.std.specs.List.{sum_by}
@@ -353,14 +353,14 @@ module _ {D : Type 0} where
       → IsJob table v count (record { seat = other; from = share.from; to = share.to; receipts = share.receipts; end = None })
   job_of table v count place share s other is gave h = record { seat = gave ∙ ap (λ (z : Place (Home D) Judged). seat_of z.lock (given (share.to - share.from) z.view)) is; range = h.range; room = h.room; fresh = refl }
 
-  pub done_of : (lets : Point → ℕ → Type 0) (table : TableId) (v : View (Home D) Judged) (items : List Item) (count : ℕ) (j k : Job D) → IsJob table v count j → Worked lets items j k → IsDone lets table v items count k
-  done_of lets table v items count j k h w = let is : j.seat.view ≡ given (j.to - j.from) v = ap (λ (z : Place (Home D) Judged). z.view) h.seat in let from = w.range.0 in let to = w.range.1 in
+  pub done_of : (lets : Point → ℕ → Type 0) (keeps : Bool) (table : TableId) (v : View (Home D) Judged) (items : List Item) (count : ℕ) (j k : Job D) → IsJob table v count j → Worked lets keeps items j k → IsDone lets keeps table v items count k
+  done_of lets keeps table v items count j k h w = let is : j.seat.view ≡ given (j.to - j.from) v = ap (λ (z : Place (Home D) Judged). z.view) h.seat in let from = w.range.0 in let to = w.range.1 in
       let same : given (j.to - j.from) v ≡ given (k.to - k.from) v = λ i. given (sym to i - sym from i) v in
       let low : j.seat.view.start + length j.seat.view.seen ≡ v.start + length v.seen = ap (λ (z : View (Home D) Judged). z.start + length z.seen) is in record {
         lock = w.lock ∙ ap (λ (z : Place (Home D) Judged). z.lock) h.seat;
         range = (let r = h.range.0 in omega arith, let r = h.range.1 in omega arith);
         went = subst (λ (z : View (Home D) Judged). Went z k.seat.view) (is ∙ same) w.went;
-        kept = w.kept ∙ ap (λ (z : View (Home D) Judged). z.given_up) is;
+        kept = λ alone. w.kept alone ∙ ap (λ (z : View (Home D) Judged). z.given_up) is;
         runs = w.runs;
         paced = w.paced;
         passed = w.passed;
@@ -371,10 +371,10 @@ module _ {D : Type 0} where
 
   -- ---- the seats come together again
 
-  pub gathered_none : (lets : Point → ℕ → Type 0) (items : List Item) (count : ℕ) (v : View (Home D) Judged) (rs : List Receipt) → v.held ≡ [] → v.halted ≡ 0 → ((x : ℕ) → times x v.own ≤ 1) → SeesLegal v v → PassedOrStopped v → rs ≡ [] → Gathered lets items count count v v rs None
-  gathered_none lets items count v rs free running once sees passed none = let e : v.allowance + (count - count) ≡ v.allowance = omega arith in record {
+  pub gathered_none : (lets : Point → ℕ → Type 0) (keeps : Bool) (items : List Item) (count : ℕ) (v : View (Home D) Judged) (rs : List Receipt) → v.held ≡ [] → v.halted ≡ 0 → ((x : ℕ) → times x v.own ≤ 1) → SeesLegal v v → PassedOrStopped v → rs ≡ [] → Gathered lets keeps items count count v v rs None
+  gathered_none lets keeps items count v rs free running once sees passed none = let e : v.allowance + (count - count) ≡ v.allowance = omega arith in record {
     went = subst (λ n. Went (record v { allowance = n }) v) (sym e) (went_same v free);
-    kept = refl;
+    kept = λ _. refl;
     runs = λ _. refl;
     low = omega arith;
     sees = sees;
@@ -390,13 +390,13 @@ module _ {D : Type 0} where
     stopped = tt;
   }
 
-  pub gathered_next : (lets : Point → ℕ → Type 0) (table : TableId) (items : List Item) (count : ℕ) (v w u : View (Home D) Judged) (k : Job D) (rs : List Receipt) (end : Option Refusal) → v.halted ≡ 0 → Gathered lets items k.to count v w rs end → IsDone lets table v items count k → Learns (IsLegal w.first) k.seat.view.seen (both w k.seat.view) u
-      → u.halted ≡ max w.halted k.seat.view.halted → Gathered lets items k.from count v u (rs ++ k.receipts.items) (option_or k.end end)
-  gathered_next lets table items count v w u k rs end runs g d joined halted = let is = joined.same in let range = d.range in let up = joined.durable in let halts = joined.halted in
+  pub gathered_next : (lets : Point → ℕ → Type 0) (keeps : Bool) (table : TableId) (items : List Item) (count : ℕ) (v w u : View (Home D) Judged) (k : Job D) (rs : List Receipt) (end : Option Refusal) → v.halted ≡ 0 → Gathered lets keeps items k.to count v w rs end → IsDone lets keeps table v items count k → Learns (IsLegal w.first) k.seat.view.seen (both w k.seat.view) u
+      → u.halted ≡ max w.halted k.seat.view.halted → Gathered lets keeps items k.from count v u (rs ++ k.receipts.items) (option_or k.end end)
+  gathered_next lets keeps table items count v w u k rs end runs g d joined halted = let is = joined.same in let range = d.range in let up = joined.durable in let halts = joined.halted in
       let shared = goes_shared (IsLegal w.first) (k.to - k.from) (regaining (count - k.from) v) (regaining (count - k.to) v) (given (k.to - k.from) v) w k.seat.view u (omega arith)
       (let e : v.allowance + (count - k.to) ≡ (v.allowance + (count - k.from)) - (k.to - k.from) = omega arith in λ i. record v { allowance = e i }) refl g.went.goes d.went.goes joined in record {
         went = record { goes = shared.0; free = shared.1 ∙ g.went.free };
-        kept = ap (λ (z : View (Home D) Judged). z.given_up) is ∙ ((λ i. g.kept i ++ d.kept i) ∙ append_nil v.given_up);
+        kept = λ alone. ap (λ (z : View (Home D) Judged). z.given_up) is ∙ ((λ i. g.kept alone i ++ d.kept alone i) ∙ append_nil v.given_up);
         runs = λ none. let n = both_none k.end end none in let a = d.runs n.0 in let b = g.runs n.1 in omega (arith, halted, a, b, runs);
         low = let a = halts_low k.end k.seat.view.halted d.runs d.stopped in let b = g.low in omega (arith, halted, a, b);
         sees = subst (λ first. Sees (IsLegal first) u) (sym (ap (λ (z : View (Home D) Judged). z.first) is)) joined.sees;
@@ -463,7 +463,7 @@ module _ {D : Type 0} where
   pub job_giving : (table : TableId) (n count : ℕ) (v a : View (Home D) Judged) (j : Job D) → a ≡ giving n v → IsJob table v count j → IsJob table a count j
   job_giving table n count v a j is h = subst (λ z. IsJob table z count j) (sym is) record { seat = h.seat; range = h.range; room = h.room; fresh = h.fresh }
 
-  module _ (items : List Item) (n : ℕ) (lets : Point → ℕ → Type 0) (v a w : View (Home D) Judged) (rs : List Receipt) (end : Option Refusal) (enough : n ≤ v.allowance) (is : a ≡ giving n v) (g : Gathered lets items 0 n a w rs end) where
+  module _ (items : List Item) (n : ℕ) (lets : Point → ℕ → Type 0) (keeps : Bool) (v a w : View (Home D) Judged) (rs : List Receipt) (end : Option Refusal) (enough : n ≤ v.allowance) (is : a ≡ giving n v) (g : Gathered lets keeps items 0 n a w rs end) where
     pub settled_went : Went v w
     settled_went = subst (λ (z : View (Home D) Judged). Went z w) (ap (λ (z : View (Home D) Judged). regaining (n - 0) z) is ∙ (let e : (v.allowance - n) + (n - 0) ≡ v.allowance = omega arith in λ i. record v { allowance = e i })) g.went
 
@@ -482,7 +482,7 @@ module _ {D : Type 0} where
     settled_stopped = stopped_one end w.halted g.stopped g.low
 
     -- what came of the batch, in the order of the seqnos
-    pub settled : (b : Batch) → IsPermutation rs b.receipts.items → IsNonDecreasingBy seqno_of b.receipts.items → b.end ≡ end → HandedIn lets items n n v w b
+    pub settled : (b : Batch) → IsPermutation rs b.receipts.items → IsNonDecreasingBy seqno_of b.receipts.items → b.end ≡ end → HandedIn lets items n v w b
     settled b moved up ends = let qs : List Receipt = b.receipts.items in record {
       went = settled_went;
       sees = subst (λ first. Sees (IsLegal first) w) settled_went.goes.first g.sees;

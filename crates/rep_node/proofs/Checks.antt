@@ -1,12 +1,15 @@
 -- What a checkpoint's step leaves of the engine.
-use Rattle.std.proofs.Common.{◌≡◌, ℕ, Bool, true, false, nat_le, if◌then◌else◌, ap, Option, None, Some, Result, Ok, List, refl, subst}
-use Rattle.std.specs.Prelude.{is_some}
+use Rattle.std.proofs.Common.{◌≡◌, ◌≢◌, ℕ, Bool, true, false, nat_le, if◌then◌else◌, ap, Option, None, Some, Result, Ok, Err, List, refl, ◌∙◌, subst}
+use Rattle.std.specs.Prelude.{is_some, OnOk}
 use Rattle.std.proofs.lemmas.Bool.{leb-true}
 use Rattle.rep_types.specs.declared.refusal.Part.TheVariants.{Pages}
 use Rattle.rep_types.specs.declared.refusal.Refusal.TheVariants.{Corrupt, DiskFault, NotDue, OutOfMemory, Stopped}
-use Rattle.rep_steps.specs.declared.answer.Answer.TheVariants.{Refused}
+use Rattle.rep_steps.specs.declared.event.Event.{Event}
+use Rattle.rep_steps.specs.declared.answer.Answer.TheVariants.{Refused, Wrote}
 use Rattle.rep_steps.specs.Standings.{Standing, Stage, Off, Toward, Retiring, check_refusal, refusal}
-use Rattle.rep_checkpoint.specs.Standing.{stage_in}
+use Rattle.rep_checkpoint.specs.declared.stage.Step.TheVariants.{Begin, Next}
+use Rattle.rep_checkpoint.specs.declared.stage.Stage.TheVariants.{Off as is_off}
+use Rattle.rep_checkpoint.specs.Standing.{due_in, stage_in}
 use Rattle.rep_types.specs.declared.judged.Judged.{Judged}
 use Rattle.rep_types.specs.declared.refusal.Refusal.{Refusal}
 use Rattle.rep_disk.specs.History.{History}
@@ -16,8 +19,8 @@ use Rattle.rep_steps.specs.Moves.{Moves, check_answer}
 use Rattle.rep_steps.specs.Nodes.{Node, Steps, window_at}
 use Rattle.rep_engine.specs.Engines.{Engine, facts_of, durable_of}
 use Rattle.rep_engine.specs.Checking.{HoldsWindow, checked}
-use Rattle.rep_engine.specs.Holding.{Holds}
-use Rattle.rep_stations.specs.Taking.{HasTaken, TakenItemsStay, IsAnEngine}
+use Rattle.rep_engine.specs.Holding.{Holds, wrote}
+use Rattle.rep_stations.specs.Taking.{HasTaken, TakenItemsStay, IsAnEngine, IsOfAnEngine}
 use Rattle.rep_node.specs.Homes.{Start}
 use Rattle.rep_node.specs.Checking.{HasNoneDue, MayLend}
 use Rattle.rep_node.proofs.Stepping.{is_refusal, moves_rise, refused_so, runs_on}
@@ -44,6 +47,10 @@ none_due failures old new moves off =
     (λ e. absurd (let z : NotDue ≡ OutOfMemory = e in cc)) (λ e. absurd (let z : NotDue ≡ DiskFault = e in cc)) (λ e. absurd (let z : NotDue ≡ Corrupt Pages = e in cc)) in
     leb-true (durable_of old.log) old.checkpoint.base.position (is_low (is_some old.halted) (nat_le (durable_of old.log) old.checkpoint.base.position) (subst (λ (z : Stage). (if is_some old.halted then Some Stopped else check_refusal (facts_of failures old) z) ≡ Some NotDue) (ap stage_in off) is))
 
+-- a write is due only of a checkpoint that is under way
+pub next_under_way : {D : Type 0} (e : Engine D) → Next ≡ due_in e.checkpoint.stage → e.checkpoint.stage ≢ is_off
+next_under_way e due off = let never : Next ≡ Begin = due ∙ ap due_in off in absurd cc
+
 checked_told : (o : Option ℕ) → is_refusal (checked (Ok o)) ≡ false
 checked_told None = refl
 checked_told (Some position) = refl
@@ -53,6 +60,11 @@ module _ {D : Type 0} (honest : D → Type 0) (history : D → History) (failure
   pub check_works : (old new : Engine D) (done : Result (Option ℕ) Refusal) (o : Option ℕ) → done ≡ Ok o → IsAnEngine old → Moves (facts_of failures old) Check (checked done) (facts_of failures new) → old.halted ≡ None → new.halted ≡ None
   check_works old new done o is engine moves =
       runs_on honest history failures old new (checked (Ok o)) (subst (λ (d : Result (Option ℕ) Refusal). Rattle.rep_node.proofs.Stepping.Rises (facts_of failures old) (facts_of failures new) (checked d)) is (moves_rise (facts_of failures old) (facts_of failures new) Check (checked done) tt engine.goal moves)) (checked_told o)
+
+  -- and so where a write was not
+  pub write_works : (old new : Engine D) (e : Event) (done : Result (Unit {0}) Refusal) → IsOfAnEngine e → IsAnEngine old → Moves (facts_of failures old) e (wrote done) (facts_of failures new) → old.halted ≡ None → OnOk done (new.halted ≡ None)
+  write_works old new e (Ok u) own is moves = runs_on honest history failures old new Wrote (moves_rise (facts_of failures old) (facts_of failures new) e Wrote own is.goal moves) refl
+  write_works old new e (Err r) own is moves = λ works. tt
 
   -- the engine has what it had taken
   pub check_taken : TakenItemsStay honest history failures → (old new : Engine D) (done : Result (Option ℕ) Refusal) (h : Holding) → IsAnEngine old → Moves (facts_of failures old) Check (checked done) (facts_of failures new)

@@ -111,7 +111,7 @@ module _ {D : Type 0} (honest : D → Type 0) (history : D → History) (failure
 
       module _ (new : Engine D) (taken : (s : Start D) (front more : List Judged) → MayLend honest history failures s front more c.current d.engine → HasTaken honest history failures s.desk.engine s.certifier.current front new)
           (log : new.log ≡ d.engine.log) (rises : d.engine.checkpoint.base.position ≤ new.checkpoint.base.position) where
-        desk_as : (given : ℕ) (s : Start D) (first : v.first ≡ values_of s) → (given ≡ 0 → new.halted ≡ None) → DeskAt honest history failures s given t.seen (record { engine = new; publisher = d.publisher; waiting = d.waiting })
+        desk_as : (given : ℕ) (s : Start D) (first : v.first ≡ values_of s) → (given ≡ 0 → d.engine.halted ≡ None → new.halted ≡ None) → DeskAt honest history failures s given t.seen (record { engine = new; publisher = d.publisher; waiting = d.waiting })
         desk_as given s first works =
             let here = desk_at s first in
             record {
@@ -119,19 +119,20 @@ module _ {D : Type 0} (honest : D → Type 0) (history : D → History) (failure
               begins = subst (λ l. StartsWith l here.front) (sym seen_then) here.begins;
               taken = taken s here.front here.begins.0 (may_lend s first);
               publisher = here.publisher;
-              works = works;
+              works = λ none. works none (here.works refl);
               ahead = let ahead = here.ahead in let still : durable_of new.log ≡ durable_of d.engine.log = ap durable_of log in omega (arith, ahead, still);
               fronts = here.fronts;
               shown = λ _. let h = here.shown refl in record { shown_or_waits = h.shown_or_waits; durable = h.durable ∙ sym (ap durable_of log); oldest = let before = h.oldest in omega (arith, before, rises) };
             }
 
-        at_desk : (given : ℕ) → ((s : Start D) → v.first ≡ values_of s → given ≡ 0 → new.halted ≡ None) → AtDesk honest history failures given v t (record { engine = new; publisher = d.publisher; waiting = d.waiting })
+        -- to be given up, or to go on: it works still where nothing was refused, and is the same where it was not due
+        pub at_desk : (given : ℕ) → (given ≡ 0 → d.engine.halted ≡ None → new.halted ≡ None) → AtDesk honest history failures given v t (record { engine = new; publisher = d.publisher; waiting = d.waiting })
         at_desk given works = record {
           number = m;
           floor = durable_of d.engine.log;
           at = subst (AtEngine v t m (durable_of d.engine.log)) same_common at_engine;
           low = let still : durable_of new.log ≡ durable_of d.engine.log = ap durable_of log in omega (arith, still);
-          desk = λ s first. desk_as given s first (works s first);
+          desk = λ s first. desk_as given s first works;
         }
           where
             same_common : durable_of d.engine.log + length d.engine.block ≡ durable_of new.log + length new.block
@@ -139,11 +140,3 @@ module _ {D : Type 0} (honest : D → Type 0) (history : D → History) (failure
                 let here = desk_at seat.start seat.first in
                 let now : HasTaken honest history failures seat.start.desk.engine seat.start.certifier.current here.front new = taken seat.start here.front here.begins.0 (may_lend seat.start seat.first) in
                 let before = here.taken.count in let after = now.count in omega (arith, before, after)
-
-        pub desk_given : AtDesk honest history failures 1 v t (record { engine = new; publisher = d.publisher; waiting = d.waiting })
-        desk_given = at_desk 1 (λ s first (z : 1 ≡ 0). absurd (omega arith))
-
-        -- it works still where nothing was refused, and is the same where it was not due
-        module _ (works : d.engine.halted ≡ None → new.halted ≡ None) where
-          pub desk_back : AtDesk honest history failures 0 v t (record { engine = new; publisher = d.publisher; waiting = d.waiting })
-          desk_back = at_desk 0 (λ s first _. works ((desk_at s first).works refl))

@@ -56,7 +56,7 @@ refused_as A count old new receipts end refusal same none is why = subst (λ (e 
 
 -- what the seat of a node says of why it ended
 abbrev SeatEnded : ℕ → ℕ → ℕ → List ℕ → List ℕ → List Receipt → Option Refusal → Type 0
-SeatEnded halted allowance count own drawn receipts end = IfSome end (λ (refusal : Refusal). ((refusal ≡ Stopped) × (halted ≡ 1)) ⊎ ((((refusal ≡ Exhausted) × (allowance ≤ count + 1)) ⊎ (refusal ≡ OutOfMemory)) × (drawn ≡ own) × (receipts ≡ [])))
+SeatEnded halted allowance count own drawn receipts end = IfSome end (λ (refusal : Refusal). ((refusal ≡ Stopped) × (halted ≡ 1)) ⊎ ((((refusal ≡ Exhausted) × (allowance ≤ count)) ⊎ (refusal ≡ OutOfMemory)) × (drawn ≡ own) × (receipts ≡ [])))
 
 halted_as : {D : Type 0} (new : Replica D) (said : Bool) (halted : ℕ) → new.stopped ≡ said → halted ≡ 1 → (IsFalse said → halted ≡ 0) → IsHalted new
 halted_as new true halted is on off = ap (λ (b : Bool). b || is_some new.engine.halted) is

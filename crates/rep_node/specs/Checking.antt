@@ -1,5 +1,5 @@
 -- What certifier and engine are while a checkpoint is lent the certifier, and what a checkpoint came to.
-use Rattle.std.specs.Prelude.{◌≡◌, ℕ, ◌+◌, ◌≤◌, max, List, ◌++◌, take}
+use Rattle.std.specs.Prelude.{◌≡◌, ℕ, ◌+◌, ◌≤◌, max, List, ◌++◌, take, Option, None, Some}
 use Rattle.rep_types.specs.declared.judged.Judged.{Judged}
 use Rattle.rep_types.specs.declared.limits.TheConstants.{MAX_AHEAD}
 use Rattle.rep_disk.specs.History.{History}
@@ -11,14 +11,11 @@ use Rattle.rep_checkpoint.specs.declared.stage.Stage.TheVariants.{Off}
 use Rattle.rep_checkpoint.specs.declared.stage.Step.{Step}
 use Rattle.rep_checkpoint.specs.declared.stage.Step.TheVariants.{Begin, Flush, Next, Sync}
 use Rattle.rep_snap.specs.Lists.{oldest_of, published}
+use Rattle.rep_snap.specs.Views.{telling}
 use Rattle.rep_ordered.specs.declared.view.View.{View}
 use Rattle.rep_node.specs.declared.home.Desk.{Desk}
 use Rattle.rep_node.specs.declared.home.Home.{Home}
 use Rattle.rep_node.specs.declared.checking.Checked.{Checked}
-use Rattle.rep_node.specs.declared.checking.Progress.{Progress}
-use Rattle.rep_node.specs.declared.checking.Progress.TheVariants.{Goes as another_step, ForCertifier as with_the_certifier, Ended as nothing_more}
-use Rattle.rep_node.specs.declared.checking.Outcome.{Outcome}
-use Rattle.rep_node.specs.declared.checking.Outcome.TheVariants.{Goes, ForCertifier, Ended}
 use Rattle.rep_node.specs.Publishing.{shown}
 use Rattle.rep_node.specs.Homes.{Start, Begins, DeskAt, IsLegalBehind, position_of, values_of}
 
@@ -31,13 +28,13 @@ pub record MayLend {D : Type 0} (honest : D → Type 0) (history : D → History
   pub engine : HasTaken honest history failures s.desk.engine s.certifier.current taken e
   pub near : h.delivered ≤ durable_of e.log + MAX_AHEAD
 
--- What is said of the checkpoint under way, by the step that was due: there is none where one may begin; the certifier is asked for where the
--- next write behind the pages is due; and else the step was made, and another is waited for.
-abbrev pub progress_of : Step → Progress
-progress_of Begin = nothing_more
-progress_of (Flush page) = another_step
-progress_of Next = with_the_certifier
-progress_of Sync = another_step
+-- What is said of a desk, by the step that was due: where the base stands and what readers may be told where a checkpoint may begin, and so none
+-- is under way; and else nothing.
+abbrev pub said_of : {D : Type 0} → Step → Desk D → Option Checked
+said_of Begin d = Some (record { base = d.engine.checkpoint.base.position; told = telling d.publisher })
+said_of (Flush page) d = None
+said_of Next d = None
+said_of Sync d = None
 
 -- Where no checkpoint is under way, the base stands at what is durable: so none may begin.
 abbrev pub HasNoneDue : {D : Type 0} → Engine D → Type 0
@@ -65,9 +62,3 @@ pub record IsChecked {D : Type 0} (v w : View (Home D) Judged) (checked : Checke
 -- the same for any seat of the node that had seen no more durable than the base
 abbrev pub EndsAt : {D : Type 0} → List (Home D) → View (Home D) Judged → Checked → Type 0
 EndsAt {D} first w checked = (v : View (Home D) Judged) → v.first ≡ first → v.durable ≤ checked.base → IsChecked v w checked
-
--- what is told where none is under way
-abbrev pub Tells : {D : Type 0} → List (Home D) → View (Home D) Judged → Outcome → Type 0
-Tells first w Goes = Unit {0}
-Tells first w ForCertifier = Unit {0}
-Tells first w (Ended checked) = EndsAt first w checked

@@ -1,5 +1,5 @@
 -- A batch in parts: what each worker is given, and what came of it.
-use Rattle.std.specs.Prelude.{◌≡◌, ℕ, ◌+◌, ◌-◌, ◌<◌, ◌≤◌, ◌⊎◌, Option, Some, None, IfSome, List, [], ◌∷◌, ◌++◌, length, map, slice_get, vec_capacity}
+use Rattle.std.specs.Prelude.{◌≡◌, Bool, false, ℕ, ◌+◌, ◌-◌, ◌<◌, ◌≤◌, ◌⊎◌, Option, Some, None, IfSome, List, [], ◌∷◌, ◌++◌, length, map, slice_get, vec_capacity}
 use Rattle.atomic_table.specs.Seated.{TableId}
 use Rattle.rep_types.specs.declared.item.Item.{Item}
 use Rattle.rep_types.specs.declared.judged.Judged.{Judged}
@@ -17,7 +17,7 @@ use Rattle.rep_node.specs.declared.batch.Receipt.{Receipt}
 use Rattle.rep_node.specs.declared.batch.Share.{Share}
 use Rattle.rep_node.specs.declared.batch.Job.{Job}
 use Rattle.rep_node.specs.declared.pace.Point.{Point}
-use Rattle.rep_node.specs.Seats.{IsSeat, PassedOrStopped, SeesLegal, own_entry}
+use Rattle.rep_node.specs.Seats.{IsSeat, KeptBy, PassedOrStopped, SeesLegal, own_entry}
 use Rattle.rep_node.specs.Batches.{AreLetOn, ComeFrom, entry_of, index_of, seqno_of}
 
 -- it is one of these
@@ -88,11 +88,11 @@ module _ {D : Type 0} where
   AreJobs table v count jobs = Adjoin job_from job_to (IsJob table v count) 0 count jobs
 
   -- What a worker leaves of its job: its seat went on, and what it drew and let join is of the job's places.
-  pub record Worked (lets : Point → ℕ → Type 0) (items : List Item) (j k : Job D) : Type 0 where
+  pub record Worked (lets : Point → ℕ → Type 0) (keeps : Bool) (items : List Item) (j k : Job D) : Type 0 where
     pub lock : k.seat.lock ≡ j.seat.lock
     pub range : (k.from ≡ j.from) × (k.to ≡ j.to)
     pub went : Went j.seat.view k.seat.view
-    pub kept : k.seat.view.given_up ≡ j.seat.view.given_up
+    pub kept : KeptBy keeps j.seat.view k.seat.view
     pub runs : k.end ≡ None → k.seat.view.halted ≡ 0
     pub paced : AreLetOn lets k.receipts.items
     pub passed : PassedOrStopped k.seat.view
@@ -101,11 +101,11 @@ module _ {D : Type 0} where
     pub stopped : IfSome k.end (λ (refusal : Refusal). (refusal ≡ Stopped) × (k.seat.view.halted ≡ 1))
 
   -- the same of a job whose seat was split off one with this view
-  pub record IsDone (lets : Point → ℕ → Type 0) (table : TableId) (v : View (Home D) Judged) (items : List Item) (count : ℕ) (k : Job D) : Type 0 where
+  pub record IsDone (lets : Point → ℕ → Type 0) (keeps : Bool) (table : TableId) (v : View (Home D) Judged) (items : List Item) (count : ℕ) (k : Job D) : Type 0 where
     pub lock : k.seat.lock ≡ table
     pub range : (k.from < k.to) × (k.to ≤ count)
     pub went : Went (given (k.to - k.from) v) k.seat.view
-    pub kept : k.seat.view.given_up ≡ []
+    pub kept : keeps ≡ false → k.seat.view.given_up ≡ []
     pub runs : k.end ≡ None → k.seat.view.halted ≡ 0
     pub paced : AreLetOn lets k.receipts.items
     pub passed : PassedOrStopped k.seat.view
@@ -119,9 +119,9 @@ module _ {D : Type 0} where
 
   -- What a seat with this view has come to, from which the seats of the jobs had been split off, and which took those in again whose
   -- places are from this one on and below that one: it has what they drew and let join, and may draw what they may.
-  pub record Gathered (lets : Point → ℕ → Type 0) (items : List Item) (from to : ℕ) (v w : View (Home D) Judged) (receipts : List Receipt) (end : Option Refusal) : Type 0 where
+  pub record Gathered (lets : Point → ℕ → Type 0) (keeps : Bool) (items : List Item) (from to : ℕ) (v w : View (Home D) Judged) (receipts : List Receipt) (end : Option Refusal) : Type 0 where
     pub went : Went (regaining (to - from) v) w
-    pub kept : w.given_up ≡ v.given_up
+    pub kept : KeptBy keeps v w
     pub runs : end ≡ None → w.halted ≡ v.halted
     pub low : w.halted ≤ 1
     pub sees : SeesLegal w w

@@ -1,5 +1,5 @@
 -- What a seat of a node has done.
-use Rattle.std.specs.Prelude.{◌≡◌, ℕ, ◌+◌, ◌<◌, ◌≤◌, ◌⊎◌, [], ◌∷◌, ◌++◌, length}
+use Rattle.std.specs.Prelude.{◌≡◌, Bool, false, ℕ, ◌+◌, ◌<◌, ◌≤◌, ◌⊎◌, [], ◌∷◌, ◌++◌, length}
 use Rattle.rep_types.specs.declared.item.Item.{Item}
 use Rattle.rep_types.specs.declared.judged.Judged.{Judged}
 use Rattle.rep_types.specs.declared.verdict.Verdict.{Verdict}
@@ -41,6 +41,10 @@ module _ {D : Type 0} where
   -- the seat went on, sees a legal history, and neither drew a number nor let anything join the history
   abbrev pub WentIdle : View (Home D) Judged → View (Home D) Judged → Type 0
   WentIdle v w = Went v w × (w.own ≡ v.own) × (w.joined ≡ v.joined) × SeesLegal v w
+
+  -- the seat gave nothing up, unless it keeps
+  abbrev pub KeptBy : Bool → View (Home D) Judged → View (Home D) Judged → Type 0
+  KeptBy keeps v w = keeps ≡ false → w.given_up ≡ v.given_up
 
   -- the seat drew this number
   abbrev pub Drew : ℕ → View (Home D) Judged → Type 0

@@ -37,7 +37,7 @@ pub record IsTold (items : List Item) (position upto : ℕ) (history : List Judg
 
 -- A batch of so many items came to this end: the replica that it left is stopped, or nothing was handed in.
 abbrev pub EndedFor : {D : Type 0} → Replica D → ℕ → Replica D → List Receipt → Refusal → Type 0
-EndedFor old count new receipts refusal = ((refusal ≡ Stopped) × ((new.stopped || is_some new.engine.halted) ≡ true)) ⊎ ((((refusal ≡ Exhausted) × (MAX_SEQNO ≤ durable_of old.engine.log + count + 1)) ⊎ (refusal ≡ OutOfMemory)) × (receipts ≡ []))
+EndedFor old count new receipts refusal = ((refusal ≡ Stopped) × ((new.stopped || is_some new.engine.halted) ≡ true)) ⊎ ((((refusal ≡ Exhausted) × (MAX_SEQNO ≤ durable_of old.engine.log + count)) ⊎ (refusal ≡ OutOfMemory)) × (receipts ≡ []))
 
 -- The history that the node came to is legal behind what the old replica held. Each receipt is of an entry of it, of another item of the
 -- batch, and durable, and its seqno is above that of the one before; where the batch has no end, the history is that of the receipts, one for each item, and where it was refused, there is

@@ -14,12 +14,12 @@ use Rattle.rep_node.specs.Seats.{PassedOrStopped, SeesLegal}
 use Rattle.rep_node.specs.Batches.{AreLetOn, Ascends, IsBatch, IsWhole}
 
 module _ {D : Type 0} where
-  -- The node was halted; or there are no more seqnos than the items and these spare ones, or there was no memory, and nothing was handed in.
+  -- The node was halted; or there are no more seqnos than these items, or there was no memory, and nothing was handed in.
   abbrev pub IsRefusal : ℕ → View (Home D) Judged → View (Home D) Judged → List Receipt → Refusal → Type 0
-  IsRefusal needed v w receipts refusal = ((refusal ≡ Stopped) × (w.halted ≡ 1)) ⊎ ((((refusal ≡ Exhausted) × (v.allowance ≤ needed)) ⊎ (refusal ≡ OutOfMemory)) × (w.own ≡ v.own) × (receipts ≡ []))
+  IsRefusal count v w receipts refusal = ((refusal ≡ Stopped) × (w.halted ≡ 1)) ⊎ ((((refusal ≡ Exhausted) × (v.allowance ≤ count)) ⊎ (refusal ≡ OutOfMemory)) × (w.own ≡ v.own) × (receipts ≡ []))
 
-  -- A seat handed in a batch of so many items, which needs more seqnos than this: what it came to, and what is said of it.
-  pub record HandedIn (lets : Point → ℕ → Type 0) (items : List Item) (count needed : ℕ) (v w : View (Home D) Judged) (b : Batch) : Type 0 where
+  -- A seat handed in a batch of so many items: what it came to, and what is said of it.
+  pub record HandedIn (lets : Point → ℕ → Type 0) (items : List Item) (count : ℕ) (v w : View (Home D) Judged) (b : Batch) : Type 0 where
     pub went : Went v w
     pub sees : SeesLegal v w
     pub passed : PassedOrStopped w
@@ -27,4 +27,4 @@ module _ {D : Type 0} where
     pub order : Ascends b.receipts.items
     pub paced : AreLetOn lets b.receipts.items
     pub whole : b.end ≡ None → IsWhole 0 count v w b.receipts.items
-    pub ended : IfSome b.end (IsRefusal needed v w b.receipts.items)
+    pub ended : IfSome b.end (IsRefusal count v w b.receipts.items)

@@ -6,7 +6,7 @@ ghost use Rattle.rep_ordered.specs.Seats.{seat_of};
 ghost use Rattle.rep_ordered.specs.Steps.{Learns};
 ghost use Rattle.rep_ordered.specs.Views.{Every, both, giving};
 ghost use Rattle.rep_node.specs.Homes.{IsLegal};
-ghost use Rattle.rep_node.specs.Seats.{IsSeat, PassedOrStopped, Rests, SeesLegal};
+ghost use Rattle.rep_node.specs.Seats.{IsSeat, KeptBy, PassedOrStopped, Rests, SeesLegal};
 ghost use Rattle.rep_node.specs.Serving.{HandedIn};
 ghost use Rattle.rep_node.specs.Jobs.{AreJobs, AreShares, Gathered, IsReady, Worked};
 
@@ -90,13 +90,20 @@ fn shares_of(alloc: Global, count: usize, workers: usize) -> Result<Vec<Share>, 
 }
 
 impl<D: Disk> Node<D> {
-    /// Hands in a worker's items, one after the other, until one is refused.
-    fn work<R: Wait, P: Pace>(&self, rt: &R, items: &[Item], job: &mut Job<D>, pace: &P)
+    /// Hands in a worker's items, one after the other, until one is refused. It `keeps` while it waits, or does not.
+    fn work<R: Wait, P: Pace>(
+        &self,
+        rt: &R,
+        items: &[Item],
+        job: &mut Job<D>,
+        pace: &P,
+        keeps: bool,
+    )
         requires ready { IsReady D.honest D.history D.failures self.now (length items.now) job.old }
-        ensures worked { Worked (P.lets pace.now) items.now job.old job.new }
+        ensures worked { Worked (P.lets pace.now) keeps items.now job.old job.new }
     {
         for place in job.from..job.to {
-            match self.submit(rt, &mut job.seat, &items[place], pace) {
+            match self.submit(rt, &mut job.seat, &items[place], pace, keeps) {
                 Ok((seqno, verdict)) => job.receipts.push_reserved(Receipt {
                     index: place,
                     seqno,
@@ -170,11 +177,12 @@ impl<D: Disk + Send> Node<D> {
         jobs: &mut [Job<D>],
         workers: usize,
         pace: &P,
+        keeps: bool,
     )
         requires workers { 0 < workers }
         requires ready { Every (IsReady D.honest D.history D.failures self.now (length items.now)) jobs.old }
         ensures len { length jobs.new ≡ length jobs.old }
-        ensures worked { (i : ℕ) (d : Job D) → i < length jobs.old → Worked (P.lets pace.now) items.now (slice_index_or jobs.old i d) (slice_index_or jobs.new i d) }
+        ensures worked { (i : ℕ) (d : Job D) → i < length jobs.old → Worked (P.lets pace.now) keeps items.now (slice_index_or jobs.old i d) (slice_index_or jobs.new i d) }
     {
         for_each_mut(
             rt,
@@ -182,8 +190,8 @@ impl<D: Disk + Send> Node<D> {
             workers,
             &|_place: usize, job: &mut Job<D>|
                 requires { IsReady D.honest D.history D.failures self.now (length items.now) job.old }
-                ensures { Worked (P.lets pace.entry.now) items.entry.now job.old job.new }
-            { self.work(rt, items, job, pace) },
+                ensures { Worked (P.lets pace.entry.now) keeps items.entry.now job.old job.new }
+            { self.work(rt, items, job, pace, keeps) },
         );
     }
 
@@ -198,6 +206,7 @@ impl<D: Disk + Send> Node<D> {
         receipts: &mut Vec<Receipt>,
         workers: usize,
         pace: &P,
+        keeps: bool,
     ) -> Option<Refusal>
         requires lock { seat.old.lock ≡ self.now }
         requires seat { IsSeat D.honest D.history D.failures seat.old.view }
@@ -209,9 +218,9 @@ impl<D: Disk + Send> Node<D> {
         requires room { (receipts.old.items ≡ []) × (length items.now ≤ vec_capacity receipts.old) }
         requires jobs { AreJobs self.now seat.old.view (length items.now) jobs.items }
         ensures lock { seat.new.lock ≡ seat.old.lock }
-        ensures gathered { Gathered (P.lets pace.now) items.now 0 (length items.now) seat.old.view seat.new.view receipts.new.items result }
+        ensures gathered { Gathered (P.lets pace.now) keeps items.now 0 (length items.now) seat.old.view seat.new.view receipts.new.items result }
     {
-        self.work_all(rt, items, jobs.as_mut_slice(), workers, pace);
+        self.work_all(rt, items, jobs.as_mut_slice(), workers, pace, keeps);
         let mut end = None;
         while let Some(job) = jobs.pop() {
             end = self.take_in(seat, job, receipts).or(end);
@@ -229,6 +238,7 @@ impl<D: Disk + Send> Node<D> {
         items: &[Item],
         workers: usize,
         pace: &P,
+        keeps: bool,
     ) -> Result<Batch, Refusal>
         requires lock { seat.old.lock ≡ self.now }
         requires rests { (allowance : ℕ) × Rests D.honest D.history D.failures seat.old.view allowance }
@@ -238,8 +248,8 @@ impl<D: Disk + Send> Node<D> {
         ensures lock { seat.new.lock ≡ seat.old.lock }
         ensures seat { IsSeat D.honest D.history D.failures seat.new.view }
         ensures sees { SeesLegal seat.new.view seat.new.view }
-        ensures handed_in { IfOk result (HandedIn (P.lets pace.now) items.now (length items.now) (length items.now) seat.old.view seat.new.view) }
-        ensures goes { seat.new.view.given_up ≡ seat.old.view.given_up }
+        ensures handed_in { IfOk result (HandedIn (P.lets pace.now) items.now (length items.now) seat.old.view seat.new.view) }
+        ensures kept { KeptBy keeps seat.old.view seat.new.view }
         ensures runs { IfOk result (λ batch. batch.end ≡ None → seat.new.view.halted ≡ 0) }
         ensures stopped { IfOk result (λ batch. IfSome batch.end (λ refusal. (refusal ≡ is_stopped) × (seat.new.view.halted ≡ 1))) }
         ensures refused { IfErr result (λ refusal. (refusal ≡ OutOfMemory) × (seat.new ≡ seat.old)) }
@@ -248,9 +258,44 @@ impl<D: Disk + Send> Node<D> {
         let mut receipts = Vec::with_capacity(alloc, items.len())?;
         let mut jobs = Vec::with_capacity(alloc, shares.len())?;
         self.split_off(seat, shares, &mut jobs);
-        let end = self.run(rt, seat, items, jobs, &mut receipts, workers, pace);
+        let end = self.run(rt, seat, items, jobs, &mut receipts, workers, pace, keeps);
         receipts.sort_unstable_by_key(|receipt| receipt.seqno);
         Ok(Batch { receipts, end })
+    }
+
+    /// Hands in a batch, as `submit_batch` does, or as `serve` does where the workers keep.
+    fn hand_in<R: Threads + Wait + Sync, P: Pace + Sync>(
+        &self,
+        rt: &R,
+        alloc: Global,
+        seat: &mut Seat<D>,
+        items: &[Item],
+        workers: usize,
+        pace: &P,
+        keeps: bool,
+    ) -> Batch
+        requires lock { seat.old.lock ≡ self.now }
+        requires workers { (0 < workers) × (workers ≤ 64) }
+        ensures lock { seat.new.lock ≡ seat.old.lock }
+        ensures handed_in { HandedIn (P.lets pace.now) items.now (length items.now) seat.old.view seat.new.view result }
+        ensures kept { KeptBy keeps seat.old.view seat.new.view }
+        ensures runs { result.end ≢ Some is_stopped → seat.new.view.halted ≡ 0 }
+    {
+        // Tells the proof what holds of every seat.
+        seat.is_one();
+        if self.is_halted(seat) {
+            return Batch::refused(alloc, Refusal::Stopped);
+        }
+        if seat.allowance <= items.len() as u64 {
+            return Batch::refused(alloc, Refusal::Exhausted);
+        }
+        match self.submit_shared(rt, alloc, &mut seat.seat, items, workers, pace, keeps) {
+            Ok(batch) => {
+                seat.allowance -= items.len() as u64;
+                batch
+            }
+            Err(refusal) => Batch::refused(alloc, refusal),
+        }
     }
 
     /// Hands in a batch of items by so many workers, 1 to 64, each in a thread of its own where there is one: each draws a seqno for
@@ -262,7 +307,7 @@ impl<D: Disk + Send> Node<D> {
     /// receipt it is then not known whether it stands in the history; it stands there at most once, and unchanged. Where the end is not
     /// `Stopped`, the seat knows of no halt.
     ///
-    /// It is not promised that it returns: somebody has to make items durable.
+    /// It is not promised that it returns: somebody has to make items durable, by `keep`.
     pub fn submit_batch<R: Threads + Wait + Sync, P: Pace + Sync>(
         &self,
         rt: &R,
@@ -275,24 +320,36 @@ impl<D: Disk + Send> Node<D> {
         requires lock { seat.old.lock ≡ self.now }
         requires workers { (0 < workers) × (workers ≤ 64) }
         ensures lock { seat.new.lock ≡ seat.old.lock }
-        ensures handed_in { HandedIn (P.lets pace.now) items.now (length items.now) (length items.now) seat.old.view seat.new.view result }
+        ensures handed_in { HandedIn (P.lets pace.now) items.now (length items.now) seat.old.view seat.new.view result }
         ensures goes { seat.new.view.given_up ≡ seat.old.view.given_up }
         ensures runs { result.end ≢ Some is_stopped → seat.new.view.halted ≡ 0 }
     {
-        // Tells the proof what holds of every seat.
-        seat.is_one();
-        if self.is_halted(seat) {
-            return Batch::refused(alloc, Refusal::Stopped);
-        }
-        if seat.allowance <= items.len() as u64 {
-            return Batch::refused(alloc, Refusal::Exhausted);
-        }
-        match self.submit_shared(rt, alloc, &mut seat.seat, items, workers, pace) {
-            Ok(batch) => {
-                seat.allowance -= items.len() as u64;
-                batch
-            }
-            Err(refusal) => Batch::refused(alloc, refusal),
-        }
+        self.hand_in(rt, alloc, seat, items, workers, pace, false)
+    }
+
+    /// Hands in a batch as `submit_batch` does, by workers that make items durable themselves: of those who wait for their item one keeps, as
+    /// `keep` does, for all others too, shows the items to readers, and runs a checkpoint where the log is full. Once its own item is durable
+    /// another one takes that over.
+    ///
+    /// The end is as with `submit_batch`, but that a worker halts the node also where the device fails, where a page of the base is not of its
+    /// form, or where there is no memory for the log's work.
+    ///
+    /// It is not promised that it returns.
+    pub fn serve<R: Threads + Wait + Sync, P: Pace + Sync>(
+        &self,
+        rt: &R,
+        alloc: Global,
+        seat: &mut Seat<D>,
+        items: &[Item],
+        workers: usize,
+        pace: &P,
+    ) -> Batch
+        requires lock { seat.old.lock ≡ self.now }
+        requires workers { (0 < workers) × (workers ≤ 64) }
+        ensures lock { seat.new.lock ≡ seat.old.lock }
+        ensures handed_in { HandedIn (P.lets pace.now) items.now (length items.now) seat.old.view seat.new.view result }
+        ensures runs { result.end ≢ Some is_stopped → seat.new.view.halted ≡ 0 }
+    {
+        self.hand_in(rt, alloc, seat, items, workers, pace, true)
     }
 }

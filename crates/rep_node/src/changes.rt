@@ -7,18 +7,24 @@ ghost use Rattle.rep_node.specs.Homes.{IsLegal};
 
 use crate::home::Home;
 use crate::node::LockSeat;
+use crossbeam_utils::atomic::AtomicCell;
 use crossbeam_utils::sync::EventCount;
 use rep_disk::Disk;
 use rep_ordered::{Front, OrderedLock};
 use rep_types::Judged;
 
-/// Wakes whoever waits until more is durable or the node is halted, once that has happened.
+/// Wakes whoever waits until more is durable or the node is halted, once that has happened. No contract speaks of what the numbers and
+/// the flag say: they are hints for those who wait.
 #[derive(Drop)]
 pub(crate) struct Changes {
     /// Who waits until more is durable.
     pub(crate) submitters: EventCount,
     /// Who waits for something to make durable.
     pub(crate) keepers: EventCount,
+    /// Whether one of the submitters makes items durable, while the others wait.
+    has_leader: AtomicCell<bool>,
+    /// How many items were under way when the last of them became durable: so many may come for the next block.
+    under_way: AtomicCell<u64>,
 }
 
 impl Changes {
@@ -27,7 +33,25 @@ impl Changes {
         Changes {
             submitters: EventCount::new(),
             keepers: EventCount::new(),
+            has_leader: AtomicCell::new(false),
+            under_way: AtomicCell::new(0),
         }
+    }
+
+    /// Takes the lead among the submitters, if nobody has it.
+    pub(crate) fn lead(&self) -> bool {
+        !self.has_leader.swap(true)
+    }
+
+    /// Lets the lead go, and wakes one who may take it: whoever looked before found it taken.
+    pub(crate) fn resign(&self) {
+        self.has_leader.store(false);
+        self.submitters.notify_one();
+    }
+
+    /// How many items may come for the next block.
+    pub(crate) fn expected(&self) -> u64 {
+        self.under_way.load()
     }
 
     /// Wakes all who wait.
@@ -54,8 +78,10 @@ impl Changes {
         ensures one_bit { seat.new.view.halted ≤ 1 }
         ensures last { HasAll seat.old.view → seat.new.view.halted ≡ seat.old.view.halted }
     {
+        let next = lock.next_number();
         let found = lock.raise(seat, durable);
         if found.durable < durable {
+            self.under_way.store(next.saturating_sub(found.durable + 1));
             self.wake_all();
         }
         found

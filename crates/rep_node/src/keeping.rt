@@ -15,17 +15,19 @@ use crate::node::{LockSeat, Node};
 use crate::parts::queue_of;
 use crate::publishing::{publish_upto, wait_for};
 use crate::seat::Seat;
-use crossbeam_utils::Backoff;
 use rep_disk::Disk;
 use rep_engine::Engine;
 use rep_log::Step;
-use rep_ordered::{announced, pass};
+use rep_ordered::announced;
 use rep_record::fronts_are_determined;
 use rep_snap::Told;
 use rep_stations::{histories_go_on, take_next, taken_items_stay};
 use rep_types::Refusal;
 use std::sync::Wait;
 use std::thread;
+
+/// A keeper looks for more items so many times at most before it writes a block.
+const LOOKS: u32 = 500;
 
 /// What is durable, and what readers may be told: up to there.
 #[derive(Drop)]
@@ -44,10 +46,10 @@ pub(crate) struct Round {
     pub rests: bool,
 }
 
-/// Has the engine accept what comes next of the items that wait, and these wait to be published.
+/// Has the engine accept what comes next of the items that wait, and these wait to be published. It says whether none is left that waits.
 ///
 /// Refuses with `OutOfMemory` where the engine does: it is then as it was, and so is the queue.
-fn accept<D: Disk>(desk: &mut Desk<D>, queue: &mut Queue) -> Result<(), Refusal>
+fn accept<D: Disk>(desk: &mut Desk<D>, queue: &mut Queue) -> Result<bool, Refusal>
     requires work { (s : Start D) × (number : ℕ) × (items : List Entry) × AreAtWork D.honest D.history D.failures s number items desk.old queue.old }
     ensures accepted { (s : Start D) → (number : ℕ) → (items : List Entry) → AreAtWork D.honest D.history D.failures s number items desk.old queue.old → OnOk result (AreAtWork D.honest D.history D.failures s number items desk.new queue.new) }
     ensures durable { OnOk result (durable_of desk.new.engine.log ≡ durable_of desk.old.engine.log) }
@@ -65,7 +67,7 @@ fn accept<D: Disk>(desk: &mut Desk<D>, queue: &mut Queue) -> Result<(), Refusal>
     wait_for(&mut desk.waiting, &queue.backlog, count);
     take_next(engine, &mut queue.backlog)?;
     queue.accepted = engine.delivered();
-    Ok(())
+    Ok(queue.backlog.is_empty())
 }
 
 /// The step that the log waits for: its next write, where there is something to write, or a sync.
@@ -147,13 +149,21 @@ fn gathers<D: Disk>(engine: &Engine<D>) -> bool {
     }
 }
 
+/// Whether more may come for the engine's next block, behind a look before which it had accepted so many items: it brought some, or has fewer
+/// than are expected, but not none.
+fn may_come<D: Disk>(engine: &Engine<D>, before: u64, expected: u64) -> bool {
+    let accepted = engine.delivered();
+    let gathered = accepted.saturating_sub(engine.durable());
+    accepted > before || (gathered > 0 && gathered < expected)
+}
+
 /// Whether all that the engine has accepted is durable, and the queue was looked at.
 fn rests<D: Disk>(has_looked: bool, engine: &Engine<D>) -> bool {
     has_looked && engine.delivered() == engine.durable()
 }
 
 impl<D: Disk> Node<D> {
-    /// Has the engine, whose station the seat is in, accept what comes next of the items that wait.
+    /// Has the engine, whose station the seat is in, accept what comes next of the items that wait. It says whether none is left that waits.
     ///
     /// Refuses with `Stopped` where the node was halted, and with `OutOfMemory` where there is no memory: the engine is then as it was, but is to be given up.
     fn accept_next<R: Wait>(
@@ -161,7 +171,7 @@ impl<D: Disk> Node<D> {
         rt: &R,
         seat: &mut LockSeat<D>,
         desk: Desk<D>,
-    ) -> (Desk<D>, Result<(), Refusal>)
+    ) -> (Desk<D>, Result<bool, Refusal>)
         requires lock { seat.old.lock ≡ self.now }
         requires at { (v : _) × IsSeat D.honest D.history D.failures v × AtDesk D.honest D.history D.failures 0 v seat.old.view desk }
         ensures lock { seat.new.lock ≡ seat.old.lock }
@@ -181,8 +191,9 @@ impl<D: Disk> Node<D> {
         (desk, done)
     }
 
-    /// The same again and again, as long as more has come: those who hand items in run in between, so that a block has the items of all who
-    /// are about to hand one in.
+    /// The same again and again, as long as more has come, and as long as fewer came than were under way when items became durable before
+    /// this: those who hand items in run in between, so that a block has the items of all who are about to hand one in. It looks at most
+    /// `LOOKS` times.
     fn gather<R: Wait>(
         &self,
         rt: &R,
@@ -197,17 +208,22 @@ impl<D: Disk> Node<D> {
         ensures runs { OnOk result.1 (seat.new.view.halted ≡ seat.old.view.halted) }
         ensures refused { IfErr result.1 (λ refusal. refusal ≢ LogFull) }
     {
+        let expected = self.changes.expected();
         let mut desk = desk;
-        for _ in rt.forever() {
+        for _ in 0..LOOKS {
             let before = desk.engine.get().delivered();
             let (longer, accepted) = self.accept_next(rt, seat, desk);
-            if accepted.is_err() || longer.engine.get().delivered() == before {
-                return (longer, accepted);
-            }
+            let none_left = match accepted {
+                Ok(none_left) => none_left,
+                Err(refusal) => return (longer, Err(refusal)),
+            };
             desk = longer;
+            if !none_left || !may_come(desk.engine.get(), before, expected) {
+                return (desk, Ok(()));
+            }
             thread::yield_now();
         }
-        unreachable!()
+        (desk, Ok(()))
     }
 
     /// A round at the engine, whose station the seat is in: it accepts what comes next, where it gathers, and the log makes its next step,
@@ -279,17 +295,64 @@ impl<D: Disk> Node<D> {
         }
     }
 
-    /// The same round, by a seat of the node.
-    pub(crate) fn round<R: Wait>(&self, rt: &R, seat: &mut Seat<D>) -> Result<Round, Refusal>
-        requires { seat.old.lock ≡ self.now }
+    /// Makes items durable until the seqno `upto` is, as `keep` does, by a seat of the lock.
+    fn keep_upto<R: Wait>(&self, rt: &R, seat: &mut LockSeat<D>, upto: u64) -> Result<Kept, Refusal>
+        requires lock { seat.old.lock ≡ self.now }
+        requires seat { IsSeat D.honest D.history D.failures seat.old.view }
+        requires free { seat.old.view.held ≡ [] }
         ensures lock { seat.new.lock ≡ seat.old.lock }
         ensures idle { WentIdle seat.old.view seat.new.view }
-        ensures kept { IfOk result (λ round. IsKept seat.old.view seat.new.view round.kept) }
+        ensures kept { IfOk result (λ kept. (upto ≤ kept.durable) × IsKept seat.old.view seat.new.view kept) }
         ensures goes { result ≢ Err is_stopped → (seat.new.view.halted ≡ 0) × (seat.new.view.given_up ≡ seat.old.view.given_up) }
         ensures full { result ≡ Err LogFull → (s : Start D) → seat.old.view.first ≡ values_of s → FoundFull D.honest D.history D.failures s seat.new.view }
         ensures refused { IfErr result (λ refusal. (refusal ≡ LogFull) ⊎ ((refusal ≡ is_stopped) × (seat.new.view.halted ≡ 1))) }
     {
-        self.keep_once(rt, &mut seat.seat)
+        let mut rested = false;
+        for _ in rt.forever() {
+            let sleep = announced(&self.changes.keepers, rested);
+            let Round { kept, rests } = self.keep_once(rt, seat)?;
+            if kept.durable >= upto {
+                return Ok(kept);
+            }
+            rested = rests;
+            match sleep {
+                Some(sleep) if rests => sleep.wait(rt),
+                _ => (),
+            }
+        }
+        unreachable!()
+    }
+
+    /// Makes items durable until the seqno `upto` is, as `keep` does, and runs a checkpoint where the log is full.
+    ///
+    /// Refuses with `Stopped` where the node was halted, which it does itself where the device fails, where a page of the base is not of its
+    /// form, or where there is no memory.
+    pub(crate) fn keep_on<R: Wait>(
+        &self,
+        rt: &R,
+        seat: &mut LockSeat<D>,
+        upto: u64,
+    ) -> Result<(), Refusal>
+        requires lock { seat.old.lock ≡ self.now }
+        requires seat { IsSeat D.honest D.history D.failures seat.old.view }
+        requires free { seat.old.view.held ≡ [] }
+        ensures lock { seat.new.lock ≡ seat.old.lock }
+        ensures idle { WentIdle seat.old.view seat.new.view }
+        ensures durable { OnOk result ((upto ≤ seat.new.view.durable) × (seat.new.view.halted ≡ 0)) }
+        ensures stopped { IfErr result (λ refusal. (refusal ≡ is_stopped) × (seat.new.view.halted ≡ 1)) }
+    {
+        for _ in rt.forever() {
+            match self.keep_upto(rt, seat, upto) {
+                Ok(_kept) => return Ok(()),
+                Err(Refusal::LogFull) => (),
+                Err(refusal) => return Err(refusal),
+            }
+            match self.check_seat(rt, seat) {
+                Ok(_) | Err(Refusal::NotDue) => (),
+                Err(refusal) => return Err(refusal),
+            }
+        }
+        unreachable!()
     }
 
     /// Makes items durable until the seqno `upto` is, and shows them to readers: it says what is durable, and what readers may be told.
@@ -312,19 +375,6 @@ impl<D: Disk> Node<D> {
     {
         // Tells the proof what holds of every seat.
         seat.is_one();
-        let backoff = Backoff::new();
-        for _ in rt.forever() {
-            let sleep = announced(&self.changes.keepers, backoff.is_completed());
-            let Round { kept, rests } = self.round(rt, seat)?;
-            if kept.durable >= upto {
-                return Ok(kept);
-            }
-            if rests {
-                pass(rt, &backoff, sleep);
-            } else {
-                backoff.reset();
-            }
-        }
-        unreachable!()
+        self.keep_upto(rt, &mut seat.seat, upto)
     }
 }

@@ -3,7 +3,6 @@
 #![tactic(auto)]
 
 mod batch;
-mod beside;
 mod changes;
 mod checking;
 mod desk;
@@ -19,7 +18,6 @@ mod reading;
 mod rows;
 mod seat;
 mod served;
-mod serving;
 mod submitting;
 mod waiting;
 

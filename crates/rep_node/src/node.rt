@@ -1,18 +1,16 @@
 //! The node.
 
-ghost use Rattle.std.specs.Prelude.{◌≡◌, ◌≤◌, IfOk, IfErr, OnOk, IsTrue, ◌↔◌};
+ghost use Rattle.std.specs.Prelude.{◌≡◌, ◌≤◌, IfErr, OnOk};
 ghost use Rattle.rep_types.specs.declared.limits.TheConstants.{MAX_SEQNO};
 ghost use Rattle.rep_ordered.specs.Views.{HasAll, Later};
 ghost use Rattle.rep_node.specs.Seats.{SeesLegal};
 
 use crate::changes::Changes;
 use crate::home::Home;
-use crossbeam_utils::Backoff;
 use rep_disk::Disk;
-use rep_ordered::{OrderedLock, Seat, announced, pass};
+use rep_ordered::{OrderedLock, Seat};
 use rep_types::{Judged, Refusal};
 use std::marker::Model;
-use std::sync::Wait;
 
 /// A node that threads run: the database state machine (Pedone, Guerraoui and Schiper, 2003) on one disk, whose items any number of
 /// threads hand in at once.
@@ -28,12 +26,9 @@ use std::sync::Wait;
 /// Nothing is promised of when a call returns, or that the threads get on.
 pub struct Node<D: Disk> {
     pub(crate) lock: OrderedLock<Home<D>, Judged>,
-    /// Where those sleep who wait until more is durable, or the node is halted.
+    /// Where those sleep who wait for the node to change.
     pub(crate) changes: Changes,
 }
-
-/// Who waits until an item is durable, behind more than so many that are not, sleeps at once; who is nearer looks again first.
-const FEW: u64 = 2;
 
 /// A seat of a node's lock.
 pub(crate) type LockSeat<D> = Seat<Home<D>, Judged>;
@@ -71,39 +66,5 @@ impl<D: Disk> Node<D> {
             return Err(Refusal::Stopped);
         }
         Ok(())
-    }
-
-    /// Waits until so many items are durable, and says how many are.
-    ///
-    /// Refuses with `Stopped` where the node was halted. It is not promised that it returns.
-    pub(crate) fn wait_durable<R: Wait>(
-        &self,
-        rt: &R,
-        seat: &mut LockSeat<D>,
-        least: u64,
-    ) -> Result<u64, Refusal>
-        requires lock { seat.old.lock ≡ self.now }
-        ensures lock { seat.new.lock ≡ seat.old.lock }
-        ensures later { Later seat.old.view seat.new.view }
-        ensures sees { SeesLegal seat.old.view seat.new.view }
-        ensures durable { IfOk result (λ durable. (least ≤ durable) × (durable ≡ seat.new.view.durable)) }
-        ensures runs { IfOk result (λ _. seat.new.view.halted ≡ 0) }
-        ensures stopped { IfErr result (λ refusal. (refusal ≡ Refusal.Stopped) × (seat.new.view.halted ≡ 1)) }
-    {
-        let backoff = Backoff::new();
-        let mut is_far = false;
-        for _ in rt.forever() {
-            let sleep = announced(&self.changes.submitters, is_far || backoff.is_completed());
-            let front = self.lock.front(seat);
-            if front.halted {
-                return Err(Refusal::Stopped);
-            }
-            if front.durable >= least {
-                return Ok(front.durable);
-            }
-            is_far = least - front.durable > FEW;
-            pass(rt, &backoff, sleep);
-        }
-        unreachable!()
     }
 }

@@ -19,17 +19,16 @@ use std::alloc::Global;
 use std::sync::Wait;
 use std::thread::Threads;
 
-/// Starts a node from a replica that has nothing left to do and belongs to a cluster, hands a batch in by so many workers, 1 to 64, with a
-/// keeper beside, and closes the node. The replica comes back beside what came of the batch.
+/// Starts a node from a replica that has nothing left to do and belongs to a cluster, hands a batch in by so many workers, 1 to 64, which make
+/// its items durable, and closes the node. The replica comes back beside what came of the batch.
 ///
 /// The history of the node is legal behind what the replica held, and each receipt is of an item of it. Where the batch has no end, the
 /// history is the batch's items in the order of the receipts, which is that of the seqnos. Unless it was stopped, the replica stands for its order with the history
 /// at its end; and stopped or not, each image that a crash may leave of its device stands for a front of that order with all receipts.
 ///
 /// The end is `Stopped` where the replica was stopped, or the node was halted, as it is where the device fails or the pace says no: then
-/// the replica is stopped. It is `Exhausted` where there are not two seqnos more than items left, and `OutOfMemory` where a growth was
-/// refused, or no thread could be made for the keeper, before anything was handed in: then the history is empty. It is not promised that
-/// it returns.
+/// the replica is stopped. It is `Exhausted` where there are no more seqnos than items left, and `OutOfMemory` where a growth was
+/// refused before anything was handed in: then the history is empty. It is not promised that it returns.
 pub fn serve_batch<D: Disk + Send, R: Threads + Wait + Sync, P: Pace + Sync>(
     rt: &R,
     alloc: Global,

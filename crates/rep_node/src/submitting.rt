@@ -1,12 +1,12 @@
 //! The way of an item: it is numbered, judged, queued, and waited for.
 
-ghost use Rattle.std.specs.Prelude.{◌≡◌, ℕ, ◌+◌, ◌<◌, ◌≤◌, ◌++◌, ◌∷◌, [], true, IfOk, IfErr, OnOk, List};
+ghost use Rattle.std.specs.Prelude.{◌≡◌, ℕ, ◌+◌, ◌<◌, ◌≤◌, ◌∷◌, [], IfOk, IfErr, OnOk, List};
 ghost use Rattle.rep_types.specs.declared.judged.Judged.{Judged as Entry};
 ghost use Rattle.rep_ordered.specs.declared.view.Joined.{Joined};
-ghost use Rattle.rep_ordered.specs.Views.{Later, OwnEntry, reached_at};
+ghost use Rattle.rep_ordered.specs.Views.{Later, reached_at};
 ghost use Rattle.rep_ordered.specs.Going.{Went};
 ghost use Rattle.rep_node.specs.Batches.{LetsOn};
-ghost use Rattle.rep_node.specs.Seats.{Drew, DrewOne, IsSeat, PassedOrStopped, Joins, SeesLegal, IsGiven, own_entry};
+ghost use Rattle.rep_node.specs.Seats.{Drew, DrewOne, IsSeat, PassedOrStopped, Joins, SeesLegal, WentIdle, IsGiven, KeptBy, own_entry};
 
 use crate::home::Home;
 use crate::node::{LockSeat, Node};
@@ -96,19 +96,60 @@ impl<D: Disk> Node<D> {
         Err(Refusal::Stopped)
     }
 
+    /// Waits until so many items are durable. Who `keeps` takes the lead, where nobody who waits has it, and makes them durable himself, with
+    /// the items of the others.
+    ///
+    /// Refuses with `Stopped` where the node was halted, which who keeps does himself as `keep_on` does. It is not promised that it returns.
+    fn wait_durable<R: Wait>(
+        &self,
+        rt: &R,
+        seat: &mut LockSeat<D>,
+        least: u64,
+        keeps: bool,
+    ) -> Result<(), Refusal>
+        requires lock { seat.old.lock ≡ self.now }
+        requires seat { IsSeat D.honest D.history D.failures seat.old.view }
+        requires free { seat.old.view.held ≡ [] }
+        ensures lock { seat.new.lock ≡ seat.old.lock }
+        ensures idle { WentIdle seat.old.view seat.new.view }
+        ensures kept { KeptBy keeps seat.old.view seat.new.view }
+        ensures durable { OnOk result ((least ≤ seat.new.view.durable) × (seat.new.view.halted ≡ 0)) }
+        ensures stopped { IfErr result (λ refusal. (refusal ≡ Refusal.Stopped) × (seat.new.view.halted ≡ 1)) }
+    {
+        for _ in rt.forever() {
+            let sleep = self.changes.submitters.prepare_wait();
+            let front = self.lock.front(seat);
+            if front.halted {
+                return Err(Refusal::Stopped);
+            }
+            if front.durable >= least {
+                return Ok(());
+            }
+            if keeps && self.changes.lead() {
+                let kept = self.keep_on(rt, seat, least);
+                self.changes.resign();
+                return kept;
+            }
+            sleep.wait(rt);
+        }
+        unreachable!()
+    }
+
     /// Hands in an item, and waits until it is durable: its entry is then the seat's own, and stands in the history. At most 256 items
-    /// are judged and not yet durable. It gives the item's seqno and its verdict.
+    /// are judged and not yet durable. It gives the item's seqno and its verdict. Who `keeps` makes items durable while he waits, if nobody
+    /// else who waits does; else somebody has to.
     ///
-    /// Refuses with `Stopped` where the node was halted, which it does itself where the pace says no. The item may then stand in the
-    /// history or not, but not as another.
+    /// Refuses with `Stopped` where the node was halted, which it does itself where the pace says no, and who keeps as `keep_on` does. The item
+    /// may then stand in the history or not, but not as another.
     ///
-    /// It takes no memory. It is not promised that it returns: somebody has to make items durable.
+    /// It is not promised that it returns.
     pub(crate) fn submit<R: Wait, P: Pace>(
         &self,
         rt: &R,
         seat: &mut LockSeat<D>,
         item: &Item,
         pace: &P,
+        keeps: bool,
     ) -> Result<(u64, Verdict), Refusal>
         requires lock { seat.old.lock ≡ self.now }
         requires seat { IsSeat D.honest D.history D.failures seat.old.view }
@@ -120,20 +161,20 @@ impl<D: Disk> Node<D> {
         ensures sees { SeesLegal seat.old.view seat.new.view }
         ensures receipt { IfOk result (λ given. IsGiven item.now given.0 given.1 seat.old.view seat.new.view) }
         ensures passed { PassedOrStopped seat.old.view → PassedOrStopped seat.new.view }
-        ensures goes { seat.new.view.given_up ≡ seat.old.view.given_up }
+        ensures kept { KeptBy keeps seat.old.view seat.new.view }
         ensures runs { IfOk result (λ _. seat.new.view.halted ≡ 0) }
         ensures paced { IfOk result (λ given. LetsOn (P.lets pace.now) given.0) }
         ensures stopped { IfErr result (λ refusal. (refusal ≡ Refusal.Stopped) × (seat.new.view.halted ≡ 1)) }
     {
         let ticket = self.lock.claim(seat);
         self.paced(seat, pace, Point::Claimed, ticket)?;
-        self.wait_durable(rt, seat, ticket.saturating_sub(u64::from(MAX_AHEAD)))?;
+        self.wait_durable(rt, seat, ticket.saturating_sub(u64::from(MAX_AHEAD)), keeps)?;
         let judged = self.certify(rt, seat, ticket, item.copied())?;
         let verdict = judged.verdict;
         self.paced(seat, pace, Point::Certified, ticket)?;
         self.queue(rt, seat, judged)?;
         self.paced(seat, pace, Point::Queued, ticket)?;
-        self.wait_durable(rt, seat, ticket)?;
+        self.wait_durable(rt, seat, ticket, keeps)?;
         Ok((ticket, verdict))
     }
 }

@@ -145,7 +145,7 @@ fn serve_settled<T: Threads + Wait + Sync, D: Disk + Send, R: Source, W: Sink>(
 }
 
 /// Serves the items of a text: settles the replica, reads all of the text, one item of either kind from each line that has words, starts a node of
-/// so many workers, 1 to 64, and hands the items in together. Beside, a keeper makes them durable, and runs a checkpoint where the log is full.
+/// so many workers, 1 to 64, and hands the items in together. Of those who wait one makes them durable, and runs a checkpoint where the log is full.
 /// Behind that it writes a line for each durable item, in the order of the seqnos, `<seqno> <verdict> <source>:<trx>`, and the line of the
 /// replica's state. The replica comes back beside the answer.
 ///
@@ -156,8 +156,8 @@ fn serve_settled<T: Threads + Wait + Sync, D: Disk + Send, R: Source, W: Sink>(
 /// of memory with `OutOfMemory`, and with `StreamFault` a reader that fails, which it notes, and a text of more than 67,108,864 bytes: nothing was handed in
 /// then, and no line is written. Behind the lines of the durable items it refuses with `Stopped` where the node was halted, since its device
 /// failed, a page of its base is not of its form, or there was no memory: which other items stand in the order the disk tells; with
-/// `Exhausted` where there are not two seqnos more than items left, and with `OutOfMemory` where there was no memory for the workers or no thread
-/// for the keeper, and then no item stands in the order; and with `OutOfMemory` too where there is none for the line of the state. Refuses with `StreamFault` where
+/// `Exhausted` where there are no more seqnos than items left, and with `OutOfMemory` where there was no memory for the workers, and then no item
+/// stands in the order; and with `OutOfMemory` too where there is none for the line of the state. Refuses with `StreamFault` where
 /// the writer fails, which it notes.
 ///
 /// It is not promised that it returns.

@@ -1,45 +1,33 @@
-use Rattle.std.proofs.Common.{◌≡◌, ◌+◌, ◌∙◌, List, Result, length, refl, ap, subst}
-use Rattle.std.specs.Prelude.{OnOk}
+use Rattle.std.proofs.Common.{◌+◌, ◌∙◌, List, length, refl, ap}
 use Rattle.rep_types.specs.declared.judged.Judged.{Judged}
-use Rattle.rep_types.specs.declared.refusal.Refusal.{Refusal}
 use Rattle.rep_engine.specs.Engines.{Engine, durable_of}
 use Rattle.rep_node.specs.Homes.{Start}
 use Rattle.rep_node.specs.Keeping.{AtWork, HasStepped}
 use Rattle.rep_node.proofs.Advancing.{same_common, step_failed, step_done}
 use Rattle.rep_node.proofs.checking.take_on.Goals as goal
-use Rattle.rep_node.proofs.checking.take_on.Goals.{After-publish_durable-desk}
+use Rattle.rep_node.proofs.checking.take_on.Goals.{After-publish_durable}
 
 pub returns-in-Err-clause-given : goal.returns-in-Err-clause-given
-returns-in-Err-clause-given g c = λ s items w. step_failed g.D.Disk.honest g.D.Disk.history g.D.Disk.failures s items c.args.desk w c.flush_or_sync.new.engine (rw c.get_mut.ensures.value at c.in-Err.ensures.taken) (rw c.get_mut.ensures.value at c.in-Err.ensures.rises)
+returns-in-Err-clause-given g c = λ s items w. step_failed g.D.Disk.honest g.D.Disk.history g.D.Disk.failures s items c.args.desk w c.advance.new.engine (rw c.get_mut.ensures.value at c.in-Err.ensures.taken) (rw c.get_mut.ensures.value at c.in-Err.ensures.rises)
 
 pub returns-in-Err-clause-common : goal.returns-in-Err-clause-common
-returns-in-Err-clause-common g c = let w = c.requires.work in same_common g.D.Disk.honest g.D.Disk.history g.D.Disk.failures w.0 w.1 c.args.desk w.2 c.flush_or_sync.new.engine (rw c.get_mut.ensures.value at c.in-Err.ensures.taken)
+returns-in-Err-clause-common g c = let w = c.requires.work in same_common g.D.Disk.honest g.D.Disk.history g.D.Disk.failures w.0 w.1 c.args.desk w.2 c.advance.new.engine (rw c.get_mut.ensures.value at c.in-Err.ensures.taken)
 
-pub publish_durable-desk-requires : goal.publish_durable-desk-requires
-publish_durable-desk-requires g c = let w = c.requires.work in let e = c.in-Ok.ensures in record {
-  stepped = (w.0, w.1, step_done g.D.Disk.honest g.D.Disk.history g.D.Disk.failures w.0 w.1 c.args.desk w.2 c.flush_or_sync.new.engine (rw c.get_mut.ensures.value at e.taken) ((rw c.get_mut.ensures.value at e.works) (w.2.desk.works refl)) (rw c.get_mut.ensures.value at e.rises) (rw c.get_mut.ensures.value at e.base));
+pub publish_durable-requires : goal.publish_durable-requires
+publish_durable-requires g c = let w = c.requires.work in let e = c.in-Ok.ensures in record {
+  stepped = (w.0, w.1, step_done g.D.Disk.honest g.D.Disk.history g.D.Disk.failures w.0 w.1 c.args.desk w.2 c.advance.new.engine (rw c.get_mut.ensures.value at e.taken) ((rw c.get_mut.ensures.value at e.works) (w.2.desk.works refl)) (rw c.get_mut.ensures.value at e.rises) (rw c.get_mut.ensures.value at e.base));
 }
 
 -- what lay at the desk once the step was done
-stepped : (g : _) (c : After-publish_durable-desk g) (s : Start g.row.D.Denot) (items : List Judged) → AtWork g.D.Disk.honest g.D.Disk.history g.D.Disk.failures s items c.args.desk → HasStepped g.D.Disk.honest g.D.Disk.history g.D.Disk.failures s items (record (c.args.desk) { engine = c.flush_or_sync.new.engine })
-stepped g c s items w = let e = c.in-Ok.ensures in step_done g.D.Disk.honest g.D.Disk.history g.D.Disk.failures s items c.args.desk w c.flush_or_sync.new.engine (rw c.get_mut.ensures.value at e.taken) ((rw c.get_mut.ensures.value at e.works) (w.desk.works refl)) (rw c.get_mut.ensures.value at e.rises) (rw c.get_mut.ensures.value at e.base)
+stepped : (g : _) (c : After-publish_durable g) (s : Start g.row.D.Denot) (items : List Judged) → AtWork g.D.Disk.honest g.D.Disk.history g.D.Disk.failures s items c.args.desk → HasStepped g.D.Disk.honest g.D.Disk.history g.D.Disk.failures s items (record (c.args.desk) { engine = c.advance.new.engine })
+stepped g c s items w = let e = c.in-Ok.ensures in step_done g.D.Disk.honest g.D.Disk.history g.D.Disk.failures s items c.args.desk w c.advance.new.engine (rw c.get_mut.ensures.value at e.taken) ((rw c.get_mut.ensures.value at e.works) (w.desk.works refl)) (rw c.get_mut.ensures.value at e.rises) (rw c.get_mut.ensures.value at e.base)
 
-common : (g : _) (c : After-publish_durable-desk g) → durable_of c.publish_durable-desk.result.0.engine.log + length c.publish_durable-desk.result.0.engine.block ≡ durable_of c.args.desk.engine.log + length c.args.desk.engine.block
-common g c = let w = c.requires.work in
-    ap (λ (e : Engine g.row.D.Denot). durable_of e.log + length e.block) c.publish_durable-desk.ensures.engine ∙ same_common g.D.Disk.honest g.D.Disk.history g.D.Disk.failures w.0 w.1 c.args.desk w.2 c.flush_or_sync.new.engine (rw c.get_mut.ensures.value at c.in-Ok.ensures.taken)
+pub returns-clause-works : goal.returns-clause-works
+returns-clause-works g c = λ s items w. c.publish_durable.ensures.works s items (stepped g (goal.at.returns-clause-works g c).After-publish_durable s items w)
 
-pub returns-in-Ok-published-clause-works : goal.returns-in-Ok-published-clause-works
-returns-in-Ok-published-clause-works g c = λ s items w. let p = c.publish_durable-desk in
-    subst (λ (r : Result (Unit {0}) Refusal). OnOk r (AtWork g.D.Disk.honest g.D.Disk.history g.D.Disk.failures s items p.result.0)) c.in-Ok-published.is (p.ensures.works s items (stepped g (goal.at.returns-in-Ok-published-clause-works g c).After-publish_durable-desk s items w))
+pub returns-clause-given : goal.returns-clause-given
+returns-clause-given g c = λ s items w. c.publish_durable.ensures.given s items (stepped g (goal.at.returns-clause-given g c).After-publish_durable s items w)
 
-pub returns-in-Ok-published-clause-given : goal.returns-in-Ok-published-clause-given
-returns-in-Ok-published-clause-given g c = λ s items w. c.publish_durable-desk.ensures.given s items (stepped g (goal.at.returns-in-Ok-published-clause-given g c).After-publish_durable-desk s items w)
-
-pub returns-in-Ok-published-clause-common : goal.returns-in-Ok-published-clause-common
-returns-in-Ok-published-clause-common g c = common g (goal.at.returns-in-Ok-published-clause-common g c).After-publish_durable-desk
-
-pub returns-in-Err-published-clause-given : goal.returns-in-Err-published-clause-given
-returns-in-Err-published-clause-given g c = λ s items w. c.publish_durable-desk.ensures.given s items (stepped g (goal.at.returns-in-Err-published-clause-given g c).After-publish_durable-desk s items w)
-
-pub returns-in-Err-published-clause-common : goal.returns-in-Err-published-clause-common
-returns-in-Err-published-clause-common g c = common g (goal.at.returns-in-Err-published-clause-common g c).After-publish_durable-desk
+pub returns-clause-common : goal.returns-clause-common
+returns-clause-common g c = let w = c.requires.work in
+    ap (λ (e : Engine g.row.D.Denot). durable_of e.log + length e.block) c.publish_durable.ensures.engine ∙ same_common g.D.Disk.honest g.D.Disk.history g.D.Disk.failures w.0 w.1 c.args.desk w.2 c.advance.new.engine (rw c.get_mut.ensures.value at c.in-Ok.ensures.taken)

@@ -22,7 +22,7 @@ begun : (g : Over) (c : After-paced g) → Came g c.claim-ticket.result c.args.s
 begun g c before = drew_later g.D.Disk.honest g.D.Disk.history g.D.Disk.failures _ c.claim-ticket.new.seat.view c.paced.new.seat.view _ before c.paced.ensures.later
 
 near : (g : Over) (c : After-wait_durable g) → Came g c.claim-ticket.result c.args.seat.now.view c.paced.new.seat.view → Came g c.claim-ticket.result c.args.seat.now.view c.wait_durable.new.seat.view
-near g c before = drew_later g.D.Disk.honest g.D.Disk.history g.D.Disk.failures _ c.paced.new.seat.view c.wait_durable.new.seat.view _ before c.wait_durable.ensures.later
+near g c before = drew_went g.D.Disk.honest g.D.Disk.history g.D.Disk.failures _ c.paced.new.seat.view c.wait_durable.new.seat.view _ before c.wait_durable.ensures.idle.0 c.wait_durable.ensures.idle.1
 
 certified : (g : Over) (c : After-certify g) → Came g c.claim-ticket.result c.args.seat.now.view c.wait_durable.new.seat.view → Came g c.claim-ticket.result c.args.seat.now.view c.certify.new.seat.view
 certified g c before = drew_went g.D.Disk.honest g.D.Disk.history g.D.Disk.failures _ c.wait_durable.new.seat.view c.certify.new.seat.view _ before c.certify.ensures.went c.certify.ensures.own.0
@@ -37,7 +37,7 @@ waits : (g : Over) (c : After-paced-3 g) → Came g c.claim-ticket.result c.args
 waits g c before = drew_later g.D.Disk.honest g.D.Disk.history g.D.Disk.failures _ c.queue.new.seat.view c.paced-3.new.seat.view _ before c.paced-3.ensures.later
 
 ended : (g : Over) (c : After-wait_durable-2 g) → Came g c.claim-ticket.result c.args.seat.now.view c.paced-3.new.seat.view → Came g c.claim-ticket.result c.args.seat.now.view c.wait_durable-2.new.seat.view
-ended g c before = drew_later g.D.Disk.honest g.D.Disk.history g.D.Disk.failures _ c.paced-3.new.seat.view c.wait_durable-2.new.seat.view _ before c.wait_durable-2.ensures.later
+ended g c before = drew_went g.D.Disk.honest g.D.Disk.history g.D.Disk.failures _ c.paced-3.new.seat.view c.wait_durable-2.new.seat.view _ before c.wait_durable-2.ensures.idle.0 c.wait_durable-2.ensures.idle.1
 
 pub returns-in_err-paced-clause-drawn : goal.returns-in_err-paced-clause-drawn
 returns-in_err-paced-clause-drawn g c = let at = goal.at.returns-in_err-paced-clause-drawn g c in (c.claim-ticket.result, begun g at.After-paced (claimed g at.After-claim-ticket), search rules)
@@ -63,6 +63,12 @@ returns-in_err-wait_durable-2-clause-drawn g c = let at = goal.at.returns-in_err
 pub returns-clause-drawn : goal.returns-clause-drawn
 returns-clause-drawn g c = let at = goal.at.returns-clause-drawn g c in (c.claim-ticket.result, ended g at.After-wait_durable-2 (waits g at.After-paced-3 (queued g at.After-queue (judged g at.After-paced-2 (certified g at.After-certify (near g at.After-wait_durable (begun g at.After-paced (claimed g at.After-claim-ticket))))))), search rules)
 
+pub wait_durable-requires-clause-seat : goal.wait_durable-requires-clause-seat
+wait_durable-requires-clause-seat g c = let at = goal.at.wait_durable-requires-clause-seat g c in (begun g at.After-paced (claimed g at.After-claim-ticket)).seat
+
+pub wait_durable-requires-2-clause-seat : goal.wait_durable-requires-2-clause-seat
+wait_durable-requires-2-clause-seat g c = let at = goal.at.wait_durable-requires-2-clause-seat g c in (waits g at.After-paced-3 (queued g at.After-queue (judged g at.After-paced-2 (certified g at.After-certify (near g at.After-wait_durable (begun g at.After-paced (claimed g at.After-claim-ticket))))))).seat
+
 pub certify-requires-clause-seat : goal.certify-requires-clause-seat
 certify-requires-clause-seat g c = let at = goal.at.certify-requires-clause-seat g c in (near g at.After-wait_durable (begun g at.After-paced (claimed g at.After-claim-ticket))).seat
 
@@ -79,5 +85,5 @@ returns-clause-passed g c =
     let seqno : c.in_ok-judged.judged.seqno ≡ c.claim-ticket.result = c.in_ok-judged.ensures.joined.1 in
     let passed : c.in_ok-judged.judged.seqno < reached_at 2 c.queue.new.seat.view.reached = search rules in
     let third = ap (λ (z : View (Home g.row.D.Denot) Judged). reached_at 2 z.reached) c.paced-3.ensures.later.same in
-    let last = ap (λ (z : View (Home g.row.D.Denot) Judged). reached_at 2 z.reached) c.wait_durable-2.ensures.later.same in
+    let last = c.wait_durable-2.ensures.idle.0.goes.reached 2 in
     passed_next _ _ _ all.went all.own (let here : c.claim-ticket.result < reached_at 2 c.wait_durable-2.new.seat.view.reached = omega arith in here)

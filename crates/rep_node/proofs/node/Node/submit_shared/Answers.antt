@@ -43,7 +43,7 @@ run-end-requires-clause-jobs g c κs within = let n : ℕ = length c.args.items.
 
 pub returns-clause-seat : goal.returns-clause-seat
 returns-clause-seat g c = let enough = c.requires.allowance in let is = left g (goal.at.returns-clause-seat g c).After-split_off in
-    let went = settled_went c.args.items.now (length c.args.items.now) (g.P.Pace.lets c.args.pace.now) c.args.seat.now.view c.split_off.new.seat.view c.run-end.new.seat.view c.run-end.new.receipts.items c.run-end.result (omega arith) is c.run-end.ensures.gathered in
+    let went = settled_went c.args.items.now (length c.args.items.now) (g.P.Pace.lets c.args.pace.now) c.args.keeps c.args.seat.now.view c.split_off.new.seat.view c.run-end.new.seat.view c.run-end.new.receipts.items c.run-end.result (omega arith) is c.run-end.ensures.gathered in
     seat_goes g.D.Disk.honest g.D.Disk.history g.D.Disk.failures c.args.seat.now.view c.run-end.new.seat.view went.goes c.run-end.ensures.gathered.once c.requires.rests.1.seat
 
 pub returns-clause-sees : goal.returns-clause-sees
@@ -51,15 +51,15 @@ returns-clause-sees g c = c.run-end.ensures.gathered.sees
 
 pub returns-clause-handed_in : goal.returns-clause-handed_in
 returns-clause-handed_in g c = let enough = c.requires.allowance in
-    settled c.args.items.now (length c.args.items.now) (g.P.Pace.lets c.args.pace.now) c.args.seat.now.view c.split_off.new.seat.view c.run-end.new.seat.view c.run-end.new.receipts.items c.run-end.result (omega arith) (left g (goal.at.returns-clause-handed_in g c).After-split_off) c.run-end.ensures.gathered
+    settled c.args.items.now (length c.args.items.now) (g.P.Pace.lets c.args.pace.now) c.args.keeps c.args.seat.now.view c.split_off.new.seat.view c.run-end.new.seat.view c.run-end.new.receipts.items c.run-end.result (omega arith) (left g (goal.at.returns-clause-handed_in g c).After-split_off) c.run-end.ensures.gathered
     (record { receipts = c.sort_unstable_by_key.new.self; end = c.run-end.result }) c.sort_unstable_by_key.ensures.permutation (IsNonDecreasingBy-from_sort_by_key seqno_of c.sort_unstable_by_key.new.self.items c.sort_unstable_by_key.ensures.sorted (λ a r q k. search rules)) refl
 
-pub returns-clause-goes : goal.returns-clause-goes
-returns-clause-goes g c = c.run-end.ensures.gathered.kept ∙ ap (λ (z : View (Home g.row.D.Denot) Judged). z.given_up) (left g (goal.at.returns-clause-goes g c).After-split_off)
+pub returns-clause-kept : goal.returns-clause-kept
+returns-clause-kept g c = λ alone. c.run-end.ensures.gathered.kept alone ∙ ap (λ (z : View (Home g.row.D.Denot) Judged). z.given_up) (left g (goal.at.returns-clause-kept g c).After-split_off)
 
 pub returns-clause-runs : goal.returns-clause-runs
 returns-clause-runs g c = λ none. c.run-end.ensures.gathered.runs none ∙ (ap (λ (z : View (Home g.row.D.Denot) Judged). z.halted) (left g (goal.at.returns-clause-runs g c).After-split_off) ∙ c.requires.runs)
 
 pub returns-clause-stopped : goal.returns-clause-stopped
 returns-clause-stopped g c = let enough = c.requires.allowance in
-    settled_stopped c.args.items.now (length c.args.items.now) (g.P.Pace.lets c.args.pace.now) c.args.seat.now.view c.split_off.new.seat.view c.run-end.new.seat.view c.run-end.new.receipts.items c.run-end.result (omega arith) (left g (goal.at.returns-clause-stopped g c).After-split_off) c.run-end.ensures.gathered
+    settled_stopped c.args.items.now (length c.args.items.now) (g.P.Pace.lets c.args.pace.now) c.args.keeps c.args.seat.now.view c.split_off.new.seat.view c.run-end.new.seat.view c.run-end.new.receipts.items c.run-end.result (omega arith) (left g (goal.at.returns-clause-stopped g c).After-split_off) c.run-end.ensures.gathered

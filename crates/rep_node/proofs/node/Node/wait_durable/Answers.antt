@@ -1,17 +1,20 @@
-use Rattle.std.proofs.Common.{refl, ap, subst}
+use Rattle.std.proofs.Common.{refl, ap}
 use Rattle.rep_types.specs.declared.judged.Judged.{Judged}
 use Rattle.rep_ordered.specs.declared.view.View.{View}
-use Rattle.rep_ordered.specs.Views.{Sees}
-use Rattle.rep_ordered.specs.GoingLaws.{later_same}
+use Rattle.rep_ordered.specs.Views.{Later}
+use Rattle.rep_ordered.specs.GoingLaws.{goes_later, later_same}
 use Rattle.rep_node.specs.declared.home.Home.{Home}
-use Rattle.rep_node.specs.Homes.{IsLegal}
+use Rattle.rep_node.specs.Seats.{IsSeat}
+use Rattle.rep_node.proofs.Moves.{seat_still}
+use Rattle.rep_node.proofs.node.Node.wait_durable.Given.{Over}
 use Rattle.rep_node.proofs.node.Node.wait_durable.Goals as goal
 
 pub loop-init : goal.loop-init
 loop-init g c = (refl, later_same _)
 
-pub returns-then-front-clause-sees : goal.returns-then-front-clause-sees
-returns-then-front-clause-sees g c = subst (λ first. Sees (IsLegal first) c.front-front.new.seat.view) (ap (λ (z : View (Home g.row.D.Denot) Judged). z.first) c.loop.invariant.1.same) c.front-front.ensures.sees
+-- it is a seat of the node still, however much it learnt
+learnt : (g : Over) (v w : View (Home g.row.D.Denot) Judged) → Later v w → IsSeat g.D.Disk.honest g.D.Disk.history g.D.Disk.failures v → IsSeat g.D.Disk.honest g.D.Disk.history g.D.Disk.failures w
+learnt g v w later = seat_still g.D.Disk.honest g.D.Disk.history g.D.Disk.failures v w (goes_later v w later) (ap (λ (z : View (Home g.row.D.Denot) Judged). z.own) later.same)
 
-pub returns-then-front-least-clause-sees : goal.returns-then-front-least-clause-sees
-returns-then-front-least-clause-sees g c = subst (λ first. Sees (IsLegal first) c.front-front.new.seat.view) (ap (λ (z : View (Home g.row.D.Denot) Judged). z.first) c.loop.invariant.1.same) c.front-front.ensures.sees
+pub keep_on-kept-requires-clause-seat : goal.keep_on-kept-requires-clause-seat
+keep_on-kept-requires-clause-seat g c = learnt g c.loop.seat.view c.front-front.new.seat.view c.front-front.ensures.later (learnt g c.args.seat.now.view c.loop.seat.view c.loop.invariant.1 c.requires.seat)

@@ -12,7 +12,7 @@ returns-in-Err g c = let inv = c.loop-place.invariant in let ready = c.requires.
       worked = record {
         lock = c.submit.ensures.lock ∙ inv.0;
         range = (inv.1, inv.2);
-        kept = c.submit.ensures.goes ∙ inv.5;
+        kept = λ alone. c.submit.ensures.kept alone ∙ inv.5 alone;
         runs = λ none. absurd (subst full none tt);
         paced = inv.6;
         went = Rattle.rep_ordered.specs.GoingLaws.went_on c.args.job.now.seat.view c.loop-place.job.seat.view c.submit.new.seat.view inv.8.went drew.went;
@@ -35,7 +35,7 @@ loop-place-preserved g c = let inv = c.loop-place.invariant in let ready = c.req
       inv.2,
       inv.3,
       c.push_reserved.ensures.capacity ∙ inv.4,
-      c.submit.ensures.goes ∙ inv.5,
+      λ alone. c.submit.ensures.kept alone ∙ inv.5 alone,
       subst (AreLetOn (g.P.Pace.lets c.args.pace.now)) (sym items) (every_append _ c.loop-place.job.receipts.items (r ∷ []) inv.6 (c.in-Ok.ensures.paced, tt)),
       λ _. c.in-Ok.ensures.runs,
       subst (AtPlace g.D.Disk.honest g.D.Disk.history g.D.Disk.failures c.args.items.now c.args.job.now.from (place + 1) c.args.job.now.seat.view c.submit.new.seat.view) (sym items)

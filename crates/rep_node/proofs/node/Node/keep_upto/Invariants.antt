@@ -1,6 +1,6 @@
 use Rattle.std.proofs.Common.{◌≡◌}
 use Rattle.rep_ordered.specs.Going.{Went}
-use Rattle.rep_node.proofs.node.Node.keep.Given as goal
+use Rattle.rep_node.proofs.node.Node.keep_upto.Given as goal
 
 -- the seat went on, drew nothing and let nothing join
 abbrev pub invariant-loop : goal.invariant-loop
