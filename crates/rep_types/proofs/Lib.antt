@@ -15,3 +15,4 @@ pub mod Digits
 pub mod Gtids
 pub mod Reaches
 pub mod KeyNumbers
+pub mod Repeating

@@ -1,5 +1,5 @@
 -- The verdicts of an order in the subject's own words, by pairs of its items.
-use Rattle.std.specs.Prelude.{◌≡◌, ◌≢◌, ℕ, ◌+◌, ◌-◌, ◌<◌, ◌≤◌, [], ◌∷◌, ◌++◌, length, All, Contains}
+use Rattle.std.specs.Prelude.{◌≡◌, ◌≢◌, ◌⊎◌, ℕ, ◌+◌, ◌-◌, ◌<◌, ◌≤◌, [], ◌∷◌, ◌++◌, length, All, Contains}
 use Rattle.rep_types.specs.declared.key.Key.{Key}
 use Rattle.rep_types.specs.declared.item.Item.{Item}
 use Rattle.rep_types.specs.declared.item.Item.TheVariants.{WriteSet, SetWindow}
@@ -59,3 +59,23 @@ pub record StateIsEnough : Type 0 where
 abbrev pub ReadsAreSerial : Type 0
 ReadsAreSerial = (p : Setting) (L : Order) (n : ℕ) (key : Key) → 0 < n → n ≤ length L → verdict p L n ≡ Commit →
     Contains (reads_of (item L n)) key → read p L key (seen_by (item L n)) ≡ read p L key (n - 1)
+
+-- The write sets are the same but for their labels: their transactions saw, read and wrote the same.
+pub record AreEqual (w v : Transaction) : Type 0 where
+  pub seen : v.last_seen ≡ w.last_seen
+  pub reads : v.reads ≡ w.reads
+  pub writes : v.writes ≡ w.writes
+
+-- The items m and n of the order are equal write sets, which write something, as each within its limits does.
+pub record AreEqualAt (L : Order) (m n : ℕ) (w v : Transaction) : Type 0 where
+  pub first : (0 < m) × (m ≤ length L) × (item L m ≡ WriteSet w)
+  pub second : (0 < n) × (n ≤ length L) × (item L n ≡ WriteSet v)
+  pub equal : AreEqual w v
+  pub some_write : 0 < length w.writes
+
+-- Of equal write sets at most one commits (this project): one behind another that committed is stale, or in conflict with that one or with
+-- a later one. So who does not know whether an item came into the order may send it again.
+pub record EqualItemsCommitOnce : Type 0 where
+  pub once : (p : Setting) (L : Order) (m n : ℕ) (w v : Transaction) → AreEqualAt L m n w v → verdict p L m ≡ Commit → verdict p L n ≡ Commit → m ≡ n
+  pub behind : (p : Setting) (L : Order) (m n : ℕ) (w v : Transaction) → AreEqualAt L m n w v → m < n → verdict p L m ≡ Commit →
+      (verdict p L n ≡ Stale) ⊎ ((k : ℕ) × (verdict p L n ≡ Conflict k) × (m ≤ k))

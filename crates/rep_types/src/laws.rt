@@ -1,7 +1,7 @@
 //! Laws of the definitions, each as the contract of a function that does nothing: a law holds by
 //! its proof, and calling the function brings it to the caller.
 
-ghost use Rattle.rep_types.specs.Verdicts.{VerdictsAreDetermined, StateIsEnough, ReadsAreSerial};
+ghost use Rattle.rep_types.specs.Verdicts.{VerdictsAreDetermined, StateIsEnough, ReadsAreSerial, EqualItemsCommitOnce};
 ghost use Rattle.rep_types.specs.ByItems.{HistoryByItems, WindowByItems, RowsByItems, ReadsByItems, StateByParts, SizeByItems, FloorByItems, ReachByItems};
 
 /// The verdicts of an order are the one assignment in which each item has the verdict that its
@@ -20,6 +20,13 @@ pub fn state_is_enough()
 /// transactions are serializable in the order of their seqnos.
 pub fn reads_are_serial()
     ensures { ReadsAreSerial }
+{}
+
+/// Of write sets that saw, read and wrote the same, whatever their labels, at most one commits: one behind
+/// another that committed is stale, or in conflict with that one or with a later one. So who does not know
+/// whether an item came into the order may send it again.
+pub fn equal_items_commit_once()
+    ensures { EqualItemsCommitOnce }
 {}
 
 /// The item that `n` items stand before has the seqno `n + 1`, and the history has as many items as

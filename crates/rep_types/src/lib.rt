@@ -27,9 +27,9 @@ pub use item::{Item, SetWindow};
 pub use judged::Judged;
 pub use key::Key;
 pub use laws::{
-    floor_by_items, history_by_items, reach_by_items, reads_are_serial, reads_by_items,
-    rows_by_items, size_by_items, state_by_parts, state_is_enough, verdicts_are_determined,
-    window_by_items,
+    equal_items_commit_once, floor_by_items, history_by_items, reach_by_items, reads_are_serial,
+    reads_by_items, rows_by_items, size_by_items, state_by_parts, state_is_enough,
+    verdicts_are_determined, window_by_items,
 };
 pub use limits::{
     MAX_AHEAD, MAX_CELLS, MAX_PAGES, MAX_READS, MAX_SEQNO, MAX_TABLES, MAX_VALUE, MAX_WINDOW,
