@@ -10,3 +10,4 @@ pub mod Gathering
 pub mod Fronts
 pub mod Rooms
 pub mod Records
+pub mod Publishing

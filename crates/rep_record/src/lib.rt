@@ -11,6 +11,7 @@ mod limits;
 mod order_line;
 mod params_line;
 mod pieces;
+mod published;
 mod record;
 mod room;
 mod text_reader;
@@ -27,6 +28,7 @@ pub use limits::{BLOCK, MAX_BLOCK, MAX_RECORD, MAX_RECORDS, block_limits_are_the
 pub use order_line::{read_order_line, read_stated};
 pub use params_line::read_params_line;
 pub use pieces::{cut_at, read_key};
+pub use published::{no_effect, published_item};
 pub use record::{is_placed, put_record, read_record, records_are_told};
 pub use room::Room;
 pub use text_reader::{MAX_LINE, MAX_TEXT, TextReader};
