@@ -7,6 +7,8 @@ pub mod Settling
 pub mod Retiring
 pub mod Installing
 pub mod LoggingOn
+pub mod Committing
+pub mod Turning
 pub mod Gathering
 pub mod Refusing
 pub mod Judging

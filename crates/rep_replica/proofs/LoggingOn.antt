@@ -1,8 +1,8 @@
 -- The log's steps of a replica that settles, and how much they leave to do.
-use Rattle.std.proofs.Common.{◌≡◌, ℕ, ◌+◌, ◌*◌, ◌<◌, ◌≤◌, inl, inr, Bool, true, false, List, [], ◌∷◌, ◌++◌, length, drop, None, Some, refl, sym, ap, subst, ◌∙◌, arith, get_or-set_same, length-set, length-drop, length-append}
+use Rattle.std.proofs.Common.{◌≡◌, ℕ, ◌+◌, ◌*◌, ◌<◌, ◌≤◌, ◌⊎◌, inl, inr, Bool, true, false, List, [], ◌∷◌, ◌++◌, length, drop, None, Some, refl, sym, ap, subst, ◌∙◌, arith, get_or-set_same, length-set, length-drop, length-append}
 use Rattle.std.proofs.Math.ListN.{get_or-eq_default}
 use Rattle.rep_types.specs.Settings.{Setting, is_setting}
-use Rattle.std.proofs.lemmas.Bool.{cases_lt}
+use Rattle.std.proofs.lemmas.Bool.{cases_lt, false_from_ne_true}
 use Rattle.std.proofs.lemmas.Bool.Decides.{nat_tests}
 use Rattle.std.specs.Prelude.{IfSome, nat_le, ◌==◌, if◌then◌else◌, get_or, slice_get, slice_set}
 use Rattle.rep_types.specs.declared.judged.Judged.{Judged}
@@ -12,17 +12,19 @@ use Rattle.rep_types.specs.Items.{IsWithin}
 use Rattle.rep_record.specs.Fronts.{fitting, FrontsAreDetermined}
 use Rattle.rep_log.specs.declared.phase.Phase.{Phase}
 use Rattle.rep_log.specs.declared.phase.Phase.TheVariants.{Resting, Closing, Filling, Filled, Opening}
+use Rattle.rep_log.specs.declared.phase.Step.{Step}
 use Rattle.rep_log.specs.declared.phase.Step.TheVariants.{Recycle, Seal, Gate, Sync as to_sync, Full}
 use Rattle.rep_log.specs.Standing.{Standing as Log, busy, stands_at, index_of, due_in, due_of}
 use Rattle.rep_log.specs.Moves.{after_sync, synced_in, gated_in, started}
 use Rattle.rep_steps.specs.declared.event.Event.{Event}
 use Rattle.rep_steps.specs.declared.event.Event.TheVariants.{Log as to_log, Sync, Check}
 use Rattle.rep_steps.specs.Standings.{Standing, refusal_here, log_refusal, check_refusal, gathered, Flushing, Off, Toward}
-use Rattle.rep_steps.specs.Moves.{Found, after, checked, start_after, opening}
+use Rattle.rep_steps.specs.Moves.{Found, after, checked, opening}
 use Rattle.rep_engine.specs.Engines.{IsEngine, IsWhole, HasAll, phase_at, durable_of}
 use Rattle.rep_engine.specs.Writing.{IsWrite, written_in}
 use Rattle.rep_replica.specs.Replicas.{Replica, ArePlaced, facts_of}
 use Rattle.rep_replica.specs.Settling.{IsRunning, log_event, due_at, due, start_of, Rests, left_at_rest, left_in, work_of}
+use Rattle.rep_replica.specs.Committing.{is_full_in, is_full, LeavesRoom}
 
 -- ---- what is due of the log
 
@@ -41,6 +43,23 @@ full_by log (Opening n) is due = absurd (let never : to_sync ≡ Full = due in c
 
 pub full_due : (log : Log) → due_of log ≡ Full → (log.phase ≡ Resting) × (nat_le (log.start + log.cells) log.next ≡ true)
 full_due log due = full_by log log.phase refl due
+
+-- a log at rest awaits no sync
+rests_no_sync : (log : Log) → due_in log Resting ≡ to_sync → ⊥
+rests_no_sync log due = by (nat_le (log.start + log.cells) log.next) (stands_at log (index_of log)) due
+  where
+    by : (live stale : Bool) → (if live then Full else if stale then Recycle else Seal) ≡ to_sync → ⊥
+    by true stale e = let never : Full ≡ to_sync = e in cc
+    by false true e = let never : Recycle ≡ to_sync = e in cc
+    by false false e = let never : Seal ≡ to_sync = e in cc
+
+-- what a log that awaits a sync has written
+pub awaits : (log : Log) (phase : Phase) → due_in log phase ≡ to_sync → (phase ≡ Closing) ⊎ (((n : ℕ) × (phase ≡ Filling n)) ⊎ ((n : ℕ) × (phase ≡ Opening n)))
+awaits log Resting due = absurd (rests_no_sync log due)
+awaits log Closing due = inl refl
+awaits log (Filling n) due = inr (inl (n, refl))
+awaits log (Filled n) due = absurd (let never : Gate ≡ to_sync = due in cc)
+awaits log (Opening n) due = inr (inr (n, refl))
 
 -- ---- a block that has something takes something
 
@@ -105,7 +124,7 @@ module _ {D : Type 0} (failures : D → ℕ) (r : Replica D) (running : IsRunnin
   live_is : (live : Bool) → nat_le (r.engine.log.start + r.engine.log.cells) r.engine.log.next ≡ live → nat_le ((facts_of failures r).start + (facts_of failures r).setting.cells) (facts_of failures r).next ≡ live
   live_is live is = ap (λ c. nat_le (r.engine.log.start + c) r.engine.log.next) (sym h.cells) ∙ is
 
-  write_by : (phase : Phase) → IsWrite (due_in r.engine.log phase) → log_event (facts_of failures r) phase ≡ to_log
+  pub write_by : (phase : Phase) → IsWrite (due_in r.engine.log phase) → log_event (facts_of failures r) phase ≡ to_log
   write_by Resting write = by (nat_le (r.engine.log.start + r.engine.log.cells) r.engine.log.next) (stands_at r.engine.log (index_of r.engine.log)) refl write
     where
       by : (live stale : Bool) → nat_le (r.engine.log.start + r.engine.log.cells) r.engine.log.next ≡ live → IsWrite (if live then Full else if stale then Recycle else Seal) → log_event (facts_of failures r) Resting ≡ to_log
@@ -116,13 +135,8 @@ module _ {D : Type 0} (failures : D → ℕ) (r : Replica D) (running : IsRunnin
   write_by (Filled n) write = refl
   write_by (Opening n) write = absurd write
 
-  sync_by : (phase : Phase) → due_in r.engine.log phase ≡ to_sync → log_event (facts_of failures r) phase ≡ Sync
-  sync_by Resting is = absurd (by (nat_le (r.engine.log.start + r.engine.log.cells) r.engine.log.next) (stands_at r.engine.log (index_of r.engine.log)) is)
-    where
-      by : (live stale : Bool) → (if live then Full else if stale then Recycle else Seal) ≡ to_sync → ⊥
-      by true stale e = let never : Full ≡ to_sync = e in cc
-      by false true e = let never : Recycle ≡ to_sync = e in cc
-      by false false e = let never : Seal ≡ to_sync = e in cc
+  pub sync_by : (phase : Phase) → due_in r.engine.log phase ≡ to_sync → log_event (facts_of failures r) phase ≡ Sync
+  sync_by Resting is = absurd (rests_no_sync r.engine.log is)
   sync_by Closing is = refl
   sync_by (Filling n) is = refl
   sync_by (Filled n) is = absurd (let never : Gate ≡ to_sync = is in cc)
@@ -138,6 +152,39 @@ module _ {D : Type 0} (failures : D → ℕ) (r : Replica D) (running : IsRunnin
   check_due off some is =
       let full = full_due r.engine.log is in
       due_off Check off some (ap (log_event (facts_of failures r)) full.0 ∙ ap (λ b. if b then Check else to_log) (live_is true full.1))
+
+  -- ---- whether it is full
+
+  pub full_if : due_of r.engine.log ≡ Full → is_full (facts_of failures r) ≡ true
+  full_if is =
+      let full = full_due r.engine.log is in
+      ap (is_full_in (facts_of failures r)) (phase_is ∙ full.0) ∙ live_is true full.1
+
+  full_by_facts : (phase : Phase) → is_full_in (facts_of failures r) phase ≡ true → due_in r.engine.log phase ≡ Full
+  full_by_facts Resting full =
+      let live : nat_le (r.engine.log.start + r.engine.log.cells) r.engine.log.next ≡ true = ap (λ c. nat_le (r.engine.log.start + c) r.engine.log.next) h.cells ∙ full in
+      ap (λ b. if b then Full else if stands_at r.engine.log (index_of r.engine.log) then Recycle else Seal) live
+  full_by_facts Closing full = absurd (let never : false ≡ true = full in cc)
+  full_by_facts (Filling n) full = absurd (let never : false ≡ true = full in cc)
+  full_by_facts (Filled n) full = absurd (let never : false ≡ true = full in cc)
+  full_by_facts (Opening n) full = absurd (let never : false ≡ true = full in cc)
+
+  pub full_of : is_full (facts_of failures r) ≡ true → due_of r.engine.log ≡ Full
+  full_of full = full_by_facts r.engine.log.phase (sym (ap (is_full_in (facts_of failures r)) phase_is) ∙ full)
+
+  pub not_full : (due_of r.engine.log ≡ Full → ⊥) → is_full (facts_of failures r) ≡ false
+  not_full not = false_from_ne_true (is_full (facts_of failures r)) (λ full. not (full_of full))
+
+  -- where it is neither full nor awaits a sync, there is something to write
+  writes_by : (step : Step) → due_of r.engine.log ≡ step → is_full (facts_of failures r) ≡ false → (due_of r.engine.log ≡ to_sync → ⊥) → IsWrite step
+  writes_by Recycle is free none = tt
+  writes_by Seal is free none = tt
+  writes_by Gate is free none = tt
+  writes_by to_sync is free none = absurd (none is)
+  writes_by Full is free none = absurd (let never : true ≡ false = sym (full_if is) ∙ free in cc)
+
+  pub writes : is_full (facts_of failures r) ≡ false → (due_of r.engine.log ≡ to_sync → ⊥) → IsWrite (due_of r.engine.log)
+  writes free none = writes_by (due_of r.engine.log) refl free none
 
 -- ---- how much is left
 
@@ -168,7 +215,7 @@ abbrev stale_in : {D : Type 0} → Replica D → Bool
 stale_in r = stands_at r.engine.log (index_of r.engine.log)
 
 -- as its phase has it
-work_is : {D : Type 0} (failures : D → ℕ) (r : Replica D) (phase : Phase) → (facts_of failures r).phase ≡ phase → work_of failures r ≡ 8 * length (facts_of failures r).ahead + left_in (facts_of failures r) (stale_in r) phase
+pub work_is : {D : Type 0} (failures : D → ℕ) (r : Replica D) (phase : Phase) → (facts_of failures r).phase ≡ phase → work_of failures r ≡ 8 * length (facts_of failures r).ahead + left_in (facts_of failures r) (stale_in r) phase
 work_is failures r phase is = ap (λ (p : Phase). 8 * length (facts_of failures r).ahead + left_in (facts_of failures r) (stale_in r) p) is
 
 module _ {D : Type 0} (failures : D → ℕ) (old new : Replica D) (running : IsRunning old) (runs : IsRunning new) (h : IsEngine old.engine.layout old.engine.checkpoint old.engine.log old.engine.kept old.engine.block) where
@@ -217,53 +264,75 @@ module _ {D : Type 0} (failures : D → ℕ) (old new : Replica D) (running : Is
 
   -- ---- a sync
 
-  synced_by : (b : ℕ) (f : Found) (phase : Phase) → log.phase ≡ phase → due_in log phase ≡ to_sync → s.stage ≡ Off → t ≡ after s Sync f → new.engine.log ≡ started b (synced_in log phase) → work_of failures new < work_of failures old
-  synced_by b f Resting is due off moved after = absurd (rests (nat_le (log.start + log.cells) log.next) (stale_in old) due)
-    where
-      rests : (live stale : Bool) → (if live then Full else if stale then Recycle else Seal) ≡ to_sync → ⊥
-      rests true stale e = let never : Full ≡ to_sync = e in cc
-      rests false true e = let never : Recycle ≡ to_sync = e in cc
-      rests false false e = let never : Seal ≡ to_sync = e in cc
-  synced_by b f Closing is due off moved after =
-      let index = index_of log in
-      let now = new_phase Resting (ap (λ (l : Log). l.phase) after) in
-      let ahead : t.ahead ≡ s.ahead = ap (λ (x : Standing). x.ahead) moved ∙ ap (λ (p : Phase). drop (opening p) s.ahead) (old_phase Closing is) in
+  -- the cell whose gate was closed is free
+  closed_free : (b : ℕ) (f : Found) → log.phase ≡ Closing → t ≡ after s Sync f → new.engine.log ≡ started b (synced_in log Closing) → nat_le (t.start + t.setting.cells) t.next ≡ false
+  closed_free b f is moved after =
       let next : t.next ≡ log.next = ap (λ (l : Log). l.next) after in
-      let start : t.start ≡ log.start = ap (λ (x : Standing). x.start) moved ∙ ap (start_after s.start) off in
+      let start : log.start ≤ t.start = omega (arith, ap (λ (l : Log). l.start) after) in
       let cells : t.setting.cells ≡ log.cells = ap (λ (x : Standing). x.setting.cells) moved ∙ sym h.cells in
       let room : log.next + 1 ≤ log.start + log.cells = subst (λ (p : Phase). log.next + busy p ≤ log.start + log.cells) is h.room in
-      let free : nat_le (t.start + t.setting.cells) t.next ≡ false = grind (arith, nat_tests, next, start, cells, room) in
-      let closed : stale_in new ≡ false = ap (λ (l : Log). stands_at l (index_of l)) after ∙ closed_at log.stands index in
-      let before : left_in t (stale_in new) Resting ≡ 4 = ap (λ x. left_at_rest x (stale_in new)) free ∙ ap (left_at_rest false) closed in
+      grind (arith, nat_tests, next, start, cells, room)
+
+  synced_by : (b : ℕ) (f : Found) (phase : Phase) → log.phase ≡ phase → due_in log phase ≡ to_sync → t ≡ after s Sync f → new.engine.log ≡ started b (synced_in log phase) → work_of failures new < work_of failures old
+  synced_by b f Resting is due moved after = absurd (rests_no_sync log due)
+  synced_by b f Closing is due moved after =
+      let now = new_phase Resting (ap (λ (l : Log). l.phase) after) in
+      let ahead : t.ahead ≡ s.ahead = ap (λ (x : Standing). x.ahead) moved ∙ ap (λ (p : Phase). drop (opening p) s.ahead) (old_phase Closing is) in
+      let closed : stale_in new ≡ false = ap (λ (l : Log). stands_at l (index_of l)) after ∙ closed_at log.stands (index_of log) in
+      let before : left_in t (stale_in new) Resting ≡ 4 = ap (λ x. left_at_rest x (stale_in new)) (closed_free b f is moved after) ∙ ap (left_at_rest false) closed in
       omega (arith, work_is failures old Closing (old_phase Closing is), work_is failures new Resting now, before, ap length ahead)
-  synced_by b f (Filling k) is due off moved after =
+  synced_by b f (Filling k) is due moved after =
       let now = new_phase (Filled k) (ap (λ (l : Log). l.phase) after) in
       let ahead : t.ahead ≡ s.ahead = ap (λ (x : Standing). x.ahead) moved ∙ ap (λ (p : Phase). drop (opening p) s.ahead) (old_phase (Filling k) is) in
       omega (arith, work_is failures old (Filling k) (old_phase (Filling k) is), work_is failures new (Filled k) now, ap length ahead)
-  synced_by b f (Filled k) is due off moved after = absurd (let never : Gate ≡ to_sync = due in cc)
-  synced_by b f (Opening k) is due off moved after =
+  synced_by b f (Filled k) is due moved after = absurd (let never : Gate ≡ to_sync = due in cc)
+  synced_by b f (Opening k) is due moved after =
       let now = new_phase Resting (ap (λ (l : Log). l.phase) after) in
       let ahead : t.ahead ≡ drop k s.ahead = ap (λ (x : Standing). x.ahead) moved ∙ ap (λ (p : Phase). drop (opening p) s.ahead) (old_phase (Opening k) is) in
       let whole : HasAll k old.engine.block = subst (λ (p : Phase). IsWhole p old.engine.block) is h.whole in
       omega (arith, work_is failures old (Opening k) (old_phase (Opening k) is), work_is failures new Resting now, left_at_most_7 t (stale_in new) Resting, ap length ahead, length-drop k s.ahead, whole.all, whole.some, length-append old.engine.block old.backlog)
 
-  pub synced_less : (b : ℕ) (f : Found) → due_of log ≡ to_sync → s.stage ≡ Off → t ≡ after s Sync f → new.engine.log ≡ started b (after_sync log) → work_of failures new < work_of failures old
-  synced_less b f due off moved after = synced_by b f log.phase refl due off moved after
+  pub synced_less : (b : ℕ) (f : Found) → due_of log ≡ to_sync → t ≡ after s Sync f → new.engine.log ≡ started b (after_sync log) → work_of failures new < work_of failures old
+  synced_less b f due moved after = synced_by b f log.phase refl due moved after
+
+  -- where the block isn't durable by it, the log still has a cell for it
+  free_by : (b : ℕ) (f : Found) (phase : Phase) → log.phase ≡ phase → opening phase ≡ 0 → due_in log phase ≡ to_sync → t ≡ after s Sync f → new.engine.log ≡ started b (synced_in log phase) → is_full t ≡ false
+  free_by b f Resting is none due moved after = absurd (rests_no_sync log due)
+  free_by b f Closing is none due moved after = ap (is_full_in t) (new_phase Resting (ap (λ (l : Log). l.phase) after)) ∙ closed_free b f is moved after
+  free_by b f (Filling k) is none due moved after = ap (is_full_in t) (new_phase (Filled k) (ap (λ (l : Log). l.phase) after))
+  free_by b f (Filled k) is none due moved after = absurd (let never : Gate ≡ to_sync = due in cc)
+  free_by b f (Opening k) is none due moved after = absurd (no_block k none (subst (λ (p : Phase). IsWhole p old.engine.block) is h.whole))
+    where
+      no_block : (k : ℕ) → k ≡ 0 → HasAll k old.engine.block → ⊥
+      no_block k none whole = omega (arith, none, whole.some)
+
+  pub synced_free : (b : ℕ) (f : Found) → due_of log ≡ to_sync → opening log.phase ≡ 0 → t ≡ after s Sync f → new.engine.log ≡ started b (after_sync log) → is_full t ≡ false
+  synced_free b f due none moved after = free_by b f log.phase refl none due moved after
 
   -- ---- a checkpoint
 
   -- it began and ended where the log's next cell was live, so the log starts at that cell now
-  pub room_made : (mid : Standing) (f : Found) → due_of log ≡ Full → s.stage ≡ Off → mid ≡ after s Check f → Rests mid t → t.stage ≡ Off → work_of failures new < work_of failures old
-  room_made mid f due off began rests ended =
-      let full = full_due log due in
-      let live : nat_le (s.start + s.setting.cells) s.next ≡ true = ap (λ c. nat_le (log.start + c) log.next) (sym h.cells) ∙ full.1 in
-      let before : left_in s (stale_in old) Resting ≡ 7 = ap (λ x. left_at_rest x (stale_in old)) live in
+  made_free : (mid : Standing) (f : Found) → s.stage ≡ Off → mid ≡ after s Check f → Rests mid t → t.stage ≡ Off → nat_le (t.start + t.setting.cells) t.next ≡ false
+  made_free mid f off began rests ended =
       let some : 0 < log.cells = omega (arith, h.cells, some_cells old.engine.checkpoint.base.params h.checkpoint.is_super.setting) in
       let cells : t.setting.cells ≡ log.cells = ap (λ (p : Setting). p.cells) rests.setting ∙ ap (λ (x : Standing). x.setting.cells) began ∙ sym h.cells in
       let stage : mid.stage ≡ Toward (record { position = s.durable; start = s.next }) (Flushing f.left) = ap (λ (x : Standing). x.stage) began ∙ ap (checked s f.left) off in
       let start : t.start ≡ s.next = sym (ap (start_of t.start) ended) ∙ rests.start ∙ ap (start_of mid.start) stage in
       let next : t.next ≡ s.next = rests.next ∙ ap (λ (x : Standing). x.next) began in
+      grind (arith, nat_tests, start, next, cells, some)
+
+  pub room_left : (mid : Standing) (f : Found) → s.stage ≡ Off → mid ≡ after s Check f → Rests mid t → t.stage ≡ Off → LeavesRoom s t
+  room_left mid f off began rests ended = record {
+    free = ap (is_full_in t) rests.phase ∙ made_free mid f off began rests ended;
+    phase = rests.phase;
+    next = rests.next ∙ ap (λ (x : Standing). x.next) began;
+  }
+
+  pub room_made : (mid : Standing) (f : Found) → due_of log ≡ Full → s.stage ≡ Off → mid ≡ after s Check f → Rests mid t → t.stage ≡ Off → work_of failures new < work_of failures old
+  room_made mid f due off began rests ended =
+      let full = full_due log due in
+      let live : nat_le (s.start + s.setting.cells) s.next ≡ true = ap (λ c. nat_le (log.start + c) log.next) (sym h.cells) ∙ full.1 in
+      let before : left_in s (stale_in old) Resting ≡ 7 = ap (λ x. left_at_rest x (stale_in old)) live in
       let ahead : t.ahead ≡ s.ahead = rests.ahead ∙ ap (λ (x : Standing). x.ahead) began in
-      let free : nat_le (t.start + t.setting.cells) t.next ≡ false = grind (arith, nat_tests, start, next, cells, some) in
-      let after : left_in t (stale_in new) Resting ≤ 6 = subst (λ x. left_at_rest x (stale_in new) ≤ 6) (sym free) (at_most_6 (stale_in new)) in
+      let after : left_in t (stale_in new) Resting ≤ 6 = subst (λ x. left_at_rest x (stale_in new) ≤ 6) (sym (made_free mid f off began rests ended)) (at_most_6 (stale_in new)) in
       omega (arith, work_is failures old Resting (old_phase Resting full.0), before, work_is failures new Resting rests.phase, after, ap length ahead)

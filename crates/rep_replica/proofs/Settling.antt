@@ -29,7 +29,7 @@ use Rattle.rep_replica.specs.Holding.{IsStep}
 use Rattle.rep_replica.specs.Running.{RunsAreJoined}
 use Rattle.rep_replica.specs.Refusing.{IsLeft}
 use Rattle.rep_replica.specs.Spelling.{MeetsBadPage}
-use Rattle.rep_replica.specs.Settling.{IsRunning, step_of_part, step_of, due_at, due, IsDue, IsOwn, AreOwn, outcome_of, AreDone, EndsIn, Works, EndsEarly, left_of, start_of, Rests}
+use Rattle.rep_replica.specs.Settling.{IsRunning, step_of_part, step_of, due_at, due, IsNext, Allows, IsOwn, AreOwn, outcome_of, AreDone, EndsIn, WorksBy, Works, EndsEarly, left_of, start_of, Rests}
 
 -- ---- what came of a step
 
@@ -116,16 +116,16 @@ done_then : (answers told : List Answer) → AreDone answers → AreDone told �
 done_then [] told all more = more
 done_then (a ∷ answers) told all more = (all.0, done_then answers told all.1 more)
 
-ends_then : (result : Result (Unit {0}) Refusal) (answers told : List Answer) → AreDone answers → EndsIn result told → EndsIn result (answers ++ told)
+pub ends_then : (result : Result (Unit {0}) Refusal) (answers told : List Answer) → AreDone answers → EndsIn result told → EndsIn result (answers ++ told)
 ends_then (Ok x) answers told all ends = done_then answers told all ends
 ends_then (Err e) answers told all ends =
     (answers ++ ends.0, done_then answers ends.0 all ends.1, ap (λ (rest : List Answer). answers ++ rest) ends.2 ∙ sym (append_assoc answers ends.0 (Refused e ∷ [])))
 
-own_then : (events more : List Event) → AreOwn events → AreOwn more → AreOwn (events ++ more)
+pub own_then : (events more : List Event) → AreOwn events → AreOwn more → AreOwn (events ++ more)
 own_then [] more all rest = rest
 own_then (e ∷ events) more all rest = (all.0, own_then events more all.1 rest)
 
-ends_by : (a : Answer) → EndsIn (outcome_of a) (a ∷ [])
+pub ends_by : (a : Answer) → EndsIn (outcome_of a) (a ∷ [])
 ends_by (Gave v) = (refl, tt)
 ends_by Wrote = (refl, tt)
 ends_by (Began c) = (refl, tt)
@@ -134,7 +134,7 @@ ends_by (Row row) = (refl, tt)
 ends_by (Refused r) = ([], tt, refl)
 
 -- steps of any kind, one after another
-runs_then : {S : Type 0} (one : S → Event → Answer → S → Type 0) (s t u : S) (events : List Event) (answers : List Answer) (more : List Event) (told : List Answer) → Runs one s events answers t → Runs one t more told u
+pub runs_then : {S : Type 0} (one : S → Event → Answer → S → Type 0) (s t u : S) (events : List Event) (answers : List Answer) (more : List Event) (told : List Answer) → Runs one s events answers t → Runs one t more told u
     → Runs one s (events ++ more) (answers ++ told) u
 runs_then one s t u [] [] more told r q = subst (λ x. Runs one x more told u) (sym r) q
 runs_then one s t u [] (b ∷ answers) more told r q = absurd r
@@ -179,7 +179,7 @@ module _ {D : Type 0} (honest : D → Type 0) (history : D → History) (failure
             (subst (λ (b : SuperBody). IsBadPage (reading_of old.engine.layout (seen (history old.engine.disk))) b page) (sym left.1) met.0)),
       )
 
-  bad_page : (e : Event) (a : Answer) → IsOwn e → refusal (facts_of failures old) e ≡ None → IsStep honest history failures old e a new → outcome_of a ≡ Err (Corrupt Pages) → MeetsBadPage honest history new
+  pub bad_page : (e : Event) (a : Answer) → IsOwn e → refusal (facts_of failures old) e ≡ None → IsStep honest history failures old e a new → outcome_of a ≡ Err (Corrupt Pages) → MeetsBadPage honest history new
   bad_page (Deliver seqno w) a own none step corrupt = absurd own
   bad_page (SetWindow seqno size source trx) a own none step corrupt = absurd own
   bad_page Log a own none step corrupt = absurd (let never : false ≡ true = corrupt_reads (facts_of failures old) (facts_of failures new) Log a none step.moves corrupt in cc)
@@ -188,9 +188,9 @@ module _ {D : Type 0} (honest : D → Type 0) (history : D → History) (failure
   bad_page (Flush page) a own none step corrupt = bad_flush page a step corrupt
   bad_page (Read key at) a own none step corrupt = absurd own
 
-module _ {D : Type 0} (honest : D → Type 0) (history : D → History) (failures : D → ℕ) (joined : RunsAreJoined honest history failures) where
-  pub works_none : (r : Replica D) → Works honest history failures r r (Ok tt)
-  works_none r = record {
+module _ (rule : Standing → Event → Type 0) {D : Type 0} (honest : D → Type 0) (history : D → History) (failures : D → ℕ) (joined : RunsAreJoined honest history failures) where
+  unfoldable pub none_by : (r : Replica D) → WorksBy rule honest history failures r r (Ok tt)
+  none_by r = record {
     events = [];
     answers = [];
     own = tt;
@@ -202,8 +202,8 @@ module _ {D : Type 0} (honest : D → Type 0) (history : D → History) (failure
     ran = joined.no_run r;
   }
 
-  pub works_one : (old new : Replica D) (e : Event) (a : Answer) → IsOwn e → refusal (facts_of failures old) e ≡ None → due (facts_of failures old) ≡ Some e → IsStep honest history failures old e a new → Works honest history failures old new (outcome_of a)
-  works_one old new e a own none is_due step = record {
+  unfoldable pub one_by : (old new : Replica D) (e : Event) (a : Answer) → IsOwn e → refusal (facts_of failures old) e ≡ None → rule (facts_of failures old) e → IsStep honest history failures old e a new → WorksBy rule honest history failures old new (outcome_of a)
+  one_by old new e a own none is_due step = record {
     events = e ∷ [];
     answers = a ∷ [];
     own = (own, tt);
@@ -215,18 +215,29 @@ module _ {D : Type 0} (honest : D → Type 0) (history : D → History) (failure
     ran = joined.one_run old new e a step;
   }
 
-  pub works_then : (old mid new : Replica D) (result : Result (Unit {0}) Refusal) → Works honest history failures old mid (Ok tt) → Works honest history failures mid new result → Works honest history failures old new result
-  works_then old mid new result w v = record {
+  unfoldable pub then_by : (old mid new : Replica D) (result : Result (Unit {0}) Refusal) → WorksBy rule honest history failures old mid (Ok tt) → WorksBy rule honest history failures mid new result → WorksBy rule honest history failures old new result
+  then_by old mid new result w v = record {
     events = w.events ++ v.events;
     answers = w.answers ++ v.answers;
     own = own_then w.events v.events w.own v.own;
     ends = ends_then result w.answers v.answers w.ends v.ends;
-    moves = runs_then IsDue (facts_of failures old) (facts_of failures mid) (facts_of failures new) w.events w.answers v.events v.answers w.moves v.moves;
+    moves = runs_then (Allows rule) (facts_of failures old) (facts_of failures mid) (facts_of failures new) w.events w.answers v.events v.answers w.moves v.moves;
     steps = runs_then (IsStep honest history failures) old mid new w.events w.answers v.events v.answers w.steps v.steps;
     device = (λ h. v.device.0 (w.device.0 h), λ h. w.device.1 (v.device.1 h));
     corrupt = v.corrupt;
     ran = joined.both_runs old mid new w.events w.answers v.events v.answers w.ran v.ran;
   }
+
+-- those that are due
+module _ {D : Type 0} (honest : D → Type 0) (history : D → History) (failures : D → ℕ) (joined : RunsAreJoined honest history failures) where
+  pub works_none : (r : Replica D) → Works honest history failures r r (Ok tt)
+  works_none r = none_by IsNext honest history failures joined r
+
+  pub works_one : (old new : Replica D) (e : Event) (a : Answer) → IsOwn e → refusal (facts_of failures old) e ≡ None → due (facts_of failures old) ≡ Some e → IsStep honest history failures old e a new → Works honest history failures old new (outcome_of a)
+  works_one old new e a own none is_due step = one_by IsNext honest history failures joined old new e a own none is_due step
+
+  pub works_then : (old mid new : Replica D) (result : Result (Unit {0}) Refusal) → Works honest history failures old mid (Ok tt) → Works honest history failures mid new result → Works honest history failures old new result
+  works_then old mid new result w v = then_by IsNext honest history failures joined old mid new result w v
 
 -- ---- the checkpoint goes on
 
@@ -305,6 +316,7 @@ module _ (s t : Standing) (f : Found) (runs : s.stopped ≡ false) where
         rests = λ rests. record {
           phase = ap (λ (x : Standing). x.phase) e ∙ rests;
           ahead = ap (λ (x : Standing). x.ahead) e;
+          durable = ap (λ (x : Standing). x.durable) e;
           setting = ap (λ (x : Standing). x.setting) e;
           next = ap (λ (x : Standing). x.next) e;
           start = ap (λ (x : Standing). start_of x.start t.stage) e ∙ ap (start_of s.start) stage_is ∙ start ∙ ap (start_of s.start) (sym is);
@@ -321,6 +333,7 @@ module _ (s t : Standing) (f : Found) (runs : s.stopped ≡ false) where
         rests = λ rests. record {
           phase = ap (λ (x : Standing). x.phase) e ∙ ap synced_phase rests;
           ahead = ap (λ (x : Standing). x.ahead) e ∙ ap (λ (p : _). drop (opening p) s.ahead) rests;
+          durable = (let none : opening s.phase ≡ 0 = ap opening rests in omega (arith, ap (λ (x : Standing). x.durable) e, none));
           setting = ap (λ (x : Standing). x.setting) e;
           next = (let none : taken s.phase ≡ 0 = ap taken rests in omega (arith, ap (λ (x : Standing). x.next) e, none));
           start = ap (λ (n : ℕ). start_of n t.stage) start_is ∙ ap (start_of (start_after s.start stage)) stage_is ∙ start ∙ ap (start_of s.start) (sym is);
@@ -353,6 +366,10 @@ step_early s t e a runs due m = early_by s t e a (not_refused s e runs (due_step
 pub ok_of : (r : Result (Unit {0}) Refusal) → false ≡ is_err r → r ≡ Ok tt
 ok_of (Ok x) e = refl
 ok_of (Err e) is = absurd (let never : false ≡ true = is in cc)
+
+pub err_not_ok : (r : Result (Unit {0}) Refusal) → true ≡ is_err r → r ≡ Ok tt → ⊥
+err_not_ok (Ok x) is done = let never : true ≡ false = is in cc
+err_not_ok (Err e) is done = let never : Err e ≡ Ok tt = done in cc
 
 module _ {D : Type 0} (honest : D → Type 0) (history : D → History) (failures : D → ℕ) (old new : Replica D) (a : Answer) (result : Result (Unit {0}) Refusal) (is : result ≡ outcome_of a) where
   -- some steps, and one more
@@ -394,10 +411,10 @@ pub still_running : {D : Type 0} (failures : D → ℕ) (old new : Replica D) (e
 still_running failures old new e f running is = is_running failures new (ap (λ (x : Standing). x.stopped) is ∙ (after_serves (facts_of failures old) e f).stopped ∙ runs_on failures old running)
 
 pub rests_none : (s : Standing) → s.phase ≡ Resting → Rests s s
-rests_none s rests = record { phase = rests; ahead = refl; setting = refl; next = refl; start = refl }
+rests_none s rests = record { phase = rests; ahead = refl; durable = refl; setting = refl; next = refl; start = refl }
 
 pub rests_then : (s t u : Standing) → Rests s t → Rests t u → Rests s u
-rests_then s t u a b = record { phase = b.phase; ahead = b.ahead ∙ a.ahead; setting = b.setting ∙ a.setting; next = b.next ∙ a.next; start = b.start ∙ a.start }
+rests_then s t u a b = record { phase = b.phase; ahead = b.ahead ∙ a.ahead; durable = b.durable ∙ a.durable; setting = b.setting ∙ a.setting; next = b.next ∙ a.next; start = b.start ∙ a.start }
 
 pub none_due : (stage : Stage) → step_of stage ≡ None → stage ≡ Off
 none_due Off none = refl

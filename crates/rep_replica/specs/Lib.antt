@@ -10,5 +10,6 @@ pub mod Lives
 pub mod Episodes
 pub mod Settling
 pub mod SettlingLaws
+pub mod Committing
 pub mod Installing
 pub mod Donating

@@ -63,9 +63,16 @@ due_at s (Retiring written) = step_of (Retiring written)
 abbrev pub due : Standing → Option Event
 due s = due_at s s.stage
 
+abbrev pub IsNext : Standing → Event → Type 0
+IsNext s e = due s ≡ Some e
+
+-- a step that a rule allows where it is taken, on any device
+abbrev pub Allows : (Standing → Event → Type 0) → Standing → Event → Answer → Standing → Type 0
+Allows rule s e a t = rule s e × Moves s e a t
+
 -- a step that is due, on any device
 abbrev pub IsDue : Standing → Event → Answer → Standing → Type 0
-IsDue s e a t = (due s ≡ Some e) × Moves s e a t
+IsDue = Allows IsNext
 
 -- ---- what it does
 
@@ -95,19 +102,23 @@ abbrev pub EndsIn : Result (Unit {0}) Refusal → List Answer → Type 0
 EndsIn (Ok x) answers = AreDone answers
 EndsIn (Err e) answers = (done : List Answer) × AreDone done × (answers ≡ done ++ Refused e ∷ [])
 
--- The replica took some steps of its own one after another, each the one that is due, none of which was refused but the last one, where
+-- The replica took some steps of its own one after another, each where the rule allows it, none of which was refused but the last one, where
 -- it ended early: a run on any device, and one of the node that it stands for. A device is honest behind it exactly where it was before;
 -- a corrupt page is one that its last step flushed, where the bytes have none; and what a refusal leaves is what that step left.
-pub record Works {D : Type 0} (honest : D → Type 0) (history : D → History) (failures : D → ℕ) (old new : Replica D) (result : Result (Unit {0}) Refusal) : Type 0 where
+pub record WorksBy (rule : Standing → Event → Type 0) {D : Type 0} (honest : D → Type 0) (history : D → History) (failures : D → ℕ) (old new : Replica D) (result : Result (Unit {0}) Refusal) : Type 0 where
   pub events : List Event
   pub answers : List Answer
   pub own : AreOwn events
   pub ends : EndsIn result answers
-  pub moves : Runs IsDue (facts_of failures old) events answers (facts_of failures new)
+  pub moves : Runs (Allows rule) (facts_of failures old) events answers (facts_of failures new)
   pub steps : Runs (IsStep honest history failures) old events answers new
   pub device : honest old.engine.disk ↔ honest new.engine.disk
   pub corrupt : result ≡ Err (Corrupt Pages) → MeetsBadPage honest history new
   pub ran : Ran honest history failures old new events answers
+
+-- each the one that is due
+abbrev pub Works : {D : Type 0} → (D → Type 0) → (D → History) → (D → ℕ) → Replica D → Replica D → Result (Unit {0}) Refusal → Type 0
+Works honest history failures old new result = WorksBy IsNext honest history failures old new result
 
 -- why a step of its own is refused that is due
 abbrev pub EndsEarly : Refusal → Type 0
@@ -136,10 +147,16 @@ start_of start Off = start
 start_of start (Toward goal part) = goal.start
 start_of start (Retiring written) = start
 
+-- What was delivered and isn't durable still is so, and as much is durable.
+pub record Keeps (s t : Standing) : Type 0 where
+  pub ahead : t.ahead ≡ s.ahead
+  pub durable : t.durable ≡ s.durable
+
 -- What the steps of a checkpoint leave of a log at rest: what stood there, from that start on in the end.
 pub record Rests (s t : Standing) : Type 0 where
   pub phase : t.phase ≡ Resting
   pub ahead : t.ahead ≡ s.ahead
+  pub durable : t.durable ≡ s.durable
   pub setting : t.setting ≡ s.setting
   pub next : t.next ≡ s.next
   pub start : start_of t.start t.stage ≡ start_of s.start s.stage

@@ -1,6 +1,7 @@
 //! A replica: one node of the database on a disk, in one thread, as a state that events move.
 #![tactic(auto)]
 
+mod commit;
 mod donor;
 mod install;
 mod laws;

@@ -7,7 +7,8 @@ ghost use Rattle.rep_log.specs.declared.phase.Step.TheVariants.{Full};
 ghost use Rattle.rep_log.specs.Standing.{due_of};
 ghost use Rattle.rep_steps.specs.Standings.{Off};
 ghost use Rattle.rep_replica.specs.Replicas.{facts_of};
-ghost use Rattle.rep_replica.specs.Settling.{is_quiet, IsRunning, outcome_of, Works, EndsEarly, step_of, Rests, work_of};
+ghost use Rattle.rep_replica.specs.Settling.{is_quiet, IsRunning, outcome_of, Works, EndsEarly, step_of, Keeps, Rests, work_of};
+ghost use Rattle.rep_replica.specs.Committing.{LeavesRoom};
 
 use crate::laws::runs_are_joined;
 use crate::replica::Replica;
@@ -40,7 +41,7 @@ impl<D: Disk> Replica<D> {
     }
 
     /// The step that the checkpoint under way waits for.
-    fn checkpoint_event(&self) -> Option<Event>
+    pub(crate) fn checkpoint_event(&self) -> Option<Event>
         ensures { result ≡ step_of (facts_of D.failures self.now).stage }
     {
         match self.engine.checkpoint_step() {
@@ -52,11 +53,12 @@ impl<D: Disk> Replica<D> {
     }
 
     /// Ends the checkpoint that is under way, where one is.
-    fn finish_checkpoint(&mut self) -> Result<(), Refusal>
+    pub(crate) fn finish_checkpoint(&mut self) -> Result<(), Refusal>
         requires running { IsRunning self.old }
         ensures works { Works D.honest D.history D.failures self.old self.new result }
         ensures running { OnOk result (IsRunning self.new) }
         ensures off { OnOk result ((facts_of D.failures self.new).stage ≡ Off) }
+        ensures keeps { (facts_of D.failures self.old).phase ≡ Resting → Keeps (facts_of D.failures self.old) (facts_of D.failures self.new) }
         ensures rests { (facts_of D.failures self.old).phase ≡ Resting → OnOk result (Rests (facts_of D.failures self.old) (facts_of D.failures self.new)) }
         ensures early { IfErr result EndsEarly }
     {
@@ -72,7 +74,7 @@ impl<D: Disk> Replica<D> {
     }
 
     /// A whole checkpoint, so that the log's next cell is no longer live.
-    fn make_room(&mut self) -> Result<(), Refusal>
+    pub(crate) fn make_room(&mut self) -> Result<(), Refusal>
         requires running { IsRunning self.old }
         requires off { (facts_of D.failures self.old).stage ≡ Off }
         requires some { 0 < length (facts_of D.failures self.old).ahead }
@@ -81,6 +83,8 @@ impl<D: Disk> Replica<D> {
         ensures running { OnOk result (IsRunning self.new) }
         ensures off { OnOk result ((facts_of D.failures self.new).stage ≡ Off) }
         ensures less { OnOk result (work_of D.failures self.new < work_of D.failures self.old) }
+        ensures keeps { Keeps (facts_of D.failures self.old) (facts_of D.failures self.new) }
+        ensures free { OnOk result (LeavesRoom (facts_of D.failures self.old) (facts_of D.failures self.new)) }
         ensures early { IfErr result EndsEarly }
     {
         runs_are_joined::<D>();
@@ -94,7 +98,7 @@ impl<D: Disk> Replica<D> {
     }
 
     /// The first item that waits keeps its limits, as every item does: a law, which does nothing.
-    fn look_at_the_first(&self)
+    pub(crate) fn look_at_the_first(&self)
         ensures { IfSome (slice_get self.now.backlog 0) (λ judged. IsWithin judged.item) }
     {
         if let Some(judged) = self.backlog.get(0) {

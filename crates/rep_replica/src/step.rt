@@ -205,7 +205,7 @@ impl<D: Disk> Replica<D> {
     }
 
     /// Flushes a page that the checkpoint has left.
-    fn flush(&mut self, page: u64) -> Answer
+    pub(crate) fn flush(&mut self, page: u64) -> Answer
         requires running { (self.old.stopped ≡ false) × (self.old.engine.halted ≡ None) }
         ensures { IsStep D.honest D.history D.failures self.old (Flush page) result self.new }
     {

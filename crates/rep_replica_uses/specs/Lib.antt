@@ -1,2 +1,3 @@
 pub mod Living
 pub mod Bringing
+pub mod Committing

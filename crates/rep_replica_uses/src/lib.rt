@@ -2,11 +2,13 @@
 //! again, any number of times, and what it answers all the while follows one order.
 #![tactic(auto)]
 
+mod blocks;
 mod install;
 
 ghost use Rattle.std.specs.Prelude.{IfOk, IfErr};
 ghost use Rattle.rep_replica_uses.specs.Living.{LivesOnce, IsUnlived, LivesOn, LivesUntil};
 
+pub use blocks::commit;
 pub use install::{Pages, bring, installed_nodes_go_on};
 use rep_disk::{Disk, images_of_a_moment, moments_of_calls};
 use rep_recover::reasons_exclude_meanings;

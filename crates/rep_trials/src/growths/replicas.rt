@@ -119,6 +119,28 @@ fn settle_each(replica: &mut Replica<MemDisk>) -> Result<(), Refusal> {
     Ok(())
 }
 
+/// Makes the next block durable, and again where there was no memory for it: what it did until then stands. Gives how many items were
+/// replied to.
+fn commit(replica: &mut Replica<MemDisk>, pages: u64) -> Result<usize, Refusal> {
+    let replies = match replica.commit_block(pages) {
+        Err(Refusal::OutOfMemory) => replica.commit_block(pages),
+        committed => committed,
+    };
+    Ok(replies?.len())
+}
+
+/// Delivers four items more, a block each, beside a checkpoint of one page that is begun before them, and gives how many of them were replied
+/// to, and whether the checkpoint has ended.
+fn commit_each(replica: &mut Replica<MemDisk>) -> Result<(usize, bool), Refusal> {
+    step(replica, &Event::Check)?;
+    let mut told = 0usize;
+    for before in 9..13 {
+        step(replica, &Event::Deliver(before + 1, item(70, before)?))?;
+        told = told.saturating_add(commit(replica, 1)?);
+    }
+    Ok((told, replica.is_quiet()))
+}
+
 /// Adds a read of each row, as it is behind so many items. Room for them is asked for again where there was none.
 fn add_reads(reads: &mut Vec<Event>, durable: u64) -> Result<(), AllocError> {
     if reads.reserve(ROWS.len()).is_err() {
@@ -163,6 +185,9 @@ fn looked_at(
     replica: &mut Replica<MemDisk>,
 ) -> Result<(u64, u64, usize, usize), Refusal> {
     settle_each(replica)?;
+    if commit_each(replica)? != (4, true) {
+        return Err(Refusal::NotDue);
+    }
     let durable = replica.durable();
     let rows = rows_read(alloc, replica, durable)?;
     let entries = window(alloc, replica)?.entries().len();

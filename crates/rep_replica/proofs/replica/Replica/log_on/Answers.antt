@@ -27,7 +27,7 @@ returns-in-Sync g c =
       running = on_ok c.outcome.result (λ ok. still_running g.D.Disk.failures old new Sync (done ok).0 c.requires.running (done ok).1);
       off = on_ok c.outcome.result (λ ok. ap (λ (s : Standing). s.stage) (done ok).1 ∙ ap synced_stage c.requires.off);
       less = on_ok c.outcome.result (λ ok.
-          synced_less g.D.Disk.failures old new c.requires.running (still_running g.D.Disk.failures old new Sync (done ok).0 c.requires.running (done ok).1) engine new.engine.checkpoint.base.start (done ok).0 due c.requires.off (done ok).1
+          synced_less g.D.Disk.failures old new c.requires.running (still_running g.D.Disk.failures old new Sync (done ok).0 c.requires.running (done ok).1) engine new.engine.checkpoint.base.start (done ok).0 due (done ok).1
           (c.sync.ensures.log (sym c.outcome.ensures ∙ ok)));
       early = one_early g.D.Disk.honest g.D.Disk.history g.D.Disk.failures old new Sync c.sync.result c.outcome.result c.outcome.ensures tt c.requires.running refl c.sync.ensures.step;
     }

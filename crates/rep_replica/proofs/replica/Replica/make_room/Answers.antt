@@ -13,8 +13,9 @@ use Rattle.rep_engine.specs.Engines.{IsEngine}
 use Rattle.rep_replica.specs.Replicas.{Replica, facts_of}
 use Rattle.rep_replica.specs.Holding.{IsStep}
 use Rattle.rep_replica.specs.Settling.{IsRunning, outcome_of, Works}
-use Rattle.rep_replica.proofs.Settling.{works_then, one_works, one_early, one_done, on_ok, ok_on, ok_of, still_running}
-use Rattle.rep_replica.proofs.LoggingOn.{full_due, can_begin, phase_is, check_due, room_made}
+use Rattle.rep_replica.proofs.Settling.{not_refused, runs_on, err_not_ok, works_then, one_works, one_early, one_done, on_ok, ok_on, ok_of, still_running}
+use Rattle.rep_replica.proofs.LoggingOn.{full_due, can_begin, phase_is, check_due, room_left, room_made}
+use Rattle.rep_replica.proofs.Committing.{keeps_then, refused_keeps, began_keeps}
 use Rattle.rep_replica.proofs.replica.Replica.make_room.Goals as goal
 
 abbrev Stands : {D : Type 0} → Replica D → Type 0
@@ -70,3 +71,27 @@ returns-clause-less g c = on_ok c.finish_checkpoint.result (λ done.
     let rest = rests g.D.Disk.honest g.D.Disk.history g.D.Disk.failures c.args.self.now c.check.new.self c.check.result c.outcome-ended.result c.outcome-ended.ensures c.requires.running engine c.requires.off c.requires.due c.check.ensures c.if-is_err.ensures.value in
     room_made g.D.Disk.failures c.args.self.now c.finish_checkpoint.new.self c.requires.running (ok_on c.finish_checkpoint.result c.finish_checkpoint.ensures.running done) engine (facts_of g.D.Disk.failures c.check.new.self)
     at.0 c.requires.due c.requires.off at.1 (ok_on c.finish_checkpoint.result (c.finish_checkpoint.ensures.rests rest) done) (ok_on c.finish_checkpoint.result c.finish_checkpoint.ensures.off done))
+
+-- ---- what stays
+
+pub returns-then-is_err-clause-keeps : goal.returns-then-is_err-clause-keeps
+returns-then-is_err-clause-keeps g c =
+    let engine : Stands c.args.self.now = subst (λ (r : Replica g.row.D.Denot). Stands r) c.self.view_is c.durable-durable.ensures.engine in
+    refused_keeps (facts_of g.D.Disk.failures c.args.self.now) (facts_of g.D.Disk.failures c.check.new.self) Check c.check.result
+    (not_refused (facts_of g.D.Disk.failures c.args.self.now) Check (runs_on g.D.Disk.failures c.args.self.now c.requires.running) (can_begin g.D.Disk.failures c.args.self.now c.requires.running engine c.requires.off c.requires.due))
+    c.check.ensures.moves (λ done. err_not_ok c.outcome-ended.result c.if-is_err.ensures.value (c.outcome-ended.ensures ∙ done))
+
+pub returns-clause-keeps : goal.returns-clause-keeps
+returns-clause-keeps g c =
+    let engine : Stands c.args.self.now = subst (λ (r : Replica g.row.D.Denot). Stands r) c.self.view_is c.durable-durable.ensures.engine in
+    let at = began g.D.Disk.honest g.D.Disk.history g.D.Disk.failures c.args.self.now c.check.new.self c.check.result c.outcome-ended.result c.outcome-ended.ensures c.requires.running engine c.requires.off c.requires.due c.check.ensures c.if-is_err.ensures.value in
+    let rest = rests g.D.Disk.honest g.D.Disk.history g.D.Disk.failures c.args.self.now c.check.new.self c.check.result c.outcome-ended.result c.outcome-ended.ensures c.requires.running engine c.requires.off c.requires.due c.check.ensures c.if-is_err.ensures.value in
+    keeps_then (facts_of g.D.Disk.failures c.args.self.now) (facts_of g.D.Disk.failures c.check.new.self) (facts_of g.D.Disk.failures c.finish_checkpoint.new.self) (began_keeps (facts_of g.D.Disk.failures c.args.self.now) (facts_of g.D.Disk.failures c.check.new.self) at.0 at.1) (c.finish_checkpoint.ensures.keeps rest)
+
+pub returns-clause-free : goal.returns-clause-free
+returns-clause-free g c = on_ok c.finish_checkpoint.result (λ done.
+    let engine : Stands c.args.self.now = subst (λ (r : Replica g.row.D.Denot). Stands r) c.self.view_is c.durable-durable.ensures.engine in
+    let at = began g.D.Disk.honest g.D.Disk.history g.D.Disk.failures c.args.self.now c.check.new.self c.check.result c.outcome-ended.result c.outcome-ended.ensures c.requires.running engine c.requires.off c.requires.due c.check.ensures c.if-is_err.ensures.value in
+    let rest = rests g.D.Disk.honest g.D.Disk.history g.D.Disk.failures c.args.self.now c.check.new.self c.check.result c.outcome-ended.result c.outcome-ended.ensures c.requires.running engine c.requires.off c.requires.due c.check.ensures c.if-is_err.ensures.value in
+    room_left g.D.Disk.failures c.args.self.now c.finish_checkpoint.new.self c.requires.running (ok_on c.finish_checkpoint.result c.finish_checkpoint.ensures.running done) engine (facts_of g.D.Disk.failures c.check.new.self)
+    at.0 c.requires.off at.1 (ok_on c.finish_checkpoint.result (c.finish_checkpoint.ensures.rests rest) done) (ok_on c.finish_checkpoint.result c.finish_checkpoint.ensures.off done))
