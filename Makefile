@@ -2,7 +2,7 @@
 
 CRATES := rep_types rep_streams rep_forms rep_record rep_disk rep_layout rep_versions rep_pages rep_cells rep_pool rep_log rep_steps \
 	rep_image rep_checkpoint rep_cert rep_backlog rep_engine rep_recover rep_replica rep_saved rep_transfer rep_catchup rep_script \
-	rep_ordered rep_snap rep_stations rep_node rep_serve rep_command rep_files replicad
+	rep_ordered rep_snap rep_stations rep_node rep_serve rep_reasons rep_damage rep_command rep_files replicad
 PROGRAM := crates/replicad/out/replicad
 # What `make bench` needs beside these: what times the certifier against the plain node, and what times versions and pages of rows,
 # readers against a lock, and readers beside a node that serves.

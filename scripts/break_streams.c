@@ -6,10 +6,12 @@
  *   READS=parts      each `read` is interrupted once (EINTR), and then gives one byte
  *   WRITES_BEHIND=N  standard output takes one byte at a time, and refuses the one behind the first N (EPIPE) once
  *   DISK=failing     `pread`, by which disks alone are read, fails (EIO)
+ *   THREADS=refused  no thread is made (EAGAIN)
  */
 #define _GNU_SOURCE
 #include <dlfcn.h>
 #include <errno.h>
+#include <pthread.h>
 #include <stdlib.h>
 #include <string.h>
 #include <sys/types.h>
@@ -18,7 +20,8 @@
 static ssize_t (*next_read)(int, void *, size_t);
 static ssize_t (*next_write)(int, const void *, size_t);
 static ssize_t (*next_pread)(int, void *, size_t, off_t);
-static int is_broken, is_in_parts, is_interrupted, is_failing, is_counted;
+static int (*next_create)(pthread_t *, const pthread_attr_t *, void *(*)(void *), void *);
+static int has_no_threads, is_broken, is_in_parts, is_interrupted, is_failing, is_counted;
 static unsigned long room;
 
 static int says(const char *name, const char *word) {
@@ -33,7 +36,9 @@ __attribute__((constructor)) static void begin(void) {
     next_pread = (ssize_t(*)(int, void *, size_t, off_t))dlsym(RTLD_NEXT, "pread");
     is_broken = says("READS", "broken");
     is_in_parts = says("READS", "parts");
+    next_create = (int (*)(pthread_t *, const pthread_attr_t *, void *(*)(void *), void *))dlsym(RTLD_NEXT, "pthread_create");
     is_failing = says("DISK", "failing");
+    has_no_threads = says("THREADS", "refused");
     is_counted = text != NULL;
     room = text ? strtoul(text, NULL, 10) : 0;
 }
@@ -66,3 +71,7 @@ ssize_t pread(int file, void *bytes, size_t count, off_t at) {
 }
 
 ssize_t pread64(int file, void *bytes, size_t count, off64_t at) { return pread(file, bytes, count, at); }
+
+int pthread_create(pthread_t *made, const pthread_attr_t *how, void *(*runs)(void *), void *given) {
+    return has_no_threads ? EAGAIN : next_create(made, how, runs, given);
+}

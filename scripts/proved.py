@@ -1,6 +1,7 @@
 """Finds the proved programs, and runs them, with growths of memory refused where that is asked."""
 import multiprocessing
 import os
+import re
 import subprocess
 
 TOP = os.path.dirname(os.path.dirname(os.path.abspath(__file__)))
@@ -9,6 +10,12 @@ SCRIPTS = os.path.join(TOP, "scripts")
 
 class Wrong(Exception):
     """What is wrong with a run."""
+
+
+def is_silent(told, status):
+    """Whether what `replicad` wrote to standard error is nothing; or, where it was refused, one line that says why. Which words these
+    are, the cases say that name them (scripts/program)."""
+    return not told or (status == 1 and re.fullmatch(rb"replicad: [^\n]+\n", told) is not None)
 
 
 def crates():

@@ -7,7 +7,7 @@ import subprocess
 import time
 
 from lib.formats import OPEN, SIDES, cell_gate_at
-from proved import Wrong
+from proved import Wrong, is_silent
 
 # The status of a program that was stopped at a call, and that of one that was killed.
 STOPPED, KILLED = 77, -9
@@ -37,7 +37,7 @@ class Ended:
     def __init__(self, output, told, status, met):
         *self.lines, self.rest = output.decode().split("\n")
         self.status, self.met = status, met
-        if told:
+        if not is_silent(told, status):
             raise Wrong("it writes on standard error: %r" % told[:300])
 
 

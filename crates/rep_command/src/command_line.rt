@@ -4,6 +4,7 @@ use crate::format_options::{FormatOptions, options_of};
 use crate::serve_options::Workers;
 use clap::error::ErrorKind;
 use clap::{Arg, ArgAction, ArgMatches, Command, Error};
+use rep_reasons::Fault;
 use rep_types::{Params, Refusal};
 use std::alloc::{AllocError, Global};
 use uuid::Uuid;
@@ -201,9 +202,9 @@ pub enum FileTask<'a> {
 }
 
 /// Prints help, the version or a usage fault.
-fn printed<'a, R: Print + Eprint>(rt: &R, error: &Error) -> Result<Task<'a>, Refusal> {
+fn printed<'a, R: Print + Eprint>(rt: &R, error: &Error) -> Result<Task<'a>, Fault<'a>> {
     if error.kind() == ErrorKind::OutOfMemory {
-        return Err(Refusal::OutOfMemory);
+        return Err(Fault::from(Refusal::OutOfMemory));
     }
     let _ = error.print(rt);
     Ok(Task::Printed(if error.use_stderr() { USAGE } else { 0 }))
@@ -235,7 +236,7 @@ fn wrong_value(
 /// The task that makes the file at this path a disk as the options say.
 ///
 /// Refuses with `BadParams` parameters outside the limits.
-fn format_on<'a>(path: &'a str, options: &FormatOptions) -> Result<Task<'a>, Refusal> {
+fn format_on<'a>(path: &'a str, options: &FormatOptions) -> Result<Task<'a>, Fault<'a>> {
     let params = options.params()?;
     Ok(Task::OnFiles(FileTask::Format(path, params, options.uuid())))
 }
@@ -247,7 +248,7 @@ fn format_task<'a, R: Print + Eprint>(
     rt: &R,
     alloc: Global,
     matches: &ArgMatches<'a>,
-) -> Result<Task<'a>, Refusal> {
+) -> Result<Task<'a>, Fault<'a>> {
     let window = value_of(matches, "window");
     let cells = value_of(matches, "cells");
     let rows = value_of(matches, "rows");
@@ -291,7 +292,7 @@ fn serve_task<'a, R: Print + Eprint>(
     rt: &R,
     alloc: Global,
     matches: &ArgMatches<'a>,
-) -> Result<Task<'a>, Refusal> {
+) -> Result<Task<'a>, Fault<'a>> {
     let disk = value_of(matches, "disk");
     let Some(value) = matches.get_str("workers") else {
         return Ok(Task::OnFiles(FileTask::Serve(disk, Workers::two())));
@@ -310,7 +311,7 @@ fn named_task<'a, R: Print + Eprint>(
     rt: &R,
     alloc: Global,
     matches: &ArgMatches<'a>,
-) -> Result<Task<'a>, Refusal> {
+) -> Result<Task<'a>, Fault<'a>> {
     match matches.subcommand() {
         Some(("format", matches)) => format_task(rt, alloc, matches),
         Some(("run", matches)) => Ok(run_task(matches)),
@@ -329,7 +330,7 @@ pub fn task_of<'a, R: Print + Eprint>(
     rt: &R,
     alloc: Global,
     words: &'a [String],
-) -> Result<Task<'a>, Refusal> {
+) -> Result<Task<'a>, Fault<'a>> {
     match command(alloc)?.try_get_matches_from(words) {
         Ok(matches) => named_task(rt, alloc, &matches),
         Err(error) => printed(rt, &error),

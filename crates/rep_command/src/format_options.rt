@@ -1,7 +1,8 @@
 //! The values of the options of `format`.
 
 use arrayvec::ArrayVec;
-use rep_types::{Params, Refusal, read_number, read_uuid};
+use rep_reasons::{Cause, Fault, Outside};
+use rep_types::{Params, read_number, read_uuid};
 use uuid::Uuid;
 
 /// The characters of a UUID with its hyphens.
@@ -111,8 +112,15 @@ impl FormatOptions {
     /// The parameters.
     ///
     /// Refuses with `BadParams` where they are outside the limits.
-    pub(crate) fn params(&self) -> Result<Params, Refusal> {
-        Params::new(self.window, self.cells, self.rows.as_slice())
+    pub(crate) fn params<'a>(&self) -> Result<Params, Fault<'a>> {
+        let rows = self.rows.as_slice();
+        match Params::new(self.window, self.cells, rows) {
+            Ok(params) => Ok(params),
+            Err(refusal) => match Outside::first_of(self.window, self.cells, rows) {
+                Some(outside) => Err(Fault::new(refusal, Cause::Limits(outside))),
+                None => Err(Fault::from(refusal)),
+            },
+        }
     }
 
     /// The state UUID, if one was given.

@@ -1,5 +1,6 @@
 //! Names of files: what they mean, and which file it is that has one.
 
+use rep_reasons::{Cause, Fault};
 use rep_types::Refusal;
 use std::fs::{self, File, Files, Metadata};
 use std::io::{self, ErrorKind};
@@ -9,11 +10,27 @@ use std::path::{Path, PathBuf};
 /// How many links a name may lead through, one behind the other: as many as Linux follows.
 const LINKS: u32 = 40;
 
+/// A fault of a file whose name is said later.
+pub(crate) type Unnamed = Fault<'static>;
+
+/// The fault of a file that is refused for this cause.
+pub(crate) fn refused(cause: Cause) -> Unnamed {
+    Fault::new(Refusal::StreamFault, cause)
+}
+
 /// What the system answered of a file. A failure is `StreamFault`.
-pub(crate) fn answered<T>(answer: io::Result<T>) -> Result<T, Refusal> {
+pub(crate) fn answered<T>(answer: io::Result<T>) -> Result<T, Unnamed> {
     match answer {
         Ok(value) => Ok(value),
-        Err(_) => Err(Refusal::StreamFault),
+        Err(error) => Err(refused(Cause::System(error))),
+    }
+}
+
+/// The outcome, whose fault, if it is one, is that of the file of this name.
+pub(crate) fn named<T>(outcome: Result<T, Unnamed>, name: &str) -> Result<T, Fault<'_>> {
+    match outcome {
+        Ok(value) => Ok(value),
+        Err(fault) => Err(fault.of(name)),
     }
 }
 
@@ -62,25 +79,25 @@ pub(crate) fn folder_of(name: Path<'_>) -> Path<'_> {
 pub(crate) fn found_at<R: Files<File = File>>(
     rt: &R,
     name: &str,
-) -> Result<Option<Metadata>, Refusal> {
+) -> Result<Option<Metadata>, Unnamed> {
     match fs::metadata(rt, name) {
         Ok(known) => Ok(Some(known)),
         Err(error) if error.kind() == ErrorKind::NotFound => Ok(None),
-        Err(_) => Err(Refusal::StreamFault),
+        Err(error) => Err(refused(Cause::System(error))),
     }
 }
 
 /// Whether the name is that of a link, and of no stream.
 ///
 /// Refuses with `StreamFault` where the system does not tell.
-fn is_link<R: Files<File = File>>(rt: &R, name: &str) -> Result<bool, Refusal> {
+fn is_link<R: Files<File = File>>(rt: &R, name: &str) -> Result<bool, Unnamed> {
     if is_stream(name) {
         return Ok(false);
     }
     match fs::symlink_metadata(rt, name) {
         Ok(known) => Ok(known.is_symlink()),
         Err(error) if error.kind() == ErrorKind::NotFound => Ok(false),
-        Err(_) => Err(Refusal::StreamFault),
+        Err(error) => Err(refused(Cause::System(error))),
     }
 }
 
@@ -90,11 +107,13 @@ fn is_link<R: Files<File = File>>(rt: &R, name: &str) -> Result<bool, Refusal> {
 fn behind_link<R: Files<File = File> + AllocGlobal>(
     rt: &R,
     link: Path<'_>,
-) -> Result<PathBuf, Refusal> {
+) -> Result<PathBuf, Unnamed> {
     match fs::read_link(rt, link) {
         Ok(text) => Ok(folder_of(link).join(rt.alloc(), text.as_path())?),
-        Err(error) if error.kind() == ErrorKind::OutOfMemory => Err(Refusal::OutOfMemory),
-        Err(_) => Err(Refusal::StreamFault),
+        Err(error) if error.kind() == ErrorKind::OutOfMemory => {
+            Err(Fault::from(Refusal::OutOfMemory))
+        },
+        Err(error) => Err(refused(Cause::System(error))),
     }
 }
 
@@ -105,7 +124,7 @@ fn behind_link<R: Files<File = File> + AllocGlobal>(
 pub(crate) fn meant_by<R: Files<File = File> + AllocGlobal>(
     rt: &R,
     name: &str,
-) -> Result<PathBuf, Refusal> {
+) -> Result<PathBuf, Unnamed> {
     let mut name = Path::new(name).to_path_buf(rt.alloc())?;
     for _ in 0..LINKS {
         if !is_link(rt, name.as_str())? {
@@ -113,7 +132,7 @@ pub(crate) fn meant_by<R: Files<File = File> + AllocGlobal>(
         }
         name = behind_link(rt, name.as_path())?;
     }
-    Err(Refusal::StreamFault)
+    Err(refused(Cause::System(io::Error::from(ErrorKind::FilesystemLoop))))
 }
 
 /// Removes the file that has this name, where it is this one. Where the system refuses that, it stays.

@@ -1,8 +1,8 @@
 //! A file that is written beside the one whose name it takes then.
 
-use crate::name::{Identity, answered, folder_of, remove_file};
+use crate::name::{Identity, Unnamed, answered, folder_of, refused, remove_file};
 use crate::target::looked_at;
-use rep_types::Refusal;
+use rep_reasons::Cause;
 use std::fs::{self, File, Files, Metadata, OpenOptions};
 use std::io::{self, ErrorKind, Write};
 use std::os::unix::fs::{MetadataExt, OpenOptionsExt, fchown};
@@ -48,9 +48,9 @@ fn front_of(name: &str) -> &str {
 /// The name beside this one with this number.
 ///
 /// Refuses with `OutOfMemory`, and with `StreamFault` what is no file's name.
-fn beside<R: AllocGlobal>(rt: &R, name: Path<'_>, number: u32) -> Result<PathBuf, Refusal> {
+fn beside<R: AllocGlobal>(rt: &R, name: Path<'_>, number: u32) -> Result<PathBuf, Unnamed> {
     let Some(last) = name.file_name() else {
-        return Err(Refusal::StreamFault);
+        return Err(refused(Cause::Words("it is no file's name")));
     };
     let own = format!(in rt.alloc(); ".{}.new-{number}", front_of(last))?;
     Ok(name.with_file_name(rt.alloc(), own.as_str())?)
@@ -63,7 +63,7 @@ fn made_beside<R: Files<File = File> + AllocGlobal>(
     rt: &R,
     name: Path<'_>,
     rights: u32,
-) -> Result<(File, PathBuf), Refusal> {
+) -> Result<(File, PathBuf), Unnamed> {
     let mut options = OpenOptions::new();
     options.write(true).create_new(true).mode(rights);
     for number in 1..=NAMES {
@@ -71,16 +71,16 @@ fn made_beside<R: Files<File = File> + AllocGlobal>(
         match options.open(rt, own.as_path()) {
             Ok(file) => return Ok((file, own)),
             Err(error) if error.kind() == ErrorKind::AlreadyExists => {}
-            Err(_) => return Err(Refusal::StreamFault),
+            Err(error) => return Err(refused(Cause::System(error))),
         }
     }
-    Err(Refusal::StreamFault)
+    Err(refused(Cause::Words("files with all names that are tried are beside it")))
 }
 
 /// Gives a file the rights of the one whose name it takes; and its owner and its group, as far as the system lets this program give these.
 ///
 /// Refuses with `StreamFault` where the system refuses the rights.
-fn give_rights(file: &File, old: &Metadata) -> Result<(), Refusal> {
+fn give_rights(file: &File, old: &Metadata) -> Result<(), Unnamed> {
     let (user, group) = (Some(old.uid()), Some(old.gid()));
     if fchown(file, user, group).is_err() {
         let _ = fchown(file, None, group);
@@ -98,7 +98,7 @@ impl NewFile {
         name: PathBuf,
         old: Option<Metadata>,
         disk: Identity,
-    ) -> Result<NewFile, Refusal> {
+    ) -> Result<NewFile, Unnamed> {
         let folder = answered(File::open(rt, folder_of(name.as_path())))?;
         let rights = if old.is_some() {
             OWN_RIGHTS
@@ -128,12 +128,12 @@ impl NewFile {
         self,
         rt: &R,
         old: &Metadata,
-    ) -> Result<NewFile, Refusal> {
+    ) -> Result<NewFile, Unnamed> {
         match give_rights(&self.file, old) {
             Ok(()) => Ok(self),
-            Err(refusal) => {
+            Err(fault) => {
                 self.remove(rt);
-                Err(refusal)
+                Err(fault)
             }
         }
     }
@@ -146,7 +146,7 @@ impl NewFile {
     /// Has the file take its name, once its bytes are on the device. What has the name is looked at again: long may have passed since.
     ///
     /// Refuses with `StreamFault` where the device or the system does, and what may be a disk now.
-    fn take_name<R: Files<File = File>>(&self, rt: &R) -> Result<(), Refusal> {
+    fn take_name<R: Files<File = File>>(&self, rt: &R) -> Result<(), Unnamed> {
         answered(self.file.sync_all())?;
         looked_at(rt, self.name.as_str(), self.disk)?;
         answered(fs::rename(rt, self.own.as_path(), self.name.as_path()))
@@ -158,8 +158,8 @@ impl NewFile {
     fn take_name_of<R: Files<File = File>, T: Drop>(
         &self,
         rt: &R,
-        written: Result<T, Refusal>,
-    ) -> Result<T, Refusal> {
+        written: Result<T, Unnamed>,
+    ) -> Result<T, Unnamed> {
         let value = written?;
         self.take_name(rt)?;
         Ok(value)
@@ -172,16 +172,16 @@ impl NewFile {
     pub(crate) fn end<R: Files<File = File>, T: Drop>(
         self,
         rt: &R,
-        written: Result<T, Refusal>,
-    ) -> Result<T, Refusal> {
+        written: Result<T, Unnamed>,
+    ) -> Result<T, Unnamed> {
         match self.take_name_of(rt, written) {
             Ok(value) => {
                 answered(self.folder.sync_all())?;
                 Ok(value)
             }
-            Err(refusal) => {
+            Err(fault) => {
                 self.remove(rt);
-                Err(refusal)
+                Err(fault)
             }
         }
     }

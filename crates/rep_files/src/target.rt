@@ -1,9 +1,11 @@
 //! Where the bytes go that a command writes to a file. No disk is touched, and a file has its name whole or not at all.
 
-use crate::name::{Identity, answered, found_at, is_standard_output, is_stream, meant_by};
+use crate::name::{
+    Identity, Unnamed, answered, found_at, is_standard_output, is_stream, meant_by, refused,
+};
 use crate::new_file::NewFile;
 use rep_layout::{GATE, SUPER_BODY};
-use rep_types::Refusal;
+use rep_reasons::Cause;
 use std::fs::{File, Files, Metadata, OpenOptions};
 use std::io::{self, ErrorKind, Printer, Write};
 use std::os::unix::fs::FileExt;
@@ -23,10 +25,16 @@ fn may_be_superblock(file: &File, at: u64) -> bool {
     }
 }
 
-/// Whether the file may be a disk: it has a superblock, or another program holds its lock. A checkpoint that was stopped may have left any bytes in
-/// one superblock, and never in both. The lock is asked for as by those that only read, and only of what has no superblock.
-fn may_be_disk(file: &File) -> bool {
-    may_be_superblock(file, 0) || may_be_superblock(file, SECOND) || file.try_lock_shared().is_err()
+/// Why the file may be a disk, where it may: it has a superblock, or another program holds its lock. A checkpoint that was stopped may have left any
+/// bytes in one superblock, and never in both. The lock is asked for as by those that only read, and only of what has no superblock.
+fn may_be_disk(file: &File) -> Option<Cause> {
+    if may_be_superblock(file, 0) || may_be_superblock(file, SECOND) {
+        return Some(Cause::Words("it is a disk, or may be one"));
+    }
+    match file.try_lock_shared() {
+        Ok(()) => None,
+        Err(_) => Some(Cause::IN_USE),
+    }
 }
 
 /// What is known of the file that has this name, where there is one, of a command that reads this disk. A regular file is opened, to be looked at.
@@ -36,17 +44,17 @@ pub(crate) fn looked_at<R: Files<File = File>>(
     rt: &R,
     name: &str,
     disk: Identity,
-) -> Result<Option<Metadata>, Refusal> {
+) -> Result<Option<Metadata>, Unnamed> {
     let Some(known) = found_at(rt, name)? else {
         return Ok(None);
     };
     if Identity::of(&known) == disk {
-        return Err(Refusal::StreamFault);
+        return Err(refused(Cause::Words("it is the disk that is read")));
     }
     if known.is_file() && !is_stream(name) {
         let file = answered(OpenOptions::new().read(true).write(true).open(rt, name))?;
-        if may_be_disk(&file) {
-            return Err(Refusal::StreamFault);
+        if let Some(cause) = may_be_disk(&file) {
+            return Err(refused(cause));
         }
     }
     Ok(Some(known))
@@ -70,7 +78,7 @@ fn stream_at<R: Files<File = File>>(
     rt: &R,
     name: &str,
     known: Option<&Metadata>,
-) -> Result<File, Refusal> {
+) -> Result<File, Unnamed> {
     let is_behind = match known {
         Some(known) => known.is_file(),
         None => false,
@@ -94,9 +102,9 @@ impl<'r, R: Files<File = File> + Print + AllocGlobal> Target<'r, R> {
     ///
     /// Refuses with `OutOfMemory`; and with `StreamFault` the disk itself, a file that may be a disk or that can't be read and written, and a
     /// name beside which no file can be made. What has the name stays as it is then.
-    pub(crate) fn open(rt: &'r R, path: &str, disk: &str) -> Result<Target<'r, R>, Refusal> {
+    pub(crate) fn open(rt: &'r R, path: &str, disk: &str) -> Result<Target<'r, R>, Unnamed> {
         let Some(disk) = found_at(rt, disk)? else {
-            return Err(Refusal::StreamFault);
+            return Err(refused(Cause::Words("the disk is gone")));
         };
         let disk = Identity::of(&disk);
         let name = meant_by(rt, path)?;
@@ -114,7 +122,7 @@ impl<'r, R: Files<File = File> + Print + AllocGlobal> Target<'r, R> {
     ///
     /// Refuses as the writing did; and with `StreamFault` where the device fails, and what may be a disk now: what has the name stays as it is
     /// then, but where the folder's sync fails, the last that is done.
-    pub(crate) fn end<T: Drop>(self, rt: &R, written: Result<T, Refusal>) -> Result<T, Refusal> {
+    pub(crate) fn end<T: Drop>(self, rt: &R, written: Result<T, Unnamed>) -> Result<T, Unnamed> {
         match self {
             Target::Whole(file) => file.end(rt, written),
             _ => written,
