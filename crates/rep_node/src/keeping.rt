@@ -149,8 +149,8 @@ fn gathers<D: Disk>(engine: &Engine<D>) -> bool {
     }
 }
 
-/// Whether more may come for the engine's next block, behind a look before which it had accepted so many items: it brought some, or has fewer
-/// than are expected, but not none.
+/// Whether more may come for the engine's next block, behind a look at the queue, before which it had accepted so many items: the look brought
+/// some, or the block has some and fewer than are expected.
 fn may_come<D: Disk>(engine: &Engine<D>, before: u64, expected: u64) -> bool {
     let accepted = engine.delivered();
     let gathered = accepted.saturating_sub(engine.durable());
