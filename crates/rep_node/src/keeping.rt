@@ -27,7 +27,7 @@ use std::sync::Wait;
 use std::thread;
 
 /// A keeper looks for more items so many times at most before it writes a block.
-const LOOKS: u32 = 500;
+const LOOKS: u32 = 128;
 
 /// What is durable, and what readers may be told: up to there.
 #[derive(Drop)]
