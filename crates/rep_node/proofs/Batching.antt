@@ -10,7 +10,7 @@ use Rattle.std.proofs.lemmas.List.{drop_all, map-append, take_all}
 use Rattle.std.proofs.lemmas.List.Sums.{sum_by-cons}
 use Rattle.std.proofs.lemmas.List.Elements.{All-nil, All-cons}
 use Rattle.std.proofs.lemmas.List.Sorted.{All-permutation, IsPermutation-map, length_permutation, sum_by-IsPermutation}
-use Rattle.std.proofs.lemmas.Option.{slice_get_read}
+use Rattle.std.proofs.lemmas.Option.{none-some, slice_get_read}
 use mathlib.Core.Logic.{dite}
 use native.Mathlib.Decide.{ℕ_discrete}
 use Rattle.atomic_table.specs.Seated.{TableId}
@@ -18,7 +18,7 @@ use Rattle.rep_types.specs.declared.item.Item.{Item}
 use Rattle.rep_types.specs.declared.judged.Judged.{Judged}
 use Rattle.rep_types.specs.declared.verdict.Verdict.{Verdict}
 use Rattle.rep_types.specs.declared.refusal.Refusal.{Refusal}
-use Rattle.rep_types.specs.declared.refusal.Refusal.TheVariants.{Stopped}
+use Rattle.rep_types.specs.declared.refusal.Refusal.TheVariants.{Exhausted, OutOfMemory, Stopped}
 use Rattle.rep_disk.specs.History.{History}
 use Rattle.rep_ordered.specs.declared.view.Joined.{Joined}
 use Rattle.rep_ordered.specs.declared.view.View.{View}
@@ -35,10 +35,11 @@ use Rattle.rep_node.specs.declared.batch.Job.{Job}
 use Rattle.rep_node.specs.declared.batch.Share.{Share}
 use Rattle.rep_node.specs.declared.pace.Point.{Point}
 use Rattle.rep_node.specs.Homes.{IsLegal}
-use Rattle.rep_node.specs.Seats.{DrewOne, IsGiven, IsSeat, Joins, PassedOrStopped, SeesLegal, own_entry}
+use Rattle.rep_node.specs.Seats.{DrewOne, IsGiven, IsSeat, Joins, PassedOrStopped, SeesLegal, WentIdle, own_entry}
 use Rattle.rep_ordered.specs.Beginnings.{shorter}
 use Rattle.rep_node.specs.Serving.{HandedIn, IsRefusal}
 use Rattle.rep_node.specs.Batches.{AreLetOn, LetsOn, Ascends, ComeFrom, IsBatch, IsReceipt, carried, entry_of, index_of, seqno_of}
+use Rattle.rep_node.proofs.Moves.{passed_went}
 use Rattle.rep_node.specs.Jobs.{Adjoin, Among, Gathered, IsAll, IsDone, IsJob, IsNoted, IsPart, IsReady, IsShare, Worked, regaining}
 
 -- ---- lists
@@ -326,10 +327,6 @@ module _ {D : Type 0} (honest : D → Type 0) (history : D → History) (failure
   at_refused items from place to number item v w u rs a low below at drew joins = subst (λ (l : List ℕ). IsPart items from to (v.start + length v.seen) u.durable l u.joined rs) (sym drew.own)
       (part_stopped items from place to (v.start + length v.seen) w.durable u.durable number (w.start + length w.seen) w.own w.joined u.joined rs item low below at drew.went.goes.durable joins a.part)
 
-  -- there is a seqno left for the item
-  pub some_left : (items : List Item) (from place to : ℕ) (v w : View (Home D) Judged) (rs : List Receipt) → AtPlace items from place v w rs → place < to → to ≤ from + v.allowance → v.own ≡ [] → 0 < w.allowance
-  some_left items from place to v w rs a below enough own = let k = a.went.goes.kept in let c = a.all.count in let d = a.all.drawn in let o : length v.own ≡ 0 = ap (λ (l : List ℕ). length l) own in omega arith
-
 module _ {D : Type 0} where
   -- ---- jobs
 
@@ -514,3 +511,41 @@ module _ {D : Type 0} where
     joined = ap (λ (z : View (Home D) Judged). z.joined) l.same ∙ sym (append_nil v.joined);
     come = come_none items 0 n;
   }
+
+-- ---- what a seat that handed a batch in has come to
+
+-- nothing was handed in, for the node was halted, or there were too few seqnos, or no memory
+pub not_handed : {D : Type 0} (lets : Point → ℕ → Type 0) (items : List Item) (n : ℕ) (v w : View (Home D) Judged) (b : Batch) (why : Refusal) → Later v w → WentIdle v w → PassedOrStopped v → b.receipts.items ≡ [] → b.end ≡ Some why
+    → ((why ≡ Stopped) × (w.halted ≡ 1)) ⊎ (((why ≡ Exhausted) × (v.allowance ≤ n)) ⊎ (why ≡ OutOfMemory)) → HandedIn lets items n v w b
+not_handed lets items n v w b why later idle passed none refused so = record {
+  went = idle.0;
+  sees = idle.3;
+  passed = passed_went v w idle.0 idle.1 passed;
+  batch = batch_none items n v w b.receipts.items later none;
+  order = subst Ascends (sym none) tt;
+  paced = subst (AreLetOn lets) (sym none) tt;
+  whole = λ ended. absurd (none-some _ (sym ended ∙ refused));
+  ended = subst (λ (e : Option Refusal). IfSome e (IsRefusal n v w b.receipts.items)) (sym refused) (elim so [ inl stopped ↦ inl stopped | inr other ↦ inr (other, idle.1, none) ]);
+}
+
+-- a look at the front first changes nothing of it
+pub handed_later : {D : Type 0} (lets : Point → ℕ → Type 0) (items : List Item) (n : ℕ) (u v w : View (Home D) Judged) (b : Batch) → Later u v → WentIdle u v → HandedIn lets items n v w b → HandedIn lets items n u w b
+handed_later lets items n u v w b later idle h = record {
+  went = went_on u v w idle.0 h.went;
+  sees = subst (λ first. Sees (IsLegal first) w) idle.0.goes.first h.sees;
+  passed = h.passed;
+  batch = batch_later items 0 n u v w b.receipts.items later h.batch;
+  order = h.order;
+  paced = h.paced;
+  whole = λ none. let k = h.whole none in record { count = k.count; drawn = let own : length v.own ≡ length u.own = ap length idle.1 in let d = k.drawn in omega (arith, own, d) };
+  ended = ended_later b.end h.ended;
+}
+  where
+    allowance : v.allowance ≡ u.allowance
+    allowance = ap (λ (z : View (Home _) Judged). z.allowance) later.same
+
+    ended_later : (end : Option Refusal) → IfSome end (IsRefusal n v w b.receipts.items) → IfSome end (IsRefusal n u w b.receipts.items)
+    ended_later None why = tt
+    ended_later (Some e) (inl stopped) = inl stopped
+    ended_later (Some e) (inr (inl few, own, none)) = inr (inl (few.0, let less = few.1 in let same = allowance in omega (arith, less, same)), own ∙ idle.1, none)
+    ended_later (Some e) (inr (inr memory, own, none)) = inr (inr memory, own ∙ idle.1, none)

@@ -1,13 +1,14 @@
--- What a checkpoint's step leaves of the engine.
-use Rattle.std.proofs.Common.{◌≡◌, ◌≢◌, ℕ, Bool, true, false, nat_le, if◌then◌else◌, ap, Option, None, Some, Result, Ok, Err, List, refl, ◌∙◌, subst}
-use Rattle.std.specs.Prelude.{is_some, OnOk}
+-- What a checkpoint's step leaves of the engine, and what a seat says behind the last one.
+use Rattle.std.proofs.Common.{◌≡◌, ◌≢◌, ℕ, ◌-◌, ◌≤◌, Bool, true, false, nat_le, if◌then◌else◌, ap, Option, None, Some, Result, Ok, Err, List, refl, sym, ◌∙◌, subst, arith}
+use Rattle.std.specs.Prelude.{is_some, IfSome, OnOk}
 use Rattle.std.proofs.lemmas.Bool.{leb-true}
 use Rattle.rep_types.specs.declared.refusal.Part.TheVariants.{Pages}
 use Rattle.rep_types.specs.declared.refusal.Refusal.TheVariants.{Corrupt, DiskFault, NotDue, OutOfMemory, Stopped}
 use Rattle.rep_steps.specs.declared.event.Event.{Event}
 use Rattle.rep_steps.specs.declared.answer.Answer.TheVariants.{Refused, Wrote}
 use Rattle.rep_steps.specs.Standings.{Standing, Stage, Off, Toward, Retiring, check_refusal, refusal}
-use Rattle.rep_checkpoint.specs.declared.stage.Step.TheVariants.{Begin, Next}
+use Rattle.rep_checkpoint.specs.declared.stage.Step.{Step}
+use Rattle.rep_checkpoint.specs.declared.stage.Step.TheVariants.{Begin, Flush, Next, Sync}
 use Rattle.rep_checkpoint.specs.declared.stage.Stage.TheVariants.{Off as is_off}
 use Rattle.rep_checkpoint.specs.Standing.{due_in, stage_in}
 use Rattle.rep_types.specs.declared.judged.Judged.{Judged}
@@ -21,8 +22,15 @@ use Rattle.rep_engine.specs.Engines.{Engine, facts_of, durable_of}
 use Rattle.rep_engine.specs.Checking.{HoldsWindow, checked}
 use Rattle.rep_engine.specs.Holding.{Holds, wrote}
 use Rattle.rep_stations.specs.Taking.{HasTaken, TakenItemsStay, IsAnEngine, IsOfAnEngine}
-use Rattle.rep_node.specs.Homes.{Start}
-use Rattle.rep_node.specs.Checking.{HasNoneDue, MayLend}
+use Rattle.rep_ordered.specs.declared.view.View.{View}
+use Rattle.rep_ordered.specs.Views.{StartsWith}
+use Rattle.rep_node.specs.declared.home.Desk.{Desk}
+use Rattle.rep_node.specs.declared.home.Home.{Home}
+use Rattle.rep_node.specs.declared.checking.Checked.{Checked}
+use Rattle.rep_node.specs.Homes.{Start, position_of, values_of}
+use Rattle.rep_node.specs.Keeping.{AtWork}
+use Rattle.rep_node.specs.Checking.{EndsAt, HasNoneDue, IsPruned, MayLend, said_of}
+use Rattle.rep_node.proofs.Keeps.{is_least, list_is}
 use Rattle.rep_node.proofs.Stepping.{is_refusal, moves_rise, refused_so, runs_on}
 
 -- ---- none may begin
@@ -75,3 +83,26 @@ module _ {D : Type 0} (honest : D → Type 0) (history : D → History) (failure
   -- the certifier has the window that a check asks for
   pub check_window : TakenItemsStay honest history failures → (e : Engine D) (h : Holding) (s : Start D) (taken more : List Judged) → MayLend honest history failures s taken more h e → HoldsWindow e.checkpoint.base.params (durable_of e.log) h
   check_window laws e h s taken more lent = laws.window e h s.desk.engine s.certifier.current taken more lent.judged lent.near lent.begins.windows lent.engine
+
+-- ---- what a seat says behind the last step
+
+module _ {D : Type 0} (honest : D → Type 0) (history : D → History) (failures : D → ℕ) (first : List (Home D)) (w t : View (Home D) Judged) (d : Desk D) where
+  pub ends_said : (due : Step) (ended : Option Checked) → ended ≡ said_of due d → ((s : Start D) → first ≡ values_of s → AtWork honest history failures s w.seen d) → (due ≡ Begin → (s : Start D) → first ≡ values_of s → IsPruned s d) → StartsWith t.seen w.seen → IsAnEngine d.engine
+      → durable_of d.engine.log ≤ t.durable → IfSome ended (EndsAt first t)
+  ends_said due ended says work pruned more is known = subst (λ (o : Option Checked). IfSome o (EndsAt first t)) (sym says) (by due pruned)
+    where
+      by : (due : Step) → (due ≡ Begin → (s : Start D) → first ≡ values_of s → IsPruned s d) → IfSome (said_of due d) (EndsAt first t)
+      by Begin pruned = λ v same least. record {
+        base = least;
+        durable = let behind = is.behind in omega (arith, behind, known);
+        told = λ s at. (work s (sym same ∙ at)).desk.publisher.0;
+        oldest = λ s at. pruned refl s (sym same ∙ at);
+        list = λ s at. let h = work s (sym same ∙ at) in (
+          durable_of d.engine.log - position_of s,
+          list_is honest history failures s w.seen t.seen d h more,
+          let behind = is.behind in let low = is_least honest history failures s w.seen t.seen d h more in omega (arith, behind, low),
+        );
+      }
+      by (Flush page) pruned = tt
+      by Next pruned = tt
+      by Sync pruned = tt

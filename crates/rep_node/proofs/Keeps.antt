@@ -1,5 +1,5 @@
 -- What a keeper finds at the engine, and what it says.
-use Rattle.std.proofs.Common.{◌≡◌, ℕ, ◌+◌, ◌-◌, ◌≤◌, List, length, take, Result, Ok, Err, OnOk, IfOk, IfErr, is_err, false, refl, sym, ap, subst, ◌∙◌, length-append, arith}
+use Rattle.std.proofs.Common.{◌≡◌, ℕ, ◌+◌, ◌-◌, ◌≤◌, List, length, take, Result, Ok, Err, OnOk, IfOk, IfErr, refl, sym, ap, subst, ◌∙◌, length-append, arith}
 use Rattle.std.proofs.lemmas.List.{length-map, take-append-le}
 use Rattle.rep_types.specs.declared.judged.Judged.{Judged}
 use Rattle.rep_types.specs.declared.refusal.Refusal.{Refusal}
@@ -22,10 +22,6 @@ use Rattle.rep_node.proofs.Moves.{passed_went, seat_still}
 
 pub told_ok : {T : Type 0} (P : Type 0) (r : Result T Refusal) (x : T) → r ≡ Ok x → OnOk r P → P
 told_ok P r x is h = subst (λ (z : Result _ Refusal). OnOk z P) is h
-
-pub unless_err : {T : Type 0} (P : Type 0) (r : Result T Refusal) → is_err r ≡ false → OnOk r P → P
-unless_err P (Ok x) fine h = h
-unless_err P (Err e) fine h = absurd cc
 
 -- what holds whatever was answered
 pub in_any_case : {T : Type 0} (r : Result T Refusal) (P : Type 0) → P → IfErr r (λ _. P)

@@ -14,9 +14,7 @@ pub mod Desks
 pub mod Accepts
 pub mod Checks
 pub mod Lending
-pub mod Checkpoints
 pub mod Batching
-pub mod Together
 pub mod Shown
 pub mod Asks
 pub mod Peeks

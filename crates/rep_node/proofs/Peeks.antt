@@ -1,6 +1,5 @@
 -- What a reader's peek says of a row, and a read that follows it.
-use Rattle.std.proofs.Common.{◌≡◌, ◌⊎◌, inl, inr, ℕ, ◌+◌, ◌≤◌, Bool, true, false, nat_lt, if◌then◌else◌, Option, None, Some, Result, Ok, Err, IfErr, List, [], ◌∷◌, length, refl, sym, ap, subst, ◌∙◌, append-nil, arith, ltb-true, ltb-false}
-use Rattle.std.proofs.lemmas.Option.{same_Some}
+use Rattle.std.proofs.Common.{◌≡◌, ◌⊎◌, inl, inr, ℕ, ◌+◌, ◌≤◌, Bool, true, false, nat_lt, if◌then◌else◌, Option, None, Some, Result, Ok, Err, IfErr, List, [], ◌∷◌, length, refl, sym, ap, subst, ◌∙◌, append-nil, arith, ltb-false}
 use mathlib.Core.List.{IsPrefix}
 use Rattle.rep_types.specs.declared.key.Key.{Key}
 use Rattle.rep_types.specs.declared.judged.Judged.{Judged}
@@ -39,11 +38,6 @@ none_of_two true early front oldest is = absurd (let never : Some (NotYet front)
 none_of_two false true front oldest is = absurd (let never : Some (TooOld oldest) ≡ None = is in cc)
 none_of_two false false front oldest is = (refl, refl)
 
-one_of_two : (P : Refusal → Type 0) (late early : Bool) (front oldest : ℕ) (e : Refusal) → first_of_two late early front oldest ≡ Some e → (late ≡ true → P (NotYet front)) → (early ≡ true → P (TooOld oldest)) → P e
-one_of_two P true early front oldest e is above below = subst P (same_Some _ _ is) (above refl)
-one_of_two P false true front oldest e is above below = subst P (same_Some _ _ is) (below refl)
-one_of_two P false false front oldest e is above below = absurd (let never : None ≡ Some e = is in cc)
-
 is_between : (front oldest at : ℕ) → refused front oldest at ≡ None → (at ≤ front) × (oldest ≤ at)
 is_between front oldest at h = let none = none_of_two (nat_lt front at) (nat_lt at oldest) front oldest h in (ltb-false front at none.0, ltb-false at oldest none.1)
 
@@ -54,13 +48,6 @@ abbrev pub Peeked : (Watching Origin → Type 0) → Watching Origin → Key →
 Peeked shut r key at q peek = ((peek ≡ Err BadKey) × (q ≡ r)) ⊎ IsPeek allowed shut r key at q peek
 
 module _ (shut : Watching Origin → Type 0) (r q : Watching Origin) (key : Key) (at : ℕ) where
-  as_before : q ≡ r → q ≡ record r { seen = q.seen }
-  as_before is = is ∙ (λ i. record r { seen = (sym is i).seen })
-
-  pub same_reader : (peek : Result Peek Refusal) → Peeked shut r key at q peek → q ≡ record r { seen = q.seen }
-  same_reader peek (inl bad) = as_before bad.1
-  same_reader peek (inr looked) = elim looked [ inl closed ↦ as_before closed.1 | inr seen ↦ seen.0.same ]
-
   nothing_new : q ≡ r → IsPrefix r.seen q.seen
   nothing_new is = ([], append-nil r.seen ∙ sym (ap (λ (t : Watching Origin). t.seen) is))
 
@@ -89,15 +76,6 @@ module _ {D : Type 0} (honest : D → Type 0) (history : D → History) (failure
   pub refuses_as_asked : (answer : Result (Option (List ℕ)) Refusal) → IfErr answer (RefusesAsked honest history failures v w key at) → IfErr answer (Refuses honest history failures v w key at shut r q)
   refuses_as_asked (Ok x) h = tt
   refuses_as_asked (Err e) h = asked_refuses e h
-
-  -- what it says where the reader's look is refused
-  pub refuses_so : (e : Refusal) → Peeked shut r key at q (Err e) → Refuses honest history failures v w key at shut r q e
-  refuses_so e (inl bad) = let same : BadKey ≡ e = (let is : Err e ≡ Err BadKey = bad.0 in cc) in subst (Refuses honest history failures v w key at shut r q) same bad.1
-  refuses_so e (inr looked) = elim looked [
-    | inl closed ↦ let same : Closed ≡ e = (let is : Err e ≡ Err Closed = closed.0 in cc) in subst (Refuses honest history failures v w key at shut r q) same (closed.1, closed.2)
-    | inr seen ↦ let front = front_of q.start (published q.seen) in let oldest = oldest_of q.start q.seen in
-        one_of_two (Refuses honest history failures v w key at shut r q) (nat_lt front at) (nat_lt at oldest) front oldest e seen.1 (λ late. (ltb-true front at late, inl refl)) (λ early. ltb-true at oldest early)
-  ]
 
 module _ {D : Type 0} (honest : D → Type 0) (history : D → History) (failures : D → ℕ) (v : View (Home D) Judged) (seat : IsSeat honest history failures v) (r : Watching Origin) (own : IsReaderOf v r) where
   -- the certifier that the reader's lists go on from

@@ -2,7 +2,6 @@
 use Rattle.std.proofs.Common.{◌≡◌, inl, inr, ℕ, Option, Some, Result, Ok, IfOk, IfSome, List, ◌++◌, sym, ap, subst, ◌∙◌, append_assoc}
 use mathlib.Core.List.{IsPrefix}
 use Rattle.rep_types.specs.declared.key.Key.{Key}
-use Rattle.rep_types.specs.declared.judged.Judged.{Judged}
 use Rattle.rep_types.specs.declared.refusal.Refusal.{Refusal}
 use Rattle.rep_types.specs.Settings.{Setting}
 use Rattle.rep_types.specs.Order.{Order, items_of, read}
@@ -13,14 +12,12 @@ use Rattle.rep_stations.specs.Orders.{HistoriesExtendTheOrder}
 use Rattle.rep_snap.specs.Lists.{published}
 use Rattle.rep_snap.specs.Laws.{HistoriesGrow, PeeksFollowTheFold}
 use Rattle.rep_snap.specs.Views.{Watching}
-use Rattle.rep_ordered.specs.declared.view.View.{View}
 use Rattle.rep_ordered.specs.GoingLaws.{begins_on}
-use Rattle.rep_node.specs.declared.home.Home.{Home}
 use Rattle.rep_node.specs.declared.origin.Origin.{Origin}
 use Rattle.rep_node.specs.Publishing.{shown}
 use Rattle.rep_node.specs.Homes.{Start, values_of}
 use Rattle.rep_node.specs.Seats.{WentIdle}
-use Rattle.rep_node.specs.Reading.{IsReaderOf, IsRowOf}
+use Rattle.rep_node.specs.Reading.{IsRowOf}
 use Rattle.rep_node.specs.Rows.{Beside, HasRowsOf}
 use Rattle.rep_node.proofs.Shown.{begins_alike, shown_alike}
 
@@ -63,12 +60,3 @@ module _ {D : Type 0} (honest : D → Type 0) (history : D → History) (failure
 
     pub rows_are : (answer : Result (Option (List ℕ)) Refusal) → IfOk answer (λ row. (s : Start D) → a.seat.view.first ≡ values_of s → IsRowOf honest history failures s b.seat.view q key at row) → (x : Option (List ℕ)) (p : Setting) (L : Order) → answer ≡ Ok x → HasRowsOf honest history failures b p L → x ≡ read p L key at
     rows_are answer row x p L ok h = row_is x p L (subst (λ (z : Result (Option (List ℕ)) Refusal). IfOk z (λ row. (s : Start D) → a.seat.view.first ≡ values_of s → IsRowOf honest history failures s b.seat.view q key at row)) ok row) h
-
--- it is a reader of the node's still
-pub reader_still : {D : Type 0} (v w : View (Home D) Judged) (r q : Watching Origin) → IsReaderOf v r → WentIdle v w → q ≡ record r { seen = q.seen } → IsReaderOf w q
-reader_still v w r q own idle same s first =
-    let was = own s (sym idle.0.goes.first ∙ first) in (
-      ap (λ (t : Watching Origin). t.book) same ∙ was.0,
-      ap (λ (t : Watching Origin). t.basis) same ∙ was.1,
-      ap (λ (t : Watching Origin). t.start) same ∙ was.2,
-    )

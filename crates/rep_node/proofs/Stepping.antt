@@ -5,7 +5,7 @@ use Rattle.rep_types.specs.declared.judged.Judged.{Judged}
 use Rattle.rep_types.specs.declared.reply.Reply.{Reply}
 use Rattle.rep_types.specs.declared.refusal.Refusal.{Refusal}
 use Rattle.rep_types.specs.declared.refusal.Part.TheVariants.{Pages}
-use Rattle.rep_types.specs.declared.refusal.Refusal.TheVariants.{Corrupt, DiskFault, LogFull, NotDue, OutOfMemory, Stopped}
+use Rattle.rep_types.specs.declared.refusal.Refusal.TheVariants.{Corrupt, DiskFault, LogFull, OutOfMemory, Stopped}
 use Rattle.rep_disk.specs.History.{History}
 use Rattle.rep_log.specs.declared.phase.Phase.{Phase}
 use Rattle.rep_cert.specs.Holdings.{Holding}
@@ -197,6 +197,3 @@ module _ {D : Type 0} (honest : D → Type 0) (history : D → History) (failure
   pub goes_full : (old new : Engine D) (done : Result (Unit {0}) Refusal) → Goes old new done → IfErr done (λ r. r ≡ LogFull → (new ≡ old) × IsFull failures old)
   goes_full old new (Ok u) h = tt
   goes_full old new (Err r) h = λ full. (not_the_device old new r (λ fault. let e : LogFull ≡ DiskFault = sym full ∙ fault in absurd cc) h.same, h.full (ap (λ (x : Refusal). Err x) full))
-
-  pub goes_not_due : (old new : Engine D) (done : Result (Unit {0}) Refusal) → Goes old new done → done ≡ Err NotDue → new ≡ old
-  goes_not_due old new done h is = not_the_device old new NotDue (λ fault. let e : NotDue ≡ DiskFault = fault in absurd cc) (subst (λ (d : Result (Unit {0}) Refusal). IfErr d (λ e. (e ≡ DiskFault) ⊎ (new ≡ old))) is h.same)

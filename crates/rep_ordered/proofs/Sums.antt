@@ -106,9 +106,6 @@ get_or_is [] i a e = absurd (some-ne-none a (sym e))
 get_or_is (x ∷ xs) zero a e = some-injective x a e
 get_or_is (x ∷ xs) (suc i) a e = get_or_is xs i a e
 
-pub one_same : (x : ℕ) → one x x ≡ 1
-one_same x = omega arith
-
 pub one_equal : (x y : ℕ) → 0 < one x y → x ≡ y
 one_equal x y h = omega arith
 
@@ -140,10 +137,6 @@ common_here j a b some_name = subst (λ t. (if t then b else a) ≡ a) (sym (ne_
 
 pub common_else : (j a b : ℕ) → names j ≡ 0 → common_after j a b ≡ b
 common_else j a b none = subst (λ t. (if t then b else a) ≡ b) (sym (eq-eqb (names j) 0 none)) refl
-
--- the number that is named alike goes on as it is where the station's value names the same
-pub common_same : (j a b : ℕ) → (0 < names j → a ≡ b) → common_after j a b ≡ b
-common_same j a b same = dite (ℕ_discrete (names j) 0) (λ none. common_else j a b none) (λ some_name. let up : 0 < names j = omega arith in let x : ℕ = common_after j a b in let p : x ≡ a = common_here j a b up in let q : a ≡ b = same up in let goal : x ≡ b = omega arith in goal)
 
 module _ {A : Type 0} (f : A → ℕ) where
   -- the sum where all others count nothing

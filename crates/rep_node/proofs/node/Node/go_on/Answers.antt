@@ -11,7 +11,7 @@ use Rattle.rep_node.specs.Checking.{IsPruned, said_of}
 use Rattle.rep_node.specs.Homes.{Start, values_of}
 use Rattle.rep_node.specs.Keeping.{AtDesk, AtWork}
 use Rattle.rep_node.proofs.AtEngine.{idle_later}
-use Rattle.rep_node.proofs.Checkpoints.{ends_said}
+use Rattle.rep_node.proofs.Checks.{ends_said}
 use Rattle.rep_node.proofs.Desks.{desk_moved, desk_work}
 use Rattle.rep_node.proofs.Keeps.{told_ok, told_ok_so}
 use Rattle.rep_node.proofs.node.Node.go_on.Given.{Over}

@@ -5,7 +5,7 @@ use Rattle.rep_ordered.specs.declared.view.View.{View}
 use Rattle.rep_ordered.specs.Seats.{Place}
 use Rattle.rep_node.specs.declared.home.Home.{Home}
 use Rattle.rep_node.specs.Serving.{HandedIn}
-use Rattle.rep_node.proofs.Together.{handed_later, not_handed}
+use Rattle.rep_node.proofs.Batching.{handed_later, not_handed}
 use Rattle.rep_node.proofs.Closing.{not_halted}
 use Rattle.rep_node.proofs.node.Node.hand_in.Given.{Over}
 use Rattle.rep_node.proofs.node.Node.hand_in.Goals as goal
